@@ -1,0 +1,208 @@
+-- The book: its views, when it is sound, its setters, the fresh book.
+use mathlib.Core.Bool.{Bool, true, false, cond, not, _&&_}
+use mathlib.Core.List.{List, [], _∷_, _++_, map, tail}
+use Prim.Native.Nat.{ℕ, zero, suc, _+_, _-_, _*_}
+use lib.Dec.{leb, eqb}
+use lib.ListN.{length, getD, take, drop, replicate}
+use lib.IntN.{ℤ, pos, natAbs}
+use Rattle.rules.specs.declared.Book.{Book}
+use Rattle.rules.specs.declared.Entry.{Entry}
+use Rattle.rules.specs.declared.Phase.{Phase}
+use Rattle.rules.specs.declared.Phase.the-variants.{Taking, Settling, Cut}
+use Rattle.rules.specs.Measures.{issueCount, accountCount, unitLots, mostLots, mostEntries, mostCharge, between, sum, dueOf, owedOf}
+use Rattle.rules.specs.Units.{Part, units}
+use Rattle.rules.specs.Handover.{stock}
+use Rattle.rules.specs.Ledger.{entry}
+
+abbrev pub isTaking : Phase → Bool
+isTaking Taking = true
+isTaking Settling = false
+isTaking Cut = false
+
+abbrev pub isSettling : Phase → Bool
+isSettling Taking = false
+isSettling Settling = true
+isSettling Cut = false
+
+abbrev pub isCut : Phase → Bool
+isCut Taking = false
+isCut Settling = false
+isCut Cut = true
+
+-- f k, f (k + 1), .., n of them
+abbrev pub tab {ℓ} : {A : Type ℓ} → (ℕ → A) → ℕ → ℕ → List A
+tab f k zero = []
+tab f k (suc n) = f k ∷ tab f (suc k) n
+
+-- every element passes
+abbrev pub all {ℓ} : {A : Type ℓ} → (A → Bool) → List A → Bool
+all p [] = true
+all p (x ∷ xs) = p x && all p xs
+
+-- Views
+
+-- for each issue and account: where its number stands, and the numbers of an issue
+abbrev pub cell : ℕ → ℕ → ℕ
+cell i a = i * 64 + a
+
+abbrev pub row {ℓ} : {A : Type ℓ} → ℕ → List A → List A
+row i xs = take 64 (drop (i * 64) xs)
+
+abbrev pub netAt : Book → ℕ → ℕ → ℤ
+netAt b i a = getD (b .nets) (cell i a) (pos 0)
+
+abbrev pub deliveredAt : Book → ℕ → ℕ → ℕ
+deliveredAt b i a = getD (b .delivered) (cell i a) 0
+
+abbrev pub netsOf : Book → ℕ → List ℤ
+netsOf b i = row i (b .nets)
+
+abbrev pub duesOf : Book → ℕ → List ℕ
+duesOf b i = map dueOf (netsOf b i)
+
+abbrev pub owedsOf : Book → ℕ → List ℕ
+owedsOf b i = map owedOf (netsOf b i)
+
+abbrev pub deliveredOf : Book → ℕ → List ℕ
+deliveredOf b i = row i (b .delivered)
+
+-- the issue's delivered total
+abbrev pub deliveredTotal : Book → ℕ → ℕ
+deliveredTotal b i = sum (deliveredOf b i)
+
+-- the issue's units in the order of the day
+unfoldable pub orderOf : Book → ℕ → List Part
+orderOf b i = units unitLots (duesOf b i)
+
+abbrev pub stockOf : Book → ℕ → ℕ
+stockOf b i = stock (orderOf b i) (deliveredTotal b i)
+
+abbrev pub headOr0 : List ℕ → ℕ
+headOr0 [] = 0
+headOr0 (x ∷ xs) = x
+
+-- the first n entries of five columns
+abbrev pub entries : ℕ → List ℕ → List ℕ → List ℕ → List ℕ → List ℕ → List Entry
+entries zero is fs ts xs ds = []
+entries (suc n) is fs ts xs ds =
+    entry (headOr0 is) (headOr0 fs) (headOr0 ts) (headOr0 xs) (headOr0 ds)
+    ∷ entries n (tail is) (tail fs) (tail ts) (tail xs) (tail ds)
+
+abbrev pub ledgerOf : Book → List Entry
+ledgerOf b = entries (b .count) (b .issues) (b .froms) (b .tos) (b .lots) (b .days)
+
+-- Soundness
+
+-- each issue's nets sum to 0, and so do the charges: what is due and what is owed have the same sum
+abbrev pub balanced : List ℤ → Bool
+balanced ns = eqb (sum (map dueOf ns)) (sum (map owedOf ns))
+
+abbrev pub withinSize : ℕ → ℤ → Bool
+withinSize most n = leb (natAbs n) most
+
+-- delivered lots lie in 0..−net where the net is negative, are 0 elsewhere
+abbrev pub withinOwed : List ℤ → List ℕ → Bool
+withinOwed [] ds = true
+withinOwed (n ∷ ns) [] = true
+withinOwed (n ∷ ns) (d ∷ ds) = leb d (owedOf n) && withinOwed ns ds
+
+abbrev pub isZero : ℕ → Bool
+isZero x = eqb x 0
+
+-- entries have numbers in range, from unlike to, lots 1..20,000,000
+abbrev pub entrySound : Entry → Bool
+entrySound e =
+    leb (e .issue) 15 && leb (e .from) 63 && leb (e .to) 63 && not (eqb (e .from) (e .to))
+    && between 1 mostLots (e .lots)
+
+-- days never fall along the ledger, from `least` on, nor are above today
+abbrev pub daysSound : ℕ → ℕ → List Entry → Bool
+daysSound least today [] = leb least today
+daysSound least today (e ∷ es) = leb least (e .day) && daysSound (e .day) today es
+
+-- what a sound book has
+unfoldable pub conditions : Book → List Bool
+conditions b =
+    -- each net lies in −20,000,000..20,000,000
+    all (withinSize mostLots) (b .nets)
+    -- each issue's nets sum to 0
+    ∷ all (λ i. balanced (netsOf b i)) (tab (λ i. i) 0 issueCount)
+    -- delivered lots are at most what is owed
+    ∷ withinOwed (b .nets) (b .delivered)
+    -- and are 0 throughout in Taking
+    ∷ cond (isTaking (b .phase)) (all isZero (b .delivered)) true
+    -- the entry count is at most 2,048
+    ∷ leb (b .count) mostEntries
+    ∷ all entrySound (ledgerOf b)
+    ∷ daysSound 0 (b .day) (ledgerOf b)
+    -- unused entries are zero
+    ∷ all isZero (drop (b .count) (b .issues))
+    ∷ all isZero (drop (b .count) (b .froms))
+    ∷ all isZero (drop (b .count) (b .tos))
+    ∷ all isZero (drop (b .count) (b .lots))
+    ∷ all isZero (drop (b .count) (b .days))
+    -- charges sum to 0
+    ∷ balanced (b .charges)
+    -- each of size at most 134,663,013,697,536 × day
+    ∷ all (withinSize (mostCharge * b .day)) (b .charges)
+    ∷ []
+
+-- a book is sound when all of them hold
+unfoldable pub sound : Book → Bool
+unfolding conditions
+sound b = all (λ c. c) (conditions b)
+
+-- Setters: nobody else writes a book out field by field
+
+-- a book of all its columns
+abbrev pub bookOf :
+    ℕ → Phase → List ℤ → List ℕ → List ℤ → ℕ → List ℕ → List ℕ → List ℕ → List ℕ → List ℕ → Book
+bookOf day phase nets delivered charges count issues froms tos lots days =
+    record {
+      day = day;
+      phase = phase;
+      nets = nets;
+      delivered = delivered;
+      charges = charges;
+      count = count;
+      issues = issues;
+      froms = froms;
+      tos = tos;
+      lots = lots;
+      days = days;
+    }
+
+abbrev pub withDay : Book → ℕ → Phase → Book
+withDay b d p =
+    bookOf d p (b .nets) (b .delivered) (b .charges) (b .count) (b .issues) (b .froms) (b .tos) (b .lots) (b .days)
+
+abbrev pub withPhase : Book → Phase → Book
+withPhase b p = withDay b (b .day) p
+
+abbrev pub withNets : Book → List ℤ → Book
+withNets b ns =
+    bookOf (b .day) (b .phase) ns (b .delivered) (b .charges) (b .count) (b .issues) (b .froms) (b .tos) (b .lots) (b .days)
+
+abbrev pub withDelivered : Book → List ℕ → Book
+withDelivered b ds =
+    bookOf (b .day) (b .phase) (b .nets) ds (b .charges) (b .count) (b .issues) (b .froms) (b .tos) (b .lots) (b .days)
+
+abbrev pub withCharges : Book → List ℤ → Book
+withCharges b cs =
+    bookOf (b .day) (b .phase) (b .nets) (b .delivered) cs (b .count) (b .issues) (b .froms) (b .tos) (b .lots) (b .days)
+
+-- a column of a ledger, 0 where it is not used
+abbrev pub column : (Entry → ℕ) → List Entry → List ℕ
+column f es = map f es ++ replicate (mostEntries - length es) 0
+
+abbrev pub withLedger : Book → List Entry → Book
+withLedger b es =
+    bookOf (b .day) (b .phase) (b .nets) (b .delivered) (b .charges) (length es)
+    (column (λ e. e .issue) es) (column (λ e. e .from) es) (column (λ e. e .to) es) (column (λ e. e .lots) es)
+    (column (λ e. e .day) es)
+
+-- a fresh book is day 0, Taking, all zero, ledger empty
+abbrev pub fresh : Book
+fresh =
+    bookOf 0 Taking (replicate 1024 (pos 0)) (replicate 1024 0) (replicate 64 (pos 0)) 0
+    (replicate 2048 0) (replicate 2048 0) (replicate 2048 0) (replicate 2048 0) (replicate 2048 0)

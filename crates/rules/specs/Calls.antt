@@ -1,0 +1,211 @@
+-- The calls: each from book, arguments and lent output to number, count, book and output words.
+use mathlib.Core.Path.{_≡_}
+use mathlib.Core.Bool.{Bool, true, false}
+use mathlib.Core.List.{List, [], _∷_, _++_, map}
+use Prim.Native.Nat.{ℕ, zero, suc, _+_}
+use lib.ListN.{length, set, drop, replicate}
+use lib.IntN.{ℤ, pos, _+ℤ_, _-ℤ_}
+use Rattle.rules.specs.declared.Amount.{Amount}
+use Rattle.rules.specs.declared.Amount.the-variants.{Paid, Refused}
+use Rattle.rules.specs.declared.Book.{Book}
+use Rattle.rules.specs.declared.Entry.{Entry}
+use Rattle.rules.specs.declared.Found.{Found}
+use Rattle.rules.specs.declared.Found.the-variants as found
+use Rattle.rules.specs.declared.Paired.{Paired}
+use Rattle.rules.specs.declared.Phase.the-variants.{Taking, Settling, Cut}
+use Rattle.rules.specs.declared.Reply.{Reply}
+use Rattle.rules.specs.Measures.{issueCount, unitLots, outputWords, valueOf, chargeOf}
+use Rattle.rules.specs.Units.{Part}
+use Rattle.rules.specs.Handover.{handovers, partials}
+use Rattle.rules.specs.Fails.{Fail, fails}
+use Rattle.rules.specs.Ledger.{entry, isFrom, meet, met, Pairing, pairing, charged}
+use Rattle.rules.specs.Book.{tab, cell, netAt, deliveredAt, owedsOf, deliveredOf, deliveredTotal, orderOf, ledgerOf, withDay, withPhase, withNets, withDelivered, withCharges, withLedger}
+use Rattle.rules.specs.Records.{Rec, handover, recordOf, words, over}
+use Rattle.rules.specs.Questions.{Question, firstNo, askOutput, askSound, askTaking, askSettling, askCut, askIssue, askAccount, askAccounts, askDiffer, askLots, askNets, askOwedToday, askOwedInLedger, askEntries, askRoll, askPrice, askTerm, askDay}
+
+-- what a call answers: number, count, book, output words
+pub record Answer : Type 0 where
+  pub refusal : ℕ
+  pub count : ℕ
+  pub book : Book
+  pub out : List ℕ
+
+-- a refusal gives its number, with 0 for the count, and changes nothing; else a new book, and records written
+abbrev pub answer : ℕ → Book → List ℕ → Book → List Rec → Answer
+answer zero b out new rs = record { refusal = 0; count = length rs; book = new; out = over (words rs) out }
+answer (suc r) b out new rs = record { refusal = suc r; count = 0; book = b; out = out }
+
+-- a reply and the lent output are an answer
+pub record AnswerIs (d : Answer) (r : Reply) (lent : List ℕ) : Type 0 where
+  pub refusal : r .refusal ≡ d .refusal
+  pub count : r .count ≡ d .count
+  pub book : r .book ≡ d .book
+  pub out : lent ≡ d .out
+
+-- trade issue, from, to, lots (Taking): from's net falls, to's rises
+abbrev pub tradeQuestions : Book → ℕ → ℕ → ℕ → ℕ → List Question
+tradeQuestions b i f t x =
+    askSound b ∷ askTaking b ∷ askIssue i ∷ askAccounts f t ∷ askDiffer f t ∷ askLots x ∷ askNets b i f t x ∷ []
+
+abbrev pub tradedNets : Book → ℕ → ℕ → ℕ → ℕ → List ℤ
+tradedNets b i f t x = set (set (b .nets) (cell i f) (netAt b i f -ℤ pos x)) (cell i t) (netAt b i t +ℤ pos x)
+
+unfoldable pub trade : Book → ℕ → ℕ → ℕ → ℕ → Answer
+trade b i f t x = answer (firstNo (tradeQuestions b i f t x)) b [] (withNets b (tradedNets b i f t x)) []
+
+-- close (Taking): to Settling
+abbrev pub closeQuestions : Book → List Question
+closeQuestions b = askSound b ∷ askTaking b ∷ []
+
+unfoldable pub close : Book → Answer
+close b = answer (firstNo (closeQuestions b)) b [] (withPhase b Settling) []
+
+-- deliver issue, account, lots (Settling): delivered rises; one record a unit handed over
+abbrev pub deliverQuestions : Book → ℕ → ℕ → ℕ → List ℕ → List Question
+deliverQuestions b i a x out =
+    askOutput outputWords out ∷ askSound b ∷ askSettling b ∷ askIssue i ∷ askAccount a ∷ askLots x
+    ∷ askOwedToday b i a x ∷ []
+
+abbrev pub raisedDelivered : Book → ℕ → ℕ → ℕ → List ℕ
+raisedDelivered b i a x = set (b .delivered) (cell i a) (deliveredAt b i a + x)
+
+abbrev pub deliverRecords : Book → ℕ → ℕ → List Rec
+deliverRecords b i x = map (handover i) (handovers (orderOf b i) (deliveredTotal b i) x)
+
+unfoldable pub deliver : Book → ℕ → ℕ → ℕ → List ℕ → Answer
+deliver b i a x out =
+    answer (firstNo (deliverQuestions b i a x out)) b out (withDelivered b (raisedDelivered b i a x)) (deliverRecords b i x)
+
+-- cutoff (Settling): for issues ascending, the stock to the next unit, then the fails. To Cut
+unfoldable pub issuePartials : Book → ℕ → List Part
+issuePartials b i = partials (orderOf b i) (deliveredTotal b i)
+
+unfoldable pub issueFails : Book → ℕ → List Fail
+issueFails b i = fails unitLots (orderOf b i) (owedsOf b i) (deliveredOf b i)
+
+-- each overlap is one ledger entry, with today's day
+abbrev pub failEntry : ℕ → ℕ → Fail → Entry
+failEntry today i f = entry i (f .from) (f .to) (f .lots) today
+
+abbrev pub issueEntries : Book → ℕ → List Entry
+issueEntries b i = map (failEntry (b .day) i) (issueFails b i)
+
+-- its 10 if any and then its 12s
+abbrev pub issueRecords : Book → ℕ → List Rec
+issueRecords b i = map (handover i) (issuePartials b i) ++ map (recordOf 12) (issueEntries b i)
+
+abbrev pub joined {ℓ} : {A : Type ℓ} → List (List A) → List A
+joined [] = []
+joined (xs ∷ xss) = xs ++ joined xss
+
+abbrev pub newEntries : Book → List Entry
+newEntries b = joined (tab (issueEntries b) 0 issueCount)
+
+abbrev pub cutoffRecords : Book → List Rec
+cutoffRecords b = joined (tab (issueRecords b) 0 issueCount)
+
+abbrev pub cutoffQuestions : Book → List ℕ → List Question
+cutoffQuestions b out =
+    askOutput outputWords out ∷ askSound b ∷ askSettling b ∷ askEntries b (newEntries b) ∷ []
+
+unfoldable pub cutoff : Book → List ℕ → Answer
+cutoff b out =
+    answer (firstNo (cutoffQuestions b out)) b out (withPhase (withLedger b (ledgerOf b ++ newEntries b)) Cut)
+    (cutoffRecords b)
+
+-- resolve issue, account, lots (any phase): entries from that account are met; one record an entry
+abbrev pub resolveQuestions : Book → ℕ → ℕ → ℕ → List ℕ → List Question
+resolveQuestions b i a x out =
+    askOutput outputWords out ∷ askSound b ∷ askIssue i ∷ askAccount a ∷ askLots x ∷ askOwedInLedger b i a x ∷ []
+
+unfoldable pub resolve : Book → ℕ → ℕ → ℕ → List ℕ → Answer
+resolve b i a x out =
+    answer (firstNo (resolveQuestions b i a x out)) b out (withLedger b (meet (isFrom i a) x (ledgerOf b)))
+    (map (recordOf 11) (met (isFrom i a) x (ledgerOf b)))
+
+-- pair-off issue, account (any phase; house): the answer carries the steps made and lots cancelled
+abbrev pub pairOffQuestions : Book → ℕ → ℕ → List Question
+pairOffQuestions b i a = askSound b ∷ askIssue i ∷ askAccount a ∷ []
+
+pub record PairAnswer : Type 0 where
+  pub refusal : ℕ
+  pub steps : ℕ
+  pub cancelled : ℕ
+  pub book : Book
+
+abbrev pub pairAnswer : ℕ → Book → Pairing → PairAnswer
+pairAnswer zero b p = record { refusal = 0; steps = p .steps; cancelled = p .cancelled; book = withLedger b (p .ledger) }
+pairAnswer (suc r) b p = record { refusal = suc r; steps = 0; cancelled = 0; book = b }
+
+unfoldable pub pairOff : Book → ℕ → ℕ → PairAnswer
+pairOff b i a = pairAnswer (firstNo (pairOffQuestions b i a)) b (pairing (b .day) i a (ledgerOf b))
+
+pub record PairAnswerIs (d : PairAnswer) (r : Paired) : Type 0 where
+  pub refusal : r .refusal ≡ d .refusal
+  pub steps : r .steps ≡ d .steps
+  pub cancelled : r .cancelled ≡ d .cancelled
+  pub book : r .book ≡ d .book
+
+-- roll days, rate, sixteen prices (Cut): charges; then nets and delivered lots are 0, day rises by 1, to Taking
+abbrev pub rollQuestions : Book → ℕ → ℕ → List ℕ → List Question
+rollQuestions b days rate prices = askSound b ∷ askCut b ∷ askRoll days rate prices ∷ askDay b ∷ []
+
+abbrev pub rolled : Book → ℕ → ℕ → List ℕ → Book
+rolled b days rate prices =
+    withDay
+    (withDelivered
+    (withNets (withCharges b (charged days rate prices (ledgerOf b) (b .charges))) (replicate 1024 (pos 0)))
+    (replicate 1024 0))
+    (b .day + 1)
+    Taking
+
+unfoldable pub roll : Book → ℕ → ℕ → List ℕ → Answer
+roll b days rate prices = answer (firstNo (rollQuestions b days rate prices)) b [] (rolled b days rate prices) []
+
+-- the k-th unit of an issue, k from 0: account and lots, or 'none' exactly when k is not below the number of units
+pub record UnitAnswer : Type 0 where
+  pub refusal : ℕ
+  pub some : Bool
+  pub account : ℕ
+  pub lots : ℕ
+
+abbrev pub noUnit : ℕ → UnitAnswer
+noUnit r = record { refusal = r; some = false; account = 0; lots = 0 }
+
+abbrev pub firstAnswer : List Part → UnitAnswer
+firstAnswer [] = noUnit 0
+firstAnswer (u ∷ us) = record { refusal = 0; some = true; account = u .account; lots = u .lots }
+
+abbrev pub unitAnswer : ℕ → List Part → UnitAnswer
+unitAnswer zero us = firstAnswer us
+unitAnswer (suc r) us = noUnit (suc r)
+
+unfoldable pub unit : Book → ℕ → ℕ → UnitAnswer
+unit b i k = unitAnswer (firstNo (askSound b ∷ askIssue i ∷ [])) (drop k (orderOf b i))
+
+-- the paper's number and values for each case of the enum
+abbrev pub foundAnswer : Found → UnitAnswer
+foundAnswer (found.Unit a x) = record { refusal = 0; some = true; account = a; lots = x }
+foundAnswer found.Nothing = noUnit 0
+foundAnswer (found.Refused r) = noUnit r
+
+-- value and charge alone: a refusal gives its number and 0 yen
+pub record AmountAnswer : Type 0 where
+  pub refusal : ℕ
+  pub yen : ℕ
+
+abbrev pub amountAnswer : ℕ → ℕ → AmountAnswer
+amountAnswer zero y = record { refusal = 0; yen = y }
+amountAnswer (suc r) y = record { refusal = suc r; yen = 0 }
+
+unfoldable pub value : ℕ → ℕ → AmountAnswer
+value lots price = amountAnswer (firstNo (askLots lots ∷ askPrice price ∷ [])) (valueOf lots price)
+
+unfoldable pub charge : ℕ → ℕ → ℕ → ℕ → AmountAnswer
+charge lots price days rate =
+    amountAnswer (firstNo (askLots lots ∷ askPrice price ∷ askTerm days rate ∷ [])) (chargeOf lots price days rate)
+
+-- the paper's number and yen for each case of the enum
+abbrev pub paidAnswer : Amount → AmountAnswer
+paidAnswer (Paid y) = record { refusal = 0; yen = y .0 }
+paidAnswer (Refused r) = record { refusal = r; yen = 0 }

@@ -1,0 +1,187 @@
+-- The settled days P1 to P11, and days of our own, as one list with one proof.
+use mathlib.Core.Path.{_≡_, refl}
+use mathlib.Core.Bool.{Bool, true, false}
+use mathlib.Core.List.{List, [], _∷_, _++_, map}
+use Prim.Native.Nat.{ℕ, zero, suc, _-_}
+use lib.ListN.{replicate, take, drop}
+use lib.IntN.{ℤ, pos, negsuc}
+use Rattle.rules.specs.declared.Book.{Book}
+use Rattle.rules.specs.declared.Entry.{Entry}
+use Rattle.rules.specs.declared.Line.{Line}
+use Rattle.rules.specs.declared.Name.the-variants as name
+use Rattle.rules.specs.Measures.{unitLots, valueOf, chargeOf}
+use Rattle.rules.specs.Units.{Part, part, units, unitsOfNets, sumLots}
+use Rattle.rules.specs.Handover.{handovers, partials}
+use Rattle.rules.specs.Fails.{lacks, fails}
+use Rattle.rules.specs.Ledger.{entry, pairing}
+use Rattle.rules.specs.Book.{conditions, sound, orderOf, stockOf, ledgerOf, withLedger, fresh}
+use Rattle.rules.specs.Records.{Rec, recordsIn}
+use Rattle.rules.specs.Calls.{Answer, PairAnswer, UnitAnswer, noUnit, AmountAnswer, trade, close, deliver, cutoff, resolve, pairOff, roll, unit, value, charge, issuePartials, issueFails}
+use Rattle.rules.specs.Tape.{readOf, pricesOf, wordsOf, writeOf}
+use Rattle.rules.specs.Run.{Ran, ChargeLine, runOf, answerOf, failLines, chargeLines, line}
+use Rattle.rules.specs.Tally.{State, Trade, Close, Deliver, Cutoff, Resolve, PairOff, Roll, afterAll, start, inIssue}
+
+-- a lent output: the words after the last record show that they are kept
+abbrev pub lent : List ℕ
+lent = replicate 4096 7
+
+-- P5: nets 1: 230,000; 2: 250,000; 3: 150,000; 4: −230,000; 5: −400,000
+unfoldable pub traded1 : Answer
+traded1 = trade fresh 0 4 1 230000
+
+unfoldable pub traded2 : Answer
+traded2 = trade (traded1 .book) 0 5 2 250000
+
+unfoldable pub traded3 : Answer
+traded3 = trade (traded2 .book) 0 5 3 150000
+
+unfoldable pub closed : Answer
+closed = close (traded3 .book)
+
+-- P6: then 5 delivers 345,000
+unfoldable pub delivered1 : Answer
+delivered1 = deliver (closed .book) 0 5 345000 lent
+
+-- P7: 4 delivers 200,000
+unfoldable pub delivered2 : Answer
+delivered2 = deliver (delivered1 .book) 0 4 200000 lent
+
+-- P8: cutoff
+unfoldable pub cut : Answer
+cut = cutoff (delivered2 .book) lent
+
+-- P9: roll, 1 day, 300, price 100,000
+unfoldable pub rolled1 : Answer
+rolled1 = roll (cut .book) 1 300 (replicate 16 100000)
+
+-- an entry of issue 0, day 0
+abbrev pub fail : ℕ → ℕ → ℕ → Entry
+fail f t x = entry 0 f t x 0
+
+-- P10: ledger 1→2 30, 2→3 20, 2→1 5; pair-off of 2
+unfoldable pub pairedOff : PairAnswer
+pairedOff = pairOff (withLedger fresh (fail 1 2 30 ∷ fail 2 3 20 ∷ fail 2 1 5 ∷ [])) 0 2
+
+-- after P8, 4 delivers 6,000 of what it failed: its first entry is met and removed, its second falls
+unfoldable pub resolved : Answer
+resolved = resolve (cut .book) 0 4 6000 lent
+
+-- the example of 'The program'
+abbrev pub exampleTape : List ℕ
+exampleTape = 0x10042000 ∷ 0x80000003 ∷ 0x50000000 ∷ 0x60000000 ∷ []
+
+unfoldable pub exampleRun : Ran
+exampleRun = runOf exampleTape false
+
+-- the same calls as P5 to P8 and the resolve after it, tallied
+unfoldable pub tallied : State
+tallied =
+    afterAll start
+    (Trade 0 4 1 230000 ∷ Trade 0 5 2 250000 ∷ Trade 0 5 3 150000 ∷ Close ∷ Deliver 0 5 345000 lent
+    ∷ Deliver 0 4 200000 lent ∷ [])
+
+unfoldable pub talliedCut : State
+talliedCut = afterAll tallied (Cutoff lent ∷ Resolve 0 4 6000 lent ∷ [])
+
+-- number, count and the first words of the output
+abbrev pub numbers : ℕ → Answer → List ℕ
+numbers n a = a .refusal ∷ a .count ∷ take n (a .out)
+
+-- a case: what the definitions give, and what the paper states
+pub data Case : Type 1 where
+  case : {A : Type 0} → A → A → Case
+
+abbrev pub Holds : List Case → Type 0
+Holds [] = Unit {0}
+Holds (case x y ∷ cs) = (x ≡ y) × Holds cs
+
+-- P1 to P4: 99,999: one small unit. 100,000: one full. 100,001: a full and 1. 0: none
+abbrev pub unitDays : List Case
+unitDays =
+    case (unitsOfNets unitLots (pos 99999 ∷ [])) (part 0 99999 ∷ [])
+    ∷ case (unitsOfNets unitLots (pos 100000 ∷ [])) (part 0 100000 ∷ [])
+    ∷ case (unitsOfNets unitLots (pos 100001 ∷ [])) (part 0 100000 ∷ part 0 1 ∷ [])
+    ∷ case (unitsOfNets unitLots (pos 0 ∷ [])) []
+    ∷ []
+
+-- P5 to P9, through the calls on the whole book
+abbrev pub bookDays : List Case
+bookDays =
+    -- P5: order by account 2 2 1 1 3, then 2 (50,000), 3 (50,000), 1 (30,000)
+    case (orderOf (closed .book) 0)
+    (part 2 100000 ∷ part 2 100000 ∷ part 1 100000 ∷ part 1 100000 ∷ part 3 100000
+    ∷ part 2 50000 ∷ part 3 50000 ∷ part 1 30000 ∷ [])
+    ∷ case (unit (closed .book) 0 7) (record { refusal = 0; some = true; account = 1; lots = 30000 })
+    ∷ case (unit (closed .book) 0 8) (noUnit 0)
+    -- P6: three units, stock 45,000
+    ∷ case (numbers 7 delivered1)
+    (0 ∷ 3 ∷ 0xa0002000 ∷ 0x800186a0 ∷ 0xa0002000 ∷ 0x800186a0 ∷ 0xa0001000 ∷ 0x800186a0 ∷ 7 ∷ [])
+    ∷ case (stockOf (delivered1 .book) 0) 45000
+    -- P7: two units, stock 45,000
+    ∷ case (numbers 5 delivered2) (0 ∷ 2 ∷ 0xa0001000 ∷ 0x800186a0 ∷ 0xa0003000 ∷ 0x800186a0 ∷ 7 ∷ [])
+    ∷ case (stockOf (delivered2 .book) 0) 45000
+    -- P8: 45,000 to 2; fails 4→2 5,000, 4→3 25,000, 5→3 25,000, 5→1 30,000
+    ∷ case (numbers 11 cut)
+    (0 ∷ 5 ∷ 0xa0002000 ∷ 0x8000afc8 ∷ 0xc0102000 ∷ 0x80001388 ∷ 0xc0103000 ∷ 0x800061a8
+    ∷ 0xc0143000 ∷ 0x800061a8 ∷ 0xc0141000 ∷ 0x80007530 ∷ 7 ∷ [])
+    ∷ case (ledgerOf (cut .book)) (fail 4 2 5000 ∷ fail 4 3 25000 ∷ fail 5 3 25000 ∷ fail 5 1 30000 ∷ [])
+    -- P9: charges 1: 123,287; 2: 20,547; 3: 205,478; 4: −123,286; 5: −226,026
+    ∷ case (rolled1 .book .charges)
+    (pos 0 ∷ pos 123287 ∷ pos 20547 ∷ pos 205478 ∷ negsuc 123285 ∷ negsuc 226025 ∷ replicate 58 (pos 0))
+    ∷ []
+
+-- P10 and P11, and lots 0 and 20,000,001: refused 7
+abbrev pub ledgerDays : List Case
+ledgerDays =
+    -- P10: 1→2 5, 1→3 20; 2 steps, 25 lots
+    case (ledgerOf (pairedOff .book)) (fail 1 2 5 ∷ fail 1 3 20 ∷ [])
+    ∷ case (pairedOff .refusal ∷ pairedOff .steps ∷ pairedOff .cancelled ∷ []) (0 ∷ 2 ∷ 25 ∷ [])
+    -- P11: 1 lot at 99,999: value 49,999; 12 days at 10,000: 1,643
+    ∷ case (value 1 99999) (record { refusal = 0; yen = 49999 })
+    ∷ case (charge 1 99999 12 10000) (record { refusal = 0; yen = 1643 })
+    ∷ case (trade fresh 0 1 2 0 .refusal ∷ trade fresh 0 1 2 20000001 .refusal ∷ []) (7 ∷ 7 ∷ [])
+    ∷ case (value 0 1) (record { refusal = 7; yen = 0 })
+    ∷ case (value 20000001 1) (record { refusal = 7; yen = 0 })
+    ∷ []
+
+-- the example of 'The program', through tape and run
+abbrev pub programDays : List Case
+programDays =
+    case (exampleRun .lines) (line 0 name.Trade 0 0 ∷ line 2 name.Close 0 0 ∷ line 3 name.Cutoff 0 1 ∷ [])
+    ∷ case (failLines (exampleRun .book)) (fail 1 2 3 ∷ [])
+    ∷ case (chargeLines (exampleRun .book)) []
+    ∷ []
+
+-- days of our own
+abbrev pub ownDays : List Case
+ownDays =
+    -- charge rounds twice: 1 lot at 61 has value 30, and 12 days at 10,000 give 0 and not 1
+    case (charge 1 61 12 10000) (record { refusal = 0; yen = 0 })
+    -- lots are asked before the price
+    ∷ case (value 0 0) (record { refusal = 7; yen = 0 })
+    -- the limits themselves are within
+    ∷ case (charge 20000000 200000 12 10000) (record { refusal = 0; yen = 65753424657 })
+    -- resolve: 4→2 is met whole and goes, 4→3 falls
+    ∷ case (numbers 5 resolved) (0 ∷ 2 ∷ 0xb0102000 ∷ 0x80001388 ∷ 0xb0103000 ∷ 0x800003e8 ∷ 7 ∷ [])
+    ∷ case (ledgerOf (resolved .book)) (fail 4 3 24000 ∷ fail 5 3 25000 ∷ fail 5 1 30000 ∷ [])
+    -- a last word of 1 to 3 bytes is not whole
+    ∷ case (runOf [] true .lines) (line 0 name.Tape 13 0 ∷ [])
+    -- a wrong word that is present gives 14 even if later words lack
+    ∷ case (runOf (0x20000001 ∷ []) false .lines) (line 0 name.Tape 14 0 ∷ [])
+    -- the tally of P5 to P7, and of P8 and the resolve after it
+    ∷ case (inIssue (tallied .tally .today .given) 0 - sumLots (tallied .tally .rows 0)) 45000
+    ∷ case (talliedCut .tally .rows 0)
+    (part 2 100000 ∷ part 2 100000 ∷ part 1 100000 ∷ part 1 100000 ∷ part 3 100000 ∷ part 2 45000 ∷ [])
+    ∷ case
+    (talliedCut .tally .inAll .handed 0 2 ∷ talliedCut .tally .inAll .handed 0 3 ∷ talliedCut .tally .inAll .given 0 4 ∷ [])
+    (250000 ∷ 101000 ∷ 206000 ∷ [])
+    ∷ []
+
+unfoldable pub settledDays : List Case
+settledDays = unitDays ++ bookDays ++ ledgerDays ++ programDays ++ ownDays
+
+-- each by computing what the definitions give
+pub settled : Holds settledDays
+unfolding settledDays units handovers partials lacks fails pairing valueOf chargeOf conditions sound orderOf issuePartials issueFails trade close deliver cutoff resolve pairOff roll unit value charge readOf pricesOf answerOf runOf inIssue traded1 traded2 traded3 closed delivered1 delivered2 cut rolled1 pairedOff resolved exampleRun tallied talliedCut
+settled =
+    (refl, (refl, (refl, (refl, (refl, (refl, (refl, (refl, (refl, (refl, (refl, (refl, (refl, (refl, (refl, (refl, (refl, (refl, (refl, (refl, (refl, (refl, (refl, (refl, (refl, (refl, (refl, (refl, (refl, (refl, (refl, (refl, (refl, (refl, tt))))))))))))))))))))))))))))))))))

@@ -1,0 +1,14 @@
+-- Document 01 as definitions, in its order.
+pub mod Measures
+pub mod Units
+pub mod Handover
+pub mod Fails
+pub mod Ledger
+pub mod Book
+pub mod Records
+pub mod Questions
+pub mod Calls
+pub mod Tape
+pub mod Run
+pub mod Tally
+pub mod Days

@@ -1,0 +1,84 @@
+-- Measures: lots, yen and prices; the limits, each named once; value and charge.
+use mathlib.Core.Bool.{Bool, _&&_}
+use Prim.Native.Nat.{ℕ, zero, suc, _+_, _*_, _/_}
+use lib.Dec.{leb}
+use lib.IntN.{ℤ, pos, negsuc}
+use mathlib.Core.List.{List, [], _∷_}
+
+-- 16 issues (0 to 15)
+abbrev pub issueCount : ℕ
+issueCount = 16
+
+-- 64 netting accounts (0 to 63)
+abbrev pub accountCount : ℕ
+accountCount = 64
+
+-- a unit is at most 5 billion yen (001), so 100,000 lots
+abbrev pub unitLots : ℕ
+unitLots = 100000
+
+-- lots of a trade, a delivery or an entry, and the size of a net, are at most 20,000,000
+abbrev pub mostLots : ℕ
+mostLots = 20000000
+
+-- a ledger of at most 2,048 fail entries
+abbrev pub mostEntries : ℕ
+mostEntries = 2048
+
+-- day 0 to 65,535
+abbrev pub lastDay : ℕ
+lastDay = 65535
+
+-- days of a roll are 1..12
+abbrev pub mostDays : ℕ
+mostDays = 12
+
+-- rate 0..10,000, in hundredths of a percent a year (house)
+abbrev pub mostRate : ℕ
+mostRate = 10000
+
+-- prices 1..200,000, in thousandths of a yen per 100 yen face
+abbrev pub mostPrice : ℕ
+mostPrice = 200000
+
+-- each charge is of size at most this × day
+abbrev pub mostCharge : ℕ
+mostCharge = 134663013697536
+
+-- the output lent to deliver, cutoff or resolve has at least 4,096 words
+abbrev pub outputWords : ℕ
+outputWords = 4096
+
+-- and that of the tape writer at least 17
+abbrev pub tapeWords : ℕ
+tapeWords = 17
+
+-- x lies in lo..hi
+abbrev pub between : ℕ → ℕ → ℕ → Bool
+between lo hi x = leb lo x && leb x hi
+
+-- the sum of a number of each element
+abbrev pub total {ℓ} : {A : Type ℓ} → (A → ℕ) → List A → ℕ
+total f [] = 0
+total f (x ∷ xs) = f x + total f xs
+
+abbrev pub sum : List ℕ → ℕ
+sum xs = total (λ x. x) xs
+
+-- the lots due to an account: its net where that is positive
+abbrev pub dueOf : ℤ → ℕ
+dueOf (pos n) = n
+dueOf (negsuc n) = 0
+
+-- the lots that an account owes: its net's size where that is negative
+abbrev pub owedOf : ℤ → ℕ
+owedOf (pos n) = 0
+owedOf (negsuc n) = suc n
+
+-- value = lots × price / 2 rounded down
+unfoldable pub valueOf : ℕ → ℕ → ℕ
+valueOf lots price = lots * price / 2
+
+-- charge = value × rate × days / 3,650,000 rounded down
+unfoldable pub chargeOf : ℕ → ℕ → ℕ → ℕ → ℕ
+chargeOf lots price days rate = valueOf lots price * rate * days / 3650000

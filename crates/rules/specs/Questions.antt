@@ -1,0 +1,96 @@
+-- The desk's questions, in the paper's order; the first 'no' gives its number.
+use mathlib.Core.Bool.{Bool, true, false, not, _&&_}
+use mathlib.Core.List.{List, [], _∷_}
+use Prim.Native.Nat.{ℕ, zero, suc, _+_}
+use lib.Dec.{leb, ltb, eqb}
+use lib.ListN.{length}
+use lib.IntN.{ℤ, pos, _+ℤ_, _-ℤ_}
+use Rattle.rules.specs.declared.Book.{Book}
+use Rattle.rules.specs.declared.Entry.{Entry}
+use Rattle.rules.specs.Measures.{mostLots, mostEntries, lastDay, mostDays, mostRate, mostPrice, between, owedOf}
+use Rattle.rules.specs.Ledger.{isFrom, lotsOf}
+use Rattle.rules.specs.Book.{isTaking, isSettling, isCut, all, withinSize, netAt, deliveredAt, ledgerOf, sound}
+
+pub data Question : Type 0 where
+  ask : ℕ → Bool → Question
+
+-- the number of the first 'no', 0 where there is none
+abbrev pub firstNo : List Question → ℕ
+firstNo [] = 0
+firstNo (ask n true ∷ qs) = firstNo qs
+firstNo (ask n false ∷ qs) = n
+
+-- 1. Has the output at least so many words?
+abbrev pub askOutput : ℕ → List ℕ → Question
+askOutput least out = ask 1 (leb least (length out))
+
+-- 2. Is the book sound?
+abbrev pub askSound : Book → Question
+askSound b = ask 2 (sound b)
+
+-- 3. Is this the call's phase?
+abbrev pub askTaking : Book → Question
+askTaking b = ask 3 (isTaking (b .phase))
+
+abbrev pub askSettling : Book → Question
+askSettling b = ask 3 (isSettling (b .phase))
+
+abbrev pub askCut : Book → Question
+askCut b = ask 3 (isCut (b .phase))
+
+-- 4. Is the issue at most 15?
+abbrev pub askIssue : ℕ → Question
+askIssue i = ask 4 (leb i 15)
+
+-- 5. Is each account at most 63?
+abbrev pub askAccount : ℕ → Question
+askAccount a = ask 5 (leb a 63)
+
+abbrev pub askAccounts : ℕ → ℕ → Question
+askAccounts f t = ask 5 (leb f 63 && leb t 63)
+
+-- 6. Do from and to differ?
+abbrev pub askDiffer : ℕ → ℕ → Question
+askDiffer f t = ask 6 (not (eqb f t))
+
+-- 7. Are lots 1..20,000,000?
+abbrev pub askLots : ℕ → Question
+askLots x = ask 7 (between 1 mostLots x)
+
+-- 8. Do both nets stay within ±20,000,000 after the trade?
+abbrev pub askNets : Book → ℕ → ℕ → ℕ → ℕ → Question
+askNets b i f t x =
+    ask 8 (withinSize mostLots (netAt b i f -ℤ pos x) && withinSize mostLots (netAt b i t +ℤ pos x))
+
+-- 9. Does the account still owe that many lots, today (deliver) or in the ledger (resolve)?
+abbrev pub askOwedToday : Book → ℕ → ℕ → ℕ → Question
+askOwedToday b i a x = ask 9 (leb (deliveredAt b i a + x) (owedOf (netAt b i a)))
+
+abbrev pub askOwedInLedger : Book → ℕ → ℕ → ℕ → Question
+askOwedInLedger b i a x = ask 9 (leb x (lotsOf (isFrom i a) (ledgerOf b)))
+
+-- 10. Do old and new entries together number at most 2,048?
+abbrev pub askEntries : Book → List Entry → Question
+askEntries b new = ask 10 (leb (b .count + length new) mostEntries)
+
+-- 11. Are days 1..12, rate 0..10,000, prices sixteen and each 1..200,000?
+abbrev pub termRight : ℕ → ℕ → Bool
+termRight days rate = between 1 mostDays days && leb rate mostRate
+
+abbrev pub priceRight : ℕ → Bool
+priceRight price = between 1 mostPrice price
+
+abbrev pub askRoll : ℕ → ℕ → List ℕ → Question
+askRoll days rate prices = ask 11 (termRight days rate && eqb (length prices) 16 && all priceRight prices)
+
+abbrev pub askPrice : ℕ → Question
+askPrice price = ask 11 (priceRight price)
+
+abbrev pub askTerm : ℕ → ℕ → Question
+askTerm days rate = ask 11 (termRight days rate)
+
+-- 12. Is the day below 65,535?
+abbrev pub askDay : Book → Question
+askDay b = ask 12 (ltb (b .day) lastDay)
+
+-- 13 and 14 are asked of a tape's words one by one, and 15 of the writer's fields: see Tape

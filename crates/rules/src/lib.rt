@@ -1,0 +1,116 @@
+// The types of the settlement-day book: measures, book, answers, instructions. No code stands here;
+// what they mean is in specs/, which reads beside document 01 from top to bottom.
+
+// A quantity of bonds, in lots of 50,000 yen face.
+pub struct Lots(pub u32);
+
+// Money, in yen.
+pub struct Yen(pub u64);
+
+// What value and charge answer: yen, or the number of the question answered 'no'.
+pub enum Amount {
+    Paid(Yen),
+    Refused(u32),
+}
+
+pub enum Phase {
+    Taking,
+    Settling,
+    Cut,
+}
+
+// The book. Nets and delivered lots of issue i and account a stand at i * 64 + a. The ledger's
+// entries are the first `count` of five columns: issue, from, to, lots, day.
+pub struct Book {
+    pub day: u16,
+    pub phase: Phase,
+    pub nets: [i32; 1024],
+    pub delivered: [u32; 1024],
+    pub charges: [i64; 64],
+    pub count: usize,
+    pub issues: [u8; 2048],
+    pub froms: [u8; 2048],
+    pub tos: [u8; 2048],
+    pub lots: [u32; 2048],
+    pub days: [u16; 2048],
+}
+
+// A fail entry of the ledger.
+pub struct Entry {
+    pub issue: u8,
+    pub from: u8,
+    pub to: u8,
+    pub lots: u32,
+    pub day: u16,
+}
+
+// What a call answers: the refusal's number (0: done), the count of records written, the book.
+pub struct Reply {
+    pub refusal: u32,
+    pub count: usize,
+    pub book: Book,
+}
+
+// What pair-off answers: the refusal's number (0: done), steps made, lots cancelled, the book.
+pub struct Paired {
+    pub refusal: u32,
+    pub steps: usize,
+    pub cancelled: u64,
+    pub book: Book,
+}
+
+// What the unit question answers: account and lots, none, or the refusal's number.
+pub enum Found {
+    Unit(u32, u32),
+    Nothing,
+    Refused(u32),
+}
+
+// An instruction of the tape. Roll's sixteen prices stand beside it.
+pub enum Instruction {
+    // issue, from, to, lots
+    Trade(u32, u32, u32, u32),
+    // issue, account, lots
+    Deliver(u32, u32, u32),
+    // issue, account, lots
+    Resolve(u32, u32, u32),
+    // issue, account
+    PairOff(u32, u32),
+    Close,
+    Cutoff,
+    // days, rate
+    Roll(u32, u32),
+}
+
+// What the tape reader answers: the instruction and its word count, or the refusal's number.
+pub enum Read {
+    Instr(Instruction, usize),
+    Refused(u32),
+}
+
+// What the tape writer answers: the refusal's number (0: done), the count of words written.
+pub struct Written {
+    pub refusal: u32,
+    pub count: usize,
+}
+
+// What a line of a run names: a call, or the tape where the reader refused.
+pub enum Name {
+    Trade,
+    Deliver,
+    Resolve,
+    PairOff,
+    Close,
+    Cutoff,
+    Roll,
+    Tape,
+}
+
+// A line of a run: the index of the instruction's first word, the name, the refusal's number
+// (0: done), the count of records (for pair-off, steps).
+pub struct Line {
+    pub index: u64,
+    pub name: Name,
+    pub refusal: u32,
+    pub count: usize,
+}
