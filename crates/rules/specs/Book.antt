@@ -48,34 +48,31 @@ cell i a = i * 64 + a
 abbrev pub row {ℓ} : {A : Type ℓ} → ℕ → List A → List A
 row i xs = take 64 (drop (i * 64) xs)
 
-abbrev pub netAt : Book → ℕ → ℕ → ℤ
-netAt b i a = getD (b .nets) (cell i a) (pos 0)
+abbrev pub netAt : List ℤ → ℕ → ℕ → ℤ
+netAt nets i a = getD nets (cell i a) (pos 0)
 
-abbrev pub deliveredAt : Book → ℕ → ℕ → ℕ
-deliveredAt b i a = getD (b .delivered) (cell i a) 0
+abbrev pub deliveredAt : List ℕ → ℕ → ℕ → ℕ
+deliveredAt delivered i a = getD delivered (cell i a) 0
 
-abbrev pub netsOf : Book → ℕ → List ℤ
-netsOf b i = row i (b .nets)
+abbrev pub duesOf : List ℤ → ℕ → List ℕ
+duesOf nets i = map dueOf (row i nets)
 
-abbrev pub duesOf : Book → ℕ → List ℕ
-duesOf b i = map dueOf (netsOf b i)
-
-abbrev pub owedsOf : Book → ℕ → List ℕ
-owedsOf b i = map owedOf (netsOf b i)
-
-abbrev pub deliveredOf : Book → ℕ → List ℕ
-deliveredOf b i = row i (b .delivered)
+abbrev pub owedsOf : List ℤ → ℕ → List ℕ
+owedsOf nets i = map owedOf (row i nets)
 
 -- the issue's delivered total
-abbrev pub deliveredTotal : Book → ℕ → ℕ
-deliveredTotal b i = sum (deliveredOf b i)
+abbrev pub deliveredTotal : List ℕ → ℕ → ℕ
+deliveredTotal delivered i = sum (row i delivered)
 
 -- the issue's units in the order of the day
-unfoldable pub orderOf : Book → ℕ → List Part
-orderOf b i = units unitLots (duesOf b i)
+unfoldable pub orderIn : List ℤ → ℕ → List Part
+orderIn nets i = units unitLots (duesOf nets i)
+
+abbrev pub orderOf : Book → ℕ → List Part
+orderOf b i = orderIn (b .nets) i
 
 abbrev pub stockOf : Book → ℕ → ℕ
-stockOf b i = stock (orderOf b i) (deliveredTotal b i)
+stockOf b i = stock (orderOf b i) (deliveredTotal (b .delivered) i)
 
 abbrev pub headOr0 : List ℕ → ℕ
 headOr0 [] = 0
@@ -126,7 +123,7 @@ conditions b =
     -- each net lies in −20,000,000..20,000,000
     all (withinSize mostLots) (b .nets)
     -- each issue's nets sum to 0
-    ∷ all (λ i. balanced (netsOf b i)) (tab (λ i. i) 0 issueCount)
+    ∷ all (λ i. balanced (row i (b .nets))) (tab (λ i. i) 0 issueCount)
     -- delivered lots are at most what is owed
     ∷ withinOwed (b .nets) (b .delivered)
     -- and are 0 throughout in Taking

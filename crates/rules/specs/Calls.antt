@@ -12,6 +12,7 @@ use Rattle.rules.specs.declared.Entry.{Entry}
 use Rattle.rules.specs.declared.Found.{Found}
 use Rattle.rules.specs.declared.Found.the-variants as found
 use Rattle.rules.specs.declared.Paired.{Paired}
+use Rattle.rules.specs.declared.Phase.{Phase}
 use Rattle.rules.specs.declared.Phase.the-variants.{Taking, Settling, Cut}
 use Rattle.rules.specs.declared.Reply.{Reply}
 use Rattle.rules.specs.Measures.{issueCount, unitLots, outputWords, valueOf, chargeOf}
@@ -19,7 +20,7 @@ use Rattle.rules.specs.Units.{Part}
 use Rattle.rules.specs.Handover.{handovers, partials}
 use Rattle.rules.specs.Fails.{Fail, fails}
 use Rattle.rules.specs.Ledger.{entry, isFrom, meet, met, Pairing, pairing, charged}
-use Rattle.rules.specs.Book.{tab, cell, netAt, deliveredAt, owedsOf, deliveredOf, deliveredTotal, orderOf, ledgerOf, withDay, withPhase, withNets, withDelivered, withCharges, withLedger}
+use Rattle.rules.specs.Book.{tab, row, cell, netAt, deliveredAt, owedsOf, deliveredTotal, orderIn, orderOf, ledgerOf, withDay, withPhase, withNets, withDelivered, withCharges, withLedger}
 use Rattle.rules.specs.Records.{Rec, handover, recordOf, words, over}
 use Rattle.rules.specs.Questions.{Question, firstNo, askOutput, askSound, askTaking, askSettling, askCut, askIssue, askAccount, askAccounts, askDiffer, askLots, askNets, askOwedToday, askOwedInLedger, askEntries, askRoll, askPrice, askTerm, askDay}
 
@@ -43,89 +44,96 @@ pub record AnswerIs (d : Answer) (r : Reply) (lent : List ℕ) : Type 0 where
   pub out : lent ≡ d .out
 
 -- trade issue, from, to, lots (Taking): from's net falls, to's rises
-abbrev pub tradeQuestions : Book → ℕ → ℕ → ℕ → ℕ → List Question
-tradeQuestions b i f t x =
-    askSound b ∷ askTaking b ∷ askIssue i ∷ askAccounts f t ∷ askDiffer f t ∷ askLots x ∷ askNets b i f t x ∷ []
+abbrev pub tradeAsks : Phase → List ℤ → ℕ → ℕ → ℕ → ℕ → List Question
+tradeAsks phase nets i f t x =
+    askTaking phase ∷ askIssue i ∷ askAccounts f t ∷ askDiffer f t ∷ askLots x ∷ askNets nets i f t x ∷ []
 
-abbrev pub tradedNets : Book → ℕ → ℕ → ℕ → ℕ → List ℤ
-tradedNets b i f t x = set (set (b .nets) (cell i f) (netAt b i f -ℤ pos x)) (cell i t) (netAt b i t +ℤ pos x)
+abbrev pub tradedNets : List ℤ → ℕ → ℕ → ℕ → ℕ → List ℤ
+tradedNets nets i f t x = set (set nets (cell i f) (netAt nets i f -ℤ pos x)) (cell i t) (netAt nets i t +ℤ pos x)
 
 unfoldable pub trade : Book → ℕ → ℕ → ℕ → ℕ → Answer
-trade b i f t x = answer (firstNo (tradeQuestions b i f t x)) b [] (withNets b (tradedNets b i f t x)) []
+trade b i f t x =
+    answer (firstNo (askSound b ∷ tradeAsks (b .phase) (b .nets) i f t x)) b [] (withNets b (tradedNets (b .nets) i f t x)) []
 
 -- close (Taking): to Settling
-abbrev pub closeQuestions : Book → List Question
-closeQuestions b = askSound b ∷ askTaking b ∷ []
+abbrev pub closeAsks : Phase → List Question
+closeAsks phase = askTaking phase ∷ []
 
 unfoldable pub close : Book → Answer
-close b = answer (firstNo (closeQuestions b)) b [] (withPhase b Settling) []
+close b = answer (firstNo (askSound b ∷ closeAsks (b .phase))) b [] (withPhase b Settling) []
 
 -- deliver issue, account, lots (Settling): delivered rises; one record a unit handed over
-abbrev pub deliverQuestions : Book → ℕ → ℕ → ℕ → List ℕ → List Question
-deliverQuestions b i a x out =
-    askOutput outputWords out ∷ askSound b ∷ askSettling b ∷ askIssue i ∷ askAccount a ∷ askLots x
-    ∷ askOwedToday b i a x ∷ []
+abbrev pub deliverAsks : Phase → List ℤ → List ℕ → ℕ → ℕ → ℕ → List Question
+deliverAsks phase nets delivered i a x =
+    askSettling phase ∷ askIssue i ∷ askAccount a ∷ askLots x ∷ askOwedToday nets delivered i a x ∷ []
 
-abbrev pub raisedDelivered : Book → ℕ → ℕ → ℕ → List ℕ
-raisedDelivered b i a x = set (b .delivered) (cell i a) (deliveredAt b i a + x)
+abbrev pub raisedDelivered : List ℕ → ℕ → ℕ → ℕ → List ℕ
+raisedDelivered delivered i a x = set delivered (cell i a) (deliveredAt delivered i a + x)
 
-abbrev pub deliverRecords : Book → ℕ → ℕ → List Rec
-deliverRecords b i x = map (handover i) (handovers (orderOf b i) (deliveredTotal b i) x)
+abbrev pub deliverRecords : List ℤ → List ℕ → ℕ → ℕ → List Rec
+deliverRecords nets delivered i x = map (handover i) (handovers (orderIn nets i) (deliveredTotal delivered i) x)
 
 unfoldable pub deliver : Book → ℕ → ℕ → ℕ → List ℕ → Answer
 deliver b i a x out =
-    answer (firstNo (deliverQuestions b i a x out)) b out (withDelivered b (raisedDelivered b i a x)) (deliverRecords b i x)
+    answer (firstNo (askOutput outputWords out ∷ askSound b ∷ deliverAsks (b .phase) (b .nets) (b .delivered) i a x)) b out
+    (withDelivered b (raisedDelivered (b .delivered) i a x))
+    (deliverRecords (b .nets) (b .delivered) i x)
 
 -- cutoff (Settling): for issues ascending, the stock to the next unit, then the fails. To Cut
-unfoldable pub issuePartials : Book → ℕ → List Part
-issuePartials b i = partials (orderOf b i) (deliveredTotal b i)
+unfoldable pub issuePartials : List ℤ → List ℕ → ℕ → List Part
+issuePartials nets delivered i = partials (orderIn nets i) (deliveredTotal delivered i)
 
-unfoldable pub issueFails : Book → ℕ → List Fail
-issueFails b i = fails unitLots (orderOf b i) (owedsOf b i) (deliveredOf b i)
+unfoldable pub issueFails : List ℤ → List ℕ → ℕ → List Fail
+issueFails nets delivered i = fails unitLots (orderIn nets i) (owedsOf nets i) (row i delivered)
 
 -- each overlap is one ledger entry, with today's day
 abbrev pub failEntry : ℕ → ℕ → Fail → Entry
 failEntry today i f = entry i (f .from) (f .to) (f .lots) today
 
-abbrev pub issueEntries : Book → ℕ → List Entry
-issueEntries b i = map (failEntry (b .day) i) (issueFails b i)
+abbrev pub issueEntries : ℕ → List ℤ → List ℕ → ℕ → List Entry
+issueEntries today nets delivered i = map (failEntry today i) (issueFails nets delivered i)
 
 -- its 10 if any and then its 12s
-abbrev pub issueRecords : Book → ℕ → List Rec
-issueRecords b i = map (handover i) (issuePartials b i) ++ map (recordOf 12) (issueEntries b i)
+abbrev pub issueRecords : ℕ → List ℤ → List ℕ → ℕ → List Rec
+issueRecords today nets delivered i =
+    map (handover i) (issuePartials nets delivered i) ++ map (recordOf 12) (issueEntries today nets delivered i)
 
 abbrev pub joined {ℓ} : {A : Type ℓ} → List (List A) → List A
 joined [] = []
 joined (xs ∷ xss) = xs ++ joined xss
 
-abbrev pub newEntries : Book → List Entry
-newEntries b = joined (tab (issueEntries b) 0 issueCount)
+abbrev pub newEntries : ℕ → List ℤ → List ℕ → List Entry
+newEntries today nets delivered = joined (tab (issueEntries today nets delivered) 0 issueCount)
 
-abbrev pub cutoffRecords : Book → List Rec
-cutoffRecords b = joined (tab (issueRecords b) 0 issueCount)
+abbrev pub cutoffRecords : ℕ → List ℤ → List ℕ → List Rec
+cutoffRecords today nets delivered = joined (tab (issueRecords today nets delivered) 0 issueCount)
 
-abbrev pub cutoffQuestions : Book → List ℕ → List Question
-cutoffQuestions b out =
-    askOutput outputWords out ∷ askSound b ∷ askSettling b ∷ askEntries b (newEntries b) ∷ []
+abbrev pub cutoffAsks : Phase → ℕ → ℕ → List Question
+cutoffAsks phase old new = askSettling phase ∷ askEntries old new ∷ []
 
 unfoldable pub cutoff : Book → List ℕ → Answer
 cutoff b out =
-    answer (firstNo (cutoffQuestions b out)) b out (withPhase (withLedger b (ledgerOf b ++ newEntries b)) Cut)
-    (cutoffRecords b)
+    let new = newEntries (b .day) (b .nets) (b .delivered) in
+    answer (firstNo (askOutput outputWords out ∷ askSound b ∷ cutoffAsks (b .phase) (b .count) (length new))) b out
+    (withPhase (withLedger b (ledgerOf b ++ new)) Cut)
+    (cutoffRecords (b .day) (b .nets) (b .delivered))
 
 -- resolve issue, account, lots (any phase): entries from that account are met; one record an entry
-abbrev pub resolveQuestions : Book → ℕ → ℕ → ℕ → List ℕ → List Question
-resolveQuestions b i a x out =
-    askOutput outputWords out ∷ askSound b ∷ askIssue i ∷ askAccount a ∷ askLots x ∷ askOwedInLedger b i a x ∷ []
+abbrev pub resolveAsks : List Entry → ℕ → ℕ → ℕ → List Question
+resolveAsks es i a x = askIssue i ∷ askAccount a ∷ askLots x ∷ askOwedInLedger es i a x ∷ []
+
+abbrev pub resolveRecords : List Entry → ℕ → ℕ → ℕ → List Rec
+resolveRecords es i a x = map (recordOf 11) (met (isFrom i a) x es)
 
 unfoldable pub resolve : Book → ℕ → ℕ → ℕ → List ℕ → Answer
 resolve b i a x out =
-    answer (firstNo (resolveQuestions b i a x out)) b out (withLedger b (meet (isFrom i a) x (ledgerOf b)))
-    (map (recordOf 11) (met (isFrom i a) x (ledgerOf b)))
+    answer (firstNo (askOutput outputWords out ∷ askSound b ∷ resolveAsks (ledgerOf b) i a x)) b out
+    (withLedger b (meet (isFrom i a) x (ledgerOf b)))
+    (resolveRecords (ledgerOf b) i a x)
 
 -- pair-off issue, account (any phase; house): the answer carries the steps made and lots cancelled
-abbrev pub pairOffQuestions : Book → ℕ → ℕ → List Question
-pairOffQuestions b i a = askSound b ∷ askIssue i ∷ askAccount a ∷ []
+abbrev pub pairOffAsks : ℕ → ℕ → List Question
+pairOffAsks i a = askIssue i ∷ askAccount a ∷ []
 
 pub record PairAnswer : Type 0 where
   pub refusal : ℕ
@@ -138,7 +146,7 @@ pairAnswer zero b p = record { refusal = 0; steps = p .steps; cancelled = p .can
 pairAnswer (suc r) b p = record { refusal = suc r; steps = 0; cancelled = 0; book = b }
 
 unfoldable pub pairOff : Book → ℕ → ℕ → PairAnswer
-pairOff b i a = pairAnswer (firstNo (pairOffQuestions b i a)) b (pairing (b .day) i a (ledgerOf b))
+pairOff b i a = pairAnswer (firstNo (askSound b ∷ pairOffAsks i a)) b (pairing (b .day) i a (ledgerOf b))
 
 pub record PairAnswerIs (d : PairAnswer) (r : Paired) : Type 0 where
   pub refusal : r .refusal ≡ d .refusal
@@ -147,8 +155,8 @@ pub record PairAnswerIs (d : PairAnswer) (r : Paired) : Type 0 where
   pub book : r .book ≡ d .book
 
 -- roll days, rate, sixteen prices (Cut): charges; then nets and delivered lots are 0, day rises by 1, to Taking
-abbrev pub rollQuestions : Book → ℕ → ℕ → List ℕ → List Question
-rollQuestions b days rate prices = askSound b ∷ askCut b ∷ askRoll days rate prices ∷ askDay b ∷ []
+abbrev pub rollAsks : Phase → ℕ → ℕ → ℕ → List ℕ → List Question
+rollAsks phase today days rate prices = askCut phase ∷ askRoll days rate prices ∷ askDay today ∷ []
 
 abbrev pub rolled : Book → ℕ → ℕ → List ℕ → Book
 rolled b days rate prices =
@@ -160,7 +168,8 @@ rolled b days rate prices =
     Taking
 
 unfoldable pub roll : Book → ℕ → ℕ → List ℕ → Answer
-roll b days rate prices = answer (firstNo (rollQuestions b days rate prices)) b [] (rolled b days rate prices) []
+roll b days rate prices =
+    answer (firstNo (askSound b ∷ rollAsks (b .phase) (b .day) days rate prices)) b [] (rolled b days rate prices) []
 
 -- the k-th unit of an issue, k from 0: account and lots, or 'none' exactly when k is not below the number of units
 pub record UnitAnswer : Type 0 where

@@ -14,7 +14,7 @@ use Rattle.rules.specs.Units.{Part, part, units, unitsOfNets, sumLots}
 use Rattle.rules.specs.Handover.{handovers, partials}
 use Rattle.rules.specs.Fails.{lacks, fails}
 use Rattle.rules.specs.Ledger.{entry, pairing}
-use Rattle.rules.specs.Book.{conditions, sound, orderOf, stockOf, ledgerOf, withLedger, fresh}
+use Rattle.rules.specs.Book.{conditions, sound, orderIn, orderOf, stockOf, ledgerOf, withLedger, fresh}
 use Rattle.rules.specs.Records.{Rec, recordsIn}
 use Rattle.rules.specs.Calls.{Answer, PairAnswer, UnitAnswer, noUnit, AmountAnswer, trade, close, deliver, cutoff, resolve, pairOff, roll, unit, value, charge, issuePartials, issueFails}
 use Rattle.rules.specs.Tape.{readOf, pricesOf, wordsOf, writeOf}
@@ -182,6 +182,6 @@ settledDays = unitDays ++ bookDays ++ ledgerDays ++ programDays ++ ownDays
 
 -- each by computing what the definitions give
 pub settled : Holds settledDays
-unfolding settledDays units handovers partials lacks fails pairing valueOf chargeOf conditions sound orderOf issuePartials issueFails trade close deliver cutoff resolve pairOff roll unit value charge readOf pricesOf answerOf runOf inIssue traded1 traded2 traded3 closed delivered1 delivered2 cut rolled1 pairedOff resolved exampleRun tallied talliedCut
+unfolding settledDays units handovers partials lacks fails pairing valueOf chargeOf conditions sound orderIn issuePartials issueFails trade close deliver cutoff resolve pairOff roll unit value charge readOf pricesOf answerOf runOf inIssue traded1 traded2 traded3 closed delivered1 delivered2 cut rolled1 pairedOff resolved exampleRun tallied talliedCut
 settled =
     (refl, (refl, (refl, (refl, (refl, (refl, (refl, (refl, (refl, (refl, (refl, (refl, (refl, (refl, (refl, (refl, (refl, (refl, (refl, (refl, (refl, (refl, (refl, (refl, (refl, (refl, (refl, (refl, (refl, (refl, (refl, (refl, (refl, (refl, tt))))))))))))))))))))))))))))))))))

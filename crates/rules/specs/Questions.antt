@@ -7,9 +7,10 @@ use lib.ListN.{length}
 use lib.IntN.{ℤ, pos, _+ℤ_, _-ℤ_}
 use Rattle.rules.specs.declared.Book.{Book}
 use Rattle.rules.specs.declared.Entry.{Entry}
-use Rattle.rules.specs.Measures.{mostLots, mostEntries, lastDay, mostDays, mostRate, mostPrice, between, owedOf}
+use Rattle.rules.specs.declared.Phase.{Phase}
+use Rattle.rules.specs.Measures.{issueCount, mostLots, mostEntries, lastDay, mostDays, mostRate, mostPrice, between, owedOf}
 use Rattle.rules.specs.Ledger.{isFrom, lotsOf}
-use Rattle.rules.specs.Book.{isTaking, isSettling, isCut, all, withinSize, netAt, deliveredAt, ledgerOf, sound}
+use Rattle.rules.specs.Book.{isTaking, isSettling, isCut, all, withinSize, netAt, deliveredAt, sound}
 
 pub data Question : Type 0 where
   ask : ℕ → Bool → Question
@@ -29,14 +30,14 @@ abbrev pub askSound : Book → Question
 askSound b = ask 2 (sound b)
 
 -- 3. Is this the call's phase?
-abbrev pub askTaking : Book → Question
-askTaking b = ask 3 (isTaking (b .phase))
+abbrev pub askTaking : Phase → Question
+askTaking p = ask 3 (isTaking p)
 
-abbrev pub askSettling : Book → Question
-askSettling b = ask 3 (isSettling (b .phase))
+abbrev pub askSettling : Phase → Question
+askSettling p = ask 3 (isSettling p)
 
-abbrev pub askCut : Book → Question
-askCut b = ask 3 (isCut (b .phase))
+abbrev pub askCut : Phase → Question
+askCut p = ask 3 (isCut p)
 
 -- 4. Is the issue at most 15?
 abbrev pub askIssue : ℕ → Question
@@ -58,20 +59,20 @@ abbrev pub askLots : ℕ → Question
 askLots x = ask 7 (between 1 mostLots x)
 
 -- 8. Do both nets stay within ±20,000,000 after the trade?
-abbrev pub askNets : Book → ℕ → ℕ → ℕ → ℕ → Question
-askNets b i f t x =
-    ask 8 (withinSize mostLots (netAt b i f -ℤ pos x) && withinSize mostLots (netAt b i t +ℤ pos x))
+abbrev pub askNets : List ℤ → ℕ → ℕ → ℕ → ℕ → Question
+askNets nets i f t x =
+    ask 8 (withinSize mostLots (netAt nets i f -ℤ pos x) && withinSize mostLots (netAt nets i t +ℤ pos x))
 
 -- 9. Does the account still owe that many lots, today (deliver) or in the ledger (resolve)?
-abbrev pub askOwedToday : Book → ℕ → ℕ → ℕ → Question
-askOwedToday b i a x = ask 9 (leb (deliveredAt b i a + x) (owedOf (netAt b i a)))
+abbrev pub askOwedToday : List ℤ → List ℕ → ℕ → ℕ → ℕ → Question
+askOwedToday nets delivered i a x = ask 9 (leb (deliveredAt delivered i a + x) (owedOf (netAt nets i a)))
 
-abbrev pub askOwedInLedger : Book → ℕ → ℕ → ℕ → Question
-askOwedInLedger b i a x = ask 9 (leb x (lotsOf (isFrom i a) (ledgerOf b)))
+abbrev pub askOwedInLedger : List Entry → ℕ → ℕ → ℕ → Question
+askOwedInLedger es i a x = ask 9 (leb x (lotsOf (isFrom i a) es))
 
 -- 10. Do old and new entries together number at most 2,048?
-abbrev pub askEntries : Book → List Entry → Question
-askEntries b new = ask 10 (leb (b .count + length new) mostEntries)
+abbrev pub askEntries : ℕ → ℕ → Question
+askEntries old new = ask 10 (leb (old + new) mostEntries)
 
 -- 11. Are days 1..12, rate 0..10,000, prices sixteen and each 1..200,000?
 abbrev pub termRight : ℕ → ℕ → Bool
@@ -81,7 +82,7 @@ abbrev pub priceRight : ℕ → Bool
 priceRight price = between 1 mostPrice price
 
 abbrev pub askRoll : ℕ → ℕ → List ℕ → Question
-askRoll days rate prices = ask 11 (termRight days rate && eqb (length prices) 16 && all priceRight prices)
+askRoll days rate prices = ask 11 (termRight days rate && eqb (length prices) issueCount && all priceRight prices)
 
 abbrev pub askPrice : ℕ → Question
 askPrice price = ask 11 (priceRight price)
@@ -90,7 +91,7 @@ abbrev pub askTerm : ℕ → ℕ → Question
 askTerm days rate = ask 11 (termRight days rate)
 
 -- 12. Is the day below 65,535?
-abbrev pub askDay : Book → Question
-askDay b = ask 12 (ltb (b .day) lastDay)
+abbrev pub askDay : ℕ → Question
+askDay today = ask 12 (ltb today lastDay)
 
 -- 13 and 14 are asked of a tape's words one by one, and 15 of the writer's fields: see Tape
