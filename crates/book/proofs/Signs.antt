@@ -5,7 +5,7 @@ use Prim.Native.Nat.{ℕ, zero, suc, _+_, _-_, _<_, _≤_, _^_}
 use native.Mathlib.Omega.{arith}
 use borrow.Author.Tests.{le-ltb, ltb-true, ltb-false, le-leb, lt-leb, leb-true, leb-false}
 use lib.Dec.{T, ltb, leb}
-use lib.IntN.{ℤ, pos, negsuc, natAbs, negℤ, subℕ, _-ℤ_, _+ℤ_}
+use lib.IntN.{ℤ, pos, negsuc, natAbs, negℤ, _-ℤ_, _+ℤ_}
 use lib.Signed.{ltZ, leZ, nonNeg, mag}
 use mir.Syntax.{Width, w32}
 use mir.Val.{Fits, SFits, toZ, ofZ, hbits}

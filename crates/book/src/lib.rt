@@ -1,10 +1,13 @@
 // The book's leaves: signed nets as lots due and lots owed, an issue's rows, the phases, soundness.
 ghost use mathlib.Core.Path.{_≡_};
-ghost use Prim.Native.Nat.{_≤_, _<_};
-ghost use lib.IntN.{natAbs};
-ghost use Rattle.rules.specs.Measures.{mostLots, dueOf, owedOf};
+ghost use mathlib.Core.List.{map};
+ghost use Prim.Native.Nat.{_<_};
+ghost use lib.ListN.{length};
+ghost use Rattle.rules.specs.Measures.{mostLots, sum, dueOf, owedOf};
+ghost use Rattle.rules.specs.Fails.{shorts};
 ghost use Rattle.rules.specs.Book.{withinSize};
 ghost use Rattle.book.specs.Nets.{Small, Lowered, Raised};
+ghost use Rattle.book.specs.Rows.{Owing};
 
 // The lots due to an account with this net, 0 where it is not positive.
 pub fn due(n: i32) -> u32
@@ -41,4 +44,44 @@ pub fn within(n: i32) -> bool
     ensures { λ r. ⌜ r ≡ withinSize mostLots n ⌝ }
 {
     -20_000_000 <= n && n <= 20_000_000
+}
+
+// The lots due to each account of an issue, from its nets.
+pub fn dues_of(net: &[i32], dues: &mut [u32])
+    requires { ⌜ length (now dues) ≡ length (now net) ⌝ }
+    ensures { λ _. ⌜ now (dues .exit) ≡ map dueOf (now (net .entry)) ⌝ }
+{
+    let mut i = 0;
+    while i < net.len() {
+        let n = net[i];
+        dues[i] = due(n);
+        i += 1;
+    }
+}
+
+// The sum of an issue's lots.
+pub fn total(d: &[u32]) -> u32
+    requires { ⌜ sum (now d) < 4294967296 ⌝ }
+    ensures { λ r. ⌜ r ≡ sum (now (d .entry)) ⌝ }
+{
+    let mut t: u32 = 0;
+    let mut i = 0;
+    while i < d.len() {
+        t += d[i];
+        i += 1;
+    }
+    t
+}
+
+// What each account of an issue owes and has not delivered.
+pub fn shorts_of(net: &[i32], delivered: &[u32], short: &mut [u32])
+    requires { ⌜ Owing (now net) (now delivered) (now short) ⌝ }
+    ensures { λ _. ⌜ now (short .exit) ≡ shorts (map owedOf (now (net .entry))) (now (delivered .entry)) ⌝ }
+{
+    let mut i = 0;
+    while i < net.len() {
+        let n = net[i];
+        short[i] = owed(n) - delivered[i];
+        i += 1;
+    }
 }

@@ -2,11 +2,11 @@
 use mathlib.Core.Path.{_≡_, refl}
 use native.Mathlib.Omega.{arith}
 use borrow.Author.Needs.{needs}
-use lib.IntN.{pos, negℤ, natAbs, _+ℤ_, _-ℤ_}
+use lib.IntN.{pos, _+ℤ_}
 use mir.Syntax.{w32}
 use mir.Val.{SFits, toZ}
 use mir.ValLaws.{toZ-ofZ, toZ-pos}
-use Rattle.book.proofs.Signs.{back, sum-fits, abs-neg, raised-parts}
+use Rattle.book.proofs.Signs.{back, sum-fits, raised-parts}
 use Rattle.book.proofs.raised.Statement.{statement}
 use Rattle.book.proofs.raised.Tie as tie
 
