@@ -2,3 +2,6 @@
 pub mod Basics
 pub mod Units
 pub mod Handover
+pub mod Cells
+pub mod Sound
+pub mod Ledger
