@@ -2,3 +2,4 @@
 pub mod Basics
 pub mod Units
 pub mod Handover
+pub mod Overlaps
