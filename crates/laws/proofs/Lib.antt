@@ -1,5 +1,7 @@
 -- Laws of the definitions.
 pub mod Basics
+pub mod Units
+pub mod Handover
 pub mod Cells
 pub mod Sound
 pub mod Ledger
