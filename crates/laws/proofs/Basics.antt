@@ -161,6 +161,10 @@ abbrev pub Every {ℓ} : {A : Type ℓ} → (A → Type 0) → List A → Type 0
 Every P [] = Unit {0}
 Every P (x ∷ xs) = P x × Every P xs
 
+pub every-of {ℓ} : {A : Type ℓ} (P : A → Type 0) (us : List A) → ((u : A) → P u) → Every P us
+every-of P [] f = tt
+every-of P (u ∷ us) f = (f u, every-of P us f)
+
 pub each-append {ℓ} : {A : Type ℓ} (P : A → Type 0) (us vs : List A) → Every P us → Every P vs → Every P (us ++ vs)
 each-append P [] vs ps qs = qs
 each-append P (u ∷ us) vs ps qs = (ps .0, each-append P us vs (ps .1) qs)
