@@ -4,13 +4,15 @@ use mathlib.Core.List.{List, [], _∷_, _++_, map, map-append}
 use Prim.Native.Nat.{ℕ, suc, _+_, _-_, _*_, _/_, _%_, _≤_, _<_}
 use native.Mathlib.Omega.{arith}
 use native.Mathlib.Numerals.{add-one}
-use lib.ListN.{length, take, drop, getD, set, length-map, List·getD-map, drop-of-length-le}
+use lib.ListN.{length, length-append, take, drop, getD, set, length-map, List·getD-map, drop-of-length-le}
 use lib.Seq.{take-suc, take-suc-set, drop-cons, getD-take, length-take-le, take-append-add, take-append-le}
+use lib.IntN.{ℤ, pos}
+use Rattle.rules.specs.Measures.{dueOf}
 use Rattle.rules.specs.Units.{parts, largestFirst}
 use Rattle.rules.specs.Handover.{covered, stock}
 use Rattle.rules.specs.declared.Found.the-variants.{Unit}
-use Rattle.units.specs.Runs.{partOf, runsIn, unitsOfRun, unitsOfRuns, fullOf, restOf, runsOf, foundOf}
-use Rattle.units.proofs.Units.{run-length, run-lots, unit-past, unit-full, unit-small, covered-past, stock-past, covered-run, stock-run}
+use Rattle.units.specs.Runs.{partOf, runsIn, unitsOfRun, unitsOfRuns, fullOf, restOf, runsOf, foundOf, Prepared}
+use Rattle.units.proofs.Units.{units-runs, run-length, run-lots, unit-past, unit-full, unit-small, covered-past, stock-past, covered-run, stock-run}
 
 -- a list filled by a function of another's elements
 pub fill-more : (f : ℕ → ℕ) (src out : List ℕ) (i : ℕ) → i < length src → i < length out →
@@ -44,6 +46,15 @@ module _ (runs : List ℕ) (n j : ℕ) (l : n ≤ length runs) where
 
   pub units-at : j < n → unitsOfRuns (drop j (runsIn runs n)) ≡ unitsOfRun (partOf (getD runs j 0)) ++ unitsOfRuns (drop (suc j) (runsIn runs n))
   units-at h = ap unitsOfRuns (runs-at h)
+
+  -- how many units there are
+  pub number-next : j < n →
+      length (unitsOfRuns (drop j (runsIn runs n)))
+      ≡ (getD runs j 0 / 64 + 99999) / 100000 + length (unitsOfRuns (drop (j + 1) (runsIn runs n)))
+  number-next h =
+      let u = partOf (getD runs j 0) in
+      let us = unitsOfRuns (drop (suc j) (runsIn runs n)) in
+      rw (units-at h, add-one) (omega (arith, length-append (unitsOfRun u) us, run-length u))
 
   -- the k-th unit
   pub unit-next : (k c : ℕ) → j < n → c ≡ (getD runs j 0 / 64 + 99999) / 100000 → c ≤ k →
@@ -106,3 +117,17 @@ pub ordered : (dues rests r₀ r₁ r₂ : List ℕ) (n m k : ℕ) → n ≤ len
 unfolding runsOf
 ordered dues rests r₀ r₁ r₂ n m k h g e f r s =
     ap (map partOf) (behind r₁ r₂ n m k h g) ∙ map-append partOf (take n r₁) (take m r₂) ∙ rw (f, e, s, r)
+
+-- what the dues of small nets can be ranked by
+pub dues-small : (ns : List ℤ) (dues : List ℕ) → dues ≡ map dueOf ns → ((a : ℕ) → dueOf (getD ns a (pos 0)) ≤ 20000000) →
+    (a : ℕ) → getD dues a 0 ≤ 20000000
+dues-small ns dues e h a = rw (e, List·getD-map dueOf ns a (pos 0)) (h a)
+
+pub dues-length : (ns : List ℤ) (dues : List ℕ) → dues ≡ map dueOf ns → length ns ≡ 64 → length dues ≡ 64
+dues-length ns dues e h = ap length e ∙ length-map ns dueOf ∙ h
+
+pub prepared : (ns : List ℤ) (dues runs : List ℕ) (n : ℕ) → dues ≡ map dueOf ns → n ≤ 128 → n ≤ length runs → runsIn runs n ≡ runsOf dues →
+    Prepared ns runs n
+prepared ns dues runs n e few held r =
+    let q : runsIn runs n ≡ runsOf (map dueOf ns) = r ∙ ap runsOf e in
+    record { few = few; held = held; ranked = q; units = ap unitsOfRuns q ∙ units-runs (map dueOf ns) }

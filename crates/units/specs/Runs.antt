@@ -5,8 +5,9 @@ use mathlib.Core.List.{List, [], _∷_, _++_, map}
 use Prim.Native.Nat.{ℕ, suc, _*_, _/_, _%_, _≤_}
 use lib.Dec.{ltb}
 use lib.ListN.{length, take, getD, replicate}
-use Rattle.rules.specs.Measures.{unitLots, mostLots}
-use Rattle.rules.specs.Units.{Part, part, put, parts, largestFirst}
+use lib.IntN.{ℤ, pos}
+use Rattle.rules.specs.Measures.{unitLots, mostLots, dueOf}
+use Rattle.rules.specs.Units.{Part, part, put, parts, largestFirst, unitsOfNets}
 use Rattle.rules.specs.Handover.{covered, stock}
 use Rattle.rules.specs.declared.Found.{Found}
 use Rattle.rules.specs.declared.Found.the-variants.{Unit, Nothing}
@@ -57,6 +58,19 @@ pub record CanRank (room : ℕ) (lots keys : List ℕ) : Type 0 where
 pub record Ranked (lots keys : List ℕ) (n : ℕ) : Type 0 where
   pub few : n ≤ 64
   pub order : runsIn keys n ≡ largestFirst (parts 0 lots)
+
+-- an issue's nets whose runs can be prepared in a lent array
+pub record CanPrepare (ns : List ℤ) (runs : List ℕ) : Type 0 where
+  pub accounts : length ns ≡ 64
+  pub held : 128 ≤ length runs
+  pub small : (a : ℕ) → dueOf (getD ns a (pos 0)) ≤ mostLots
+
+-- the first n words are the runs of these nets, and stand for their units in order
+pub record Prepared (ns : List ℤ) (runs : List ℕ) (n : ℕ) : Type 0 where
+  pub few : n ≤ 128
+  pub held : n ≤ length runs
+  pub ranked : runsIn runs n ≡ runsOf (map dueOf ns)
+  pub units : unitsIn runs n ≡ unitsOfNets unitLots ns
 
 abbrev pub foundOf : List Part → Found
 foundOf [] = Nothing
