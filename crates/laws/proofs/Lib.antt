@@ -1,3 +1,5 @@
 -- Laws of the definitions.
 pub mod Basics
 pub mod Units
+pub mod Handover
+pub mod Overlaps
