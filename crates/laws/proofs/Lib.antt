@@ -2,6 +2,7 @@
 pub mod Basics
 pub mod Units
 pub mod Handover
+pub mod Overlaps
 pub mod Cells
 pub mod Sound
 pub mod Ledger
