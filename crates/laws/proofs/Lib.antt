@@ -3,3 +3,4 @@ pub mod Basics
 pub mod Units
 pub mod Handover
 pub mod Overlaps
+pub mod Fails
