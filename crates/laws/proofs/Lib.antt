@@ -4,3 +4,4 @@ pub mod Units
 pub mod Handover
 pub mod Overlaps
 pub mod Fails
+pub mod Stretches
