@@ -5,3 +5,4 @@ pub mod Handover
 pub mod Overlaps
 pub mod Fails
 pub mod Stretches
+pub mod Ranking
