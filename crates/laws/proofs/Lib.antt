@@ -6,3 +6,4 @@ pub mod Overlaps
 pub mod Fails
 pub mod Stretches
 pub mod Ranking
+pub mod Joins
