@@ -124,10 +124,10 @@ lacks-skip size us d p =
 
 -- The paper's order
 
-not-full : (size a : ℕ) (v : Part) → Small size v → NotFull size a v
+pub not-full : (size a : ℕ) (v : Part) → Small size v → NotFull size a v
 not-full size a v p = byTest (eqb (v .account) a) (λ e. simp (e, lt-leb size (v .lots) (p .1))) (λ e. simp e)
 
-not-full-other : (size a x : ℕ) (v : Part) → (a ≡ v .account → ⊥) → NotFull size a (part (v .account) x)
+pub not-full-other : (size a x : ℕ) (v : Part) → (a ≡ v .account → ⊥) → NotFull size a (part (v .account) x)
 not-full-other size a x v h = rw (ne-eqb (v .account) a (λ e. h (sym e)))
 
 side-small : (size : ℕ) (us : List Part) → Every (Small size) us → SideBySide size us

@@ -7,3 +7,4 @@ pub mod Fails
 pub mod Stretches
 pub mod Ranking
 pub mod Joins
+pub mod Runs
