@@ -8,3 +8,4 @@ pub mod Stretches
 pub mod Ranking
 pub mod Joins
 pub mod Runs
+pub mod Cutoff
