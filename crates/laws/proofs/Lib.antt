@@ -9,3 +9,4 @@ pub mod Ranking
 pub mod Joins
 pub mod Runs
 pub mod Cutoff
+pub mod Room
