@@ -10,3 +10,4 @@ pub mod Joins
 pub mod Runs
 pub mod Cutoff
 pub mod Room
+pub mod Signed
