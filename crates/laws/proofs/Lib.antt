@@ -11,3 +11,6 @@ pub mod Runs
 pub mod Cutoff
 pub mod Room
 pub mod Signed
+pub mod Cells
+pub mod Sound
+pub mod Ledger
