@@ -14,3 +14,4 @@ pub mod Signed
 pub mod Cells
 pub mod Sound
 pub mod Ledger
+pub mod SoundRows
