@@ -15,3 +15,4 @@ pub mod Cells
 pub mod Sound
 pub mod Ledger
 pub mod SoundRows
+pub mod Orders
