@@ -5,3 +5,6 @@ pub mod Handover
 pub mod Cells
 pub mod Sound
 pub mod Ledger
+pub mod Meeting
+pub mod Lowering
+pub mod Pairing
