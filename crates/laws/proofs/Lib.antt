@@ -8,3 +8,4 @@ pub mod Ledger
 pub mod Meeting
 pub mod Lowering
 pub mod Pairing
+pub mod Turns

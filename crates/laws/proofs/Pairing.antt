@@ -147,7 +147,7 @@ pairing-steps today i a es ss =
 
 -- The steps are enough
 
-abbrev Live : Entry → Type 0
+abbrev pub Live : Entry → Type 0
 Live e = 1 ≤ e .lots
 
 live-put : (e : Entry) (n : ℕ) (es : List Entry) → Every Live es → Every Live (putEntry e n es)
@@ -158,7 +158,7 @@ live-lower : (p : Entry → Bool) (m : ℕ) (es : List Entry) → Every Live es 
 live-lower p m [] ps = ps
 live-lower p m (e ∷ es) ps = either (Every Live) (p e) (live-put e (e .lots - m) es (ps .1)) (ps .0, live-lower p m es (ps .1))
 
-live-stepped : (today i a : ℕ) (es : List Entry) → Every Live es → Every Live (stepped today i a es)
+pub live-stepped : (today i a : ℕ) (es : List Entry) → Every Live es → Every Live (stepped today i a es)
 live-stepped today i a es ps =
     let m = stepLots i a es in
     let p = firstOf (λ e. e .from) (isTo i a) es in
