@@ -9,3 +9,5 @@ pub mod Meeting
 pub mod Lowering
 pub mod Pairing
 pub mod Turns
+pub mod Stepping
+pub mod Records
