@@ -11,3 +11,6 @@ pub mod Pairing
 pub mod Turns
 pub mod Stepping
 pub mod Records
+pub mod Overlaps
+pub mod Fails
+pub mod Stretches
