@@ -2,6 +2,9 @@
 pub mod Basics
 pub mod Units
 pub mod Handover
+pub mod Overlaps
+pub mod Fails
+pub mod Stretches
 pub mod Cells
 pub mod Sound
 pub mod Ledger
@@ -11,6 +14,3 @@ pub mod Pairing
 pub mod Turns
 pub mod Stepping
 pub mod Records
-pub mod Overlaps
-pub mod Fails
-pub mod Stretches

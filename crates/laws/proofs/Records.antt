@@ -115,10 +115,6 @@ elevens-to i a (e ∷ es) =
 
 -- Lists issue by issue
 
-pub each-of-map {ℓ κ} : {A : Type ℓ} {B : Type κ} (P : B → Type 0) (g : A → B) (xs : List A) → Every (λ x. P (g x)) xs → Every P (map g xs)
-each-of-map P g [] p = tt
-each-of-map P g (x ∷ xs) p = (p .0, each-of-map P g xs (p .1))
-
 pub each-joined {ℓ} : {A : Type ℓ} (P : A → Type 0) (g : ℕ → List A) (k n : ℕ) → ((i : ℕ) → i < k + n → Every P (g i)) →
     Every P (joined (tab g k n))
 each-joined P g k zero f = tt
