@@ -3,3 +3,5 @@ pub mod Signs
 pub mod Answers
 pub mod Invariant
 pub mod Shown
+pub mod Taking
+pub mod Delivering
