@@ -14,3 +14,6 @@ pub mod Pairing
 pub mod Turns
 pub mod Stepping
 pub mod Records
+pub mod Ranking
+pub mod Joins
+pub mod Runs

@@ -101,7 +101,7 @@ pub full-lots-none : (size a : ℕ) (vs : List Part) → Every (NotFull size a) 
 full-lots-none size a [] ps = refl
 full-lots-none size a (v ∷ vs) ps = simp (ps .0, zero-add) (full-lots-none size a vs (ps .1))
 
-none-without : (size a : ℕ) (vs : List Part) → Every (NotFull size a) (withoutFulls size a vs)
+pub none-without : (size a : ℕ) (vs : List Part) → Every (NotFull size a) (withoutFulls size a vs)
 none-without size a [] = tt
 none-without size a (v ∷ vs) =
     byTest (isFullOf size a v) (λ e. simp e (none-without size a vs)) (λ e. simp e (refl, none-without size a vs))
