@@ -17,3 +17,5 @@ pub mod Records
 pub mod Ranking
 pub mod Joins
 pub mod Runs
+pub mod Settled
+pub mod Issue
