@@ -27,27 +27,9 @@ use Rattle.laws.proofs.Fails.{shorts-sum, each-of-map}
 use Rattle.laws.proofs.Cells.{here, here-eq, cell-set, length-row, length-dues, row-other, delivered-rises, within-set, within-row}
 use Rattle.laws.proofs.Sound.{SoundBook, sound-parts}
 use Rattle.laws.proofs.Records.{Fits, records-read, tens-same, tens-other}
+use Rattle.laws.proofs.Issue.{within-units, units-fit}
 use Rattle.tally.proofs.Answers.{answered}
-use Rattle.tally.proofs.Invariant.{order-of, RowIs, Inv, Keeps}
-
--- What a sound book has of an issue
-
-module _ (b : Book) (g : SoundBook b) (i : ℕ) (hi : i < 16) (n : length (b .nets) ≡ 1024) where
-  -- dues and oweds are equal, so units have the lots that are owed
-  pub units-owed : sumLots (orderOf b i) ≡ sum (owedsOf (b .nets) i)
-  units-owed =
-      order-of (b .nets) i .whole ∙ total-map (λ x. x) dueOf (row i (b .nets)) ∙ g .rows i hi
-      ∙ sym (total-map (λ x. x) owedOf (row i (b .nets)))
-
-  -- delivered lots within what is owed sum to at most the units
-  pub within-units : (ds : List ℕ) → length ds ≡ 1024 → withinOwed (b .nets) ds ≡ true → deliveredTotal ds i ≤ sumLots (orderOf b i)
-  within-units ds m w =
-      omega (
-        arith,
-        units-owed,
-        shorts-sum (row i (b .nets)) (row i ds) (length-row (b .nets) i n hi ∙ sym (length-row ds i m hi))
-            (within-row i (b .nets) ds w),
-      )
+use Rattle.tally.proofs.Invariant.{RowIs, Inv, Keeps}
 
 pub to-settling : (p : Phase) (us : List Part) (d : ℕ) (l : List Part) → isSettling p ≡ true → RowIs p us d l → RowIs Settling us d l
 to-settling Taking us d l h x = absurd (false≢true h)
@@ -58,17 +40,6 @@ of-settling : (p : Phase) (us : List Part) (d : ℕ) (l : List Part) → isSettl
 of-settling Taking us d l h x = absurd (false≢true h)
 of-settling Settling us d l h x = x
 of-settling Cut us d l h x = absurd (false≢true h)
-
--- a unit's handover fits its words
-pub unit-fits : (i n : ℕ) → i < 16 → n ≡ 64 → (u : Part) → UnitSized u → u .account < n → Fits (handover i u)
-unit-fits i n hi e u s a =
-    record { kind = lit< tt; issue = hi; from = lit< tt; to = omega arith; lots = omega (arith, s .1) }
-
-pub units-fit : (nets : List ℤ) (i : ℕ) → i < 16 → length nets ≡ 1024 → Every (λ u. Fits (handover i u)) (orderIn nets i)
-units-fit nets i hi n =
-    let k = order-of nets i in
-    each-zip UnitSized (λ u. u .account < length (duesOf nets i)) (λ u. Fits (handover i u))
-    (unit-fits i (length (duesOf nets i)) hi (length-dues nets i n hi)) (orderIn nets i) (k .sized) (k .accounts)
 
 module _ (s : State) (v : Inv s) (i a x : ℕ) (hi : i < 16) (ha : a < 64) (g : SoundBook (s .book))
     (p : isSettling (s .book .phase) ≡ true)

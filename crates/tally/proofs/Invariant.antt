@@ -6,7 +6,6 @@ use mathlib.Core.Bool.{Bool, true, false}
 use mathlib.Core.List.{List, [], _∷_, _++_}
 use Prim.Native.Nat.{ℕ, zero, suc, _+_, _*_, _≤_, _<_}
 use lib.ListN.{length}
-use lib.IntN.{ℤ}
 use Rattle.rules.specs.declared.Book.{Book}
 use Rattle.rules.specs.declared.Phase.{Phase}
 use Rattle.rules.specs.declared.Phase.the-variants.{Taking, Settling, Cut}
@@ -18,12 +17,6 @@ use Rattle.rules.specs.Book.{isSettling, duesOf, netAt, deliveredAt, deliveredT
 use Rattle.rules.specs.Records.{recordsIn}
 use Rattle.rules.specs.Calls.{Answer}
 use Rattle.rules.specs.Tally.{Call, State, fed}
-use Rattle.laws.proofs.Units.{Order, units-order}
-
--- what is used of an issue's units, whatever their order
-pub order-of : (nets : List ℤ) (i : ℕ) → Order (duesOf nets i) (orderIn nets i)
-unfolding orderIn
-order-of nets i = units-order (duesOf nets i)
 
 -- an issue's 10s after a cutoff: the units handed, and the stock to the next
 abbrev pub cutRow : List Part → ℕ → List Part

@@ -5,3 +5,4 @@ pub mod Invariant
 pub mod Shown
 pub mod Taking
 pub mod Delivering
+pub mod Cutting

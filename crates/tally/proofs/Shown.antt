@@ -19,8 +19,9 @@ use Rattle.laws.proofs.Basics.{byTest, total-append, total-put, Every, each-map
 use Rattle.laws.proofs.Units.{Order, UnitSized}
 use Rattle.laws.proofs.Handover.{handed-stock, stock-bound, total-partials}
 use Rattle.laws.proofs.Cells.{tab-row}
+use Rattle.laws.proofs.Issue.{order-of}
 use Rattle.tally.proofs.Signs.{sum-zero, less, signed}
-use Rattle.tally.proofs.Invariant.{order-of, cutRow, RowIs, Inv}
+use Rattle.tally.proofs.Invariant.{cutRow, RowIs, Inv}
 
 -- a row beside the units, 10 by 10: each but the last is its unit in full
 abbrev Turns : List Part → List Part → Type 0

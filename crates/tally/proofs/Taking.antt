@@ -22,8 +22,9 @@ use Rattle.laws.proofs.Basics.{byTest, and-left, and-right, Every}
 use Rattle.laws.proofs.Units.{UnitSized}
 use Rattle.laws.proofs.Cells.{here, here-eq, cell-set, row-zeros}
 use Rattle.tally.proofs.Signs.{rises, falls}
+use Rattle.laws.proofs.Issue.{order-of}
 use Rattle.tally.proofs.Answers.{answered}
-use Rattle.tally.proofs.Invariant.{order-of, RowIs, Inv, Keeps}
+use Rattle.tally.proofs.Invariant.{RowIs, Inv, Keeps}
 
 -- The start
 
