@@ -6,3 +6,7 @@ pub mod Shown
 pub mod Taking
 pub mod Delivering
 pub mod Cutting
+pub mod Resolving
+pub mod PairingOff
+pub mod Rolling
+pub mod Demand
