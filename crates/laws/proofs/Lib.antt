@@ -19,3 +19,9 @@ pub mod Joins
 pub mod Runs
 pub mod Settled
 pub mod Issue
+pub mod Cutoff
+pub mod Room
+pub mod Signed
+pub mod Cells
+pub mod Sound
+pub mod Ledger
