@@ -25,3 +25,5 @@ pub mod Signed
 pub mod Cells
 pub mod Sound
 pub mod Ledger
+pub mod SoundRows
+pub mod Orders
