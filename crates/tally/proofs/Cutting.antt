@@ -27,7 +27,7 @@ use Rattle.laws.proofs.Sound.{SoundBook, sound-parts}
 use Rattle.laws.proofs.Ledger.{ledger-written}
 use Rattle.laws.proofs.Records.{Fits, records-read, recordsOf-append, tens-same, tens-other, tens-fails, each-joined}
 use Rattle.laws.proofs.Issue.{delivered-units, owed-out, due-in, records-fit}
-use Rattle.tally.proofs.Answers.{answered}
+use Rattle.laws.proofs.Answers.{answered}
 use Rattle.tally.proofs.Invariant.{cutRow, RowIs, Inv, Keeps}
 use Rattle.tally.proofs.Delivering.{to-settling}
 
@@ -135,7 +135,7 @@ module _ (s : State) (v : Inv s) (g : SoundBook (s .book)) (p : isSettling (s .b
   all-fit : Every Fits rs
   all-fit =
       each-joined Fits (issueRecords (b .day) (b .nets) (b .delivered)) 0 16
-      (λ j h. records-fit b g j (omega arith) (v .sizeNets) (v .sizeDelivered) (b .day))
+      (λ j h. records-fit b g (v .sizeNets) (v .sizeDelivered) j (omega arith) (b .day))
 
   row-cut : (j : ℕ) → j < 16 → s .tally .rows j ++ recordsOf 10 j rs ≡ cutRow (orderOf b j) (deliveredTotal (b .delivered) j)
   unfolding issuePartials
@@ -153,7 +153,7 @@ module _ (s : State) (v : Inv s) (g : SoundBook (s .book)) (p : isSettling (s .b
         arith,
         ap (total (ofAccount a)) (row-cut j hj),
         total-append (ofAccount a) (handed (orderOf b j) (deliveredTotal (b .delivered) j)) (partials (orderOf b j) (deliveredTotal (b .delivered) j)),
-        due-in b g j hj (v .sizeNets) (v .sizeDelivered) a ha,
+        due-in b g (v .sizeNets) (v .sizeDelivered) j hj a ha,
         new-to b j a hj,
       )
 
@@ -166,7 +166,7 @@ module _ (s : State) (v : Inv s) (g : SoundBook (s .book)) (p : isSettling (s .b
     given = v .given;
     handed = λ j c. omega (arith, v .handed j c, total-append (ofAccount c) (s .tally .rows j) (recordsOf 10 j rs));
     phase = refl;
-    rows = λ j hj. (row-cut j hj, delivered-units b g j hj (v .sizeNets) (v .sizeDelivered));
+    rows = λ j hj. (row-cut j hj, delivered-units b g (v .sizeNets) (v .sizeDelivered) j hj);
     balance = λ j a hj ha.
         rw (ledger-written b (ledgerOf b ++ new))
         (omega (
@@ -180,7 +180,7 @@ module _ (s : State) (v : Inv s) (g : SoundBook (s .book)) (p : isSettling (s .b
           total-append (ofAccount a) (s .tally .rows j) (recordsOf 10 j rs),
           due-handed j a hj ha,
           new-from b j a hj,
-          owed-out b g j hj (v .sizeNets) (v .sizeDelivered) a ha,
+          owed-out b g (v .sizeNets) (v .sizeDelivered) j hj a ha,
         ));
     charges = v .charges;
   }

@@ -28,7 +28,7 @@ use Rattle.laws.proofs.Cells.{here, here-eq, cell-set, length-row, length-dues,
 use Rattle.laws.proofs.Sound.{SoundBook, sound-parts}
 use Rattle.laws.proofs.Records.{Fits, records-read, tens-same, tens-other}
 use Rattle.laws.proofs.Issue.{within-units, units-fit}
-use Rattle.tally.proofs.Answers.{answered}
+use Rattle.laws.proofs.Answers.{answered}
 use Rattle.tally.proofs.Invariant.{RowIs, Inv, Keeps}
 
 pub to-settling : (p : Phase) (us : List Part) (d : ℕ) (l : List Part) → isSettling p ≡ true → RowIs p us d l → RowIs Settling us d l

@@ -23,7 +23,7 @@ use Rattle.laws.proofs.Ledger.{ledger-written}
 use Rattle.laws.proofs.Meeting.{withLots, lots-add, total-putEntry}
 use Rattle.laws.proofs.Lowering.{firstLots, first-pos, first-stays, lowered, Apart, from-not-to, issue-from, issue-to, account-from, account-to}
 use Rattle.laws.proofs.Pairing.{stepped-apart}
-use Rattle.tally.proofs.Answers.{pair-answered}
+use Rattle.laws.proofs.Answers.{pair-answered}
 use Rattle.tally.proofs.Invariant.{Inv, Keeps}
 
 -- A number of the first entry that goes by its issue and one other number

@@ -22,7 +22,7 @@ use Rattle.laws.proofs.Sound.{SoundEntry, SoundBook, sound-parts}
 use Rattle.laws.proofs.Ledger.{ledger-written}
 use Rattle.laws.proofs.Meeting.{lots-add, meet-met, met-from, sound-met}
 use Rattle.laws.proofs.Records.{Fits, entry-fits, records-read, elevens-to}
-use Rattle.tally.proofs.Answers.{answered}
+use Rattle.laws.proofs.Answers.{answered}
 use Rattle.tally.proofs.Invariant.{Inv, Keeps}
 
 module _ (s : State) (v : Inv s) (i a x : ℕ) (o : x ≤ lotsOf (isFrom i a) (ledgerOf (s .book))) where

@@ -19,7 +19,7 @@ use Rattle.laws.proofs.Basics.{byTest, total-append, total-put, Every, each-map
 use Rattle.laws.proofs.Units.{Order, UnitSized}
 use Rattle.laws.proofs.Handover.{handed-stock, stock-bound, total-partials}
 use Rattle.laws.proofs.Cells.{tab-row}
-use Rattle.laws.proofs.Issue.{order-of}
+use Rattle.laws.proofs.SoundRows.{order-in}
 use Rattle.tally.proofs.Signs.{sum-zero, less, signed}
 use Rattle.tally.proofs.Invariant.{cutRow, RowIs, Inv}
 
@@ -114,7 +114,7 @@ module _ (s : State) (v : Inv s) (i : ℕ) (h : i < 16) where
   facts : Facts (orderOf (s .book) i) (deliveredTotal (s .book .delivered) i) (s .tally .rows i) (isSettling (s .book .phase))
   facts =
       row-facts (s .book .phase) (orderOf (s .book) i) (deliveredTotal (s .book .delivered) i) (s .tally .rows i)
-      (order-of (s .book .nets) i .sized) (v .rows i h)
+      (order-in (s .book .nets) i .sized) (v .rows i h)
 
 pub shown : (s : State) → Inv s → Demand3 s
 shown s v = record {

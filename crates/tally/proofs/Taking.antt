@@ -21,9 +21,9 @@ use Rattle.rules.specs.Tally.{State, start, Trade, Close}
 use Rattle.laws.proofs.Basics.{byTest, and-left, and-right, Every}
 use Rattle.laws.proofs.Units.{UnitSized}
 use Rattle.laws.proofs.Cells.{here, here-eq, cell-set, row-zeros}
-use Rattle.tally.proofs.Signs.{rises, falls}
-use Rattle.laws.proofs.Issue.{order-of}
-use Rattle.tally.proofs.Answers.{answered}
+use Rattle.laws.proofs.Signed.{rises, falls}
+use Rattle.laws.proofs.SoundRows.{order-in}
+use Rattle.laws.proofs.Answers.{answered}
 use Rattle.tally.proofs.Invariant.{RowIs, Inv, Keeps}
 
 -- The start
@@ -131,7 +131,7 @@ keeps-close s v =
       given = v .given;
       handed = v .handed;
       phase = refl;
-      rows = λ j h. closed-row (b .phase) _ _ (s .tally .rows j) (order-of (b .nets) j .sized) (y .1 .0) (v .rows j h);
+      rows = λ j h. closed-row (b .phase) _ _ (s .tally .rows j) (order-in (b .nets) j .sized) (y .1 .0) (v .rows j h);
       balance = v .balance;
       charges = v .charges;
     })
