@@ -132,7 +132,7 @@ module _ (s : State) (v : Inv s) (g : SoundBook (s .book)) (p : isSettling (s .b
   abbrev new : List Entry
   new = newEntries (b .day) (b .nets) (b .delivered)
 
-  all-fit : Every Fits rs
+  pub all-fit : Every Fits rs
   all-fit =
       each-joined Fits (issueRecords (b .day) (b .nets) (b .delivered)) 0 16
       (λ j h. records-fit b g (v .sizeNets) (v .sizeDelivered) j (omega arith) (b .day))
@@ -145,7 +145,7 @@ module _ (s : State) (v : Inv s) (g : SoundBook (s .book)) (p : isSettling (s .b
       ∙ ap (λ z. handed (orderOf b j) (deliveredTotal (b .delivered) j) ++ z) (cutoff-tens b j hj)
 
   -- today's handed and what is failed to an account are its due, in the tally's words
-  due-handed : (j a : ℕ) → j < 16 → a < 64 →
+  pub due-handed : (j a : ℕ) → j < 16 → a < 64 →
       total (ofAccount a) (s .tally .rows j ++ recordsOf 10 j rs) + lotsOf (isTo j a) new ≡ dueOf (Rattle.rules.specs.Book.netAt (b .nets) j a)
   unfolding issuePartials
   due-handed j a hj ha =
@@ -157,7 +157,7 @@ module _ (s : State) (v : Inv s) (g : SoundBook (s .book)) (p : isSettling (s .b
         new-to b j a hj,
       )
 
-  cut-inv : Inv (fed (Cutoff []) 0 rs (withPhase (withLedger b (ledgerOf b ++ new)) Cut) s)
+  pub cut-inv : Inv (fed (Cutoff []) 0 rs (withPhase (withLedger b (ledgerOf b ++ new)) Cut) s)
   cut-inv = record {
     sizeNets = v .sizeNets;
     sizeDelivered = v .sizeDelivered;
