@@ -1,8 +1,8 @@
 -- What demand 3 and its invariant say in a clearing house's own words, of every list of calls.
-use mathlib.Core.Path.{_≡_, refl, sym, ap, _∙_}
-use mathlib.Core.Bool.{Bool, true, false}
-use mathlib.Core.List.{List, [], _∷_, _++_}
-use Prim.Native.Nat.{ℕ, zero, suc, _+_, _-_, _≤_, _<_}
+use mathlib.Core.Path.{_≡_, sym, _∙_}
+use mathlib.Core.Bool.{true}
+use mathlib.Core.List.{List}
+use Prim.Native.Nat.{ℕ, _-_, _≤_, _<_}
 use native.Mathlib.Omega.{arith}
 use lib.Dec.{leb}
 use lib.ListN.{length, getD}
@@ -10,10 +10,9 @@ use borrow.Author.Tests.{leb-true, leb-false}
 use Rattle.rules.specs.declared.Phase.{Phase}
 use Rattle.rules.specs.declared.Phase.the-variants.{Taking, Settling, Cut}
 use Rattle.rules.specs.Measures.{unitLots, total, dueOf, owedOf}
-use Rattle.rules.specs.Units.{Part, sumLots, ofAccount}
+use Rattle.rules.specs.Units.{Part, ofAccount}
 use Rattle.rules.specs.Handover.{handed, partials}
-use Rattle.rules.specs.Fails.{lacks}
-use Rattle.rules.specs.Book.{netAt, deliveredAt, deliveredTotal, orderOf, sound}
+use Rattle.rules.specs.Book.{cell, netAt, deliveredTotal, orderOf, sound}
 use Rattle.rules.specs.Tally.{State, Call, Cutoff, called, after, afterAll, start, nobody, unitsToday}
 use Rattle.laws.proofs.Basics.{byTest, total-append}
 use Rattle.laws.proofs.Fails.{additive-account}
@@ -22,7 +21,7 @@ use Rattle.laws.proofs.Cells.{due-at}
 use Rattle.laws.proofs.Sound.{delivered-owed}
 use Rattle.laws.proofs.SoundRows.{order-in}
 use Rattle.tally.proofs.Signs.{less}
-use Rattle.tally.proofs.Invariant.{cutRow, RowIs, Inv}
+use Rattle.tally.proofs.Invariant.{RowIs}
 use Rattle.tally.proofs.Demand.{reached, demand3}
 use Rattle.tally.proofs.Reached.{reached-standing, reached-sound}
 use Rattle.tally.proofs.Settles.{netToday, Settled, cutoff-settles}
@@ -84,7 +83,7 @@ module _ (cs : List Call) where
       (omega (
         arith,
         v .given i a hi ha,
-        delivered-owed (s .book) (reached-standing cs .parts) (Rattle.rules.specs.Book.cell i a) (v .sizeNets ∙ sym (v .sizeDelivered)),
+        delivered-owed (s .book) (reached-standing cs .parts) (cell i a) (v .sizeNets ∙ sym (v .sizeDelivered)),
       ))
 
   -- after an accepted cutoff the house holds nothing, every account's due is what it was handed and

@@ -1,16 +1,14 @@
 -- Every book that a list of calls reaches is sound, and a refused call leaves book and tally as they were.
-use mathlib.Core.Path.{_≡_, refl, sym, ap, _∙_}
-use mathlib.Core.Bool.{Bool, true}
+use mathlib.Core.Path.{_≡_, refl, ap}
+use mathlib.Core.Bool.{true}
 use mathlib.Core.List.{List, [], _∷_}
 use Prim.Native.Nat.{ℕ, zero, suc, _<_}
 use native.Mathlib.Omega.{arith}
-use Rattle.rules.specs.declared.Book.{Book}
 use Rattle.rules.specs.Book.{sound, fresh}
-use Rattle.rules.specs.Records.{Rec, recordsIn}
+use Rattle.rules.specs.Records.{recordsIn}
 use Rattle.rules.specs.Tally.{State, Call, called, fed, after, afterAll, start}
 use Rattle.laws.proofs.Sound.{sound-parts, parts-sound}
-use Rattle.laws.proofs.Called.{Standing, stands, fresh-sound, Unchanged, refused-nothing}
-use Rattle.tally.proofs.Invariant.{Inv}
+use Rattle.laws.proofs.Called.{Standing, stands, fresh-sound, refused-nothing}
 use Rattle.tally.proofs.Taking.{starts}
 
 -- the state's book is the one that the call returned
