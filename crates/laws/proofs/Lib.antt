@@ -3,3 +3,8 @@ pub mod Basics
 pub mod Units
 pub mod Handover
 pub mod Overlaps
+pub mod Fails
+pub mod Stretches
+pub mod Ranking
+pub mod Joins
+pub mod Runs
