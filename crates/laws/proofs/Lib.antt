@@ -8,3 +8,12 @@ pub mod Stretches
 pub mod Ranking
 pub mod Joins
 pub mod Runs
+pub mod Cells
+pub mod Sound
+pub mod Ledger
+pub mod Meeting
+pub mod Lowering
+pub mod Pairing
+pub mod Turns
+pub mod Stepping
+pub mod Records
