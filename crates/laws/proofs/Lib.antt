@@ -1,0 +1,4 @@
+-- Laws of the definitions.
+pub mod Basics
+pub mod Units
+pub mod Handover
