@@ -4,3 +4,4 @@ pub mod Units
 pub mod Loops
 pub mod Steps
 pub mod Starting
+pub mod Cutoff
