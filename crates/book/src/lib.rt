@@ -1,12 +1,15 @@
 // The book's leaves: signed nets as lots due and lots owed, an issue's rows, the phases, soundness.
+use rules::Book;
+use rules::Phase;
 ghost use mathlib.Core.Path.{_≡_};
 ghost use mathlib.Core.List.{map};
 ghost use Prim.Native.Nat.{_<_};
 ghost use lib.ListN.{length};
 ghost use Rattle.rules.specs.Measures.{mostLots, sum, dueOf, owedOf};
 ghost use Rattle.rules.specs.Fails.{shorts};
-ghost use Rattle.rules.specs.Book.{withinSize};
+ghost use Rattle.rules.specs.Book.{isTaking, isSettling, isCut, withinSize, fresh as freshOf, withDay, withNets, withDelivered, withCharges};
 ghost use Rattle.book.specs.Nets.{Small, Lowered, Raised};
+ghost use Rattle.book.specs.Columns.{withColumns};
 ghost use Rattle.book.specs.Rows.{Owing};
 
 // The lots due to an account with this net, 0 where it is not positive.
@@ -84,4 +87,132 @@ pub fn shorts_of(net: &[i32], delivered: &[u32], short: &mut [u32])
         short[i] = owed(n) - delivered[i];
         i += 1;
     }
+}
+
+// Is the phase Taking?
+pub fn taking(p: Phase) -> bool
+    ensures { λ r. ⌜ r ≡ isTaking p ⌝ }
+{
+    match p {
+        Phase::Taking => true,
+        Phase::Settling => false,
+        Phase::Cut => false,
+    }
+}
+
+// Is the phase Settling?
+pub fn settling(p: Phase) -> bool
+    ensures { λ r. ⌜ r ≡ isSettling p ⌝ }
+{
+    match p {
+        Phase::Taking => false,
+        Phase::Settling => true,
+        Phase::Cut => false,
+    }
+}
+
+// Is the phase Cut?
+pub fn cut(p: Phase) -> bool
+    ensures { λ r. ⌜ r ≡ isCut p ⌝ }
+{
+    match p {
+        Phase::Taking => false,
+        Phase::Settling => false,
+        Phase::Cut => true,
+    }
+}
+
+// Day 0, Taking, all zero, ledger empty.
+pub fn fresh() -> Book
+    ensures { λ r. ⌜ r ≡ freshOf ⌝ }
+{
+    Book {
+        day: 0,
+        phase: Phase::Taking,
+        nets: [0; 1024],
+        delivered: [0; 1024],
+        charges: [0; 64],
+        count: 0,
+        issues: [0; 2048],
+        froms: [0; 2048],
+        tos: [0; 2048],
+        lots: [0; 2048],
+        days: [0; 2048],
+    }
+}
+
+// The book with other nets.
+pub fn with_nets(b: Book, nets: [i32; 1024]) -> Book
+    ensures { λ r. ⌜ r ≡ withNets b nets ⌝ }
+{
+    let mut next = b;
+    next.nets = nets;
+    next
+}
+
+// The book with other delivered lots.
+pub fn with_delivered(b: Book, delivered: [u32; 1024]) -> Book
+    ensures { λ r. ⌜ r ≡ withDelivered b delivered ⌝ }
+{
+    let mut next = b;
+    next.delivered = delivered;
+    next
+}
+
+// The book with other charges.
+pub fn with_charges(b: Book, charges: [i64; 64]) -> Book
+    ensures { λ r. ⌜ r ≡ withCharges b charges ⌝ }
+{
+    let mut next = b;
+    next.charges = charges;
+    next
+}
+
+// The book with another day and phase.
+pub fn with_day(b: Book, day: u16, phase: Phase) -> Book
+    ensures { λ r. ⌜ r ≡ withDay b day phase ⌝ }
+{
+    let nets = b.nets;
+    let delivered = b.delivered;
+    let charges = b.charges;
+    let issues = b.issues;
+    let froms = b.froms;
+    let tos = b.tos;
+    let lots = b.lots;
+    let days = b.days;
+    Book {
+        day,
+        phase,
+        nets,
+        delivered,
+        charges,
+        count: b.count,
+        issues,
+        froms,
+        tos,
+        lots,
+        days,
+    }
+}
+
+// The book with another ledger, given by its columns.
+pub fn with_columns(
+    b: Book,
+    count: usize,
+    issues: [u8; 2048],
+    froms: [u8; 2048],
+    tos: [u8; 2048],
+    lots: [u32; 2048],
+    days: [u16; 2048],
+) -> Book
+    ensures { λ r. ⌜ r ≡ withColumns b count issues froms tos lots days ⌝ }
+{
+    let mut next = b;
+    next.count = count;
+    next.issues = issues;
+    next.froms = froms;
+    next.tos = tos;
+    next.lots = lots;
+    next.days = days;
+    next
 }

@@ -17,3 +17,10 @@ pub mod Pairing
 pub mod Turns
 pub mod Stepping
 pub mod Records
+pub mod Cutoff
+pub mod Room
+pub mod Signed
+pub mod Cells
+pub mod Sound
+pub mod Ledger
+pub mod SoundRows
