@@ -1,12 +1,12 @@
 -- What the cursor stands for at the cutoff: the fails of the definition, and the stock's part. The runs that are not 0
 -- are the stretches of all units, so what is left of the runs after a total is what the units lack.
-use mathlib.Core.Path.{_≡_, refl, sym, ap, _∙_}
+use mathlib.Core.Path.{_≡_, sym, ap, _∙_}
 use mathlib.Core.List.{List, [], _++_, map}
 use Prim.Native.Nat.{ℕ}
 use lib.Dec.{lit<}
 use lib.IntN.{ℤ}
 use Rattle.rules.specs.Measures.{unitLots, dueOf}
-use Rattle.rules.specs.Units.{Part, put, parts, largestFirst, receivers, unitsOfNets}
+use Rattle.rules.specs.Units.{put, parts, largestFirst, receivers, unitsOfNets}
 use Rattle.rules.specs.Handover.{partials}
 use Rattle.rules.specs.Fails.{overlaps, lacks, skip}
 use Rattle.laws.proofs.Runs as laws

@@ -5,3 +5,4 @@ pub mod Loops
 pub mod Steps
 pub mod Starting
 pub mod Cutoff
+pub mod Questions

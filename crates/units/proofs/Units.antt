@@ -2,7 +2,7 @@
 -- run: either the total passes over a whole run, or it ends in it and a division says where.
 use mathlib.Core.Path.{_≡_, refl, sym, ap, _∙_}
 use mathlib.Core.List.{List, [], _∷_, _++_, map, append-assoc, append-nil}
-use Prim.Native.Nat.{ℕ, zero, suc, _+_, _-_, _*_, _/_, _%_, _≤_, _<_, min}
+use Prim.Native.Nat.{ℕ, zero, suc, _+_, _-_, _*_, _/_, _%_, _≤_, _<_}
 use native.Mathlib.Omega.{arith}
 use lib.Dec.{leb, lit<}
 use lib.ListN.{length, drop, replicate, length-append, length-replicate}
@@ -12,7 +12,7 @@ use Rattle.rules.specs.Measures.{unitLots}
 use Rattle.rules.specs.Units.{Part, part, put, parts, sumLots, largestFirst, fulls, smalls, units}
 use Rattle.rules.specs.Handover.{covered, stock}
 use Rattle.rules.specs.declared.Found.the-variants.{Unit}
-use Rattle.laws.proofs.Basics.{byTest, Every, each-sort, each-put, total-append, total-replicate, total-put, put-pos, length-put}
+use Rattle.laws.proofs.Basics.{byTest, Every, each-sort, total-append, total-replicate, total-put, put-pos, length-put}
 use Rattle.laws.proofs.Units.{Small, smalls-small}
 use Rattle.laws.proofs.Runs.{smalls-parts}
 use Rattle.units.specs.Runs.{unitsOfRun, unitsOfRuns, fullOf, smallLots, runsOf, foundOf}
