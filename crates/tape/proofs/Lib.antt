@@ -1,0 +1,2 @@
+-- Laws of the tape.
+pub mod Reading
