@@ -1,0 +1,8 @@
+-- Laws of the definitions.
+pub mod Basics
+pub mod Units
+pub mod Handover
+pub mod Overlaps
+pub mod Cells
+pub mod Sound
+pub mod Ledger

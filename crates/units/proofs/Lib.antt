@@ -1,0 +1,4 @@
+-- Why the order is as the definitions say.
+pub mod Ranking
+pub mod Units
+pub mod Loops

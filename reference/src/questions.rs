@@ -1,0 +1,125 @@
+//! The desk's questions: each answers Ok for 'yes' and its number for 'no'.
+
+use crate::book::{place, Book, Phase, ACCOUNTS, ENTRIES, ISSUES};
+use crate::measures::{MOST_DAYS, MOST_LOTS, MOST_PRICE, MOST_RATE};
+
+/// The words that the output of deliver, cutoff and resolve has at the least.
+pub const CALL_OUTPUT: usize = 4_096;
+/// The words that the output of the tape writer has at the least.
+pub const WRITER_OUTPUT: usize = 17;
+
+/// Whether question 2 is put, or the book is known to be sound.
+#[derive(Clone, Copy, Debug, PartialEq, Eq)]
+pub enum Soundness {
+    Asked,
+    Known,
+}
+
+/// Puts a question; a 'no' gives its number.
+pub fn ask(number: u32, yes: bool) -> Result<(), u32> {
+    if yes {
+        Ok(())
+    } else {
+        Err(number)
+    }
+}
+
+/// 1. Has the output at least so many words?
+pub fn output_has(output: &[u32], words: usize) -> Result<(), u32> {
+    ask(1, output.len() >= words)
+}
+
+/// 2. Is the book sound?
+pub fn book_is_sound(book: &Book, soundness: Soundness) -> Result<(), u32> {
+    ask(2, soundness == Soundness::Known || book.sound())
+}
+
+/// 3. Is this the call's phase?
+pub fn phase_is(book: &Book, phase: Phase) -> Result<(), u32> {
+    ask(3, book.phase == phase)
+}
+
+/// 4. Is the issue at most 15? Gives the issue as a place in the columns.
+pub fn issue_in_range(issue: u32) -> Result<usize, u32> {
+    usize::try_from(issue).ok().filter(|&issue| issue < ISSUES).ok_or(4)
+}
+
+/// 5. Is the account at most 63? Gives the account as a place in the columns.
+pub fn account_in_range(account: u32) -> Result<usize, u32> {
+    usize::try_from(account).ok().filter(|&account| account < ACCOUNTS).ok_or(5)
+}
+
+/// 6. Do from and to differ?
+pub fn accounts_differ(from: usize, to: usize) -> Result<(), u32> {
+    ask(6, from != to)
+}
+
+/// 7. Are lots 1..20,000,000?
+pub fn lots_in_range(lots: u32) -> Result<(), u32> {
+    ask(7, (1..=MOST_LOTS).contains(&lots))
+}
+
+/// 8. Do both nets stay within ±20,000,000 after the trade?
+pub fn nets_stay_in_range(
+    book: &Book,
+    issue: usize,
+    from: usize,
+    to: usize,
+    lots: u32,
+) -> Result<(), u32> {
+    let most = i64::from(MOST_LOTS);
+    let from_net = i64::from(book.nets[place(issue, from)]) - i64::from(lots);
+    let to_net = i64::from(book.nets[place(issue, to)]) + i64::from(lots);
+    ask(8, from_net.abs() <= most && to_net.abs() <= most)
+}
+
+/// 9. Does the account still owe that many lots?
+pub fn owes(owed: u64, lots: u32) -> Result<(), u32> {
+    ask(9, u64::from(lots) <= owed)
+}
+
+/// 10. Do old and new entries together number at most 2,048?
+pub fn entries_have_room(entries: usize) -> Result<(), u32> {
+    ask(10, entries <= ENTRIES)
+}
+
+/// 11. Are days 1..12?
+pub fn days_in_range(days: u32) -> Result<(), u32> {
+    ask(11, (1..=MOST_DAYS).contains(&days))
+}
+
+/// 11. Is the rate 0..10,000?
+pub fn rate_in_range(rate: u32) -> Result<(), u32> {
+    ask(11, rate <= MOST_RATE)
+}
+
+/// 11. Is the price 1..200,000?
+pub fn price_in_range(price: u32) -> Result<(), u32> {
+    ask(11, (1..=MOST_PRICE).contains(&price))
+}
+
+/// 11. Are prices sixteen and each 1..200,000?
+pub fn prices_in_range(prices: &[u32]) -> Result<(), u32> {
+    ask(11, prices.len() == ISSUES)?;
+    prices.iter().try_for_each(|&price| price_in_range(price))
+}
+
+/// 12. Is the day below 65,535?
+pub fn day_can_rise(book: &Book) -> Result<(), u32> {
+    ask(12, book.day < u16::MAX)
+}
+
+/// 13. Does the tape hold this word of the instruction?
+pub fn word_present(words: &[u32], at: usize) -> Result<u32, u32> {
+    words.get(at).copied().ok_or(13)
+}
+
+/// 14. Are the word's kind and unused bits right?
+pub fn word_right(yes: bool) -> Result<(), u32> {
+    ask(14, yes)
+}
+
+/// 15. Does the field fit its bits?
+pub fn field_fits(number: u32, bits: u32) -> Result<(), u32> {
+    ask(15, number >> bits == 0)
+}

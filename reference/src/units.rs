@@ -1,0 +1,62 @@
+//! Units and their order: what each receiver of an issue is handed, one unit after another.
+
+use crate::measures::UNIT_LOTS;
+use std::cmp::Ordering;
+
+/// One unit of a receiver, with the receiver's net.
+#[derive(Clone, Copy, Debug, PartialEq, Eq)]
+pub struct Unit {
+    pub account: u32,
+    pub lots: u32,
+    pub full: bool,
+    pub net: u32,
+}
+
+/// The units of a list of nets by account, in order.
+pub fn units(nets: &[i32]) -> Vec<Unit> {
+    let mut units = Vec::new();
+    for (account, &net) in (0..).zip(nets) {
+        if net > 0 {
+            add_units_of(account, net.unsigned_abs(), &mut units);
+        }
+    }
+    units.sort_by(order);
+    units
+}
+
+/// The k-th unit of a list of nets, k from 0.
+pub fn kth_unit(nets: &[i32], k: u32) -> Option<Unit> {
+    units(nets).get(usize::try_from(k).ok()?).copied()
+}
+
+/// The units that a delivered total covers, handed over whole in order, and the stock that is left.
+pub fn handed(units: &[Unit], delivered: u64) -> (usize, u64) {
+    let mut count = 0;
+    let mut stock = delivered;
+    while count < units.len() && stock >= u64::from(units[count].lots) {
+        stock -= u64::from(units[count].lots);
+        count += 1;
+    }
+    (count, stock)
+}
+
+/// A receiver has net / 100,000 full units and one small unit of the rest if that is not 0.
+fn add_units_of(account: u32, net: u32, units: &mut Vec<Unit>) {
+    for _ in 0..net / UNIT_LOTS {
+        units.push(Unit { account, lots: UNIT_LOTS, full: true, net });
+    }
+    let rest = net % UNIT_LOTS;
+    if rest != 0 {
+        units.push(Unit { account, lots: rest, full: false, net });
+    }
+}
+
+/// Full units first, by net; small units follow, by size; largest first, equals by lower account.
+fn order(one: &Unit, other: &Unit) -> Ordering {
+    match (one.full, other.full) {
+        (true, false) => Ordering::Less,
+        (false, true) => Ordering::Greater,
+        (true, true) => other.net.cmp(&one.net).then(one.account.cmp(&other.account)),
+        (false, false) => other.lots.cmp(&one.lots).then(one.account.cmp(&other.account)),
+    }
+}

@@ -1,0 +1,167 @@
+//! The desk's questions: their order in each call, and that a refusal changes nothing.
+
+mod common;
+
+use common::{book_of_ledger, book_of_nets, entry, output, p5_book, p8_book};
+use reference::book::{Book, Entry, Phase};
+use reference::calls::{self, Answer, PairOffAnswer, UnitAnswer};
+
+/// A book that is not sound: its nets do not sum to 0.
+fn damaged(book: &Book) -> Book {
+    let mut book = book.clone();
+    book.nets[0] += 1;
+    assert!(!book.sound());
+    book
+}
+
+/// Makes a call, which is refused by this number and changes neither book nor output.
+fn refused(book: &Book, words: usize, number: u32, call: impl Fn(&mut Book, &mut [u32]) -> Answer) {
+    let mut after = book.clone();
+    let mut out = output();
+    out.resize(words, common::BEFORE);
+    let before = out.clone();
+    assert_eq!(call(&mut after, &mut out), Answer { number, count: 0 });
+    assert!(after == *book, "a refusal by {number} changed the book");
+    assert!(out == before, "a refusal by {number} changed the output");
+}
+
+#[test]
+fn trade_asks_2_3_4_5_6_7_8() {
+    let taking = book_of_nets(Phase::Taking, &[(1, 20_000_000), (2, -20_000_000)]);
+    let settling = Book { phase: Phase::Settling, ..taking.clone() };
+    let trade = |issue, from, to, lots| {
+        move |book: &mut Book, _: &mut [u32]| calls::trade(book, issue, from, to, lots)
+    };
+    refused(&damaged(&settling), 0, 2, trade(16, 64, 64, 0));
+    refused(&settling, 0, 3, trade(16, 64, 64, 0));
+    refused(&taking, 0, 4, trade(16, 64, 64, 0));
+    refused(&taking, 0, 5, trade(15, 64, 64, 0));
+    refused(&taking, 0, 5, trade(15, 64, 63, 0));
+    refused(&taking, 0, 5, trade(15, 63, 64, 0));
+    refused(&taking, 0, 6, trade(15, 63, 63, 0));
+    refused(&taking, 0, 7, trade(0, 2, 1, 0));
+    refused(&taking, 0, 7, trade(0, 2, 1, u32::MAX));
+    refused(&taking, 0, 8, trade(0, 2, 3, 1));
+    refused(&taking, 0, 8, trade(0, 3, 1, 1));
+}
+
+#[test]
+fn close_asks_2_3() {
+    let settling = Book { phase: Phase::Settling, ..Book::fresh() };
+    let close = |book: &mut Book, _: &mut [u32]| calls::close(book);
+    refused(&damaged(&settling), 0, 2, close);
+    refused(&settling, 0, 3, close);
+    refused(&Book { phase: Phase::Cut, ..Book::fresh() }, 0, 3, close);
+}
+
+#[test]
+fn deliver_asks_1_2_3_4_5_7_9() {
+    let taking = p5_book(0);
+    let settling = Book { phase: Phase::Settling, ..taking.clone() };
+    let deliver = |issue, account, lots| {
+        move |book: &mut Book, out: &mut [u32]| calls::deliver(book, issue, account, lots, out)
+    };
+    refused(&damaged(&taking), 4_095, 1, deliver(16, 64, 0));
+    refused(&damaged(&taking), 4_096, 2, deliver(16, 64, 0));
+    refused(&taking, 4_096, 3, deliver(16, 64, 0));
+    refused(&settling, 4_096, 4, deliver(16, 64, 0));
+    refused(&settling, 4_096, 5, deliver(15, 64, 0));
+    refused(&settling, 4_096, 7, deliver(15, 63, 0));
+    refused(&settling, 4_096, 7, deliver(0, 4, 20_000_001));
+    refused(&settling, 4_096, 9, deliver(0, 4, 230_001));
+    refused(&settling, 4_096, 9, deliver(0, 1, 1));
+    refused(&settling, 4_096, 9, deliver(15, 63, 1));
+}
+
+#[test]
+fn cutoff_asks_1_2_3_10() {
+    let taking = book_of_nets(Phase::Taking, &[(1, 100_001), (2, -100_001)]);
+    let full = |entries: usize| {
+        let mut book = Book { phase: Phase::Settling, ..taking.clone() };
+        book.set_ledger(&vec![entry(0, 1, 2, 1, 0); entries]);
+        book
+    };
+    let cutoff = |book: &mut Book, out: &mut [u32]| calls::cutoff(book, out);
+    refused(&damaged(&taking), 4_095, 1, cutoff);
+    refused(&damaged(&taking), 4_096, 2, cutoff);
+    refused(&taking, 4_096, 3, cutoff);
+    refused(&full(2_047), 4_096, 10, cutoff);
+    let mut book = full(2_046);
+    assert_eq!(calls::cutoff(&mut book, &mut output()), Answer { number: 0, count: 2 });
+    assert_eq!(book.count, 2_048);
+}
+
+#[test]
+fn resolve_asks_1_2_4_5_7_9() {
+    let book =
+        book_of_ledger(&[entry(0, 1, 2, 10, 0), entry(0, 1, 3, 10, 0), entry(1, 1, 2, 5, 0)]);
+    let resolve = |issue, account, lots| {
+        move |book: &mut Book, out: &mut [u32]| calls::resolve(book, issue, account, lots, out)
+    };
+    refused(&damaged(&book), 4_095, 1, resolve(16, 64, 0));
+    refused(&damaged(&book), 4_096, 2, resolve(16, 64, 0));
+    refused(&book, 4_096, 4, resolve(16, 64, 0));
+    refused(&book, 4_096, 5, resolve(15, 64, 0));
+    refused(&book, 4_096, 7, resolve(15, 63, 0));
+    refused(&book, 4_096, 9, resolve(0, 1, 21));
+    refused(&book, 4_096, 9, resolve(0, 2, 1));
+}
+
+#[test]
+fn pair_off_asks_2_4_5() {
+    let mut book = book_of_ledger(&[entry(0, 1, 2, 10, 0), entry(0, 2, 3, 10, 0)]);
+    let before = book.clone();
+    let refusal = |number| PairOffAnswer { number, steps: 0, lots: 0 };
+    assert_eq!(calls::pair_off(&mut damaged(&book), 16, 64), refusal(2));
+    assert_eq!(calls::pair_off(&mut book, 16, 64), refusal(4));
+    assert_eq!(calls::pair_off(&mut book, 15, 64), refusal(5));
+    assert_eq!(book, before);
+}
+
+#[test]
+fn roll_asks_2_3_11_12() {
+    let cut = Book { day: u16::MAX, ..p8_book(0) };
+    let taking = Book { day: u16::MAX, ..Book::fresh() };
+    let roll = |days, rate, prices: Vec<u32>| {
+        move |book: &mut Book, _: &mut [u32]| calls::roll(book, days, rate, &prices)
+    };
+    let with = |at: usize, price| {
+        let mut prices = vec![1; 16];
+        prices[at] = price;
+        prices
+    };
+    refused(&damaged(&taking), 0, 2, roll(0, 0, vec![]));
+    refused(&taking, 0, 3, roll(0, 0, vec![]));
+    refused(&cut, 0, 11, roll(0, 0, with(0, 1)));
+    refused(&cut, 0, 11, roll(13, 0, with(0, 1)));
+    refused(&cut, 0, 11, roll(1, 10_001, with(0, 1)));
+    refused(&cut, 0, 11, roll(1, 0, vec![1; 15]));
+    refused(&cut, 0, 11, roll(1, 0, vec![1; 17]));
+    refused(&cut, 0, 11, roll(1, 0, with(0, 0)));
+    refused(&cut, 0, 11, roll(1, 0, with(15, 200_001)));
+    refused(&cut, 0, 12, roll(12, 10_000, with(15, 200_000)));
+}
+
+#[test]
+fn the_unit_question_asks_2_4() {
+    let book = p5_book(0);
+    let refusal = |number| UnitAnswer { number, found: false, account: 0, lots: 0 };
+    assert_eq!(calls::unit(&damaged(&book), 16, 0), refusal(2));
+    assert_eq!(calls::unit(&book, 16, 0), refusal(4));
+    assert_eq!(calls::unit_on_sound(&damaged(&book), 16, 0), refusal(4));
+}
+
+#[test]
+fn a_book_known_to_be_sound_is_not_asked() {
+    let day = |trade: fn(&mut Book, u32, u32, u32, u32) -> Answer| {
+        let mut book = Book { charges: [1; 64], ..Book::fresh() };
+        trade(&mut book, 0, 1, 2, 3).number
+    };
+    assert_eq!(day(calls::trade), 2);
+    assert_eq!(day(calls::trade_on_sound), 0);
+    let entries: [Entry; 1] = [entry(0, 1, 1, 1, 0)];
+    let mut book = Book::fresh();
+    book.set_ledger(&entries);
+    assert_eq!(calls::resolve(&mut book, 0, 1, 1, &mut output()).number, 2);
+    assert_eq!(calls::resolve_on_sound(&mut book, 0, 1, 1, &mut output()).number, 0);
+}

@@ -1,0 +1,146 @@
+//! Soundness: each condition is broken by itself, and lists of calls keep them all.
+
+mod common;
+
+use common::{entry, output, p8_book};
+use reference::book::{place, Book, Phase};
+use reference::calls;
+use reference::soundness::CONDITIONS;
+
+/// The conditions that a book breaks.
+fn broken(book: &Book) -> Vec<&'static str> {
+    CONDITIONS.iter().filter(|(_, holds)| !holds(book)).map(|&(name, _)| name).collect()
+}
+
+/// A sound book of day 1 in Settling with nets, delivered lots, charges and two entries.
+fn sound_book() -> Book {
+    let mut book = Book { day: 1, phase: Phase::Settling, ..Book::fresh() };
+    book.nets[place(3, 4)] = 20_000_000;
+    book.nets[place(3, 5)] = -20_000_000;
+    book.delivered[place(3, 5)] = 20_000_000;
+    book.charges[0] = 134_663_013_697_536;
+    book.charges[63] = -134_663_013_697_536;
+    book.set_ledger(&[entry(15, 63, 0, 1, 0), entry(0, 0, 63, 20_000_000, 1)]);
+    assert_eq!(broken(&book), [""; 0]);
+    book
+}
+
+/// Damages a sound book; exactly this condition is broken.
+fn breaks(condition: &str, damage: impl Fn(&mut Book)) {
+    let mut book = sound_book();
+    damage(&mut book);
+    assert_eq!(broken(&book), [condition]);
+    assert!(!book.sound());
+}
+
+#[test]
+fn conditions_on_nets_and_delivered_lots() {
+    breaks("nets_in_range", |book| {
+        book.nets[place(3, 4)] += 1;
+        book.nets[place(3, 5)] -= 1;
+    });
+    breaks("nets_sum_to_zero", |book| book.nets[place(3, 0)] = 1);
+    breaks("nets_sum_to_zero", |book| {
+        book.nets[place(3, 0)] = 1;
+        book.nets[place(4, 0)] = -1;
+    });
+    breaks("delivered_within_owed", |book| book.delivered[place(3, 5)] += 1);
+    breaks("delivered_zero_elsewhere", |book| book.delivered[place(3, 4)] = 1);
+    breaks("delivered_zero_elsewhere", |book| book.delivered[place(0, 0)] = 1);
+    breaks("delivered_zero_in_taking", |book| book.phase = Phase::Taking);
+}
+
+#[test]
+fn conditions_on_entries() {
+    breaks("entry_numbers_in_range", |book| book.issues[0] = 16);
+    breaks("entry_numbers_in_range", |book| book.froms[0] = 64);
+    breaks("entry_numbers_in_range", |book| book.tos[1] = 255);
+    breaks("entry_accounts_differ", |book| book.tos[0] = 63);
+    breaks("entry_lots_in_range", |book| book.lots[0] = 0);
+    breaks("entry_lots_in_range", |book| book.lots[1] = 20_000_001);
+    breaks("entry_days_never_fall", |book| {
+        book.days[0] = 1;
+        book.days[1] = 0;
+    });
+    breaks("entry_days_not_above_today", |book| book.days[1] = 2);
+}
+
+#[test]
+fn conditions_on_the_count_and_unused_entries() {
+    breaks("entry_count_in_range", |book| {
+        book.set_ledger(&[entry(0, 0, 1, 1, 0); 2_048]);
+        book.count = 2_049;
+    });
+    breaks("entry_count_in_range", |book| {
+        book.set_ledger(&[entry(0, 0, 1, 1, 0); 2_048]);
+        book.count = usize::MAX;
+    });
+    breaks("unused_entries_zero", |book| book.issues[2] = 1);
+    breaks("unused_entries_zero", |book| book.froms[2] = 1);
+    breaks("unused_entries_zero", |book| book.tos[2_047] = 1);
+    breaks("unused_entries_zero", |book| book.lots[2_047] = 1);
+    breaks("unused_entries_zero", |book| book.days[2] = 1);
+    breaks("unused_entries_zero", |book| book.count = 1);
+}
+
+#[test]
+fn conditions_on_charges() {
+    breaks("charges_sum_to_zero", |book| book.charges[1] = 1);
+    breaks("charges_in_range", |book| {
+        book.charges[0] += 1;
+        book.charges[63] -= 1;
+    });
+}
+
+#[test]
+fn any_book_whatever_is_asked_without_fault() {
+    for (net, yen) in [(i32::MIN, i64::MIN), (i32::MAX, i64::MAX)] {
+        let mut book = Book { day: u16::MAX, count: usize::MAX, ..Book::fresh() };
+        book.nets.fill(net);
+        book.delivered.fill(u32::MAX);
+        book.charges.fill(yen);
+        book.issues.fill(u8::MAX);
+        book.lots.fill(u32::MAX);
+        book.days.fill(u16::MAX);
+        assert!(broken(&book).len() > 5);
+        assert!(!book.sound());
+    }
+}
+
+/// A random number below a limit (xorshift).
+fn below(state: &mut u64, limit: u32) -> u32 {
+    *state ^= *state << 13;
+    *state ^= *state >> 7;
+    *state ^= *state << 17;
+    ((*state >> 32) % u64::from(limit)) as u32
+}
+
+/// Makes one random call on few issues and accounts; gives its refusal number.
+fn random_call(state: &mut u64, book: &mut Book, out: &mut [u32]) -> u32 {
+    let (issue, from, to) = (below(state, 2), below(state, 6), below(state, 6));
+    let lots = [1, 50, 30_000, 100_000, 250_000, 20_000_000][below(state, 6) as usize];
+    match below(state, 40) {
+        0 => calls::close(book).number,
+        1 => calls::cutoff(book, out).number,
+        2 => calls::roll(book, 1 + below(state, 12), below(state, 10_001), &[100_000; 16]).number,
+        3..=4 => calls::pair_off(book, issue, from).number,
+        5..=7 => calls::resolve(book, issue, from, lots, out).number,
+        8..=23 => calls::deliver(book, issue, from, lots, out).number,
+        _ => calls::trade(book, issue, from, to, lots).number,
+    }
+}
+
+#[test]
+fn lists_of_calls_keep_the_book_sound() {
+    let mut state = 0x9e37_79b9_7f4a_7c15;
+    let mut book = p8_book(0);
+    let mut out = output();
+    for _ in 0..20_000 {
+        let before = book.clone();
+        let number = random_call(&mut state, &mut book, &mut out);
+        assert_ne!(number, 2);
+        assert!(number == 0 || book == before);
+        assert_eq!(broken(&book), [""; 0]);
+    }
+    assert!(book.day > 20);
+}
