@@ -1,2 +1,3 @@
 -- Laws of the tape.
 pub mod Reading
+pub mod PriceWords

@@ -9,7 +9,7 @@ use borrow.Author.Tests.{le-leb, lt-leb, eq-eqb, ne-eqb}
 use lib.ListN.{length, getD, drop, replicate, drop-of-length-le}
 use lib.Seq.{drop-cons}
 use Rattle.rules.specs.Tape.{kindOf, unusedBelow, headRight, lotsRight, priceWordRight, followers, wordsWrong, instructionOf, readAs, readOf}
-use Rattle.rules.specs.Records.{lotsBits, ofField}
+use Rattle.rules.specs.Records.{lotsBits, priceBits, ofField}
 use Rattle.rules.specs.declared.Read.{Read}
 use Rattle.rules.specs.declared.Read.the-variants.{Instr, Refused}
 
@@ -32,34 +32,23 @@ module _ (w u : ℕ) (least : 1 ≤ kindOf w) (most : kindOf w ≤ 7) (unused : 
   pub head-unused : (w % 2 ^ u ≡ 0 → ⊥) → headRight w ≡ false
   head-unused e = simp (le-leb 1 (kindOf w) least, le-leb (kindOf w) 7 most, unused, ne-eqb (w % 2 ^ u) 0 e)
 
--- of a word, the kind is what stands above 28 bits
-pub kind-above : (w : ℕ) → w < 2 ^ 32 → kindOf w ≡ w / 268435456
-kind-above w word = omega arith
-
-pub kind-of : (w k : ℕ) → w < 2 ^ 32 → w / 268435456 ≡ k → kindOf w ≡ k
-kind-of w k word e = kind-above w word ∙ e
-
 -- and of any other kind it is wrong
-pub head-none : (w : ℕ) → w < 2 ^ 32 → w / 268435456 ≡ 0 → headRight w ≡ false
-head-none w word e = simp (kind-of w 0 word e)
+pub head-none : (w : ℕ) → kindOf w ≡ 0 → headRight w ≡ false
+head-none w e = simp e
 
-pub head-above : (w : ℕ) → w < 2 ^ 32 → 7 < w / 268435456 → headRight w ≡ false
-head-above w word h = simp (le-leb 1 (kindOf w) (omega arith), lt-leb (kindOf w) 7 (omega arith))
+pub head-above : (w : ℕ) → 7 < kindOf w → headRight w ≡ false
+head-above w h = simp (le-leb 1 (kindOf w) (omega arith), lt-leb (kindOf w) 7 h)
 
 -- a price word has kind 9 and nothing above its price
-module _ (w : ℕ) (word : w < 2 ^ 32) where
-  one : w % 262144 ≡ w / 1 % 262144
-  one = omega arith
+module _ (w : ℕ) where
+  pub price-right : kindOf w ≡ 9 → w % 2 ^ 28 ≡ ofField priceBits w → priceWordRight w ≡ true
+  price-right k u = simp (eq-eqb (kindOf w) 9 k, eq-eqb (w % 2 ^ 28) (ofField priceBits w) u)
 
-  pub price-right : w / 268435456 ≡ 9 → w % 268435456 ≡ w % 262144 → priceWordRight w ≡ true
-  price-right k u = simp (eq-eqb (kindOf w) 9 (kind-of w 9 word k), eq-eqb (w % 268435456) (w / 1 % 262144) (u ∙ one))
+  pub price-kind : (kindOf w ≡ 9 → ⊥) → priceWordRight w ≡ false
+  price-kind k = simp (ne-eqb (kindOf w) 9 k)
 
-  pub price-kind : (w / 268435456 ≡ 9 → ⊥) → priceWordRight w ≡ false
-  price-kind k = simp (ne-eqb (kindOf w) 9 (λ e. k (sym (kind-above w word) ∙ e)))
-
-  pub price-unused : w / 268435456 ≡ 9 → (w % 268435456 ≡ w % 262144 → ⊥) → priceWordRight w ≡ false
-  price-unused k u =
-      simp (eq-eqb (kindOf w) 9 (kind-of w 9 word k), ne-eqb (w % 268435456) (w / 1 % 262144) (λ e. u (e ∙ sym one)))
+  pub price-unused : kindOf w ≡ 9 → (w % 2 ^ 28 ≡ ofField priceBits w → ⊥) → priceWordRight w ≡ false
+  price-unused k u = simp (eq-eqb (kindOf w) 9 k, ne-eqb (w % 2 ^ 28) (ofField priceBits w) u)
 
 -- the price words from `at` on
 abbrev pub pricesWrong : ℕ → List ℕ → ℕ

@@ -1,4 +1,5 @@
 -- The word at 1 is missing, wrong or right, as the laws of a word say.
+use mathlib.Core.Path.{_≡_, sym, _∙_}
 use mathlib.Core.List.{[]}
 use native.Mathlib.Omega.{arith}
 use borrow.Author.Needs.{needs}
@@ -11,21 +12,26 @@ use Rattle.tape.proofs.lots_wrong.Statement.{statement}
 use Rattle.tape.proofs.lots_wrong.Tie as tie
 
 returns : tie.Need-returns
-returns c = missing lotsRight [] (now (c .before .args .words)) 1 (c .if1 .taken)
+returns c = missing lotsRight [] (now (c .before .before .args .tape)) 1 (c .if1 .taken)
 
-shared-slice-read-w : tie.Need-shared-slice-read-w
-shared-slice-read-w c = search needs
+shared-slice-read-kind-of : tie.Need-shared-slice-read-kind-of
+shared-slice-read-kind-of c = search needs
+
+kind-of-requires : tie.Need-kind-of-requires
+kind-of-requires c κs = search needs
 
 returns-2 : tie.Need-returns-2
 returns-2 c =
-    let ws = now (c .before .before .before .args .words) in
+    let ws = now (c .before .before .before .before .before .args .tape) in
     wrong-word lotsRight [] ws 1 (omega arith)
-    (ne-eqb (kindOf (getD ws 1 0)) 8 (λ e. c .if2 .taken (omega (arith, c .before .shared-slice-known .given 1))))
+    (ne-eqb (kindOf (getD ws 1 0)) 8 (λ e. c .if2 .taken (c .before .kind-of .ensures ∙ e)))
 
 returns-3 : tie.Need-returns-3
 returns-3 c =
-    let ws = now (c .before .before .before .args .words) in
-    right-word lotsRight [] ws 1 (omega arith) (eq-eqb (kindOf (getD ws 1 0)) 8 (omega arith))
+    let ws = now (c .before .before .before .before .before .args .tape) in
+    right-word lotsRight [] ws 1 (omega arith)
+    (eq-eqb (kindOf (getD ws 1 0)) 8 (sym (c .before .kind-of .ensures) ∙ c .if2 .left))
 
 pub lots-wrong-spec : {M : Type 1} → statement M
-lots-wrong-spec = tie.close (tie.spec returns shared-slice-read-w returns-2 returns-3)
+lots-wrong-spec =
+    tie.close (tie.spec returns shared-slice-read-kind-of kind-of-requires returns-2 returns-3)
