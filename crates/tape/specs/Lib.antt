@@ -1,1 +1,2 @@
--- The tape's own specifications.
+-- What the tape's functions promise.
+pub mod Answers

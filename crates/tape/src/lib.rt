@@ -1,12 +1,15 @@
 // The tape: its reader and its writer.
 use rules::Instruction;
+use rules::Written;
 ghost use mathlib.Core.Path.{_≡_};
-ghost use mathlib.Core.List.{[], _∷_};
-ghost use Prim.Native.Nat.{_+_};
+ghost use mathlib.Core.List.{[], _∷_, map};
+ghost use Prim.Native.Nat.{_+_, _≤_, _<_, _^_};
 ghost use lib.ListN.{length, getD, drop, replicate};
 ghost use lib.Seq.{sets};
-ghost use Rattle.rules.specs.Records.{lotsBits, ofField};
-ghost use Rattle.rules.specs.Tape.{kindOf, headRight, lotsRight, priceWordRight, followers, wordsWrong, instructionOf, readOf, pricesOf};
+ghost use Rattle.rules.specs.Book.{all};
+ghost use Rattle.rules.specs.Records.{lotsBits, priceBits, ofField};
+ghost use Rattle.rules.specs.Tape.{kindOf, headRight, lotsRight, priceWordRight, followers, wordsWrong, instructionOf, readOf, pricesOf, rollWord, priceWord, fits, writeOf};
+ghost use Rattle.tape.specs.Answers.{WriteAnswerIs, twoWords, oneWord, rollWords, Room, PricesFit};
 
 // The instruction of a head, with the lots of the word after it.
 fn instruction(w: u32, lots: u32) -> Instruction
@@ -141,5 +144,168 @@ pub fn prices(tape: &[u32], prices: &mut [u32])
         }
         prices[at] = words::price_of(tape[at + 1]);
         at += 1;
+    }
+}
+
+// A head and its kind 8 word at the front of the output, or refusal 15.
+fn write_two(kind: u32, issue: u32, from: u32, to: u32, lots: u32, out: &mut [u32]) -> Written
+    requires { ⌜ Room kind (now out) ⌝ }
+    ensures { λ r. ⌜ WriteAnswerIs (twoWords kind issue from to lots (now (out .entry))) r (now (out .exit)) ⌝ }
+{
+    if 16 <= issue {
+        return Written {
+            refusal: 15,
+            count: 0,
+        };
+    }
+    if 64 <= from {
+        return Written {
+            refusal: 15,
+            count: 0,
+        };
+    }
+    if 64 <= to {
+        return Written {
+            refusal: 15,
+            count: 0,
+        };
+    }
+    if 268435456 <= lots {
+        return Written {
+            refusal: 15,
+            count: 0,
+        };
+    }
+    out[0] = words::head(kind, issue, from, to);
+    out[1] = words::lots_word(lots);
+    Written {
+        refusal: 0,
+        count: 2,
+    }
+}
+
+// A head alone at the front of the output, or refusal 15.
+fn write_one(kind: u32, issue: u32, account: u32, out: &mut [u32]) -> Written
+    requires { ⌜ Room kind (now out) ⌝ }
+    ensures { λ r. ⌜ WriteAnswerIs (oneWord kind issue account (now (out .entry))) r (now (out .exit)) ⌝ }
+{
+    if 16 <= issue {
+        return Written {
+            refusal: 15,
+            count: 0,
+        };
+    }
+    if 64 <= account {
+        return Written {
+            refusal: 15,
+            count: 0,
+        };
+    }
+    out[0] = words::head(kind, issue, account, 0);
+    Written {
+        refusal: 0,
+        count: 1,
+    }
+}
+
+// Does each price fit its bits?
+fn prices_fit(prices: &[u32]) -> bool
+    ensures { λ r. ⌜ r ≡ all (fits priceBits) (now (prices .entry)) ⌝ }
+{
+    let mut at = 0;
+    while at < prices.len() {
+        if 262144 <= prices[at] {
+            return false;
+        }
+        at += 1;
+    }
+    true
+}
+
+// A price as a kind 9 word.
+fn price_word(price: u32) -> u32
+    requires { ⌜ price < 2 ^ 18 ⌝ }
+    ensures { λ r. ⌜ r ≡ priceWord price ⌝ }
+{
+    2415919104 + price
+}
+
+// The head of a roll.
+fn roll_head(days: u32, rate: u32) -> u32
+    requires { ⌜ (days < 2 ^ 4) × (rate < 2 ^ 14) ⌝ }
+    ensures { λ r. ⌜ r ≡ rollWord days rate ⌝ }
+{
+    1879048192 + days * 16777216 + rate * 1024
+}
+
+// Sixteen price words from the output's second word on.
+fn put_prices(prices: &[u32], out: &mut [u32])
+    requires { ⌜ PricesFit (now prices) (now out) ⌝ }
+    ensures { λ _. ⌜ now (out .exit) ≡ sets (now (out .entry)) 1 (map priceWord (now (prices .entry))) ⌝ }
+{
+    let mut at = 0;
+    while at < 16 {
+        out[at + 1] = price_word(prices[at]);
+        at += 1;
+    }
+}
+
+// A roll's head and its price words at the front of the output, or refusal 15.
+fn write_roll(days: u32, rate: u32, prices: &[u32], out: &mut [u32]) -> Written
+    requires { ⌜ 17 ≤ length (now out) ⌝ }
+    ensures { λ r. ⌜ WriteAnswerIs (rollWords days rate (now (prices .entry)) (now (out .entry))) r (now (out .exit)) ⌝ }
+{
+    if 16 <= days {
+        return Written {
+            refusal: 15,
+            count: 0,
+        };
+    }
+    if 16384 <= rate {
+        return Written {
+            refusal: 15,
+            count: 0,
+        };
+    }
+    if prices.len() != 16 {
+        return Written {
+            refusal: 15,
+            count: 0,
+        };
+    }
+    let fit = prices_fit(prices);
+    if !fit {
+        return Written {
+            refusal: 15,
+            count: 0,
+        };
+    }
+    out[0] = roll_head(days, rate);
+    put_prices(prices, out);
+    Written {
+        refusal: 0,
+        count: 17,
+    }
+}
+
+// The words of an instruction at the front of the output; those after the last keep their content.
+// A roll has sixteen prices; any other instruction ignores them. A refusal changes nothing.
+pub fn write(x: Instruction, prices: &[u32], out: &mut [u32]) -> Written
+    ensures { λ r. ⌜ WriteAnswerIs (writeOf x (now (prices .entry)) (now (out .entry))) r (now (out .exit)) ⌝ }
+{
+    if out.len() < 17 {
+        return Written {
+            refusal: 1,
+            count: 0,
+        };
+    }
+    match x {
+        Instruction::Trade(issue, from, to, lots) => write_two(1, issue, from, to, lots, out),
+        Instruction::Deliver(issue, account, lots) => write_two(2, issue, account, 0, lots, out),
+        Instruction::Resolve(issue, account, lots) => write_two(3, issue, account, 0, lots, out),
+        Instruction::PairOff(issue, account) => write_one(4, issue, account, out),
+        Instruction::Close => write_one(5, 0, 0, out),
+        Instruction::Cutoff => write_one(6, 0, 0, out),
+        Instruction::Roll(days, rate) => write_roll(days, rate, prices, out),
     }
 }
