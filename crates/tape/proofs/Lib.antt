@@ -2,3 +2,4 @@
 pub mod Reading
 pub mod PriceWords
 pub mod Writing
+pub mod Sized
