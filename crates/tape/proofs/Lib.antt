@@ -3,3 +3,4 @@ pub mod Reading
 pub mod PriceWords
 pub mod Writing
 pub mod Sized
+pub mod There
