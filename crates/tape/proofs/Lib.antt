@@ -4,3 +4,4 @@ pub mod PriceWords
 pub mod Writing
 pub mod Sized
 pub mod There
+pub mod Back
