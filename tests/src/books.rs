@@ -18,6 +18,8 @@ pub struct Shape {
     pub accounts: Vec<u32>,
     pub entries: usize,
     pub day: u16,
+    /// The lots that are chosen mostly; with few of them many nets are equal.
+    pub menu: Vec<u32>,
 }
 
 impl Shape {
@@ -26,8 +28,11 @@ impl Shape {
         let issues = some_of(rng, 16, 1, 3);
         let accounts = some_of(rng, 64, 2, 6);
         let entries = *rng.pick(&[0, 0, 3, 10, 40, 2_040, 2_046, 2_047, 2_048]);
-        let day = *rng.pick(&[0, 0, 1, 2, 300, 65_533, 65_534, 65_535]);
-        Shape { issues, accounts, entries, day }
+        let day = *rng.pick(&[0, 1, 2, 300, 40_000, 65_500, 65_530, 65_534]);
+        let day = if rng.chance(1, 40) { u16::MAX } else { day };
+        let few = [*rng.pick(&MENU), *rng.pick(&MENU)];
+        let menu = if rng.chance(1, 2) { few.to_vec() } else { MENU.to_vec() };
+        Shape { issues, accounts, entries, day, menu }
     }
 }
 
@@ -49,11 +54,11 @@ fn some_of(rng: &mut Rng, limit: u32, least: u32, most: u32) -> Vec<u32> {
 }
 
 /// Lots of the menu, small, of some units, or large.
-pub fn random_lots(rng: &mut Rng) -> u32 {
-    match rng.range(0, 19) {
-        0..=11 => *rng.pick(&MENU),
-        12..=14 => rng.range(1, 9),
-        15..=18 => rng.range(1, 400_000),
+pub fn random_lots(rng: &mut Rng, menu: &[u32]) -> u32 {
+    match rng.range(0, if menu.len() > 2 { 39 } else { 35 }) {
+        0..=32 => *rng.pick(menu),
+        33..=35 => rng.range(1, 9),
+        36..=38 => rng.range(1, 400_000),
         _ => rng.range(1, MOST_LOTS),
     }
 }
@@ -76,7 +81,7 @@ pub fn random_book(rng: &mut Rng, shape: &Shape) -> Book {
     for &issue in &shape.issues {
         for _ in 0..rng.range(0, 2 * shape.accounts.len() as u32) {
             let (from, to) = two_of(rng, &shape.accounts);
-            move_lots(&mut book, issue, from, to, random_lots(rng));
+            move_lots(&mut book, issue, from, to, random_lots(rng, &shape.menu));
         }
     }
     if phase != Phase::Taking {
@@ -135,7 +140,7 @@ fn random_entries(rng: &mut Rng, shape: &Shape) -> Vec<Entry> {
             }
             let (from, to) = two_of(rng, &shape.accounts);
             let issue = *rng.pick(&shape.issues) as u8;
-            Entry { issue, from: from as u8, to: to as u8, lots: random_lots(rng), day }
+            Entry { issue, from: from as u8, to: to as u8, lots: random_lots(rng, &shape.menu), day }
         })
         .collect()
 }
@@ -154,7 +159,7 @@ mod tests {
             })
             .collect();
         assert!(books.iter().any(|book| book.count == ENTRIES));
-        assert!(books.iter().any(|book| book.day == u16::MAX));
+        assert!(books.iter().any(|book| book.day == u16::MAX - 1));
         assert!(books.windows(2).any(|pair| pair[0] != pair[1]));
     }
 }

@@ -64,11 +64,14 @@ impl Engines {
     }
 
     /// Puts a call to the second engine and to both forms of the library's.
-    pub fn call(&mut self, call: &Call) -> Result<Answer, [String; 2]> {
+    fn call(&mut self, call: &Call) -> Result<Answer, [String; 2]> {
         self.compared += 1;
         let mut output = lent(call);
         let answer = by_reference(&mut self.reference, call, inner(&mut output));
         let expected = (answer, &self.reference, output.as_slice());
+        if answer.number != 0 && *call != Call::Sound {
+            same("before the refused call", expected, (answer, &self.before, &lent(call)))?;
+        }
         let mut other = lent(call);
         let library = by_library(&mut self.library, call, inner(&mut other));
         same("open", expected, (library, &self.library, &other))?;

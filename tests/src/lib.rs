@@ -1,6 +1,7 @@
 //! What the test programs share: random numbers, options, reports, steps and both engines.
 
 pub mod books;
+pub mod case;
 pub mod engines;
 pub mod options;
 pub mod report;

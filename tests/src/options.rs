@@ -35,7 +35,7 @@ impl Options {
             match word.as_str() {
                 "--seed" => options.seed = number("--seed", words.next())?,
                 "--cases" => options.cases = number("--cases", words.next())?,
-                "--replay" => options.replay = Some(words.by_ref().collect()),
+                "--replay" => options.replay = Some(split(words.by_ref())),
                 name if own.contains(&name) => {
                     let value = words.next().ok_or_else(|| format!("{name} needs a word"))?;
                     options.own.insert(word, value);
@@ -50,6 +50,11 @@ impl Options {
     pub fn own_or<'a>(&'a self, name: &str, otherwise: &'a str) -> &'a str {
         self.own.get(name).map_or(otherwise, String::as_str)
     }
+}
+
+/// The words of a case, which may come as one word in quotes.
+fn split(words: impl Iterator<Item = String>) -> Vec<String> {
+    words.flat_map(|word| word.split_whitespace().map(String::from).collect::<Vec<_>>()).collect()
 }
 
 /// Names the options that there are.
@@ -83,6 +88,8 @@ mod tests {
         assert_eq!(parse("--cases 5 --seed 9"), Ok(options(9, 5)));
         let replay = Some(vec!["value".to_string(), "1".to_string(), "2".to_string()]);
         assert_eq!(parse("--seed 9 --replay value 1 2"), Ok(Options { replay, ..options(9, 10) }));
+        let quoted = ["--replay".to_string(), "value 1 2".to_string()];
+        assert_eq!(Options::parse(quoted, 1, &[]).unwrap().replay.unwrap().len(), 3);
         assert_eq!(parse("--part lists").unwrap().own_or("--part", "all"), "lists");
         assert_eq!(parse("").unwrap().own_or("--part", "all"), "all");
     }

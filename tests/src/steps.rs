@@ -341,8 +341,8 @@ mod tests {
 
     #[test]
     fn a_book_is_made_by_its_steps() {
-        let steps = "set day 7; set phase settling; set count 3; set net 0 1 -5; set net 0 2 5; \
-            set delivered 0 1 3; set charge 0 -4; set charge 1 4; set entries 0 2 0 1 2 3 4; \
+        let steps = "set day 7; set phase settling; set count 3; set net 0 1 -5; \
+            set delivered 0 1 3; set net 0 2 5; set charge 0 -4; set charge 1 4; set entries 0 2 0 1 2 3 4; \
             set entries 2 3 0 1 2 3 7";
         let mut book = Book::fresh();
         for step in parse(steps).unwrap() {
