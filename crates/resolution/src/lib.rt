@@ -36,7 +36,19 @@ fn met_by(issue: u8, from: u8, y: u32, i: u32, a: u32, x: u32) -> u32
 }
 
 // The entry at place w, unless its lots are 0; answers the place behind it.
-fn keep(issues: &mut [u8], froms: &mut [u8], tos: &mut [u8], lots: &mut [u32], days: &mut [u16], w: usize, i: u8, f: u8, t: u8, x: u32, d: u16) -> usize
+fn keep(
+    issues: &mut [u8],
+    froms: &mut [u8],
+    tos: &mut [u8],
+    lots: &mut [u32],
+    days: &mut [u16],
+    w: usize,
+    i: u8,
+    f: u8,
+    t: u8,
+    x: u32,
+    d: u16,
+) -> usize
     requires { ⌜ (w < 2048) × Whole (now issues) (now froms) (now tos) (now lots) (now days) ⌝ }
     ensures { λ r. ⌜ ((y : ℕ) → Put (entry i f t y d) x w r (now (issues .entry)) (now (froms .entry)) (now (tos .entry)) (now (lots .entry)) (now (days .entry)) (now (issues .exit)) (now (froms .exit)) (now (tos .exit)) (now (lots .exit)) (now (days .exit))) ⌝ }
 {
@@ -61,7 +73,20 @@ fn hand(out: &mut [u32], n: usize, i: u8, f: u8, t: u8, x: u32) -> usize
 
 // The entry at place k met by x lots of account a in issue i: what is left of it goes to place w,
 // the record of what was met behind n others.
-fn meet_at(k: usize, w: usize, n: usize, i: u32, a: u32, x: u32, issues: &mut [u8], froms: &mut [u8], tos: &mut [u8], lots: &mut [u32], days: &mut [u16], out: &mut [u32]) -> Turn
+fn meet_at(
+    k: usize,
+    w: usize,
+    n: usize,
+    i: u32,
+    a: u32,
+    x: u32,
+    issues: &mut [u8],
+    froms: &mut [u8],
+    tos: &mut [u8],
+    lots: &mut [u32],
+    days: &mut [u16],
+    out: &mut [u32],
+) -> Turn
     requires { ⌜ CanMeet k w n (now issues) (now froms) (now tos) (now lots) (now days) (now out) ⌝ }
     ensures { λ r. ⌜ WasMet i a x k w n r (now (issues .entry)) (now (froms .entry)) (now (tos .entry)) (now (lots .entry)) (now (days .entry)) (now (out .entry)) (now (issues .exit)) (now (froms .exit)) (now (tos .exit)) (now (lots .exit)) (now (days .exit)) (now (out .exit)) ⌝ }
 {
@@ -73,12 +98,27 @@ fn meet_at(k: usize, w: usize, n: usize, i: u32, a: u32, x: u32, issues: &mut [u
     let m = met_by(issue, f, y, i, a, x);
     let records = hand(out, n, issue, f, t, m);
     let entries = keep(issues, froms, tos, lots, days, w, issue, f, t, y - m, d);
-    Turn { entries, records, left: x - m }
+    Turn {
+        entries,
+        records,
+        left: x - m,
+    }
 }
 
 // Entries of issue i from account a met by x lots in ledger order, in one pass: what is left of them
 // moves up, an entry at 0 goes, and each that is met gives one record.
-pub fn resolve_in(count: usize, issues: &mut [u8], froms: &mut [u8], tos: &mut [u8], lots: &mut [u32], days: &mut [u16], i: u32, a: u32, x: u32, out: &mut [u32]) -> Counts
+pub fn resolve_in(
+    count: usize,
+    issues: &mut [u8],
+    froms: &mut [u8],
+    tos: &mut [u8],
+    lots: &mut [u32],
+    days: &mut [u16],
+    i: u32,
+    a: u32,
+    x: u32,
+    out: &mut [u32],
+) -> Counts
     requires { ⌜ Resolvable count (now issues) (now froms) (now tos) (now lots) (now days) (now out) ⌝ }
     ensures { λ r. ⌜ Resolved (entries count (now (issues .entry)) (now (froms .entry)) (now (tos .entry)) (now (lots .entry)) (now (days .entry))) i a x r (now (issues .exit)) (now (froms .exit)) (now (tos .exit)) (now (lots .exit)) (now (days .exit)) (now (out .entry)) (now (out .exit)) ⌝ }
 {
@@ -94,5 +134,8 @@ pub fn resolve_in(count: usize, issues: &mut [u8], froms: &mut [u8], tos: &mut [
         k += 1;
     }
     ledger::clear(w, count, issues, froms, tos, lots, days);
-    Counts { entries: w, records: n }
+    Counts {
+        entries: w,
+        records: n,
+    }
 }
