@@ -1,11 +1,14 @@
 // Resolve and pair-off: the ledger's fails met, and set against one another.
 ghost use mathlib.Core.Path.{_≡_};
 ghost use mathlib.Core.Bool.{true, cond, _&&_};
+ghost use mathlib.Core.List.{List};
 ghost use Prim.Native.Nat.{ℕ, _+_, _-_, _*_, _≤_, _<_, min};
 ghost use lib.Dec.{eqb};
 ghost use lib.ListN.{length};
 ghost use Rattle.rules.specs.Ledger.{entry, isFrom};
 ghost use Rattle.rules.specs.Book.{entries, entrySound};
+ghost use Rattle.rules.specs.Questions.{firstNo};
+ghost use Rattle.rules.specs.Calls.{resolveAsks, pairOffAsks};
 ghost use Rattle.ledger.specs.Columns.{Whole};
 ghost use Rattle.resolution.specs.Resolving.{entryAt, Put, Recorded, CanMeet, WasMet, Resolvable, Resolved};
 
@@ -138,4 +141,51 @@ pub fn resolve_in(
         entries: w,
         records: n,
     }
+}
+
+// The number of the first of resolve's questions answered 'no', from the issue on; 0 where there is
+// none.
+pub fn resolve_asks<'a>(
+    count: usize,
+    issues: &'a [u8],
+    froms: &'a [u8],
+    lots: &'a [u32],
+    i: u32,
+    a: u32,
+    x: u32,
+) -> u32
+    requires { ⌜ (count ≤ 2048) × (length (now issues) ≡ 2048) × (length (now froms) ≡ 2048) × (length (now lots) ≡ 2048) ⌝ }
+    ensures { λ r. ⌜ ((ts ds : List ℕ) → r ≡ firstNo (resolveAsks (entries count (now (issues .entry)) (now (froms .entry)) ts (now (lots .entry)) ds) i a x)) ⌝ }
+{
+    if 15 < i {
+        return 4;
+    }
+    if 63 < a {
+        return 5;
+    }
+    if x < 1 {
+        return 7;
+    }
+    if 20_000_000 < x {
+        return 7;
+    }
+    let owed = ledger::owed_lots(count, issues, froms, lots, i, a);
+    if owed < x as u64 {
+        return 9;
+    }
+    0
+}
+
+// The number of the first of pair-off's questions answered 'no', from the issue on; 0 where there is
+// none.
+pub fn pair_off_asks(i: u32, a: u32) -> u32
+    ensures { λ r. ⌜ r ≡ firstNo (pairOffAsks i a) ⌝ }
+{
+    if 15 < i {
+        return 4;
+    }
+    if 63 < a {
+        return 5;
+    }
+    0
 }
