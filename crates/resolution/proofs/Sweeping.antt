@@ -67,24 +67,28 @@ swept-more g pre kept rest e w k n c₀ c h m l s q =
     record {
       whole = ap length q ∙ length-sets c₀ w (map g kept) ∙ s .whole;
       front =
-        ap (take (w + length kept)) q
-        ∙ ap (λ j. take (w + j) (sets c₀ w (map g kept))) (sym lm)
-        ∙ stored-front c₀ (map g kept) w (omega (arith, s .whole))
-        ∙ ap (λ y. y ++ map g kept) (s .front)
-        ∙ sym (map-append g pre kept);
+          ap (take (w + length kept)) q
+          ∙ ap (λ j. take (w + j) (sets c₀ w (map g kept))) (sym lm)
+          ∙ stored-front c₀ (map g kept) w (omega (arith, s .whole))
+          ∙ ap (λ y. y ++ map g kept) (s .front)
+          ∙ sym (map-append g pre kept);
       back =
-        ap (drop (k + 1)) q
-        ∙ stored-back c₀ (map g kept) w (k + 1) (omega arith) (omega (arith, s .whole))
-        ∙ tail-back c₀ (map g rest ++ replicate (mostEntries - n) 0) k (g e) (s .back);
+          ap (drop (k + 1)) q
+          ∙ stored-back c₀ (map g kept) w (k + 1) (omega arith) (omega (arith, s .whole))
+          ∙ tail-back c₀ (map g rest ++ replicate (mostEntries - n) 0) k (g e) (s .back);
     }
 
 -- the entry at place k is the first that is still to be met
 same-entry : (k : ℕ) (e : Entry) (is fs ts xs ds r₁ r₂ r₃ r₄ r₅ : List ℕ) → drop k is ≡ e .issue ∷ r₁ → drop k fs ≡ e .from ∷ r₂ →
     drop k ts ≡ e .to ∷ r₃ → drop k xs ≡ e .lots ∷ r₄ → drop k ds ≡ e .day ∷ r₅ → entryAt k is fs ts xs ds ≡ e
 same-entry k e is fs ts xs ds r₁ r₂ r₃ r₄ r₅ p₁ p₂ p₃ p₄ p₅ =
-    rw
-    (head-back is r₁ k (e .issue) p₁, head-back fs r₂ k (e .from) p₂, head-back ts r₃ k (e .to) p₃,
-     head-back xs r₄ k (e .lots) p₄, head-back ds r₅ k (e .day) p₅)
+    rw (
+      head-back is r₁ k (e .issue) p₁,
+      head-back fs r₂ k (e .from) p₂,
+      head-back ts r₃ k (e .to) p₃,
+      head-back xs r₄ k (e .lots) p₄,
+      head-back ds r₅ k (e .day) p₅,
+    )
 
 -- the pass at place k: x lots are left, w entries kept, r records written
 pub record SweepOf
@@ -118,23 +122,23 @@ sweep-starts i a x n is fs ts xs ds o h =
       done = [];
       rest = es;
       holds =
-        record {
-          count = omega arith;
-          most = h .held .most;
-          keeps = refl;
-          writes = refl;
-          behind = omega arith;
-          few = omega arith;
-          sound = h .sound;
-          meets = refl;
-          mets = refl;
-          columns =
-            each-column {P = λ g c. (length c ≡ mostEntries) × (c ≡ column g es)}
-            (λ g c e. record { whole = e .0; front = refl; back = e .1 ∙ ap (λ m. map g es ++ replicate (mostEntries - m) 0) l })
-            (both (h .held .whole) (h .held .columns));
-          room = h .room;
-          written = refl;
-        };
+          record {
+            count = omega arith;
+            most = h .held .most;
+            keeps = refl;
+            writes = refl;
+            behind = omega arith;
+            few = omega arith;
+            sound = h .sound;
+            meets = refl;
+            mets = refl;
+            columns =
+                each-column {P = λ g c. (length c ≡ mostEntries) × (c ≡ column g es)}
+                (λ g c e. record { whole = e .0; front = refl; back = e .1 ∙ ap (λ m. map g es ++ replicate (mostEntries - m) 0) l })
+                (both (h .held .whole) (h .held .columns));
+            room = h .room;
+            written = refl;
+          };
     }
 
 module _ (i a x₀ : ℕ) (es : List Entry) (n k w r x : ℕ) (is fs ts xs ds o₀ o : List ℕ) where
@@ -144,11 +148,20 @@ module _ (i a x₀ : ℕ) (es : List Entry) (n k w r x : ℕ) (is fs ts xs ds o�
       same-entry k e is fs ts xs ds _ _ _ _ _ (s .columns .issues .back) (s .columns .froms .back) (s .columns .tos .back)
       (s .columns .lotss .back) (s .columns .dayss .back)
 
+  out-length : (pre done rest : List Entry) → SweepOf i a x₀ es pre done rest n k w r x is fs ts xs ds o₀ o → length o ≡ length o₀
+  out-length pre done rest s =
+      ap length (s .written)
+      ∙ records-length (map (recordOf 11) done) o₀
+      (omega (arith, length-map done (recordOf 11), s .count, s .most, s .writes, s .few, s .room))
+
+  pub sweep-length : Sweep i a x₀ es n k w r x is fs ts xs ds o₀ o → length o ≡ length o₀
+  sweep-length s = out-length (s .pre) (s .done) (s .rest) (s .holds)
+
   sweep-can : (pre done rest : List Entry) → SweepOf i a x₀ es pre done rest n k w r x is fs ts xs ds o₀ o → k < n →
       CanMeet k w r is fs ts xs ds o
   sweep-can pre done [] s h = absurd (omega (arith, s .count))
   sweep-can pre done (e ∷ rest) s h =
-      let l : length o ≡ length o₀ = ap length (s .written) ∙ records-length (map (recordOf 11) done) o₀ (omega (arith, length-map done (recordOf 11))) in
+      let l = out-length pre done (e ∷ rest) s in
       record {
         place = omega arith;
         before = s .behind;
@@ -173,7 +186,7 @@ module _ (i a x₀ : ℕ) (es : List Entry) (n k w r x : ℕ) (is fs ts xs ds o�
       let lk : length kept ≤ 1 = omega (arith, length-putEntry e (e .lots - metBy p x e) []) in
       let lt : length took ≤ 1 = omega (arith, length-putEntry e (metBy p x e) []) in
       let k₁ : Put e (e .lots - metBy p x e) w (t .entries) is fs ts xs ds is′ fs′ ts′ xs′ ds′ =
-          subst (λ d. Put d (d .lots - metBy p x d) w (t .entries) is fs ts xs ds is′ fs′ ts′ xs′ ds′) f (m .kept) in
+      subst (λ d. Put d (d .lots - metBy p x d) w (t .entries) is fs ts xs ds is′ fs′ ts′ xs′ ds′) f (m .kept) in
       let m₁ : Recorded e (metBy p x e) r (t .records) o o′ = subst (λ d. Recorded d (metBy p x d) r (t .records) o o′) f (m .met) in
       let l₁ : t .left ≡ x - metBy p x e = m .left ∙ ap (λ d. x - metBy p x d) f in
       record {
@@ -181,35 +194,35 @@ module _ (i a x₀ : ℕ) (es : List Entry) (n k w r x : ℕ) (is fs ts xs ds o�
         done = done ++ took;
         rest = rest;
         holds =
-          record {
-            count = omega (arith, s .count);
-            most = s .most;
-            keeps = omega (arith, k₁ .next, s .keeps, length-append pre kept);
-            writes = omega (arith, m₁ .next, s .writes, length-append done took);
-            behind = omega (arith, k₁ .next, s .behind);
-            few = omega (arith, m₁ .next, s .few);
-            sound = and-right (entrySound e) (all entrySound rest) (s .sound);
-            meets =
-              s .meets
-              ∙ ap (λ y. pre ++ y) (put-append e (e .lots - metBy p x e) (meet p (x - metBy p x e) rest))
-              ∙ sym (append-assoc pre kept (meet p (x - metBy p x e) rest))
-              ∙ ap (λ y. (pre ++ kept) ++ meet p y rest) (sym l₁);
-            mets =
-              s .mets
-              ∙ ap (λ y. done ++ y) (put-append e (metBy p x e) (met p (x - metBy p x e) rest))
-              ∙ sym (append-assoc done took (met p (x - metBy p x e) rest))
-              ∙ ap (λ y. (done ++ took) ++ met p y rest) (sym l₁);
-            columns =
-              rw (k₁ .next)
-              (each-pair (λ g c₀ c q z. swept-more g pre kept rest e w k n c₀ c (s .behind) (omega (arith, s .most)) lk q z)
-              (s .columns) (k₁ .columns));
-            room = s .room;
-            written =
-              records-more (map (recordOf 11) done) (map (recordOf 11) took) r o₀ o o′
-              (s .writes ∙ sym (length-map done (recordOf 11)))
-              (omega (arith, length-map took (recordOf 11), s .few, s .most, s .room)) (s .written) (m₁ .out)
-              ∙ ap (λ y. over (words y) o₀) (sym (map-append (recordOf 11) done took));
-          };
+            record {
+              count = omega (arith, s .count);
+              most = s .most;
+              keeps = omega (arith, k₁ .next, s .keeps, length-append pre kept);
+              writes = omega (arith, m₁ .next, s .writes, length-append done took);
+              behind = omega (arith, k₁ .next, s .behind);
+              few = omega (arith, m₁ .next, s .few);
+              sound = and-right (entrySound e) (all entrySound rest) (s .sound);
+              meets =
+                  s .meets
+                  ∙ ap (λ y. pre ++ y) (put-append e (e .lots - metBy p x e) (meet p (x - metBy p x e) rest))
+                  ∙ sym (append-assoc pre kept (meet p (x - metBy p x e) rest))
+                  ∙ ap (λ y. (pre ++ kept) ++ meet p y rest) (sym l₁);
+              mets =
+                  s .mets
+                  ∙ ap (λ y. done ++ y) (put-append e (metBy p x e) (met p (x - metBy p x e) rest))
+                  ∙ sym (append-assoc done took (met p (x - metBy p x e) rest))
+                  ∙ ap (λ y. (done ++ took) ++ met p y rest) (sym l₁);
+              columns =
+                  rw (k₁ .next)
+                  (each-pair (λ g c₀ c q z. swept-more g pre kept rest e w k n c₀ c (s .behind) (omega (arith, s .most)) lk q z)
+                  (s .columns) (k₁ .columns));
+              room = s .room;
+              written =
+                  records-more (map (recordOf 11) done) (map (recordOf 11) took) r o₀ o o′
+                  (s .writes ∙ sym (length-map done (recordOf 11)))
+                  (omega (arith, length-map took (recordOf 11), s .few, s .most, s .room)) (s .written) (m₁ .out)
+                  ∙ ap (λ y. over (words y) o₀) (sym (map-append (recordOf 11) done took));
+            };
       }
 
   pub sweep-more : Sweep i a x₀ es n k w r x is fs ts xs ds o₀ o → k < n →
@@ -243,12 +256,12 @@ module _ (i a x₀ : ℕ) (es : List Entry) (n k w r x : ℕ) (is fs ts xs ds o�
       record {
         entries = s .keeps ∙ ap length (sym m);
         columns =
-          each-pair
-          (λ g c₀ c q e.
-          e ∙ ap (λ y. y ++ replicate (mostEntries - w) 0) (q .front)
-          ∙ ap (λ j. map g pre ++ replicate (mostEntries - j) 0) (s .keeps) ∙ ap (column g) (sym m))
-          (s .columns)
-          c;
+            each-pair
+            (λ g c₀ c q e.
+            e ∙ ap (λ y. y ++ replicate (mostEntries - w) 0) (q .front)
+            ∙ ap (λ j. map g pre ++ replicate (mostEntries - j) 0) (s .keeps) ∙ ap (column g) (sym m))
+            (s .columns)
+            c;
         records = s .writes ∙ sym (length-map done (recordOf 11)) ∙ ap (λ y. length (map (recordOf 11) y)) (sym d);
         written = s .written ∙ ap (λ y. over (words (map (recordOf 11) y)) o₀) (sym d);
       }

@@ -3,27 +3,19 @@ use Rattle.resolution.proofs.Alone.{recorded-none, recorded-some}
 use borrow.Author.Needs.{needs}
 use Rattle.resolution.proofs.hand.Statement.{statement}
 use Rattle.resolution.proofs.hand.Tie as tie
-use Rattle.resolution.proofs.hand.Reads as reads
-use Rattle.resolution.proofs.hand.Lts as lts
-use Rattle.words.proofs.record_at.Reads as record-at-reads
 
--- src/lib.rt:56:9
 returns : tie.Need-returns
 returns c = λ y d. recorded-none _ _ _ _ (c .if1 .taken)
 
--- src/lib.rt:58:5
 record-at-requires : tie.Need-record-at-requires
 record-at-requires c κs = search needs
 
--- src/lib.rt:59:5
 add-result : tie.Need-add-result
 add-result c = search needs
 
--- src/lib.rt:51:1
 same-length : tie.Need-same-length
 same-length c = search needs
 
--- src/lib.rt:51:1
 returns-2 : tie.Need-returns-2
 returns-2 c = λ y d. recorded-some _ _ _ _ d y _ _ _ (c .before .before .before .before .if1 .left) (c .before .before .record-at .ensures)
 

@@ -3,43 +3,31 @@ use Rattle.resolution.proofs.Alone.{put-none, put-some}
 use borrow.Author.Needs.{needs}
 use Rattle.resolution.proofs.keep.Statement.{statement}
 use Rattle.resolution.proofs.keep.Tie as tie
-use Rattle.resolution.proofs.keep.Reads as reads
-use Rattle.resolution.proofs.keep.Lts as lts
-use Rattle.ledger.proofs.store.Reads as store-reads
 
--- src/lib.rt:44:9
 returns : tie.Need-returns
 returns c = λ y. put-none _ _ _ _ _ _ _ _ (c .if1 .taken)
 
--- src/lib.rt:46:5
 store-requires : tie.Need-store-requires
 store-requires c κs = search needs
 
--- src/lib.rt:47:5
 add-result : tie.Need-add-result
 add-result c = search needs
 
--- src/lib.rt:39:1
 same-length : tie.Need-same-length
 same-length c = search needs
 
--- src/lib.rt:39:1
 same-length-2 : tie.Need-same-length-2
 same-length-2 c = search needs
 
--- src/lib.rt:39:1
 same-length-3 : tie.Need-same-length-3
 same-length-3 c = search needs
 
--- src/lib.rt:39:1
 same-length-4 : tie.Need-same-length-4
 same-length-4 c = search needs
 
--- src/lib.rt:39:1
 same-length-5 : tie.Need-same-length-5
 same-length-5 c = search needs
 
--- src/lib.rt:39:1
 returns-2 : tie.Need-returns-2
 returns-2 c = λ y. put-some _ _ _ _ _ y _ _ _ _ _ _ _ _ _ _ _ (c .before .before .before .before .before .before .before .before .before .before .before .before .before .before .before .before .if1 .left) (c .before .before .before .before .before .before .before .before .before .before .store .ensures)
 

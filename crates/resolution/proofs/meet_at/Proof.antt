@@ -12,45 +12,31 @@ use Rattle.resolution.proofs.Alone.{was-met}
 use borrow.Author.Needs.{needs}
 use Rattle.resolution.proofs.meet_at.Statement.{statement}
 use Rattle.resolution.proofs.meet_at.Tie as tie
-use Rattle.resolution.proofs.meet_at.Reads as reads
-use Rattle.resolution.proofs.meet_at.Lts as lts
-use Rattle.resolution.proofs.hand.Reads as hand-reads
-use Rattle.resolution.proofs.keep.Reads as keep-reads
-use Rattle.resolution.proofs.met_by.Reads as met-by-reads
 
--- src/lib.rt:68:17
 slice-read-issue : tie.Need-slice-read-issue
 slice-read-issue c = search needs
 
--- src/lib.rt:69:13
 slice-read-f : tie.Need-slice-read-f
 slice-read-f c = search needs
 
--- src/lib.rt:70:13
 slice-read-t : tie.Need-slice-read-t
 slice-read-t c = search needs
 
--- src/lib.rt:71:13
 mul-y : tie.Need-mul-y
 mul-y c = search needs
 
--- src/lib.rt:71:13
 slice-read-y : tie.Need-slice-read-y
 slice-read-y c = search needs
 
--- src/lib.rt:72:13
 mul-d : tie.Need-mul-d
 mul-d c = search needs
 
--- src/lib.rt:72:13
 slice-read-d : tie.Need-slice-read-d
 slice-read-d c = search needs
 
--- src/lib.rt:73:9
 met-by-requires : tie.Need-met-by-requires
 met-by-requires c κs = search needs
 
--- src/lib.rt:74:9
 hand-requires : tie.Need-hand-requires
 hand-requires c κs =
     let s = c .before .before .before .before .before .before .before .before .before .before .before .before .before in
@@ -59,49 +45,39 @@ hand-requires c κs =
     let m = metBy-le (isFrom (s .args .i) (s .args .a)) (s .args .x) e in
     (s .pre .room, g .issue, g .from, g .to, omega (arith, c .before .met-by .ensures))
 
--- src/lib.rt:75:72
 sub-keep : tie.Need-sub-keep
 sub-keep c =
     let s = c .before .before .before .before .before .before .before .before .before .before .before .before .before .before .before .before .before .before .before .before .before in
     let e = entryAt (s .args .k) (now (s .args .issues)) (now (s .args .froms)) (now (s .args .tos)) (now (s .args .lots)) (now (s .args .days)) in
     omega (arith, c .before .before .before .before .before .before .before .before .before .met-by .ensures, metBy-le (isFrom (s .args .i) (s .args .a)) (s .args .x) e)
 
--- src/lib.rt:75:9
 keep-requires : tie.Need-keep-requires
 keep-requires c κs = search needs
 
--- src/lib.rt:76:36
 sub-t27 : tie.Need-sub-t27
 sub-t27 c =
     let s = c .before .before .before .before .before .before .before .before .before .before .before .before .before .before .before .before .before .before .before .before .before .before .before .before .before .before .before .before .before .before .before .before in
     let e = entryAt (s .args .k) (now (s .args .issues)) (now (s .args .froms)) (now (s .args .tos)) (now (s .args .lots)) (now (s .args .days)) in
     omega (arith, c .before .before .before .before .before .before .before .before .before .before .before .before .before .before .before .before .before .before .before .before .met-by .ensures, metBy-le (isFrom (s .args .i) (s .args .a)) (s .args .x) e)
 
--- src/lib.rt:64:1
 same-length : tie.Need-same-length
 same-length c = search needs
 
--- src/lib.rt:64:1
 same-length-2 : tie.Need-same-length-2
 same-length-2 c = search needs
 
--- src/lib.rt:64:1
 same-length-3 : tie.Need-same-length-3
 same-length-3 c = search needs
 
--- src/lib.rt:64:1
 same-length-4 : tie.Need-same-length-4
 same-length-4 c = search needs
 
--- src/lib.rt:64:1
 same-length-5 : tie.Need-same-length-5
 same-length-5 c = search needs
 
--- src/lib.rt:64:1
 same-length-6 : tie.Need-same-length-6
 same-length-6 c = search needs
 
--- src/lib.rt:64:1
 returns : tie.Need-returns
 returns c =
     let a = c .before .before .before .before .before .before .before .before .before .before .before .before .before .before .before .before .before .before .before .before .before .before .before .before .before .before .before .before .before .before .before .before .args in

@@ -5,23 +5,16 @@ use native.Mathlib.Omega.{arith}
 use borrow.Author.Needs.{needs}
 use Rattle.resolution.proofs.met_by.Statement.{statement}
 use Rattle.resolution.proofs.met_by.Tie as tie
-use Rattle.resolution.proofs.met_by.Reads as reads
-use Rattle.resolution.proofs.met_by.Lts as lts
-use Rattle.ledger.proofs.is_of.Reads as is-of-reads
 
--- src/lib.rt:29:8
 is-of-requires : tie.Need-is-of-requires
 is-of-requires c κs = search needs
 
--- src/lib.rt:31:13
 returns : tie.Need-returns
 returns c = simp (sym (c .before .before .is-of .ensures) ∙ c .before .if1 .taken) (omega arith)
 
--- src/lib.rt:33:9
 returns-2 : tie.Need-returns-2
 returns-2 c = simp (sym (c .before .before .is-of .ensures) ∙ c .before .if1 .taken) (omega arith)
 
--- src/lib.rt:26:1
 returns-3 : tie.Need-returns-3
 returns-3 c = simp (sym (c .before .is-of .ensures) ∙ c .if1 .left)
 
