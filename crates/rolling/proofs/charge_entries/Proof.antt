@@ -132,7 +132,8 @@ returns c =
     let e = charge-end (a .days) (a .rate) (now (a .prices)) (a .count) (now (a .issues)) (now (a .froms)) (now (a .tos))
     (now (a .lots)) (l .k) _ (l .charges) (omega arith) (l .inv .3) in
     record {
-      charges = λ ds. e ∙ other-days (a .days) (a .rate) (now (a .prices)) (a .count) (now (a .issues)) (now (a .froms)) (now (a .tos))
+      charges = λ ds. e ∙ other-days (a .days) (a .rate) (now (a .prices)) (a .count) (now (a .issues))
+          (now (a .froms)) (now (a .tos))
           (now (a .lots)) [] ds (now (a .charges));
     }
 

@@ -36,7 +36,8 @@ cut-requires c κs = search needs
 returns : tie.Need-returns
 returns c =
     let a = c .before .before .before .args in
-    no3 (a .phase) (a .today) (a .days) (a .rate) (now (a .prices)) (sym (c .before .cut .ensures) ∙ not-true (c .before .cut .result) (c .if1 .taken))
+    no3 (a .phase) (a .today) (a .days) (a .rate) (now (a .prices))
+    (sym (c .before .cut .ensures) ∙ not-true (c .before .cut .result) (c .if1 .taken))
 
 term-right-requires : tie.Need-term-right-requires
 term-right-requires c κs = search needs
@@ -65,12 +66,14 @@ returns-4 c =
 returns-5 : tie.Need-returns-5
 returns-5 c =
     let a = at4 (c .before) .args in
-    none (a .phase) (a .today) (a .days) (a .rate) (now (a .prices)) (cut (c .before .before .before .before .before .before)) (terms (c .before)) (c .if5 .taken)
+    none (a .phase) (a .today) (a .days) (a .rate) (now (a .prices))
+    (cut (c .before .before .before .before .before .before)) (terms (c .before)) (c .if5 .taken)
 
 returns-6 : tie.Need-returns-6
 returns-6 c =
     let a = at4 (c .before) .args in
-    no12 (a .phase) (a .today) (a .days) (a .rate) (now (a .prices)) (cut (c .before .before .before .before .before .before)) (terms (c .before)) (c .if5 .left)
+    no12 (a .phase) (a .today) (a .days) (a .rate) (now (a .prices))
+    (cut (c .before .before .before .before .before .before)) (terms (c .before)) (c .if5 .left)
 
 pub roll-asks-spec : {M : Type 1} → statement M
 roll-asks-spec =

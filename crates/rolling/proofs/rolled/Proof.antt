@@ -45,7 +45,8 @@ returns : tie.Need-returns
 returns c =
     let a = c .before .before .before .before .before .before .before .before .before .before .before .before .before .before .before .before .before .before .before .before .before .before .before .before .args in
     let r = c .before .before .before .before .before .before .before .roll-in in
-    together (a .t1) (c .before .before .before .with-charges .result) (c .before .before .with-nets .result) (c .before .with-delivered .result)
+    together (a .t1) (c .before .before .before .with-charges .result) (c .before .before .with-nets .result)
+    (c .before .with-delivered .result)
     (c .with-day .result) _ _ _ (a .days) (a .rate) (now (a .prices)) (c .before .before .before .with-charges .ensures)
     (c .before .before .with-nets .ensures) (c .before .with-delivered .ensures) (c .with-day .ensures)
     (r .ensures .0 .charges (a .t1 .days)) (r .ensures .1 .nets) (r .ensures .1 .delivered)
