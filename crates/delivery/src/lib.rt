@@ -1,0 +1,49 @@
+// deliver: an account's delivered lots rise, and the next units are handed over whole, in order.
+use rules::Found;
+ghost use mathlib.Core.Path.{_≡_};
+ghost use Rattle.rules.specs.Records.{words, over};
+ghost use Rattle.units.specs.Runs.{unitsIn};
+ghost use Rattle.delivery.specs.Deliver.{CanHand, handRecords, CanServe, Served, CanDeliver, Delivered};
+
+// Hands over `count` units of n runs, from unit c on: one record each.
+fn hand(runs: &[u32], n: usize, i: u32, c: u32, count: usize, out: &mut [u32])
+    requires { ⌜ CanHand (now runs) n i c count (now out) ⌝ }
+    ensures { λ _. ⌜ now (out .exit) ≡ over (words (handRecords (unitsIn (now (runs .entry)) n) i c count)) (now (out .entry)) ⌝ }
+{
+    let mut m: usize = 0;
+    while m < count {
+        let Found::Unit(to, lots) = units::unit_at(runs, n, c + m as u32) else {
+            return;
+        };
+        words::record_at(out, m, 10, i, 0, to, lots);
+        m += 1;
+    }
+}
+
+// The units of an issue that x more lots hand over, where d were delivered before; answers their number.
+fn serve(nets: &[i32], d: u32, x: u32, i: u32, out: &mut [u32]) -> usize
+    requires { ⌜ CanServe (now nets) d x i (now out) ⌝ }
+    ensures { λ r. ⌜ Served (now (nets .entry)) d x i (now (out .entry)) (now (out .exit)) r ⌝ }
+{
+    let mut runs = [0u32; 128];
+    let n = units::prepare(nets, &mut runs);
+    let before = units::handover(&runs, n, d);
+    let after = units::handover(&runs, n, d + x);
+    let c = before.count;
+    let new = (after.count - c) as usize;
+    hand(&runs, n, i, c, new, out);
+    new
+}
+
+// A delivery in place: the account's delivered lots rise by x; answers the number of records written.
+pub fn deliver_in(nets: &[i32], delivered: &mut [u32], i: u32, a: u32, x: u32, out: &mut [u32]) -> usize
+    requires { ⌜ CanDeliver (now nets) (now delivered) i a x (now out) ⌝ }
+    ensures { λ r. ⌜ Delivered (now (nets .entry)) (now (delivered .entry)) (now (delivered .exit)) i a x (now (out .entry)) (now (out .exit)) r ⌝ }
+{
+    let s = i as usize * 64;
+    let e = s + 64;
+    let d = book::total(&delivered[s..e]);
+    let at = s + a as usize;
+    delivered[at] = delivered[at] + x;
+    serve(&nets[s..e], d, x, i, out)
+}
