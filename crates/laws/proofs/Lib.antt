@@ -6,3 +6,8 @@ pub mod Overlaps
 pub mod Cells
 pub mod Sound
 pub mod Ledger
+pub mod Fails
+pub mod Stretches
+pub mod Ranking
+pub mod Joins
+pub mod Runs
