@@ -28,10 +28,9 @@ handRecords us i c count = map (handover i) (take count (drop c us))
 pub record CanServe (nets : List ℤ) (d x i : ℕ) (out : List ℕ) : Type 0 where
   pub accounts : length nets ≡ 64
   pub size : (a : ℕ) → dueOf (getD nets a (pos 0)) ≤ mostLots
-  pub lots : x ≤ mostLots
-  pub due : d + x ≤ sum (map dueOf nets)
+  pub small : d + x < 4294967296
   pub issue : i < 16
-  pub room : outputWords ≤ length out
+  pub room : 2 * length (handovers (unitsOfNets unitLots nets) d x) ≤ length out
 
 -- the records of the units that x more lots hand over stand in front of the output
 pub record Served (nets : List ℤ) (d x i : ℕ) (before after : List ℕ) (r : ℕ) : Type 0 where
