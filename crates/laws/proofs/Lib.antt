@@ -5,6 +5,15 @@ pub mod Handover
 pub mod Overlaps
 pub mod Fails
 pub mod Stretches
+pub mod Cells
+pub mod Sound
+pub mod Ledger
+pub mod Meeting
+pub mod Lowering
+pub mod Pairing
+pub mod Turns
+pub mod Stepping
+pub mod Records
 pub mod Ranking
 pub mod Joins
 pub mod Runs
@@ -14,3 +23,5 @@ pub mod Signed
 pub mod Cells
 pub mod Sound
 pub mod Ledger
+pub mod Settled
+pub mod Issue
