@@ -5,6 +5,9 @@ pub mod Handover
 pub mod Overlaps
 pub mod Fails
 pub mod Stretches
+pub mod Ranking
+pub mod Joins
+pub mod Runs
 pub mod Cells
 pub mod Sound
 pub mod Ledger

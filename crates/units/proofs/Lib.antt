@@ -2,3 +2,5 @@
 pub mod Ranking
 pub mod Units
 pub mod Loops
+pub mod Steps
+pub mod Starting

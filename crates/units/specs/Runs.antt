@@ -42,12 +42,12 @@ unitsIn runs n = unitsOfRuns (runsIn runs n)
 abbrev pub fullOf : Part → Part
 fullOf u = part (u .account) (u .lots / unitLots * unitLots)
 
-abbrev pub restOf : ℕ → ℕ
-restOf x = x % unitLots
+abbrev pub smallLots : ℕ → ℕ
+smallLots x = x % unitLots
 
 -- the runs of accounts with these dues: the full units, largest due first, then the small ones, largest first
 unfoldable pub runsOf : List ℕ → List Part
-runsOf dues = map fullOf (largestFirst (parts 0 dues)) ++ largestFirst (parts 0 (map restOf dues))
+runsOf dues = map fullOf (largestFirst (parts 0 dues)) ++ largestFirst (parts 0 (map smallLots dues))
 
 -- lots of 64 accounts that can be ranked into a lent array of so many words
 pub record CanRank (room : ℕ) (lots keys : List ℕ) : Type 0 where
