@@ -34,7 +34,7 @@ pub record CanServe (nets : List ℤ) (d x i : ℕ) (out : List ℕ) : Type 0 wh
 
 -- the records of the units that x more lots hand over stand in front of the output
 pub record Served (nets : List ℤ) (d x i : ℕ) (before after : List ℕ) (r : ℕ) : Type 0 where
-  pub count : r ≡ length (handovers (unitsOfNets unitLots nets) d x)
+  pub count : r ≡ length (map (handover i) (handovers (unitsOfNets unitLots nets) d x))
   pub output : after ≡ over (words (map (handover i) (handovers (unitsOfNets unitLots nets) d x))) before
 
 -- what a sound book and the answered questions give

@@ -17,14 +17,8 @@ pub mod Pairing
 pub mod Turns
 pub mod Stepping
 pub mod Records
-pub mod Ranking
-pub mod Joins
-pub mod Runs
 pub mod Cutoff
 pub mod Room
 pub mod Signed
-pub mod Cells
-pub mod Sound
-pub mod Ledger
 pub mod Settled
 pub mod Issue

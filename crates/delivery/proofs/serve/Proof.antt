@@ -9,7 +9,7 @@ use lib.ListN.{length}
 use Rattle.rules.specs.Measures.{unitLots}
 use Rattle.rules.specs.Units.{unitsOfNets}
 use Rattle.rules.specs.Records.{handover, words, over}
-use Rattle.delivery.proofs.Serving.{Counted, counted}
+use Rattle.delivery.proofs.Serving.{Counted, counted, record-count}
 use Rattle.delivery.proofs.serve.Statement.{statement}
 use Rattle.delivery.proofs.serve.Tie as tie
 use Rattle.delivery.proofs.serve.Reads as reads
@@ -92,10 +92,11 @@ same-length c = search needs
 returns : tie.Need-returns
 returns c =
     let h = c .before .before .before .before .before .before in
+    let s = h .before .before .before .before .before .before .before .before in
     let k = counts h in
     let p = h .before .before .before .before .before .prepare .ensures in
     record {
-      count = k .number;
+      count = k .number ∙ record-count _ (s .args .i) (s .args .d) (s .args .x);
       output = c .before .before .hand .ensures ∙ rw (p .units, k .same);
     }
 
