@@ -1,2 +1,4 @@
 pub mod Signs
 pub mod RowLaws
+pub mod ScanLaws
+pub mod Halves
