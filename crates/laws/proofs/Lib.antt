@@ -22,3 +22,5 @@ pub mod Room
 pub mod Signed
 pub mod Settled
 pub mod Issue
+pub mod SoundRows
+pub mod Orders
