@@ -53,3 +53,9 @@ pub record Delivered (nets : List ℤ) (before after : List ℕ) (i a x : ℕ) (
   pub column : after ≡ raisedDelivered before i a x
   pub count : r ≡ length (deliverRecords nets before i x)
   pub output : out ≡ over (words (deliverRecords nets before i x)) lent
+
+-- columns of a book on which the questions can be asked
+pub record CanAsk (nets : List ℤ) (delivered : List ℕ) : Type 0 where
+  pub accounts : length nets ≡ 1024
+  pub columns : length delivered ≡ 1024
+  pub small : (k : ℕ) → getD delivered k 0 ≤ mostLots

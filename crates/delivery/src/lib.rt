@@ -1,9 +1,12 @@
 // deliver: an account's delivered lots rise, and the next units are handed over whole, in order.
 use rules::Found;
+use rules::Phase;
 ghost use mathlib.Core.Path.{_≡_};
+ghost use Rattle.rules.specs.Questions.{firstNo};
+ghost use Rattle.rules.specs.Calls.{deliverAsks};
 ghost use Rattle.rules.specs.Records.{words, over};
 ghost use Rattle.units.specs.Runs.{unitsIn};
-ghost use Rattle.delivery.specs.Deliver.{CanHand, handRecords, CanServe, Served, CanDeliver, Delivered};
+ghost use Rattle.delivery.specs.Deliver.{CanHand, handRecords, CanServe, Served, CanAsk, CanDeliver, Delivered};
 
 // Hands over `count` units of n runs, from unit c on: one record each.
 fn hand(runs: &[u32], n: usize, i: u32, c: u32, count: usize, out: &mut [u32])
@@ -36,7 +39,14 @@ fn serve(nets: &[i32], d: u32, x: u32, i: u32, out: &mut [u32]) -> usize
 }
 
 // A delivery in place: the account's delivered lots rise by x; answers the number of records written.
-pub fn deliver_in(nets: &[i32], delivered: &mut [u32], i: u32, a: u32, x: u32, out: &mut [u32]) -> usize
+pub fn deliver_in(
+    nets: &[i32],
+    delivered: &mut [u32],
+    i: u32,
+    a: u32,
+    x: u32,
+    out: &mut [u32],
+) -> usize
     requires { ⌜ CanDeliver (now nets) (now delivered) i a x (now out) ⌝ }
     ensures { λ r. ⌜ Delivered (now (nets .entry)) (now (delivered .entry)) (now (delivered .exit)) i a x (now (out .entry)) (now (out .exit)) r ⌝ }
 {
@@ -46,4 +56,29 @@ pub fn deliver_in(nets: &[i32], delivered: &mut [u32], i: u32, a: u32, x: u32, o
     let at = s + a as usize;
     delivered[at] = delivered[at] + x;
     serve(&nets[s..e], d, x, i, out)
+}
+
+// Questions 3, 4, 5, 7 and 9 of a delivery: the number of the first 'no', 0 where there is none.
+pub fn deliver_asks(phase: Phase, nets: &[i32], delivered: &[u32], i: u32, a: u32, x: u32) -> u32
+    requires { ⌜ CanAsk (now nets) (now delivered) ⌝ }
+    ensures { λ r. ⌜ r ≡ firstNo (deliverAsks phase (now (nets .entry)) (now (delivered .entry)) i a x) ⌝ }
+{
+    if !book::settling(phase) {
+        return 3;
+    }
+    if 15 < i {
+        return 4;
+    }
+    if 63 < a {
+        return 5;
+    }
+    if !measures::lots_right(x) {
+        return 7;
+    }
+    let at = i as usize * 64 + a as usize;
+    let n = nets[at];
+    if book::owed(n) < delivered[at] + x {
+        return 9;
+    }
+    0
 }
