@@ -1,7 +1,8 @@
 /* Value and charge of lots, as the library target/staticlib/libdesk.a gives them.
  *
  * Each function returns 0 and puts the yen into *yen, or returns the number of the
- * question answered 'no' and puts 0 there. Every number is taken; none is undefined. */
+ * question answered 'no' and puts 0 there. Every number is taken; yen must point to a
+ * uint64_t. */
 #ifndef DAY_MEASURES_H
 #define DAY_MEASURES_H
 

@@ -17,6 +17,7 @@ mkdir -p build
 printf '== proofs\n'
 rt ci 2>&1 | tee build/proofs.log
 verdict=$(tail -n 1 build/proofs.log)
+[[ $verdict =~ ^[0-9]+\ passed,\ 0\ failed$ ]] || { echo 'tests failed: no verdict on the proofs'; exit 1; }
 
 step 'the library and the host in C' make --no-print-directory host
 step 'what the host prints' scripts/test-host.sh build/measures

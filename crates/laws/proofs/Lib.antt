@@ -24,3 +24,14 @@ pub mod Settled
 pub mod Issue
 pub mod SoundRows
 pub mod Orders
+pub mod Meeting
+pub mod Lowering
+pub mod Pairing
+pub mod Turns
+pub mod Stepping
+pub mod Records
+pub mod Issue
+pub mod Answers
+pub mod Charges
+pub mod Kept
+pub mod Called

@@ -1,53 +1,32 @@
 -- Deliver keeps the invariant: the units that are handed over are the next of the order, so the row
 -- stays a front of it.
-use mathlib.Core.Path.{_≡_, refl, sym, ap, _∙_}
-use mathlib.Core.Bool.{Bool, true, false, cond, _&&_, false≢true}
-use mathlib.Core.List.{List, [], _∷_, _++_, map, append-nil}
-use Prim.Native.Nat.{ℕ, zero, suc, _+_, _-_, _*_, _^_, _≤_, _<_}
+use mathlib.Core.Path.{_≡_, sym, ap, _∙_}
+use mathlib.Core.Bool.{true, false, false≢true}
+use mathlib.Core.List.{List, [], _∷_, _++_, append-nil}
+use Prim.Native.Nat.{ℕ, _+_, _-_, _≤_, _<_}
 use native.Mathlib.Omega.{arith}
-use lib.Dec.{leb, eqb, lit<}
-use lib.ListN.{length, getD, set, length-set}
-use lib.IntN.{ℤ, pos}
+use lib.Dec.{eqb}
+use lib.ListN.{length-set}
 use borrow.Author.Tests.{leb-true, eqb-true, eqb-false}
-use Rattle.rules.specs.declared.Book.{Book}
 use Rattle.rules.specs.declared.Phase.{Phase}
 use Rattle.rules.specs.declared.Phase.the-variants.{Taking, Settling, Cut}
-use Rattle.rules.specs.Measures.{outputWords, total, sum, dueOf, owedOf}
-use Rattle.rules.specs.Units.{Part, sumLots, ofAccount}
+use Rattle.rules.specs.Measures.{outputWords, owedOf}
+use Rattle.rules.specs.Units.{Part, ofAccount}
 use Rattle.rules.specs.Handover.{handed, handovers}
-use Rattle.rules.specs.Book.{isSettling, row, cell, netAt, deliveredAt, duesOf, owedsOf, deliveredTotal, orderIn, orderOf, withinOwed, sound, withDelivered}
-use Rattle.rules.specs.Records.{Rec, handover, words}
+use Rattle.rules.specs.Book.{isSettling, cell, netAt, deliveredAt, deliveredTotal, orderOf, withDelivered}
+use Rattle.rules.specs.Records.{Rec, handover}
 use Rattle.rules.specs.Questions.{askOutput, askSound}
 use Rattle.rules.specs.Calls.{deliverAsks, raisedDelivered, deliverRecords, deliver}
 use Rattle.rules.specs.Tally.{State, Deliver, fed, recordsOf}
-use Rattle.laws.proofs.Basics.{byTest, total-append, total-map, Every, each-zip}
-use Rattle.laws.proofs.Units.{UnitSized}
+use Rattle.laws.proofs.Basics.{byTest, total-append, Every}
 use Rattle.laws.proofs.Handover.{handed-extends, each-handovers}
-use Rattle.laws.proofs.Fails.{shorts-sum, each-of-map}
-use Rattle.laws.proofs.Cells.{here, here-eq, cell-set, length-row, length-dues, row-other, delivered-rises, within-set, within-row}
+use Rattle.laws.proofs.Fails.{each-of-map}
+use Rattle.laws.proofs.Cells.{here, here-eq, cell-set, row-other, delivered-rises, within-set}
 use Rattle.laws.proofs.Sound.{SoundBook, sound-parts}
 use Rattle.laws.proofs.Records.{Fits, records-read, tens-same, tens-other}
-use Rattle.tally.proofs.Answers.{answered}
-use Rattle.tally.proofs.Invariant.{order-of, RowIs, Inv, Keeps}
-
--- What a sound book has of an issue
-
-module _ (b : Book) (g : SoundBook b) (i : ℕ) (hi : i < 16) (n : length (b .nets) ≡ 1024) where
-  -- dues and oweds are equal, so units have the lots that are owed
-  pub units-owed : sumLots (orderOf b i) ≡ sum (owedsOf (b .nets) i)
-  units-owed =
-      order-of (b .nets) i .whole ∙ total-map (λ x. x) dueOf (row i (b .nets)) ∙ g .rows i hi
-      ∙ sym (total-map (λ x. x) owedOf (row i (b .nets)))
-
-  -- delivered lots within what is owed sum to at most the units
-  pub within-units : (ds : List ℕ) → length ds ≡ 1024 → withinOwed (b .nets) ds ≡ true → deliveredTotal ds i ≤ sumLots (orderOf b i)
-  within-units ds m w =
-      omega (
-        arith,
-        units-owed,
-        shorts-sum (row i (b .nets)) (row i ds) (length-row (b .nets) i n hi ∙ sym (length-row ds i m hi))
-            (within-row i (b .nets) ds w),
-      )
+use Rattle.laws.proofs.Issue.{within-units, units-fit}
+use Rattle.laws.proofs.Answers.{answered}
+use Rattle.tally.proofs.Invariant.{RowIs, Inv, Keeps}
 
 pub to-settling : (p : Phase) (us : List Part) (d : ℕ) (l : List Part) → isSettling p ≡ true → RowIs p us d l → RowIs Settling us d l
 to-settling Taking us d l h x = absurd (false≢true h)
@@ -58,17 +37,6 @@ of-settling : (p : Phase) (us : List Part) (d : ℕ) (l : List Part) → isSettl
 of-settling Taking us d l h x = absurd (false≢true h)
 of-settling Settling us d l h x = x
 of-settling Cut us d l h x = absurd (false≢true h)
-
--- a unit's handover fits its words
-pub unit-fits : (i n : ℕ) → i < 16 → n ≡ 64 → (u : Part) → UnitSized u → u .account < n → Fits (handover i u)
-unit-fits i n hi e u s a =
-    record { kind = lit< tt; issue = hi; from = lit< tt; to = omega arith; lots = omega (arith, s .1) }
-
-pub units-fit : (nets : List ℤ) (i : ℕ) → i < 16 → length nets ≡ 1024 → Every (λ u. Fits (handover i u)) (orderIn nets i)
-units-fit nets i hi n =
-    let k = order-of nets i in
-    each-zip UnitSized (λ u. u .account < length (duesOf nets i)) (λ u. Fits (handover i u))
-    (unit-fits i (length (duesOf nets i)) hi (length-dues nets i n hi)) (orderIn nets i) (k .sized) (k .accounts)
 
 module _ (s : State) (v : Inv s) (i a x : ℕ) (hi : i < 16) (ha : a < 64) (g : SoundBook (s .book))
     (p : isSettling (s .book .phase) ≡ true)

@@ -4,3 +4,5 @@ pub mod Units
 pub mod Loops
 pub mod Steps
 pub mod Starting
+pub mod Cutoff
+pub mod Questions

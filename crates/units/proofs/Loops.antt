@@ -6,11 +6,14 @@ use native.Mathlib.Omega.{arith}
 use native.Mathlib.Numerals.{add-one}
 use lib.ListN.{length, length-append, take, drop, getD, set, length-map, List·getD-map, drop-of-length-le}
 use lib.Seq.{take-suc, take-suc-set, drop-cons, getD-take, length-take-le, take-append-add, take-append-le}
-use lib.IntN.{ℤ, pos}
+use lib.IntN.{ℤ, pos, natAbs}
 use Rattle.rules.specs.Measures.{dueOf}
 use Rattle.rules.specs.Units.{parts, largestFirst}
 use Rattle.rules.specs.Handover.{covered, stock}
 use Rattle.rules.specs.declared.Found.the-variants.{Unit}
+use Rattle.laws.proofs.Basics.{Every}
+use Rattle.laws.proofs.Sound.{each-getD}
+use Rattle.laws.proofs.Signed.{size-of}
 use Rattle.laws.proofs.Handover.{covered-past, stock-past}
 use Rattle.units.specs.Runs.{partOf, runsIn, unitsOfRun, unitsOfRuns, fullOf, smallLots, runsOf, foundOf, Prepared}
 use Rattle.units.proofs.Units.{units-runs, run-length, run-lots, unit-past, unit-full, unit-small, covered-run, stock-run}
@@ -120,9 +123,11 @@ ordered dues rests r₀ r₁ r₂ n m k h g e f r s =
     ap (map partOf) (behind r₁ r₂ n m k h g) ∙ map-append partOf (take n r₁) (take m r₂) ∙ rw (f, e, s, r)
 
 -- what the dues of small nets can be ranked by
-pub dues-small : (ns : List ℤ) (dues : List ℕ) → dues ≡ map dueOf ns → ((a : ℕ) → dueOf (getD ns a (pos 0)) ≤ 20000000) →
+pub dues-small : (ns : List ℤ) (dues : List ℕ) → dues ≡ map dueOf ns → Every (λ m. natAbs m ≤ 20000000) ns →
     (a : ℕ) → getD dues a 0 ≤ 20000000
-dues-small ns dues e h a = rw (e, List·getD-map dueOf ns a (pos 0)) (h a)
+dues-small ns dues e h a =
+    rw (e, List·getD-map dueOf ns a (pos 0))
+    (omega (arith, size-of (getD ns a (pos 0)), each-getD (λ m. natAbs m ≤ 20000000) ns a (pos 0) h (omega arith)))
 
 pub dues-length : (ns : List ℤ) (dues : List ℕ) → dues ≡ map dueOf ns → length ns ≡ 64 → length dues ≡ 64
 dues-length ns dues e h = ap length e ∙ length-map ns dueOf ∙ h

@@ -2,9 +2,9 @@
 -- run: either the total passes over a whole run, or it ends in it and a division says where.
 use mathlib.Core.Path.{_≡_, refl, sym, ap, _∙_}
 use mathlib.Core.List.{List, [], _∷_, _++_, map, append-assoc, append-nil}
-use Prim.Native.Nat.{ℕ, zero, suc, _+_, _-_, _*_, _/_, _%_, _≤_, _<_, min}
+use Prim.Native.Nat.{ℕ, zero, suc, _+_, _-_, _*_, _/_, _%_, _≤_, _<_}
 use native.Mathlib.Omega.{arith}
-use lib.Dec.{leb}
+use lib.Dec.{leb, lit<}
 use lib.ListN.{length, drop, replicate, length-append, length-replicate}
 use lib.Seq.{drop-append-add}
 use borrow.Author.Tests.{leb-true, leb-false, lt-leb}
@@ -12,13 +12,10 @@ use Rattle.rules.specs.Measures.{unitLots}
 use Rattle.rules.specs.Units.{Part, part, put, parts, sumLots, largestFirst, fulls, smalls, units}
 use Rattle.rules.specs.Handover.{covered, stock}
 use Rattle.rules.specs.declared.Found.the-variants.{Unit}
-use Rattle.laws.proofs.Basics.{byTest, Every, each-sort, each-put, total-append, total-replicate, total-put, put-pos}
+use Rattle.laws.proofs.Basics.{byTest, Every, each-sort, total-append, total-replicate, total-put, put-pos, length-put}
+use Rattle.laws.proofs.Units.{Small, smalls-small}
+use Rattle.laws.proofs.Runs.{smalls-parts}
 use Rattle.units.specs.Runs.{unitsOfRun, unitsOfRuns, fullOf, smallLots, runsOf, foundOf}
-
-pub smalls-parts : (k : ℕ) (dues : List ℕ) → smalls unitLots (parts k dues) ≡ parts k (map smallLots dues)
-smalls-parts k [] = refl
-smalls-parts k (zero ∷ xs) = smalls-parts (suc k) xs
-smalls-parts k (suc n ∷ xs) = ap (put k (suc n % 100000)) (smalls-parts (suc k) xs)
 
 pub units-append : (us vs : List Part) → unitsOfRuns (us ++ vs) ≡ unitsOfRuns us ++ unitsOfRuns vs
 units-append [] vs = refl
@@ -34,43 +31,32 @@ units-fulls : (us : List Part) → unitsOfRuns (map fullOf us) ≡ fulls unitLot
 units-fulls [] = refl
 units-fulls (u ∷ us) = rw (run-full u, units-fulls us)
 
-abbrev pub Small : Part → Type 0
-Small u = (1 ≤ u .lots) × (u .lots < 100000)
-
-units-small : (us : List Part) → Every Small us → unitsOfRuns us ≡ us
+units-small : (us : List Part) → Every (Small unitLots) us → unitsOfRuns us ≡ us
 units-small [] ps = refl
 units-small (u ∷ us) ps =
     let q : u .lots / 100000 ≡ 0 = omega (arith, ps .0 .1) in
     let r : u .lots % 100000 ≡ u .lots = omega (arith, ps .0 .1) in
     rw (q, r, put-pos (u .account) (u .lots) [] (ps .0 .0)) (ap (λ l. u ∷ l) (units-small us (ps .1)))
 
-pub small-parts : (k : ℕ) (dues : List ℕ) → Every Small (parts k (map smallLots dues))
-small-parts k [] = tt
-small-parts k (x ∷ xs) = each-put Small k (x % 100000) (parts (suc k) (map smallLots xs)) (λ h. (h, omega arith)) (small-parts (suc k) xs)
-
 -- the runs are the units' order
 pub units-runs : (dues : List ℕ) → unitsOfRuns (runsOf dues) ≡ units unitLots dues
 unfolding runsOf units
 units-runs dues =
-    rw (
-      units-append (map fullOf (largestFirst (parts 0 dues))) (largestFirst (parts 0 (map smallLots dues))),
-      units-fulls (largestFirst (parts 0 dues)),
-      units-small (largestFirst (parts 0 (map smallLots dues))) (each-sort Small (parts 0 (map smallLots dues)) (small-parts 0 dues)),
-      smalls-parts 0 dues,
-    )
+    let ss = largestFirst (smalls unitLots (parts 0 dues)) in
+    let ps = each-sort (Small unitLots) (smalls unitLots (parts 0 dues)) (smalls-small unitLots (lit< tt) (parts 0 dues)) in
+    let fs = map fullOf (largestFirst (parts 0 dues)) in
+    let e : fs ++ largestFirst (parts 0 (map smallLots dues)) ≡ fs ++ ss =
+    ap (λ l. fs ++ largestFirst l) (sym (smalls-parts unitLots 0 dues)) in
+    ap unitsOfRuns e ∙ rw (units-append fs ss, units-fulls (largestFirst (parts 0 dues)), units-small ss ps)
 
 -- how many units a run has, and its lots
-length-put1 : (a x : ℕ) → length (put a x []) ≡ min 1 x
-length-put1 a zero = refl
-length-put1 a (suc n) = omega arith
-
 pub run-length : (u : Part) → length (unitsOfRun u) ≡ (u .lots + 99999) / 100000
 run-length u =
     omega (
       arith,
       length-append (replicate (u .lots / 100000) (part (u .account) 100000)) (put (u .account) (u .lots % 100000) []),
       length-replicate (u .lots / 100000) (part (u .account) 100000),
-      length-put1 (u .account) (u .lots % 100000),
+      length-put (u .account) (u .lots % 100000) [],
     )
 
 pub run-lots : (u : Part) → sumLots (unitsOfRun u) ≡ u .lots
