@@ -30,33 +30,35 @@ pub said-no : (n : ℕ) (b : Bool) (qs : List Question) → b ≡ false → firs
 said-no n true qs e = absurd (let o : _≡_ {A = ℕ} 0 1 = cc in omega arith)
 said-no n false qs e = refl
 
+abbrev pub reply : ℕ → ℕ → Book → Reply
+reply n count b = record { refusal = n; count = count; book = b }
+
 module _ (b new : Book) (out : List ℕ) (rs : List Rec) where
   -- a refusal gives its number, with 0 for the count, and changes nothing
-  pub refused : (n : ℕ) (r : Reply) → (n ≡ 0 → ⊥) → r .refusal ≡ n → r .count ≡ 0 → r .book ≡ b →
-      AnswerIs (answer n b out new rs) r out
-  refused zero r h e c k = absurd (h refl)
-  refused (suc n) r h e c k = record { refusal = e; count = c; book = k; out = refl }
+  pub refused : (n k : ℕ) → (n ≡ 0 → ⊥) → k ≡ n → AnswerIs (answer n b out new rs) (reply k 0 b) out
+  refused zero k h e = absurd (h refl)
+  refused (suc n) k h e = record { refusal = e; count = refl; book = refl; out = refl }
 
   -- else the new book, and the records written
-  pub accepted : (n : ℕ) (r : Reply) (lent : List ℕ) → n ≡ 0 → r .refusal ≡ 0 → r .count ≡ length rs → r .book ≡ new →
-      lent ≡ over (words rs) out → AnswerIs (answer n b out new rs) r lent
-  accepted zero r lent h e c k o = record { refusal = e; count = c; book = k; out = o }
-  accepted (suc n) r lent h e c k o = absurd (omega arith)
+  pub accepted : (n count : ℕ) (book : Book) (lent : List ℕ) → n ≡ 0 → count ≡ length rs → book ≡ new →
+      lent ≡ over (words rs) out → AnswerIs (answer n b out new rs) (reply 0 count book) lent
+  accepted zero count book lent h c k o = record { refusal = refl; count = c; book = k; out = o }
+  accepted (suc n) count book lent h c k o = absurd (omega arith)
 
   module _ (qs : List Question) where
-    pub unsound : (r : Reply) → sound b ≡ false → r .refusal ≡ 2 → r .count ≡ 0 → r .book ≡ b →
-        AnswerIs (answer (firstNo (askSound b ∷ qs)) b out new rs) r out
-    unsound r s e c k =
+    pub unsound : sound b ≡ false → AnswerIs (answer (firstNo (askSound b ∷ qs)) b out new rs) (reply 2 0 b) out
+    unsound s =
         let n = said-no 2 (sound b) qs s in
-        refused (firstNo (askSound b ∷ qs)) r (λ z. let o : _≡_ {A = ℕ} 2 0 = sym n ∙ z in omega arith) (e ∙ sym n) c k
+        refused (firstNo (askSound b ∷ qs)) 2 (λ z. let o : _≡_ {A = ℕ} 2 0 = sym n ∙ z in omega arith) (sym n)
 
-    pub asked-no : (r : Reply) (n : ℕ) → sound b ≡ true → n ≡ firstNo qs → (n ≡ 0 → ⊥) → r .refusal ≡ n → r .count ≡ 0 →
-        r .book ≡ b → AnswerIs (answer (firstNo (askSound b ∷ qs)) b out new rs) r out
-    asked-no r n s q h e c k =
+    pub asked-no : (n : ℕ) → sound b ≡ true → n ≡ firstNo qs → (n ≡ 0 → ⊥) →
+        AnswerIs (answer (firstNo (askSound b ∷ qs)) b out new rs) (reply n 0 b) out
+    asked-no n s q h =
         let f = q ∙ sym (said-yes 2 (sound b) qs s) in
-        refused (firstNo (askSound b ∷ qs)) r (λ z. h (f ∙ z)) (e ∙ f) c k
+        refused (firstNo (askSound b ∷ qs)) n (λ z. h (f ∙ z)) f
 
-    pub asked-yes : (r : Reply) (lent : List ℕ) → sound b ≡ true → firstNo qs ≡ 0 → r .refusal ≡ 0 → r .count ≡ length rs →
-        r .book ≡ new → lent ≡ over (words rs) out → AnswerIs (answer (firstNo (askSound b ∷ qs)) b out new rs) r lent
-    asked-yes r lent s q e c k o =
-        accepted (firstNo (askSound b ∷ qs)) r lent (said-yes 2 (sound b) qs s ∙ q) e c k o
+    pub asked-yes : (count : ℕ) (book : Book) (lent : List ℕ) → sound b ≡ true → firstNo qs ≡ 0 → count ≡ length rs →
+        book ≡ new → lent ≡ over (words rs) out →
+        AnswerIs (answer (firstNo (askSound b ∷ qs)) b out new rs) (reply 0 count book) lent
+    asked-yes count book lent s q c k o =
+        accepted (firstNo (askSound b ∷ qs)) count book lent (said-yes 2 (sound b) qs s ∙ q) c k o
