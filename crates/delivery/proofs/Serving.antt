@@ -4,15 +4,16 @@ use mathlib.Core.Path.{_≡_, refl, sym, ap, _∙_}
 use mathlib.Core.List.{List, [], _∷_, map}
 use Prim.Native.Nat.{ℕ, zero, suc, _+_, _-_, _*_, _≤_, _<_}
 use native.Mathlib.Omega.{arith}
-use lib.ListN.{length, take, drop, getD, length-map}
-use lib.Seq.{getD-drop}
-use lib.IntN.{ℤ, pos}
+use lib.ListN.{length, take, drop, length-map}
+use lib.IntN.{ℤ, natAbs}
 use Rattle.rules.specs.Measures.{mostLots, sum, dueOf}
 use Rattle.rules.specs.Units.{Part}
 use Rattle.rules.specs.Handover.{covered, handovers}
 use Rattle.rules.specs.Book.{row, duesOf, deliveredTotal}
 use Rattle.rules.specs.Records.{handover}
+use Rattle.laws.proofs.Basics.{Every, each-take, each-drop}
 use Rattle.laws.proofs.Cells.{length-row}
+use Rattle.laws.proofs.Signed.{size-of}
 use Rattle.laws.proofs.Handover.{covered-grows, covered-le, handovers-length}
 use Rattle.laws.proofs.Room.{handovers-few}
 use Rattle.delivery.specs.Deliver.{CanServe, CanDeliver}
@@ -37,19 +38,13 @@ counted us vs d x before after e p q =
     }
 
 -- what is due in an issue fits a word
-pub dues-bound : (ns : List ℤ) → ((a : ℕ) → dueOf (getD ns a (pos 0)) ≤ mostLots) → sum (map dueOf ns) ≤ mostLots * length ns
+pub dues-bound : (ns : List ℤ) → Every (λ n. natAbs n ≤ mostLots) ns → sum (map dueOf ns) ≤ mostLots * length ns
 dues-bound [] h = omega arith
-dues-bound (n ∷ ns) h = omega (arith, h 0, dues-bound ns (λ a. h (suc a)))
+dues-bound (n ∷ ns) h = omega (arith, size-of n, h .0, dues-bound ns (h .1))
 
 -- a bound at each cell is one at each account of an issue
-take-bound : (n : ℕ) (ns : List ℤ) → ((a : ℕ) → dueOf (getD ns a (pos 0)) ≤ mostLots) → (a : ℕ) → dueOf (getD (take n ns) a (pos 0)) ≤ mostLots
-take-bound zero ns h a = omega arith
-take-bound (suc n) [] h a = omega arith
-take-bound (suc n) (x ∷ ns) h zero = h 0
-take-bound (suc n) (x ∷ ns) h (suc a) = take-bound n ns (λ b. h (suc b)) a
-
-row-bound : (i : ℕ) (ns : List ℤ) → ((a : ℕ) → dueOf (getD ns a (pos 0)) ≤ mostLots) → (a : ℕ) → dueOf (getD (row i ns) a (pos 0)) ≤ mostLots
-row-bound i ns h = take-bound 64 (drop (i * 64) ns) (λ b. rw (getD-drop (i * 64) ns b (pos 0)) (h (i * 64 + b)))
+row-bound : (i : ℕ) (ns : List ℤ) → Every (λ n. natAbs n ≤ mostLots) ns → Every (λ n. natAbs n ≤ mostLots) (row i ns)
+row-bound i ns h = each-take _ 64 (drop (i * 64) ns) (each-drop _ (i * 64) ns h)
 
 -- the records of the units handed over are as many as they
 pub record-count : (us : List Part) (i d x : ℕ) → length (handovers us d x) ≡ length (map (handover i) (handovers us d x))

@@ -3,13 +3,14 @@ use mathlib.Core.Path.{_≡_}
 use mathlib.Core.List.{List, map}
 use Prim.Native.Nat.{ℕ, _+_, _*_, _≤_, _<_}
 use lib.ListN.{length, take, drop, getD}
-use lib.IntN.{ℤ, pos}
-use Rattle.rules.specs.Measures.{mostLots, outputWords, unitLots, sum, dueOf}
+use lib.IntN.{ℤ, natAbs}
+use Rattle.rules.specs.Measures.{mostLots, outputWords, unitLots, sum}
 use Rattle.rules.specs.Units.{Part, unitsOfNets}
 use Rattle.rules.specs.Handover.{handovers}
 use Rattle.rules.specs.Book.{row, cell, duesOf, deliveredAt, deliveredTotal}
 use Rattle.rules.specs.Records.{Rec, handover, words, over}
 use Rattle.rules.specs.Calls.{raisedDelivered, deliverRecords}
+use Rattle.laws.proofs.Basics.{Every}
 use Rattle.units.specs.Runs.{unitsIn}
 
 -- `count` units from unit c on can be handed over in this output
@@ -27,7 +28,7 @@ handRecords us i c count = map (handover i) (take count (drop c us))
 -- an issue's nets, of which d lots are delivered, and x more can be
 pub record CanServe (nets : List ℤ) (d x i : ℕ) (out : List ℕ) : Type 0 where
   pub accounts : length nets ≡ 64
-  pub size : (a : ℕ) → dueOf (getD nets a (pos 0)) ≤ mostLots
+  pub size : Every (λ n. natAbs n ≤ mostLots) nets
   pub small : d + x < 4294967296
   pub issue : i < 16
   pub room : 2 * length (handovers (unitsOfNets unitLots nets) d x) ≤ length out
@@ -43,7 +44,7 @@ pub record CanDeliver (nets : List ℤ) (delivered : List ℕ) (i a x : ℕ) (ou
   pub columns : length delivered ≡ 1024
   pub issue : i < 16
   pub account : a < 64
-  pub size : (k : ℕ) → dueOf (getD nets k (pos 0)) ≤ mostLots
+  pub size : Every (λ n. natAbs n ≤ mostLots) nets
   pub lots : x ≤ mostLots
   pub due : deliveredTotal delivered i + x ≤ sum (duesOf nets i)
   pub owed : deliveredAt delivered i a + x ≤ mostLots

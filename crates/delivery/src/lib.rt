@@ -61,7 +61,14 @@ pub fn deliver_in(
 }
 
 // Questions 3, 4, 5, 7 and 9 of a delivery: the number of the first 'no', 0 where there is none.
-pub fn deliver_asks<'a>(phase: Phase, nets: &'a [i32], delivered: &'a [u32], i: u32, a: u32, x: u32) -> u32
+pub fn deliver_asks<'a>(
+    phase: Phase,
+    nets: &'a [i32],
+    delivered: &'a [u32],
+    i: u32,
+    a: u32,
+    x: u32,
+) -> u32
     requires { ⌜ CanAsk (now nets) (now delivered) ⌝ }
     ensures { λ r. ⌜ r ≡ firstNo (deliverAsks phase (now (nets .entry)) (now (delivered .entry)) i a x) ⌝ }
 {
@@ -90,18 +97,34 @@ pub fn deliver(b: Book, i: u32, a: u32, x: u32, out: &mut [u32]) -> Reply
     ensures { λ r. ⌜ AnswerIs (deliverAnswer b i a x (now (out .entry))) r (now (out .exit)) ⌝ }
 {
     if out.len() < 4096 {
-        return Reply { refusal: 1, count: 0, book: b };
+        return Reply {
+            refusal: 1,
+            count: 0,
+            book: b,
+        };
     }
     if !book::sound(b) {
-        return Reply { refusal: 2, count: 0, book: b };
+        return Reply {
+            refusal: 2,
+            count: 0,
+            book: b,
+        };
     }
     let phase = b.phase;
     let no = deliver_asks(phase, &b.nets, &b.delivered, i, a, x);
     if no != 0 {
-        return Reply { refusal: no, count: 0, book: b };
+        return Reply {
+            refusal: no,
+            count: 0,
+            book: b,
+        };
     }
     let mut delivered = b.delivered;
     let count = deliver_in(&b.nets, &mut delivered, i, a, x, out);
     let next = book::with_delivered(b, delivered);
-    Reply { refusal: 0, count, book: next }
+    Reply {
+        refusal: 0,
+        count,
+        book: next,
+    }
 }
