@@ -1,2 +1,5 @@
 pub mod Signs
 pub mod RowLaws
+pub mod ScanLaws
+pub mod Halves
+pub mod Answers

@@ -4,63 +4,73 @@ use mathlib.Core.Bool.{Bool, true, false, cond, false≢true}
 use Prim.Native.Nat.{ℕ, zero, suc, _+_, _-_, _<_, _≤_, _^_}
 use native.Mathlib.Omega.{arith}
 use borrow.Author.Tests.{le-ltb, ltb-true, ltb-false, le-leb, lt-leb, leb-true, leb-false}
-use lib.Dec.{T, ltb, leb}
+use lib.Dec.{T, ltb, leb, lit≤}
 use lib.IntN.{ℤ, pos, negsuc, natAbs, negℤ, _-ℤ_, _+ℤ_}
 use lib.Signed.{ltZ, leZ, nonNeg, mag}
-use mir.Syntax.{Width, w32}
-use mir.Val.{Fits, SFits, toZ, ofZ, hbits}
+use mir.Syntax.{Width, w8, w16, w32, w64, w128}
+use mir.Val.{Fits, SFits, toZ, ofZ, bits, hbits}
 use mir.ValLaws.{toZ-ofZ}
 use Rattle.rules.specs.Measures.{dueOf, owedOf}
 
 -- a number as it comes back from its bits
-abbrev pub back : ℤ → ℤ
-back z = toZ w32 (ofZ w32 z)
+abbrev pub back : Width → ℤ → ℤ
+back w z = toZ w (ofZ w z)
 
-pub record Cast (z : ℤ) (n : ℕ) : Type 0 where
-  pub sign : T (nonNeg (back z))
-  pub fits : Fits w32 (natAbs (back z))
-  pub value : natAbs (back z) ≡ n
-  pub small : natAbs (back z) < 2 ^ 31
+half : (w : Width) → 2 ^ hbits w ≤ 2 ^ bits w
+half w8 = lit≤ tt
+half w16 = lit≤ tt
+half w32 = lit≤ tt
+half w64 = lit≤ tt
+half w128 = lit≤ tt
 
-cast-pos : (n : ℕ) → n < 2 ^ 31 → Cast (pos n) n
-cast-pos n h =
-    let e : back (pos n) ≡ pos n = toZ-ofZ w32 (pos n) (record { sfits = h }) in
-    record { sign = rw e tt; fits = rw e (record { fits = omega arith }); value = rw e; small = rw e h }
+-- a signed number cast to an unsigned one of its width
+pub record Cast (w : Width) (z : ℤ) (n : ℕ) : Type 0 where
+  pub sign : T (nonNeg (back w z))
+  pub fits : Fits w (natAbs (back w z))
+  pub value : natAbs (back w z) ≡ n
+  pub small : natAbs (back w z) < 2 ^ hbits w
 
-pub due-cast : (z : ℤ) → SFits w32 z → ltZ (pos 0) (back z) ≡ true → Cast z (dueOf z)
-due-cast (pos n) f t = cast-pos n (f .sfits)
-due-cast (negsuc n) f t =
-    let u = rw (toZ-ofZ w32 (negsuc n) f) at t in
-    absurd (let o : _≡_ {A = ℕ} 0 1 = cc in omega arith)
-
-pub due-none : (z : ℤ) → SFits w32 z → ltZ (pos 0) (back z) ≡ false → 0 ≡ dueOf z
-due-none (pos n) f t = let u = ltb-false 0 n (rw (toZ-ofZ w32 (pos n) f) at t) in omega arith
-due-none (negsuc n) f t = refl
-
-pub owed-none : (z : ℤ) → SFits w32 z → ltZ (back z) (pos 0) ≡ false → 0 ≡ owedOf z
-owed-none (pos n) f t = refl
-owed-none (negsuc n) f t =
-    let u = rw (toZ-ofZ w32 (negsuc n) f) at t in
-    absurd (let o : _≡_ {A = ℕ} 0 1 = cc in omega arith)
+-- and −1 less a negative one
+pub record Flipped (w : Width) (z : ℤ) : Type 0 where
+  pub fits : SFits w (negsuc 0 -ℤ back w z)
+  pub cast : Cast w (negsuc 0 -ℤ back w z) (owedOf z - 1)
+  pub some : 1 ≤ owedOf z
 
 flip : (k : ℕ) → negsuc 0 -ℤ negsuc k ≡ pos k
 flip k = simp (le-ltb (suc k) 1 (omega arith)) (ap pos (omega arith))
 
-pub record Flipped (z : ℤ) : Type 0 where
-  pub fits : SFits w32 (negsuc 0 -ℤ back z)
-  pub cast : Cast (negsuc 0 -ℤ back z) (owedOf z - 1)
-  pub some : 1 ≤ owedOf z
+module _ (w : Width) where
+  cast-pos : (n : ℕ) → n < 2 ^ hbits w → Cast w (pos n) n
+  cast-pos n h =
+      let e : back w (pos n) ≡ pos n = toZ-ofZ w (pos n) (record { sfits = h }) in
+      record { sign = rw e tt; fits = rw e (record { fits = omega (arith, half w) }); value = rw e; small = rw e h }
 
-pub owed-flip : (z : ℤ) → SFits w32 z → ltZ (back z) (pos 0) ≡ true → Flipped z
-owed-flip (pos n) f t = absurd (let u = ltb-true n 0 (rw (toZ-ofZ w32 (pos n) f) at t) in omega arith)
-owed-flip (negsuc n) f t =
-    let e : negsuc 0 -ℤ back (negsuc n) ≡ pos n = rw (toZ-ofZ w32 (negsuc n) f) (flip n) in
-    let d : suc n - 1 ≡ n = omega arith in
-    record {
-      fits = rw e (record { sfits = f .sfits });
-      cast = rw (e, d) (cast-pos n (f .sfits));
-      some = omega arith;
-    }
+  pub due-cast : (z : ℤ) → SFits w z → ltZ (pos 0) (back w z) ≡ true → Cast w z (dueOf z)
+  due-cast (pos n) f t = cast-pos n (f .sfits)
+  due-cast (negsuc n) f t =
+      let u = rw (toZ-ofZ w (negsuc n) f) at t in
+      absurd (let o : _≡_ {A = ℕ} 0 1 = cc in omega arith)
+
+  pub due-none : (z : ℤ) → SFits w z → ltZ (pos 0) (back w z) ≡ false → 0 ≡ dueOf z
+  due-none (pos n) f t = let u = ltb-false 0 n (rw (toZ-ofZ w (pos n) f) at t) in omega arith
+  due-none (negsuc n) f t = refl
+
+  pub owed-none : (z : ℤ) → SFits w z → ltZ (back w z) (pos 0) ≡ false → 0 ≡ owedOf z
+  owed-none (pos n) f t = refl
+  owed-none (negsuc n) f t =
+      let u = rw (toZ-ofZ w (negsuc n) f) at t in
+      absurd (let o : _≡_ {A = ℕ} 0 1 = cc in omega arith)
+
+  pub owed-flip : (z : ℤ) → SFits w z → ltZ (back w z) (pos 0) ≡ true → Flipped w z
+  owed-flip (pos n) f t = absurd (let u = ltb-true n 0 (rw (toZ-ofZ w (pos n) f) at t) in omega arith)
+  owed-flip (negsuc n) f t =
+      let e : negsuc 0 -ℤ back w (negsuc n) ≡ pos n = rw (toZ-ofZ w (negsuc n) f) (flip n) in
+      let d : suc n - 1 ≡ n = omega arith in
+      record {
+        fits = rw e (record { sfits = f .sfits });
+        cast = rw (e, d) (cast-pos n (f .sfits));
+        some = omega arith;
+      }
 
 -- a sum's range, at any width
 cond-mag : (t : Bool) (x y N : ℕ) → x < N → y < N → mag (cond t (negsuc x) (pos y)) < N

@@ -1,4 +1,6 @@
 // The book's leaves: signed nets as lots due and lots owed, an issue's rows, the phases, soundness.
+pub mod scan;
+
 use rules::Book;
 use rules::Phase;
 ghost use mathlib.Core.Path.{_≡_};
@@ -7,7 +9,7 @@ ghost use Prim.Native.Nat.{_<_};
 ghost use lib.ListN.{length};
 ghost use Rattle.rules.specs.Measures.{mostLots, sum, dueOf, owedOf};
 ghost use Rattle.rules.specs.Fails.{shorts};
-ghost use Rattle.rules.specs.Book.{isTaking, isSettling, isCut, withinSize, fresh as freshOf, withDay, withNets, withDelivered, withCharges};
+ghost use Rattle.rules.specs.Book.{isTaking, isSettling, isCut, withinSize, sound as soundOf, fresh as freshOf, withDay, withNets, withDelivered, withCharges};
 ghost use Rattle.book.specs.Nets.{Small, Lowered, Raised};
 ghost use Rattle.book.specs.Columns.{withColumns};
 ghost use Rattle.book.specs.Rows.{Owing};
@@ -215,4 +217,26 @@ pub fn with_columns(
     next.lots = lots;
     next.days = days;
     next
+}
+
+// Is the book sound? Any book is scanned, damaged ones too.
+pub fn sound(b: Book) -> bool
+    ensures { λ r. ⌜ r ≡ soundOf b ⌝ }
+{
+    let day = b.day;
+    let phase = b.phase;
+    let count = b.count;
+    scan::sound_columns(
+        day,
+        phase,
+        &b.nets,
+        &b.delivered,
+        &b.charges,
+        count,
+        &b.issues,
+        &b.froms,
+        &b.tos,
+        &b.lots,
+        &b.days,
+    )
 }

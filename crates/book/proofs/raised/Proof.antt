@@ -10,7 +10,7 @@ use Rattle.book.proofs.Signs.{back, sum-fits, raised-parts}
 use Rattle.book.proofs.raised.Statement.{statement}
 use Rattle.book.proofs.raised.Tie as tie
 
-same : (c : tie.Start) → back (c .args .n) ≡ c .args .n
+same : (c : tie.Start) → back w32 (c .args .n) ≡ c .args .n
 same c = toZ-ofZ w32 (c .args .n) (c .fits .n)
 
 lots : (c : tie.Start) → toZ w32 (c .args .x) ≡ pos (c .args .x)

@@ -6,7 +6,7 @@ use Rattle.book.proofs.Signs.{back, within-size, not-within}
 use Rattle.book.proofs.within.Statement.{statement}
 use Rattle.book.proofs.within.Tie as tie
 
-same : (c : tie.Start) → back (c .args .n) ≡ c .args .n
+same : (c : tie.Start) → back w32 (c .args .n) ≡ c .args .n
 same c = toZ-ofZ w32 (c .args .n) (c .fits .n)
 
 returns : tie.Need-returns

@@ -1,0 +1,62 @@
+-- What a call's answer is once its questions are answered: soundness first, then the call's own list.
+use mathlib.Core.Path.{_≡_, refl, sym, ap, _∙_}
+use mathlib.Core.Bool.{Bool, true, false}
+use mathlib.Core.List.{List, [], _∷_}
+use Prim.Native.Nat.{ℕ, zero, suc}
+use native.Mathlib.Omega.{arith}
+use lib.ListN.{length}
+use Rattle.rules.specs.declared.Book.{Book}
+use Rattle.rules.specs.declared.Reply.{Reply}
+use Rattle.rules.specs.Book.{sound}
+use Rattle.rules.specs.Records.{Rec, words, over}
+use Rattle.rules.specs.Questions.{Question, ask, firstNo, askSound}
+use Rattle.rules.specs.Calls.{answer, AnswerIs}
+
+-- no question is answered 'no': the first is answered 'yes', and so are the others
+pub record Yes (b : Bool) (qs : List Question) : Type 0 where
+  pub first : b ≡ true
+  pub others : firstNo qs ≡ 0
+
+pub yes : (n : ℕ) (b : Bool) (qs : List Question) → firstNo (ask (suc n) b ∷ qs) ≡ 0 → Yes b qs
+yes n true qs h = record { first = refl; others = h }
+yes n false qs h = absurd (omega arith)
+
+-- the first question answered
+pub said-yes : (n : ℕ) (b : Bool) (qs : List Question) → b ≡ true → firstNo (ask n b ∷ qs) ≡ firstNo qs
+said-yes n true qs e = refl
+said-yes n false qs e = absurd (let o : _≡_ {A = ℕ} 0 1 = cc in omega arith)
+
+pub said-no : (n : ℕ) (b : Bool) (qs : List Question) → b ≡ false → firstNo (ask n b ∷ qs) ≡ n
+said-no n true qs e = absurd (let o : _≡_ {A = ℕ} 0 1 = cc in omega arith)
+said-no n false qs e = refl
+
+module _ (b new : Book) (out : List ℕ) (rs : List Rec) where
+  -- a refusal gives its number, with 0 for the count, and changes nothing
+  pub refused : (n : ℕ) (r : Reply) → (n ≡ 0 → ⊥) → r .refusal ≡ n → r .count ≡ 0 → r .book ≡ b →
+      AnswerIs (answer n b out new rs) r out
+  refused zero r h e c k = absurd (h refl)
+  refused (suc n) r h e c k = record { refusal = e; count = c; book = k; out = refl }
+
+  -- else the new book, and the records written
+  pub accepted : (n : ℕ) (r : Reply) (lent : List ℕ) → n ≡ 0 → r .refusal ≡ 0 → r .count ≡ length rs → r .book ≡ new →
+      lent ≡ over (words rs) out → AnswerIs (answer n b out new rs) r lent
+  accepted zero r lent h e c k o = record { refusal = e; count = c; book = k; out = o }
+  accepted (suc n) r lent h e c k o = absurd (omega arith)
+
+  module _ (qs : List Question) where
+    pub unsound : (r : Reply) → sound b ≡ false → r .refusal ≡ 2 → r .count ≡ 0 → r .book ≡ b →
+        AnswerIs (answer (firstNo (askSound b ∷ qs)) b out new rs) r out
+    unsound r s e c k =
+        let n = said-no 2 (sound b) qs s in
+        refused (firstNo (askSound b ∷ qs)) r (λ z. let o : _≡_ {A = ℕ} 2 0 = sym n ∙ z in omega arith) (e ∙ sym n) c k
+
+    pub asked-no : (r : Reply) (n : ℕ) → sound b ≡ true → n ≡ firstNo qs → (n ≡ 0 → ⊥) → r .refusal ≡ n → r .count ≡ 0 →
+        r .book ≡ b → AnswerIs (answer (firstNo (askSound b ∷ qs)) b out new rs) r out
+    asked-no r n s q h e c k =
+        let f = q ∙ sym (said-yes 2 (sound b) qs s) in
+        refused (firstNo (askSound b ∷ qs)) r (λ z. h (f ∙ z)) (e ∙ f) c k
+
+    pub asked-yes : (r : Reply) (lent : List ℕ) → sound b ≡ true → firstNo qs ≡ 0 → r .refusal ≡ 0 → r .count ≡ length rs →
+        r .book ≡ new → lent ≡ over (words rs) out → AnswerIs (answer (firstNo (askSound b ∷ qs)) b out new rs) r lent
+    asked-yes r lent s q e c k o =
+        accepted (firstNo (askSound b ∷ qs)) r lent (said-yes 2 (sound b) qs s ∙ q) e c k o
