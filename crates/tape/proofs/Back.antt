@@ -1,19 +1,19 @@
 -- Read is written: a right head has its kind, its fields and nothing below them, so that it is the sum of its fields;
 -- likewise the words after it.
-use mathlib.Core.Path.{_≡_, refl, ap, sym, subst, _∙_}
-use mathlib.Core.Bool.{Bool, true, false, _&&_}
-use mathlib.Core.List.{List, [], _∷_, _++_, map}
+use mathlib.Core.Path.{_≡_, refl, ap, _∙_}
+use mathlib.Core.Bool.{Bool, true, _&&_}
+use mathlib.Core.List.{List, [], _∷_, map}
 use Prim.Native.Nat.{ℕ, zero, suc, _+_, _*_, _/_, _%_, _^_, _≤_, _<_}
 use native.Mathlib.Omega.{arith}
 use borrow.Author.Tests.{leb-true, eqb-true}
 use lib.Dec.{leb, eqb}
-use lib.ListN.{length, getD, take, drop, replicate}
+use lib.ListN.{length, getD, take, replicate}
 use Rattle.rules.specs.declared.Instruction.{Instruction}
 use Rattle.rules.specs.declared.Read.the-variants.{Instr}
-use Rattle.rules.specs.Records.{kindBits, issueBits, fromBits, toBits, lotsBits, daysBits, rateBits, priceBits, ofField, headWord, lotsWord}
+use Rattle.rules.specs.Records.{issueBits, fromBits, toBits, lotsBits, daysBits, rateBits, priceBits, ofField, headWord, lotsWord}
 use Rattle.rules.specs.Tape.{kindOf, unusedBelow, headRight, followers, lotsRight, priceWordRight, wordsWrong, instructionOf, readOf, pricesOf, rollWord, priceWord, wordsOf}
 use Rattle.laws.proofs.Basics.{byTest, and-left, and-right}
-use Rattle.tape.proofs.Sized.{ReadIs, read-is}
+use Rattle.tape.proofs.Sized.{read-is}
 
 -- each is a word
 abbrev pub Words : List ℕ → Type 0

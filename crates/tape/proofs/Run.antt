@@ -1,17 +1,15 @@
 -- The run of a tape: each instruction takes a word at least, so fuel beyond the words changes nothing, and a turn of the run is
 -- one equation. What stands in the lent output changes no line.
-use mathlib.Core.Path.{_≡_, refl, ap, sym, subst, _∙_}
+use mathlib.Core.Path.{_≡_, refl, ap, sym, subst}
 use mathlib.Core.Bool.{Bool, true, false, cond}
 use mathlib.Core.List.{List, [], _∷_, _++_}
-use Prim.Native.Nat.{ℕ, zero, suc, _+_, _-_, _≤_, _<_}
+use Prim.Native.Nat.{ℕ, zero, suc, _+_, _≤_, _<_}
 use native.Mathlib.Omega.{arith}
 use borrow.Author.Tests.{le-leb, ne-eqb}
-use lib.Dec.{leb}
 use lib.ListN.{length, drop, length-drop, length-replicate}
 use Rattle.rules.specs.declared.Book.{Book}
 use Rattle.rules.specs.declared.Instruction.{Instruction}
 use Rattle.rules.specs.declared.Instruction.the-variants as instruction
-use Rattle.rules.specs.declared.Line.{Line}
 use Rattle.rules.specs.declared.Name.the-variants as name
 use Rattle.rules.specs.declared.Read.{Read}
 use Rattle.rules.specs.declared.Read.the-variants.{Instr, Refused}
@@ -25,7 +23,6 @@ use Rattle.rules.specs.declared.Phase.the-variants.{Cut}
 use Rattle.rules.specs.Tally.{called}
 use Rattle.rules.specs.Tape.{readOf, pricesOf}
 use Rattle.rules.specs.Run.{Ran, callOf, nameOf, line, anyOutput, answerOf, ended, stopped, afterLine, afterRead, runFrom, runOf}
-use Rattle.laws.proofs.Basics.{byTest}
 use Rattle.tape.proofs.Sized.{read-sized}
 
 -- what an instruction at the front of some words does: its line, and the rest of the run

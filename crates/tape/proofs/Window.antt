@@ -1,15 +1,14 @@
 -- The reader looks at seventeen words at most: of a longer tape it reads what it reads of its first words.
 use mathlib.Core.Path.{_≡_, refl, ap, sym, _∙_}
-use mathlib.Core.Bool.{Bool, true, false, cond}
+use mathlib.Core.Bool.{Bool, cond}
 use mathlib.Core.List.{List, [], _∷_, _++_, map}
-use Prim.Native.Nat.{ℕ, zero, suc, _+_, _≤_, _<_}
+use Prim.Native.Nat.{ℕ, zero, suc, _+_, _≤_}
 use native.Mathlib.Omega.{arith}
 use lib.Dec.{leb}
 use lib.ListN.{length, getD, take, drop}
-use lib.Seq.{getD-take, take-nil, take-take, take-append-le}
-use Rattle.rules.specs.declared.Read.{Read}
+use lib.Seq.{getD-take, take-take, take-append-le}
 use Rattle.rules.specs.Records.{priceBits, ofField}
-use Rattle.rules.specs.Tape.{kindOf, followers, headRight, lotsRight, priceWordRight, wordsWrong, readAs, readOf, pricesOf}
+use Rattle.rules.specs.Tape.{kindOf, followers, headRight, wordsWrong, readAs, readOf, pricesOf}
 use Rattle.laws.proofs.Basics.{either}
 
 -- words beyond those that are asked do not count
