@@ -2,3 +2,4 @@ pub mod Signs
 pub mod RowLaws
 pub mod ScanLaws
 pub mod Halves
+pub mod Answers

@@ -1,20 +1,20 @@
 -- Every call, whatever its arguments: an accepted one keeps a sound book sound and its columns' sizes,
 -- and a refused one changes nothing.
-use mathlib.Core.Path.{_≡_, refl, sym, ap, _∙_}
-use mathlib.Core.Bool.{Bool, true, false, not, _&&_}
+use mathlib.Core.Path.{_≡_, refl, _∙_}
+use mathlib.Core.Bool.{true, _&&_}
 use mathlib.Core.List.{List, [], _∷_, _++_}
-use Prim.Native.Nat.{ℕ, zero, suc, _+_, _≤_, _<_}
+use Prim.Native.Nat.{ℕ, _+_, _<_}
 use native.Mathlib.Omega.{arith}
 use lib.Dec.{leb, eqb}
-use lib.ListN.{length, replicate, length-set, length-replicate}
-use lib.IntN.{ℤ, pos}
+use lib.ListN.{length, length-set, length-replicate}
+use lib.IntN.{pos}
 use borrow.Author.Tests.{leb-true, eqb-false, not-true}
 use Rattle.rules.specs.declared.Book.{Book}
-use Rattle.rules.specs.declared.Phase.the-variants.{Taking, Settling, Cut}
+use Rattle.rules.specs.declared.Phase.the-variants.{Settling, Cut}
 use Rattle.rules.specs.Measures.{issueCount, outputWords, mostDays, mostRate, between}
 use Rattle.rules.specs.Ledger.{isFrom, meet, pairing}
 use Rattle.rules.specs.Book.{all, ledgerOf, sound, conditions, withNets, withPhase, withDelivered, withLedger, fresh}
-use Rattle.rules.specs.Questions.{askOutput, askSound, priceRight, termRight}
+use Rattle.rules.specs.Questions.{askOutput, askSound, priceRight}
 use Rattle.rules.specs.Calls.{Answer, trade, tradeAsks, tradedNets, close, closeAsks, deliver, deliverAsks, raisedDelivered, deliverRecords, cutoff, cutoffAsks, newEntries, cutoffRecords, resolve, resolveAsks, resolveRecords, pairOff, pairOffAsks, roll, rollAsks, rolled}
 use Rattle.rules.specs.Tally.{Call, Trade, Close, Deliver, Cutoff, Resolve, PairOff, Roll, ofPair, called}
 use Rattle.laws.proofs.Basics.{and-left, and-right}

@@ -2,9 +2,9 @@
 -- to 0; and each is of at most 65,753,424,657 yen, so that a ledger of 2,048 adds at most
 -- 134,663,013,697,536 to any account.
 use mathlib.Core.Path.{_≡_, refl, sym, ap, _∙_}
-use mathlib.Core.Bool.{Bool, true, false, _&&_}
+use mathlib.Core.Bool.{true}
 use mathlib.Core.List.{List, [], _∷_}
-use Prim.Native.Nat.{ℕ, zero, suc, _+_, _*_, _/_, _≤_, _<_}
+use Prim.Native.Nat.{ℕ, suc, _+_, _*_, _/_, _≤_, _<_}
 use native.Mathlib.Omega.{arith}
 use native.Mathlib.Nat.{mul-le-mul}
 use lib.Dec.{leb}
@@ -13,7 +13,7 @@ use lib.Seq.{getD-set-other}
 use lib.IntN.{ℤ, pos, negsuc, natAbs, _+ℤ_, _-ℤ_}
 use borrow.Author.Tests.{leb-true}
 use Rattle.rules.specs.declared.Entry.{Entry}
-use Rattle.rules.specs.Measures.{mostLots, mostPrice, mostRate, mostDays, between, total, dueOf, owedOf, valueOf, chargeOf}
+use Rattle.rules.specs.Measures.{mostLots, mostPrice, mostRate, mostDays, total, dueOf, owedOf, valueOf, chargeOf}
 use Rattle.rules.specs.Ledger.{charged}
 use Rattle.rules.specs.Book.{all}
 use Rattle.rules.specs.Questions.{priceRight}

@@ -1,16 +1,16 @@
 -- An issue of a sound book: at the cutoff what is handed on and failed is exactly each receiver's due,
 -- and what was delivered and is failed exactly what each deliverer owes; each fail is a sound entry, and
 -- each record fits its words.
-use mathlib.Core.Path.{_≡_, refl, sym, ap, _∙_}
-use mathlib.Core.Bool.{Bool, true, false}
-use mathlib.Core.List.{List, [], _∷_, _++_, map}
-use Prim.Native.Nat.{ℕ, zero, suc, _+_, _-_, _*_, _^_, _≤_, _<_}
+use mathlib.Core.Path.{_≡_, sym, _∙_}
+use mathlib.Core.Bool.{true}
+use mathlib.Core.List.{List, [], _∷_, map}
+use Prim.Native.Nat.{ℕ, _+_, _-_, _≤_, _<_}
 use native.Mathlib.Omega.{arith}
 use lib.Dec.{lit<}
-use lib.ListN.{length, getD}
-use lib.IntN.{ℤ, pos}
+use lib.ListN.{length}
+use lib.IntN.{ℤ}
 use Rattle.rules.specs.declared.Book.{Book}
-use Rattle.rules.specs.Measures.{unitLots, mostLots, total, sum, dueOf, owedOf}
+use Rattle.rules.specs.Measures.{unitLots, mostLots, total, dueOf, owedOf}
 use Rattle.rules.specs.Units.{Part, sumLots, ofAccount}
 use Rattle.rules.specs.Handover.{covered, handed, waiting, firstUnit}
 use Rattle.rules.specs.Fails.{Fail}
@@ -18,7 +18,7 @@ use Rattle.rules.specs.Book.{row, cell, netAt, deliveredAt, duesOf, deliveredTo
 use Rattle.rules.specs.Records.{handover, recordOf}
 use Rattle.rules.specs.Calls.{issuePartials, issueFails, failEntry, issueEntries, issueRecords}
 use Rattle.laws.proofs.Basics.{Every, each-append, each-map, each-zip, each-drop}
-use Rattle.laws.proofs.Units.{Order, UnitSized}
+use Rattle.laws.proofs.Units.{UnitSized}
 use Rattle.laws.proofs.Handover.{each-partials}
 use Rattle.laws.proofs.Fails.{Bounded, lotsTo, lotsFrom, each-of-map}
 use Rattle.laws.proofs.Cutoff.{SoundRow, Deliverer, Receiver, delivered-due, fails-from, fails-to, not-both}

@@ -1,15 +1,16 @@
 -- Each accepted call keeps the book sound. What a call changes is shown sound anew; the rest is as it
 -- was, and the ledger's part goes by its columns alone.
-use mathlib.Core.Path.{_≡_, refl, sym, ap, _∙_}
-use mathlib.Core.Bool.{Bool, true, false, cond, not, _&&_, false≢true}
+use mathlib.Core.Path.{_≡_, refl, ap, _∙_}
+use mathlib.Core.Bool.{true, false, _&&_, false≢true}
 use mathlib.Core.List.{List, [], _∷_, _++_, map}
-use Prim.Native.Nat.{ℕ, zero, suc, _+_, _-_, _*_, _≤_, _<_}
+use Prim.Native.Nat.{ℕ, _+_, _-_, _*_, _≤_, _<_}
 use native.Mathlib.Omega.{arith}
 use native.Mathlib.Nat.{le-trans}
-use lib.Dec.{leb, eqb}
-use lib.ListN.{length, getD, set, take, drop, replicate, length-append}
+use lib.Dec.{eqb}
+use lib.ListN.{length, getD, set, drop, replicate, length-append, length-set}
+use lib.Seq.{getD-set-other}
 use lib.IntN.{ℤ, pos, natAbs, _+ℤ_, _-ℤ_}
-use borrow.Author.Tests.{leb-true, eqb-true, eqb-false, not-true}
+use borrow.Author.Tests.{leb-true, eqb-true, eqb-false}
 use Rattle.rules.specs.declared.Book.{Book}
 use Rattle.rules.specs.declared.Phase.{Phase}
 use Rattle.rules.specs.declared.Phase.the-variants.{Taking, Settling, Cut}
@@ -19,7 +20,6 @@ use Rattle.rules.specs.Ledger.{isFrom, meet, pairing, charged}
 use Rattle.rules.specs.Book.{isTaking, isSettling, isZero, row, cell, netAt, deliveredAt, ledgerOf, withinSize, withPhase, withNets, withDelivered, withLedger}
 use Rattle.rules.specs.Calls.{tradedNets, raisedDelivered, failEntry, issueEntries, issueFails, newEntries, rolled}
 use Rattle.laws.proofs.Basics.{byTest, and-left, and-right, all-replicate, Every, each-append, each-map, each-take, each-drop, each-replicate}
-use Rattle.laws.proofs.Fails.{each-of-map}
 use Rattle.laws.proofs.Signed.{rises, falls}
 use Rattle.laws.proofs.Cells.{row-same, row-other, getD-row, length-row, total-set, each-set, within-set, within-zeros}
 use Rattle.laws.proofs.Sound.{SoundEntry, SoundBook}
@@ -40,8 +40,8 @@ trade-balance l f t x hf ht ne h =
     let nf = getD l f (pos 0) in
     let nt = getD l t (pos 0) in
     let l₁ = set l f (nf -ℤ pos x) in
-    let ht₁ : t < length l₁ = rw lib.ListN.length-set ht in
-    let same : getD l₁ t (pos 0) ≡ nt = lib.Seq.getD-set-other l f t (nf -ℤ pos x) (pos 0) (omega arith) in
+    let ht₁ : t < length l₁ = rw length-set ht in
+    let same : getD l₁ t (pos 0) ≡ nt = getD-set-other l f t (nf -ℤ pos x) (pos 0) (omega arith) in
     omega (
       arith,
       total-set dueOf l f (nf -ℤ pos x) (pos 0) hf,

@@ -1,19 +1,18 @@
 -- Two facts make an order: every unit has 1 to 100,000 lots, and for each account its units sum to its due. Its
 -- accounts are then those of the dues, since none else is due a lot, and summing over accounts gives the whole.
 use mathlib.Core.Path.{_≡_, refl, sym, ap, _∙_}
-use mathlib.Core.Bool.{Bool, true, false, cond}
-use mathlib.Core.List.{List, [], _∷_, _++_}
-use Prim.Native.Nat.{ℕ, zero, suc, _+_, _-_, _*_, _≤_, _<_}
+use mathlib.Core.List.{List, [], _∷_}
+use Prim.Native.Nat.{ℕ, zero, suc, _+_, _≤_, _<_}
 use native.Mathlib.Omega.{arith}
 use native.Mathlib.Nat.{add-zero, zero-add, add-suc, suc-add}
 use lib.Dec.{ltb, eqb}
 use lib.ListN.{length, getD, List·getD-eq-default}
 use borrow.Author.Tests.{ltb-true, ltb-false, eqb-true, eqb-false}
 use Rattle.rules.specs.Measures.{total, sum}
-use Rattle.rules.specs.Units.{Part, part, sumLots, ofAccount}
+use Rattle.rules.specs.Units.{Part, sumLots, ofAccount}
 use Rattle.rules.specs.Book.{tab}
 use Rattle.laws.proofs.Basics.{byTest, Every, each-zip}
-use Rattle.laws.proofs.Units.{UnitSized, Order, account-same, account-other}
+use Rattle.laws.proofs.Units.{UnitSized, Order, account-other}
 use Rattle.laws.proofs.Cutoff.{share}
 
 -- Sums over accounts k to k + n - 1

@@ -1,9 +1,9 @@
 -- Runs: the units of an issue as a short list. A receiver's full units are one run of lots / size × size lots,
 -- and its small unit is another; without the runs of 0 lots these are the stretches of all units.
 use mathlib.Core.Path.{_≡_, refl, sym, ap, _∙_}
-use mathlib.Core.Bool.{Bool, true, false, cond, _&&_}
+use mathlib.Core.Bool.{true}
 use mathlib.Core.List.{List, [], _∷_, _++_, map, append-assoc}
-use Prim.Native.Nat.{ℕ, zero, suc, _+_, _-_, _*_, _/_, _%_, _≤_, _<_, min}
+use Prim.Native.Nat.{ℕ, zero, suc, _+_, _*_, _/_, _%_, _≤_, _<_}
 use native.Mathlib.Omega.{arith}
 use native.Mathlib.Nat.{add-zero, zero-sub, sub-zero, zero-mod, zero-mul, mul-zero, one-mul, suc-mul}
 use lib.Dec.{leb, eqb}
@@ -11,8 +11,8 @@ use lib.ListN.{length, replicate, length-append, length-map}
 use borrow.Author.Tests.{le-leb, lt-leb, eqb-true, eq-eqb, ne-eqb}
 use Rattle.rules.specs.Measures.{total}
 use Rattle.rules.specs.Units.{Part, part, put, parts, largestFirst, receivers, fulls, smalls, units}
-use Rattle.rules.specs.Fails.{isFullOf, join, stretches, skip, lacks}
-use Rattle.laws.proofs.Basics.{byTest, either, Every, and-both, total-append, total-replicate, total-sort, put-pos, put-append, length-put, length-sort, length-parts, each-append, each-map, each-put, each-sort}
+use Rattle.rules.specs.Fails.{isFullOf, stretches, skip, lacks}
+use Rattle.laws.proofs.Basics.{byTest, either, Every, and-both, total-append, total-replicate, total-sort, put-pos, put-append, length-put, length-sort, each-append, each-map, each-put, each-sort}
 use Rattle.laws.proofs.Units.{Small, smalls-small}
 use Rattle.laws.proofs.Overlaps.{skip0-append, skip0-some, skip-skip0, length-skip}
 use Rattle.laws.proofs.Stretches.{NotFull, without-none, full-lots-none, ofSmall, isOf, account-stretches}

@@ -9,3 +9,6 @@ pub mod Resolving
 pub mod PairingOff
 pub mod Rolling
 pub mod Demand
+pub mod Reached
+pub mod Settles
+pub mod Corollaries

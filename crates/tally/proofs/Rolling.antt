@@ -1,24 +1,20 @@
 -- Roll keeps the invariant: each charge is taken from one account and given to another, so that charges
 -- go on summing to 0; today's numbers are 0 in book and tally.
-use mathlib.Core.Path.{_≡_, refl, sym, ap, _∙_}
-use mathlib.Core.Bool.{Bool, true, false, false≢true}
+use mathlib.Core.Path.{_≡_, refl, _∙_}
+use mathlib.Core.Bool.{true, false, false≢true}
 use mathlib.Core.List.{List, [], _∷_}
-use Prim.Native.Nat.{ℕ, zero, suc, _+_, _≤_, _<_}
+use Prim.Native.Nat.{ℕ}
 use native.Mathlib.Omega.{arith}
-use lib.ListN.{length, getD, set, replicate, length-set, length-replicate}
-use lib.IntN.{ℤ, pos, _+ℤ_, _-ℤ_}
-use Rattle.rules.specs.declared.Book.{Book}
-use Rattle.rules.specs.declared.Entry.{Entry}
+use lib.ListN.{length-replicate}
+use lib.IntN.{pos}
 use Rattle.rules.specs.declared.Phase.{Phase}
 use Rattle.rules.specs.declared.Phase.the-variants.{Taking, Settling, Cut}
-use Rattle.rules.specs.Measures.{total, dueOf, owedOf, chargeOf}
-use Rattle.rules.specs.Ledger.{charged}
 use Rattle.rules.specs.Book.{isSettling, isCut, ledgerOf}
 use Rattle.rules.specs.Questions.{askSound}
 use Rattle.rules.specs.Calls.{rollAsks, rolled, roll}
 use Rattle.rules.specs.Tally.{State, Roll}
 use Rattle.laws.proofs.Cells.{row-zeros}
-use Rattle.laws.proofs.Sound.{SoundEntry, sound-parts}
+use Rattle.laws.proofs.Sound.{sound-parts}
 use Rattle.laws.proofs.Charges.{charged-length, charged-balance}
 use Rattle.laws.proofs.Answers.{answered}
 use Rattle.tally.proofs.Invariant.{Inv, Keeps}

@@ -2,3 +2,7 @@
 pub mod Ranking
 pub mod Units
 pub mod Loops
+pub mod Steps
+pub mod Starting
+pub mod Cutoff
+pub mod Questions

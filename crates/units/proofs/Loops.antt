@@ -6,13 +6,17 @@ use native.Mathlib.Omega.{arith}
 use native.Mathlib.Numerals.{add-one}
 use lib.ListN.{length, length-append, take, drop, getD, set, length-map, List·getD-map, drop-of-length-le}
 use lib.Seq.{take-suc, take-suc-set, drop-cons, getD-take, length-take-le, take-append-add, take-append-le}
-use lib.IntN.{ℤ, pos}
+use lib.IntN.{ℤ, pos, natAbs}
 use Rattle.rules.specs.Measures.{dueOf}
 use Rattle.rules.specs.Units.{parts, largestFirst}
 use Rattle.rules.specs.Handover.{covered, stock}
 use Rattle.rules.specs.declared.Found.the-variants.{Unit}
-use Rattle.units.specs.Runs.{partOf, runsIn, unitsOfRun, unitsOfRuns, fullOf, restOf, runsOf, foundOf, Prepared}
-use Rattle.units.proofs.Units.{units-runs, run-length, run-lots, unit-past, unit-full, unit-small, covered-past, stock-past, covered-run, stock-run}
+use Rattle.laws.proofs.Basics.{Every}
+use Rattle.laws.proofs.Sound.{each-getD}
+use Rattle.laws.proofs.Signed.{size-of}
+use Rattle.laws.proofs.Handover.{covered-past, stock-past}
+use Rattle.units.specs.Runs.{partOf, runsIn, unitsOfRun, unitsOfRuns, fullOf, smallLots, runsOf, foundOf, Prepared}
+use Rattle.units.proofs.Units.{units-runs, run-length, run-lots, unit-past, unit-full, unit-small, covered-run, stock-run}
 
 -- a list filled by a function of another's elements
 pub fill-more : (f : ℕ → ℕ) (src out : List ℕ) (i : ℕ) → i < length src → i < length out →
@@ -97,8 +101,8 @@ pub full-keys : (ks : List ℕ) → map (λ k. fullOf (partOf k)) ks ≡ map ful
 full-keys [] = refl
 full-keys (k ∷ ks) = ap (λ l. fullOf (partOf k) ∷ l) (full-keys ks)
 
-pub rest-small : (dues rests : List ℕ) → rests ≡ map restOf dues → (a : ℕ) → getD rests a 0 ≤ 20000000
-rest-small dues rests e a = rw (e, List·getD-map restOf dues a 0) (omega arith)
+pub rest-small : (dues rests : List ℕ) → rests ≡ map smallLots dues → (a : ℕ) → getD rests a 0 ≤ 20000000
+rest-small dues rests e a = rw (e, List·getD-map smallLots dues a 0) (omega arith)
 
 -- n keys, and m behind them in the part that was lent
 pub behind : (r₁ r₂ : List ℕ) (n m k : ℕ) → n ≤ length r₁ → m ≤ length r₂ →
@@ -111,7 +115,7 @@ behind r₁ r₂ n m k h g =
 pub ordered : (dues rests r₀ r₁ r₂ : List ℕ) (n m k : ℕ) → n ≤ length r₁ → m ≤ length r₂ →
     map partOf (take n r₀) ≡ largestFirst (parts 0 dues) →
     map partOf (take n r₁) ≡ map fullOf (map partOf (take n r₀)) →
-    rests ≡ map restOf dues →
+    rests ≡ map smallLots dues →
     map partOf (take m r₂) ≡ largestFirst (parts 0 rests) →
     map partOf (take (n + m) (take n r₁ ++ (r₂ ++ drop k (drop n r₁)))) ≡ runsOf dues
 unfolding runsOf
@@ -119,9 +123,11 @@ ordered dues rests r₀ r₁ r₂ n m k h g e f r s =
     ap (map partOf) (behind r₁ r₂ n m k h g) ∙ map-append partOf (take n r₁) (take m r₂) ∙ rw (f, e, s, r)
 
 -- what the dues of small nets can be ranked by
-pub dues-small : (ns : List ℤ) (dues : List ℕ) → dues ≡ map dueOf ns → ((a : ℕ) → dueOf (getD ns a (pos 0)) ≤ 20000000) →
+pub dues-small : (ns : List ℤ) (dues : List ℕ) → dues ≡ map dueOf ns → Every (λ m. natAbs m ≤ 20000000) ns →
     (a : ℕ) → getD dues a 0 ≤ 20000000
-dues-small ns dues e h a = rw (e, List·getD-map dueOf ns a (pos 0)) (h a)
+dues-small ns dues e h a =
+    rw (e, List·getD-map dueOf ns a (pos 0))
+    (omega (arith, size-of (getD ns a (pos 0)), each-getD (λ m. natAbs m ≤ 20000000) ns a (pos 0) h (omega arith)))
 
 pub dues-length : (ns : List ℤ) (dues : List ℕ) → dues ≡ map dueOf ns → length ns ≡ 64 → length dues ≡ 64
 dues-length ns dues e h = ap length e ∙ length-map ns dueOf ∙ h

@@ -2,24 +2,20 @@
 -- run: either the total passes over a whole run, or it ends in it and a division says where.
 use mathlib.Core.Path.{_≡_, refl, sym, ap, _∙_}
 use mathlib.Core.List.{List, [], _∷_, _++_, map, append-assoc, append-nil}
-use Prim.Native.Nat.{ℕ, zero, suc, _+_, _-_, _*_, _/_, _%_, _≤_, _<_, min}
+use Prim.Native.Nat.{ℕ, zero, suc, _+_, _-_, _*_, _/_, _%_, _≤_, _<_}
 use native.Mathlib.Omega.{arith}
-use native.Mathlib.Nat.{sub-zero, zero-add}
-use lib.Dec.{leb}
+use lib.Dec.{leb, lit<}
 use lib.ListN.{length, drop, replicate, length-append, length-replicate}
 use lib.Seq.{drop-append-add}
-use borrow.Author.Tests.{leb-true, leb-false, le-leb, lt-leb}
+use borrow.Author.Tests.{leb-true, leb-false, lt-leb}
 use Rattle.rules.specs.Measures.{unitLots}
 use Rattle.rules.specs.Units.{Part, part, put, parts, sumLots, largestFirst, fulls, smalls, units}
 use Rattle.rules.specs.Handover.{covered, stock}
 use Rattle.rules.specs.declared.Found.the-variants.{Unit}
-use Rattle.laws.proofs.Basics.{byTest, Every, each-sort, each-put, total-append, total-replicate, total-put, put-pos}
-use Rattle.units.specs.Runs.{unitsOfRun, unitsOfRuns, fullOf, restOf, runsOf, foundOf}
-
-pub smalls-parts : (k : ℕ) (dues : List ℕ) → smalls unitLots (parts k dues) ≡ parts k (map restOf dues)
-smalls-parts k [] = refl
-smalls-parts k (zero ∷ xs) = smalls-parts (suc k) xs
-smalls-parts k (suc n ∷ xs) = ap (put k (suc n % 100000)) (smalls-parts (suc k) xs)
+use Rattle.laws.proofs.Basics.{byTest, Every, each-sort, total-append, total-replicate, total-put, put-pos, length-put}
+use Rattle.laws.proofs.Units.{Small, smalls-small}
+use Rattle.laws.proofs.Runs.{smalls-parts}
+use Rattle.units.specs.Runs.{unitsOfRun, unitsOfRuns, fullOf, smallLots, runsOf, foundOf}
 
 pub units-append : (us vs : List Part) → unitsOfRuns (us ++ vs) ≡ unitsOfRuns us ++ unitsOfRuns vs
 units-append [] vs = refl
@@ -35,43 +31,32 @@ units-fulls : (us : List Part) → unitsOfRuns (map fullOf us) ≡ fulls unitLot
 units-fulls [] = refl
 units-fulls (u ∷ us) = rw (run-full u, units-fulls us)
 
-abbrev pub Small : Part → Type 0
-Small u = (1 ≤ u .lots) × (u .lots < 100000)
-
-units-small : (us : List Part) → Every Small us → unitsOfRuns us ≡ us
+units-small : (us : List Part) → Every (Small unitLots) us → unitsOfRuns us ≡ us
 units-small [] ps = refl
 units-small (u ∷ us) ps =
     let q : u .lots / 100000 ≡ 0 = omega (arith, ps .0 .1) in
     let r : u .lots % 100000 ≡ u .lots = omega (arith, ps .0 .1) in
     rw (q, r, put-pos (u .account) (u .lots) [] (ps .0 .0)) (ap (λ l. u ∷ l) (units-small us (ps .1)))
 
-pub small-parts : (k : ℕ) (dues : List ℕ) → Every Small (parts k (map restOf dues))
-small-parts k [] = tt
-small-parts k (x ∷ xs) = each-put Small k (x % 100000) (parts (suc k) (map restOf xs)) (λ h. (h, omega arith)) (small-parts (suc k) xs)
-
 -- the runs are the units' order
 pub units-runs : (dues : List ℕ) → unitsOfRuns (runsOf dues) ≡ units unitLots dues
 unfolding runsOf units
 units-runs dues =
-    rw (
-      units-append (map fullOf (largestFirst (parts 0 dues))) (largestFirst (parts 0 (map restOf dues))),
-      units-fulls (largestFirst (parts 0 dues)),
-      units-small (largestFirst (parts 0 (map restOf dues))) (each-sort Small (parts 0 (map restOf dues)) (small-parts 0 dues)),
-      smalls-parts 0 dues,
-    )
+    let ss = largestFirst (smalls unitLots (parts 0 dues)) in
+    let ps = each-sort (Small unitLots) (smalls unitLots (parts 0 dues)) (smalls-small unitLots (lit< tt) (parts 0 dues)) in
+    let fs = map fullOf (largestFirst (parts 0 dues)) in
+    let e : fs ++ largestFirst (parts 0 (map smallLots dues)) ≡ fs ++ ss =
+    ap (λ l. fs ++ largestFirst l) (sym (smalls-parts unitLots 0 dues)) in
+    ap unitsOfRuns e ∙ rw (units-append fs ss, units-fulls (largestFirst (parts 0 dues)), units-small ss ps)
 
 -- how many units a run has, and its lots
-length-put1 : (a x : ℕ) → length (put a x []) ≡ min 1 x
-length-put1 a zero = refl
-length-put1 a (suc n) = omega arith
-
 pub run-length : (u : Part) → length (unitsOfRun u) ≡ (u .lots + 99999) / 100000
 run-length u =
     omega (
       arith,
       length-append (replicate (u .lots / 100000) (part (u .account) 100000)) (put (u .account) (u .lots % 100000) []),
       length-replicate (u .lots / 100000) (part (u .account) 100000),
-      length-put1 (u .account) (u .lots % 100000),
+      length-put (u .account) (u .lots % 100000) [],
     )
 
 pub run-lots : (u : Part) → sumLots (unitsOfRun u) ≡ u .lots
@@ -116,19 +101,6 @@ unit-small u us k h g =
       small-here (u .account) k (put (u .account) (u .lots - k * 100000) [] ++ us),
       put-pos (u .account) (u .lots - k * 100000) [] (omega arith),
     )
-
--- what a total covers of a list and more
-pub covered-past : (us vs : List Part) (d : ℕ) → sumLots us ≤ d → covered (us ++ vs) d ≡ length us + covered vs (d - sumLots us)
-covered-past [] vs d h = rw sub-zero (sym (zero-add (covered vs d)))
-covered-past (u ∷ us) vs d h =
-    let e : d - u .lots - sumLots us ≡ d - (u .lots + sumLots us) = omega arith in
-    rw (le-leb (u .lots) d (omega arith), covered-past us vs (d - u .lots) (omega arith), e) (omega arith)
-
-pub stock-past : (us vs : List Part) (d : ℕ) → sumLots us ≤ d → stock (us ++ vs) d ≡ stock vs (d - sumLots us)
-stock-past [] vs d h = rw sub-zero
-stock-past (u ∷ us) vs d h =
-    let e : d - u .lots - sumLots us ≡ d - (u .lots + sumLots us) = omega arith in
-    rw (le-leb (u .lots) d (omega arith), stock-past us vs (d - u .lots) (omega arith), e)
 
 record Within (us : List Part) (d n s : ℕ) : Type 0 where
   pub count : covered us d ≡ n

@@ -2,15 +2,16 @@
 use mathlib.Core.Path.{_≡_}
 use mathlib.Core.Bool.{cond}
 use mathlib.Core.List.{List, [], _∷_, _++_, map}
-use Prim.Native.Nat.{ℕ, suc, _*_, _/_, _%_, _≤_}
+use Prim.Native.Nat.{ℕ, suc, _*_, _/_, _%_, _≤_, _<_}
 use lib.Dec.{ltb}
 use lib.ListN.{length, take, getD, replicate}
-use lib.IntN.{ℤ, pos}
+use lib.IntN.{ℤ, natAbs}
 use Rattle.rules.specs.Measures.{unitLots, mostLots, dueOf}
 use Rattle.rules.specs.Units.{Part, part, put, parts, largestFirst, unitsOfNets}
 use Rattle.rules.specs.Handover.{covered, stock}
 use Rattle.rules.specs.declared.Found.{Found}
 use Rattle.rules.specs.declared.Found.the-variants.{Unit, Nothing}
+use Rattle.laws.proofs.Basics.{Every}
 use Rattle.units.specs.declared.Handed.{Handed}
 
 -- a part in one word: lots * 64 + account
@@ -42,12 +43,12 @@ unitsIn runs n = unitsOfRuns (runsIn runs n)
 abbrev pub fullOf : Part → Part
 fullOf u = part (u .account) (u .lots / unitLots * unitLots)
 
-abbrev pub restOf : ℕ → ℕ
-restOf x = x % unitLots
+abbrev pub smallLots : ℕ → ℕ
+smallLots x = x % unitLots
 
 -- the runs of accounts with these dues: the full units, largest due first, then the small ones, largest first
 unfoldable pub runsOf : List ℕ → List Part
-runsOf dues = map fullOf (largestFirst (parts 0 dues)) ++ largestFirst (parts 0 (map restOf dues))
+runsOf dues = map fullOf (largestFirst (parts 0 dues)) ++ largestFirst (parts 0 (map smallLots dues))
 
 -- lots of 64 accounts that can be ranked into a lent array of so many words
 pub record CanRank (room : ℕ) (lots keys : List ℕ) : Type 0 where
@@ -63,7 +64,7 @@ pub record Ranked (lots keys : List ℕ) (n : ℕ) : Type 0 where
 pub record CanPrepare (ns : List ℤ) (runs : List ℕ) : Type 0 where
   pub accounts : length ns ≡ 64
   pub held : 128 ≤ length runs
-  pub small : (a : ℕ) → dueOf (getD ns a (pos 0)) ≤ mostLots
+  pub small : Every (λ m. natAbs m ≤ mostLots) ns
 
 -- the first n words are the runs of these nets, and stand for their units in order
 pub record Prepared (ns : List ℤ) (runs : List ℕ) (n : ℕ) : Type 0 where
@@ -71,6 +72,12 @@ pub record Prepared (ns : List ℤ) (runs : List ℕ) (n : ℕ) : Type 0 where
   pub held : n ≤ length runs
   pub ranked : runsIn runs n ≡ runsOf (map dueOf ns)
   pub units : unitsIn runs n ≡ unitsOfNets unitLots ns
+
+-- an issue whose units can be ordered, from all nets
+pub record CanOrder (nets : List ℤ) (i : ℕ) : Type 0 where
+  pub cells : length nets ≡ 1024
+  pub issue : i < 16
+  pub small : Every (λ m. natAbs m ≤ mostLots) nets
 
 abbrev pub foundOf : List Part → Found
 foundOf [] = Nothing

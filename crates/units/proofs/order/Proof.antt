@@ -6,7 +6,7 @@ use borrow.Author.Needs.{needs}
 use denote.Ref.{now}
 use lib.ListN.{length}
 use lib.ListN.{length-take, length-drop, length-map}
-use Rattle.units.specs.Runs.{restOf}
+use Rattle.units.specs.Runs.{smallLots}
 use Rattle.units.proofs.Loops.{rest-small, ordered}
 use Rattle.units.proofs.order.Statement.{statement}
 use Rattle.units.proofs.order.Tie as tie
@@ -47,7 +47,7 @@ rank-requires-2 c κs =
     let rs = b .rests .last .1 .0 in
     let n : 64 ≤ length (f .last .0) - r .result = omega (arith, f .kept .0, r .kept .1 .0, r .ensures .few, s .pre) in
     record {
-      accounts = omega (arith, b .rests .kept .1 .0, s .pre, ap length (b .rests .ensures), length-map (now (s .args .dues)) restOf);
+      accounts = omega (arith, b .rests .kept .1 .0, s .pre, ap length (b .rests .ensures), length-map (now (s .args .dues)) smallLots);
       held = simp (length-take, length-drop) (omega arith);
       small = rest-small (now (s .args .dues)) rs (b .rests .ensures);
     }

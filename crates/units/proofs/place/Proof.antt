@@ -28,7 +28,7 @@ returns : tie.Need-returns Inv-loop μ-loop
 returns c =
     let a = c .before .before .before .before .args in
     let l = c .before .before .before .loop in
-    larger-take (a .lots) (now (a .keys)) (a .n) (l .p) (search needs) (search needs) (l .inv .1) (λ q. c .if1 .taken)
+    larger-take (a .lots) (now (a .keys)) (a .n) (l .p) (search needs) (search needs) (l .inv .1) (λ q. omega arith)
 
 add-p : tie.Need-add-p Inv-loop μ-loop
 add-p c = search needs
@@ -37,7 +37,7 @@ loop-less : tie.Need-loop-less Inv-loop μ-loop
 loop-less c = search needs
 
 loop-again : tie.Need-loop-again Inv-loop μ-loop
-loop-again c = (search needs, below-more _ _ (c .before .before .before .loop .inv .1) (c .if1 .left))
+loop-again c = (search needs, below-more _ _ (c .before .before .before .loop .inv .1) (omega arith))
 
 returns-2 : tie.Need-returns-2 Inv-loop μ-loop
 returns-2 c =

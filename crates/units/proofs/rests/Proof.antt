@@ -6,14 +6,14 @@ use native.Mathlib.Omega.{arith}
 use borrow.Author.Needs.{needs}
 use denote.Ref.{now}
 use lib.ListN.{length, take, length-set}
-use Rattle.units.specs.Runs.{restOf}
+use Rattle.units.specs.Runs.{smallLots}
 use Rattle.units.proofs.Loops.{fill-more}
 use lib.Seq.{take-all}
 use Rattle.units.proofs.rests.Statement.{statement}
 use Rattle.units.proofs.rests.Tie as tie
 
 abbrev Inv-loop : tie.InvT-loop
-Inv-loop lots out₀ i₀ out i = (i ≤ length lots) × (length out ≡ length out₀) × (take i out ≡ map restOf (take i lots))
+Inv-loop lots out₀ i₀ out i = (i ≤ length lots) × (length out ≡ length out₀) × (take i out ≡ map smallLots (take i lots))
 
 abbrev μ-loop : tie.MeasureT-loop
 μ-loop lots out₀ i₀ out i = length lots - i
@@ -43,7 +43,7 @@ loop-again : tie.Need-loop-again Inv-loop μ-loop
 loop-again c =
     let a = c .before .before .before .args in
     let l = c .before .before .loop in
-    (search needs, simp length-set (l .inv .1), fill-more restOf (now (a .lots)) (l .out) (l .i) (omega arith) (omega arith) (l .inv .2))
+    (search needs, simp length-set (l .inv .1), fill-more smallLots (now (a .lots)) (l .out) (l .i) (omega arith) (omega arith) (l .inv .2))
 
 same-length : tie.Need-same-length Inv-loop μ-loop
 same-length c = search needs
