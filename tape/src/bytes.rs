@@ -15,7 +15,9 @@ pub fn join(words: &[u32]) -> Vec<u8> {
 pub fn to_hex(tape: &[u8]) -> Result<String, String> {
     let (words, stray) = split(tape);
     if !stray.is_empty() {
-        return Err("the last word is not whole, so it cannot be shown: leave out --hex".to_string());
+        return Err(
+            "the last word is not whole, so it cannot be shown: leave out --hex".to_string()
+        );
     }
     Ok(words.iter().map(|word| format!("{word:08x}\n")).collect())
 }

@@ -203,7 +203,8 @@ impl Telling {
     fn paired(&mut self, answer: &PairOffAnswer, issue: u32) {
         let (steps, lots) = (answer.steps, grouped(answer.lots.into()));
         self.detail(&format!("{steps} steps, {lots} lots cancelled"));
-        let entries: Vec<Entry> = self.book.entries().filter(|e| u32::from(e.issue) == issue).collect();
+        let entries: Vec<Entry> =
+            self.book.entries().filter(|e| u32::from(e.issue) == issue).collect();
         for entry in entries {
             self.detail(&format!("in the ledger: {}", entry_line(&entry)));
         }
@@ -311,7 +312,7 @@ fn grouped(number: i128) -> String {
     let digits = number.unsigned_abs().to_string();
     let mut text = String::new();
     for (at, digit) in digits.chars().enumerate() {
-        if at > 0 && (digits.len() - at) % 3 == 0 {
+        if at > 0 && (digits.len() - at).is_multiple_of(3) {
             text.push(',');
         }
         text.push(digit);

@@ -32,7 +32,8 @@ fn main() -> ExitCode {
 
 /// Reads the command line.
 fn command(words: impl Iterator<Item = String>) -> Result<Command, String> {
-    let (options, names): (Vec<String>, Vec<String>) = words.partition(|word| word.starts_with("--"));
+    let (options, names): (Vec<String>, Vec<String>) =
+        words.partition(|word| word.starts_with("--"));
     if let Some(unknown) = options.iter().find(|option| *option != "--hex") {
         return Err(format!("there is no option {unknown}; use\n{USAGE}"));
     }

@@ -30,7 +30,8 @@ const PRICE: Field = ("price", (1 << 18) - 1);
 pub fn to_tape(text: &str) -> Result<Vec<u8>, String> {
     let mut tape = Vec::new();
     for (number, line) in (1..).zip(text.lines()) {
-        let words: Vec<&str> = line.split('#').next().unwrap_or_default().split_whitespace().collect();
+        let words: Vec<&str> =
+            line.split('#').next().unwrap_or_default().split_whitespace().collect();
         if let Some((name, arguments)) = words.split_first() {
             let bytes = line_bytes(name, arguments, tape.len());
             tape.extend(bytes.map_err(|error| format!("line {number}: {error}"))?);
@@ -44,7 +45,7 @@ fn line_bytes(name: &str, arguments: &[&str], before: usize) -> Result<Vec<u8>, 
     if name == "byte" {
         return Ok(vec![raw::<u8>(arguments, 2)?]);
     }
-    if before % 4 != 0 {
+    if !before.is_multiple_of(4) {
         return Err(format!("`{name}` cannot follow `byte`: single bytes end a tape"));
     }
     if name == "word" {
@@ -166,8 +167,12 @@ fn ended(at: usize, number: u32) -> String {
 pub fn line_of(instruction: &Instruction, prices: &[u32]) -> String {
     match *instruction {
         Instruction::Trade { issue, from, to, lots } => format!("trade {issue} {from} {to} {lots}"),
-        Instruction::Deliver { issue, account, lots } => format!("deliver {issue} {account} {lots}"),
-        Instruction::Resolve { issue, account, lots } => format!("resolve {issue} {account} {lots}"),
+        Instruction::Deliver { issue, account, lots } => {
+            format!("deliver {issue} {account} {lots}")
+        }
+        Instruction::Resolve { issue, account, lots } => {
+            format!("resolve {issue} {account} {lots}")
+        }
         Instruction::PairOff { issue, account } => format!("pair-off {issue} {account}"),
         Instruction::Close => "close".to_string(),
         Instruction::Cutoff => "cutoff".to_string(),
@@ -215,7 +220,10 @@ mod tests {
             ("close\nsell 1 2", "line 2: there is no instruction \"sell\": write one of trade"),
             ("trade 1 2 3", "line 1: trade takes issue, from, to, lots; here are 3 numbers"),
             ("\n\nclose 1", "line 3: close takes no numbers; here are 1 numbers"),
-            ("deliver 16 0 1", "line 1: issue \"16\" does not fit its bits: write a number from 0 to 15"),
+            (
+                "deliver 16 0 1",
+                "line 1: issue \"16\" does not fit its bits: write a number from 0 to 15",
+            ),
             ("deliver 0 x 1", "line 1: account \"x\" does not fit"),
             ("trade 0 1 2 268435456", "line 1: lots \"268435456\" does not fit"),
             ("roll 1 2", "line 1: roll takes days, rate and sixteen prices"),

@@ -9,8 +9,11 @@ use reference::units::{handed, units};
 
 /// A call that suits the phase mostly, with arguments in range mostly.
 pub fn random_call(rng: &mut Rng, shape: &Shape, book: &Book) -> Call {
-    let phase =
-        if rng.chance(1, 20) { *rng.pick(&[Phase::Taking, Phase::Settling, Phase::Cut]) } else { book.phase };
+    let phase = if rng.chance(1, 20) {
+        *rng.pick(&[Phase::Taking, Phase::Settling, Phase::Cut])
+    } else {
+        book.phase
+    };
     let call = match (phase, rng.range(0, 99)) {
         (_, 0..=5) => random_unit(rng, shape, book),
         (_, 6..=12) => random_resolve(rng, shape, book),
@@ -85,7 +88,8 @@ fn random_delivery(rng: &mut Rng, shape: &Shape, book: &Book) -> Call {
 
 /// Issue and account of all that still owe lots today.
 fn deliverers(shape: &Shape, book: &Book) -> Vec<(u32, u32)> {
-    let places = shape.issues.iter().flat_map(|&issue| (0..ACCOUNTS as u32).map(move |a| (issue, a)));
+    let places =
+        shape.issues.iter().flat_map(|&issue| (0..ACCOUNTS as u32).map(move |a| (issue, a)));
     places.filter(|&(issue, a)| book.owed_today(issue as usize, a as usize) > 0).collect()
 }
 

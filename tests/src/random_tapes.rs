@@ -1,7 +1,7 @@
 //! Random tapes: days with ties and partial units, refused calls, damaged and cut tapes.
 
 use crate::books::{Shape, MENU};
-use crate::engines::by_reference;
+use crate::engines::by_reference_on_sound;
 use crate::random_calls::random_call;
 use crate::rng::Rng;
 use crate::steps::Call;
@@ -43,7 +43,7 @@ pub fn day_tape(rng: &mut Rng, instructions: u32, few: bool) -> Vec<u8> {
         let call = random_call(rng, &shape, &book);
         if let Some(words) = words_of(&call) {
             tape.extend(words.iter().flat_map(|word| word.to_le_bytes()));
-            run_on_sound(&mut book, &call, &mut output);
+            by_reference_on_sound(&mut book, &call, &mut output);
             made += 1;
         }
     }
@@ -67,43 +67,14 @@ pub fn words_of(call: &Call) -> Option<Vec<u32>> {
             (Instruction::Resolve { issue, account, lots }, none)
         }
         Call::PairOff { issue, account } => (Instruction::PairOff { issue, account }, none),
-        Call::Roll { days, rate, ref prices } => (Instruction::Roll { days, rate }, prices.as_slice()),
+        Call::Roll { days, rate, ref prices } => {
+            (Instruction::Roll { days, rate }, prices.as_slice())
+        }
     };
     let mut words = vec![0; 17];
     let answer = tape::write(&instruction, prices, &mut words);
     words.truncate(answer.count as usize);
     (answer.number == 0).then_some(words)
-}
-
-/// Makes a call on a book that is sound.
-fn run_on_sound(book: &mut Book, call: &Call, output: &mut [u32]) {
-    use reference::calls;
-    match *call {
-        Call::Trade { issue, from, to, lots } => {
-            calls::trade_on_sound(book, issue, from, to, lots);
-        }
-        Call::Close => {
-            calls::close_on_sound(book);
-        }
-        Call::Deliver { issue, account, lots, .. } => {
-            calls::deliver_on_sound(book, issue, account, lots, output);
-        }
-        Call::Cutoff { .. } => {
-            calls::cutoff_on_sound(book, output);
-        }
-        Call::Resolve { issue, account, lots, .. } => {
-            calls::resolve_on_sound(book, issue, account, lots, output);
-        }
-        Call::PairOff { issue, account } => {
-            calls::pair_off_on_sound(book, issue, account);
-        }
-        Call::Roll { days, rate, ref prices } => {
-            calls::roll_on_sound(book, days, rate, prices);
-        }
-        Call::Sound | Call::Unit { .. } => {
-            by_reference(book, call, output);
-        }
-    }
 }
 
 /// The tape cut short, with stray bytes, with a bit turned, or with a word put in or left out.
@@ -138,7 +109,9 @@ mod tests {
         for case in 0..100 {
             text.push_str(&reference::run::run(&small_tape(&mut Rng::of_case(1, case))));
         }
-        for line in ["deliver 0 2", "cutoff 0 3", "pair-off 0 1", "tape 13 0", "tape 14 0", "roll 0 0"] {
+        for line in
+            ["deliver 0 2", "cutoff 0 3", "pair-off 0 1", "tape 13 0", "tape 14 0", "roll 0 0"]
+        {
             assert!(text.contains(line), "{line}");
         }
     }

@@ -21,6 +21,8 @@ const DEFAULT_CASES: u64 = 6_000;
 /// The large tapes of the default run, and the instructions of each.
 const DEFAULT_LARGE: &str = "3";
 const LARGE: u32 = 400_000;
+/// The most words of a tape that is shown.
+const MOST_SHOWN: usize = 400;
 /// The program's own options.
 const OWN: [&str; 4] = ["--program", "--reference", "--large", "--samples"];
 
@@ -170,7 +172,10 @@ fn parts_of(tape: &[u8]) -> Vec<Vec<u8>> {
 /// The first line in which two outputs differ, as each has it.
 fn first_difference(one: &[u8], other: &[u8]) -> [String; 2] {
     let lines = |output: &[u8]| -> Vec<String> {
-        output.split(|byte| *byte == b'\n').map(|line| String::from_utf8_lossy(line).into()).collect()
+        output
+            .split(|byte| *byte == b'\n')
+            .map(|line| String::from_utf8_lossy(line).into())
+            .collect()
     };
     let (one, other) = (lines(one), lines(other));
     let at = one.iter().zip(&other).take_while(|(one, other)| one == other).count();
@@ -180,11 +185,14 @@ fn first_difference(one: &[u8], other: &[u8]) -> [String; 2] {
     })
 }
 
-/// A tape as words and as text, and what the programs print differently.
+/// What the programs print differently, and the tape as words and as text if it is short.
 fn report(tape: &[u8], [reference, program]: &[String; 2]) -> String {
-    let words: String = bytes::split(tape).0.iter().map(|word| format!(" {word:08x}")).collect();
-    format!(
-        "mismatch on the tape\n{}  words:{words}\n  reference: {reference}\n  program:   {program}",
-        text::of_tape(tape)
-    )
+    let words = bytes::split(tape).0;
+    let shown = if words.len() <= MOST_SHOWN {
+        let words: String = words.iter().map(|word| format!(" {word:08x}")).collect();
+        format!("\n{}  words:{words}", text::of_tape(tape))
+    } else {
+        format!(" of {} words", words.len())
+    };
+    format!("mismatch on the tape{shown}\n  reference: {reference}\n  program:   {program}")
 }
