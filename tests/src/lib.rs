@@ -1,6 +1,14 @@
-//! What the test programs share: random numbers, options, reports and the desk's library.
+//! What the test programs share: random numbers, options, reports, steps and both engines.
 
-pub mod desk;
+pub mod books;
+pub mod case;
+pub mod engines;
 pub mod options;
+pub mod programs;
+pub mod random_calls;
+pub mod random_tapes;
 pub mod report;
 pub mod rng;
+pub mod shrink;
+pub mod situations;
+pub mod steps;

@@ -1,6 +1,7 @@
 //! What the test programs print: progress, and the case in which the two engines differ.
 
-use std::fmt;
+use std::path::{Path, PathBuf};
+use std::{fmt, fs};
 
 /// The cases between two lines of progress.
 const PROGRESS_STEP: u64 = 500_000;
@@ -37,7 +38,7 @@ impl fmt::Display for Mismatch {
         writeln!(text, "mismatch in the case: {}", self.case)?;
         writeln!(text, "  reference: {}", self.reference)?;
         writeln!(text, "  library:   {}", self.library)?;
-        write!(text, "  again with: --replay {}", self.case)
+        write!(text, "  again with: --replay '{}'", self.case)
     }
 }
 
@@ -45,5 +46,24 @@ impl fmt::Display for Mismatch {
 pub fn progress(agreed: u64, cases: u64) {
     if agreed > 0 && agreed.is_multiple_of(PROGRESS_STEP) {
         eprintln!("{agreed} of {cases} cases agree");
+    }
+}
+
+/// The directory in which failing cases are kept, `build` where there is one.
+fn kept_in() -> PathBuf {
+    let build = Path::new("build");
+    if build.is_dir() {
+        build.to_path_buf()
+    } else {
+        PathBuf::new()
+    }
+}
+
+/// Saves a failing case to a file that can be replayed; tells where it is.
+pub fn save_case(program: &str, seed: u64, case: impl AsRef<[u8]>) -> String {
+    let file = kept_in().join(format!("{program}-mismatch-{seed}"));
+    match fs::write(&file, case) {
+        Ok(()) => format!("kept in a file; again with: --replay {}", file.display()),
+        Err(error) => format!("could not be kept in {}: {error}", file.display()),
     }
 }

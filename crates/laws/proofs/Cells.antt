@@ -2,18 +2,18 @@
 -- to a sum. A store at i * 64 + a is one at a in the part that begins at i * 64.
 use mathlib.Core.Path.{_≡_, refl, sym, ap, _∙_}
 use mathlib.Core.Bool.{Bool, true, false, cond, _&&_, false≢true}
-use mathlib.Core.List.{List, [], _∷_, _++_, map}
+use mathlib.Core.List.{List, [], _∷_}
 use Prim.Native.Nat.{ℕ, zero, suc, _+_, _-_, _*_, _≤_, _<_}
 use native.Mathlib.Omega.{arith}
 use native.Mathlib.Nat.{zero-add}
 use lib.Dec.{leb, ltb, eqb}
-use lib.ListN.{length, getD, set, take, drop, replicate, length-set, length-take, length-drop, length-map, List·getD-map}
+use lib.ListN.{length, getD, set, take, drop, replicate, length-take, length-drop, length-map, List·getD-map}
 use lib.Seq.{drop-set-add, take-set-lt, take-set-le, drop-set-lt, getD-set-other, getD-set-same, getD-take, getD-drop, ext-getD}
 use lib.IntN.{ℤ, pos}
 use borrow.Author.Tests.{ltb-true, ltb-false, eqb-true, eq-eqb, le-leb}
 use Rattle.rules.specs.Measures.{total, sum, dueOf, owedOf}
 use Rattle.rules.specs.Book.{tab, row, cell, duesOf, owedsOf, netAt, deliveredAt, deliveredTotal, withinOwed, all, isZero}
-use Rattle.laws.proofs.Basics.{byTest, either, and-left, and-right, and-both, length-tab, getD-tab, total-replicate, total-take-le, total-drop-le, Every}
+use Rattle.laws.proofs.Basics.{byTest, and-left, and-right, and-both, length-tab, getD-tab, total-replicate, total-take-le, total-drop-le, Every}
 
 -- is it this issue and this account?
 abbrev pub here : ℕ → ℕ → ℕ → ℕ → Bool

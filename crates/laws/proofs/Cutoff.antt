@@ -1,19 +1,19 @@
 -- The cutoff of an issue with a given order of units: what was handed, the stock's part and what is failed are
 -- the units; deliverers are short of what units lack; each fail runs from a deliverer to a receiver.
-use mathlib.Core.Path.{_≡_, refl, sym, ap, _∙_}
-use mathlib.Core.Bool.{Bool, true, false, cond}
-use mathlib.Core.List.{List, [], _∷_, _++_, map}
-use Prim.Native.Nat.{ℕ, zero, suc, _+_, _-_, _*_, _≤_, _<_, min}
+use mathlib.Core.Path.{_≡_, _∙_}
+use mathlib.Core.Bool.{true}
+use mathlib.Core.List.{List, [], _∷_, map}
+use Prim.Native.Nat.{ℕ, suc, _+_, _-_, _≤_, _<_}
 use native.Mathlib.Omega.{arith}
 use native.Mathlib.Nat.{min-eq-left, sub-eq-zero-of-le, sub-zero}
-use lib.Dec.{leb, eqb}
+use lib.Dec.{leb}
 use lib.IntN.{ℤ, pos, negsuc}
 use lib.ListN.{length, getD, length-map, List·getD-map}
 use borrow.Author.Tests.{eqb-true}
 use Rattle.rules.specs.Measures.{total, sum, dueOf, owedOf}
-use Rattle.rules.specs.Units.{Part, part, put, parts, sumLots, ofAccount}
-use Rattle.rules.specs.Handover.{covered, stock, handed, waiting, firstUnit, partials}
-use Rattle.rules.specs.Fails.{Fail, fullLots, withoutFulls, join, stretches, cut, skip, lacks, shorts, shortfalls, overlaps, fails}
+use Rattle.rules.specs.Units.{Part, part, parts, sumLots, ofAccount}
+use Rattle.rules.specs.Handover.{stock, handed, waiting, firstUnit, partials}
+use Rattle.rules.specs.Fails.{Fail, fullLots, withoutFulls, stretches, cut, lacks, shorts, shortfalls, fails}
 use Rattle.rules.specs.Book.{balanced, withinOwed}
 use Rattle.laws.proofs.Basics.{either, Every, total-put, sum-parts, each-map, each-zip, each-put}
 use Rattle.laws.proofs.Units.{Order, UnitSized, account-same, each-parts}

@@ -1,20 +1,20 @@
 -- Overlaps of shortfalls and lacks: their sums by deliverer and by receiver, their number, their bounds.
 -- Each goes along the shortfalls: the first takes the first lots of what is lacking, and leaves the rest.
 use mathlib.Core.Path.{_≡_, refl, sym, ap, _∙_}
-use mathlib.Core.Bool.{Bool, true, false, cond, _&&_}
-use mathlib.Core.List.{List, [], _∷_, _++_, map}
-use Prim.Native.Nat.{ℕ, zero, suc, _+_, _-_, _*_, _≤_, _<_, min}
+use mathlib.Core.Bool.{true}
+use mathlib.Core.List.{List, [], _∷_, map}
+use Prim.Native.Nat.{ℕ, zero, suc, _+_, _-_, _≤_, min}
 use native.Mathlib.Omega.{arith}
-use native.Mathlib.Nat.{zero-sub, sub-zero, zero-min, min-eq-left, min-eq-right, sub-eq-zero-of-le}
+use native.Mathlib.Nat.{zero-sub, sub-zero, min-eq-left, min-eq-right, sub-eq-zero-of-le}
 use lib.Dec.{leb, eqb}
-use lib.IntN.{ℤ, pos}
-use lib.ListN.{length, getD, length-append, length-map, List·getD-map}
+use lib.IntN.{ℤ}
+use lib.ListN.{length, getD, length-append, length-map}
 use borrow.Author.Tests.{leb-true, leb-false}
 use Rattle.rules.specs.Measures.{total, sum, owedOf}
-use Rattle.rules.specs.Units.{Part, part, put, parts, sumLots, ofAccount}
+use Rattle.rules.specs.Units.{Part, part, sumLots, ofAccount}
 use Rattle.rules.specs.Fails.{Fail, failOf, cut, skip, overlaps, shorts, shortfalls}
 use Rattle.rules.specs.Book.{withinOwed}
-use Rattle.laws.proofs.Basics.{byTest, either, and-left, and-right, Every, total-append, total-map, total-put, length-put, sum-parts, each-append, each-map, each-put}
+use Rattle.laws.proofs.Basics.{byTest, either, and-left, and-right, Every, total-append, total-map, total-put, length-put, each-append, each-map}
 use Rattle.laws.proofs.Units.{account-receivers}
 use Rattle.laws.proofs.Overlaps.{Additive, cut-skip, sum-cut, sum-skip, sum-zero, cut-zero, every-cut, every-skip}
 

@@ -1,17 +1,16 @@
 -- What a delivered total covers of a list of units, whatever their order. Each law goes along the list:
 -- a unit that the total covers is taken off both, and the first that it does not cover ends the matter.
 use mathlib.Core.Path.{_≡_, refl, sym, ap, _∙_}
-use mathlib.Core.Bool.{Bool, true, false, cond}
 use mathlib.Core.List.{List, [], _∷_, _++_, append-nil}
-use Prim.Native.Nat.{ℕ, zero, suc, _+_, _-_, _*_, _≤_, _<_, min}
+use Prim.Native.Nat.{ℕ, suc, _+_, _-_, _≤_, _<_, min}
 use native.Mathlib.Omega.{arith}
 use native.Mathlib.Nat.{sub-zero, zero-add, add-zero}
 use lib.Dec.{leb, lit<}
-use lib.ListN.{length, getD, take, drop, length-drop, take-append-drop}
-use lib.Seq.{take-add, drop-drop, getD-take, getD-drop, length-take-le}
-use borrow.Author.Tests.{leb-true, leb-false, le-leb, lt-leb}
+use lib.ListN.{length, getD, take, length-drop, take-append-drop}
+use lib.Seq.{take-add, drop-drop, getD-take, length-take-le}
+use borrow.Author.Tests.{leb-true, leb-false, le-leb}
 use Rattle.rules.specs.Measures.{total, sum, unitLots}
-use Rattle.rules.specs.Units.{Part, part, put, sumLots}
+use Rattle.rules.specs.Units.{Part, part, sumLots}
 use Rattle.rules.specs.Handover.{covered, stock, handed, waiting, handovers, firstUnit, partials}
 use Rattle.laws.proofs.Basics.{byTest, Every, total-append, total-put, length-put, put-pos, each-map, each-take, each-drop, each-put}
 use Rattle.laws.proofs.Units.{UnitSized, Order}

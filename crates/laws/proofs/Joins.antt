@@ -1,20 +1,20 @@
 -- Lists in which each account's full units lie side by side. There a stretch is what joining neighbours makes,
 -- and what units lack after a total is what is left of the stretches of all units when the total is skipped.
-use mathlib.Core.Path.{_≡_, refl, sym, ap, _∙_}
-use mathlib.Core.Bool.{Bool, true, false, cond, _&&_, false≢true}
+use mathlib.Core.Path.{_≡_, refl, sym, _∙_}
+use mathlib.Core.Bool.{true, false, cond, _&&_, false≢true}
 use mathlib.Core.List.{List, [], _∷_, _++_, append-assoc}
-use Prim.Native.Nat.{ℕ, zero, suc, _+_, _-_, _*_, _/_, _%_, _≤_, _<_, min}
+use Prim.Native.Nat.{ℕ, zero, suc, _+_, _-_, _/_, _≤_, _<_}
 use native.Mathlib.Omega.{arith}
-use native.Mathlib.Nat.{zero-add, add-zero, sub-eq-zero-of-le}
+use native.Mathlib.Nat.{add-zero, sub-eq-zero-of-le}
 use lib.Dec.{leb, eqb}
-use lib.ListN.{length, drop, replicate}
-use borrow.Author.Tests.{leb-true, le-leb, lt-leb, eqb-true, eqb-false, eq-eqb, ne-eqb}
+use lib.ListN.{drop, replicate}
+use borrow.Author.Tests.{leb-true, le-leb, lt-leb, eqb-true, eq-eqb, ne-eqb}
 use Rattle.rules.specs.Units.{Part, part, largestFirst, receivers, fulls, smalls, units}
 use Rattle.rules.specs.Handover.{covered, stock, waiting, firstUnit}
 use Rattle.rules.specs.Fails.{isFullOf, fullLots, withoutFulls, join, stretches, skip, lacks}
-use Rattle.laws.proofs.Basics.{byTest, either, and-left, and-right, and-both, Every, each-map, each-append, each-sort, every-of}
+use Rattle.laws.proofs.Basics.{byTest, either, and-left, and-right, and-both, Every, each-map, each-append, each-sort}
 use Rattle.laws.proofs.Units.{Small, each-fulls, smalls-small}
-use Rattle.laws.proofs.Stretches.{NotFull, OneEach, one-stretches, without-none, full-lots-none, every-without, none-without}
+use Rattle.laws.proofs.Stretches.{NotFull, without-none, full-lots-none, every-without, none-without}
 use Rattle.laws.proofs.Ranking.{Distinct, distinct-sort, rising-parts}
 
 -- a unit in front of a list joins its neighbour where both are full and of one account

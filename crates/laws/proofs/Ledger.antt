@@ -1,21 +1,20 @@
 -- The ledger's columns and its list of entries are one another, by one pass over the columns; and an
 -- entry read, added or left out is a place of each column.
 use mathlib.Core.Path.{_≡_, refl, sym, ap, _∙_}
-use mathlib.Core.Bool.{Bool, true, false, _&&_}
+use mathlib.Core.Bool.{true}
 use mathlib.Core.List.{List, [], _∷_, _++_, map, tail}
-use Prim.Native.Nat.{ℕ, zero, suc, _+_, _-_, _*_, _≤_, _<_}
+use Prim.Native.Nat.{ℕ, zero, suc, _+_, _-_, _≤_, _<_}
 use native.Mathlib.Omega.{arith}
 use native.Mathlib.Nat.{sub-zero, zero-sub, suc-sub-suc}
-use lib.Dec.{eqb}
-use lib.ListN.{length, getD, set, take, drop, replicate, length-map, length-append, length-replicate, List·getD-map, List·getD-append}
-use lib.Seq.{drop-at, set-at}
+use lib.ListN.{length, getD, set, drop, replicate, length-map, length-append, length-replicate, List·getD-map, List·getD-append}
+use lib.Seq.{drop-at, set-at, drop-nil, append-snoc}
 use borrow.Author.Tests.{eqb-true}
 use Rattle.rules.specs.declared.Book.{Book}
 use Rattle.rules.specs.declared.Entry.{Entry}
 use Rattle.rules.specs.Measures.{mostEntries}
 use Rattle.rules.specs.Ledger.{entry}
 use Rattle.rules.specs.Book.{all, headOr0, entries, ledgerOf, isZero, daysSound, column, withLedger}
-use Rattle.laws.proofs.Basics.{and-left, and-right, Every, all-replicate}
+use Rattle.laws.proofs.Basics.{and-left, and-right, all-replicate, Every, each-at}
 use Rattle.laws.proofs.Sound.{SoundEntry, SoundLedger, SoundBook}
 
 abbrev pub noEntry : Entry
@@ -51,7 +50,7 @@ entry-at (suc n) is fs ts xs ds (suc k) h =
 
 -- the entries from k on are those of the columns from k on
 drop-tail : (k : ℕ) (xs : List ℕ) → drop k (tail xs) ≡ drop (suc k) xs
-drop-tail k [] = lib.Seq.drop-nil k
+drop-tail k [] = drop-nil k
 drop-tail k (x ∷ xs) = refl
 
 pub drop-entries : (k n : ℕ) (is fs ts xs ds : List ℕ) →
@@ -67,7 +66,7 @@ pub sound-at : (today n : ℕ) (is fs ts xs ds : List ℕ) → SoundLedger today
     SoundEntry (entry (getD is k 0) (getD fs k 0) (getD ts k 0) (getD xs k 0) (getD ds k 0))
 sound-at today n is fs ts xs ds s k h =
     rw (entry-at n is fs ts xs ds k h) at
-    (Rattle.laws.proofs.Basics.each-at SoundEntry (entries n is fs ts xs ds) noEntry k (s .each)
+    (each-at SoundEntry (entries n is fs ts xs ds) noEntry k (s .each)
     (omega (arith, length-entries n is fs ts xs ds)))
 
 -- From entries to columns, and back
@@ -110,7 +109,7 @@ column-snoc f es e h =
     let m : length (es ++ e ∷ []) ≡ suc (length es) = omega (arith, length-append es (e ∷ [])) in
     let snoc : map f (es ++ e ∷ []) ≡ map f es ++ f e ∷ [] = map-append f es (e ∷ []) in
     rw (m, snoc, n, set-at (map f es) 0 (replicate (mostEntries - suc (length es)) 0) (f e) (length es) (length-map es f))
-    (lib.Seq.append-snoc (map f es) (f e) (replicate (mostEntries - suc (length es)) 0))
+    (append-snoc (map f es) (f e) (replicate (mostEntries - suc (length es)) 0))
   where
     map-append : (g : Entry → ℕ) (us vs : List Entry) → map g (us ++ vs) ≡ map g us ++ map g vs
     map-append g [] vs = refl

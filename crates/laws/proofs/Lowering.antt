@@ -2,15 +2,15 @@
 -- Entries before it are as they were, and those behind it too.
 use mathlib.Core.Path.{_≡_, refl, sym, ap, _∙_}
 use mathlib.Core.Bool.{Bool, true, false, cond, _&&_}
-use mathlib.Core.List.{List, [], _∷_, _++_, map}
-use Prim.Native.Nat.{ℕ, zero, suc, _+_, _-_, _*_, _≤_, _<_, min}
+use mathlib.Core.List.{List, [], _∷_}
+use Prim.Native.Nat.{ℕ, zero, suc, _+_, _-_, _≤_, _<_, min}
 use native.Mathlib.Omega.{arith}
 use lib.Dec.{leb, eqb}
 use lib.ListN.{length}
 use borrow.Author.Tests.{leb-true, leb-false, eqb-true, ne-eqb}
 use Rattle.rules.specs.declared.Entry.{Entry}
 use Rattle.rules.specs.Measures.{total}
-use Rattle.rules.specs.Ledger.{entry, putEntry, isFrom, isTo, lotsOf, countOf, firstOf, lower}
+use Rattle.rules.specs.Ledger.{putEntry, isFrom, isTo, countOf, firstOf, lower}
 use Rattle.rules.specs.Book.{daysSound}
 use Rattle.laws.proofs.Basics.{byTest, either, and-left, and-right, and-both, Every}
 use Rattle.laws.proofs.Sound.{SoundEntry}

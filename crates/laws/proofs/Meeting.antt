@@ -1,16 +1,16 @@
 -- Resolve: what is met and what is left of the ledger are the ledger, by any number that adds up by
 -- lots; and entries that were sound, with days that never fall, stay so.
 use mathlib.Core.Path.{_≡_, refl, sym, ap, _∙_}
-use mathlib.Core.Bool.{Bool, true, false, cond, _&&_, false≢true}
-use mathlib.Core.List.{List, [], _∷_, _++_, map}
-use Prim.Native.Nat.{ℕ, zero, suc, _+_, _-_, _*_, _≤_, _<_, min}
+use mathlib.Core.Bool.{Bool, true, false, cond, false≢true}
+use mathlib.Core.List.{List, [], _∷_, _++_}
+use Prim.Native.Nat.{ℕ, zero, suc, _+_, _-_, _≤_, _<_, min}
 use native.Mathlib.Omega.{arith}
 use lib.Dec.{leb, eqb}
 use lib.ListN.{length}
 use borrow.Author.Tests.{leb-true, le-leb, eqb-true, eq-eqb}
 use Rattle.rules.specs.declared.Entry.{Entry}
 use Rattle.rules.specs.Measures.{total}
-use Rattle.rules.specs.Ledger.{entry, putEntry, isFrom, isTo, lotsOf, countOf, metBy, meet, met, firstOf, lower}
+use Rattle.rules.specs.Ledger.{entry, putEntry, isFrom, lotsOf, metBy, meet, met}
 use Rattle.rules.specs.Book.{daysSound}
 use Rattle.laws.proofs.Basics.{byTest, either, and-left, and-right, and-both, Every}
 use Rattle.laws.proofs.Cells.{here, here-eq}

@@ -2,7 +2,7 @@
 -- them, so that a list may be read with its zeros; of a shortfall and a lack in front the smaller is laid.
 use mathlib.Core.Path.{_≡_, refl, ap, sym, _∙_}
 use mathlib.Core.List.{List, [], _∷_, _++_, map}
-use Prim.Native.Nat.{ℕ, zero, suc, _+_, _-_, _*_, _≤_, _<_, min}
+use Prim.Native.Nat.{ℕ, zero, suc, _+_, _-_, _≤_, _<_, min}
 use native.Mathlib.Nat.{zero-sub, sub-zero, zero-min, min-eq-left, min-eq-right, sub-eq-zero-of-le}
 use native.Mathlib.Omega.{arith}
 use lib.ListN.{length}

@@ -1,23 +1,19 @@
 -- Pair-off makes at most a + b − 1 steps, and those that its definition allows are enough. A step that
 -- cancels lots takes one entry of the account away, since the smaller of the two goes and the entry
 -- P to Q is neither to the account nor from it.
-use mathlib.Core.Path.{_≡_, refl, sym, ap, _∙_}
-use mathlib.Core.Bool.{Bool, true, false, cond, _&&_}
-use mathlib.Core.List.{List, [], _∷_, _++_, map}
-use Prim.Native.Nat.{ℕ, zero, suc, _+_, _-_, _*_, _≤_, _<_, min}
+use mathlib.Core.Path.{_≡_, refl, _∙_}
+use mathlib.Core.Bool.{Bool, true, false, cond}
+use mathlib.Core.List.{List, [], _∷_}
+use Prim.Native.Nat.{ℕ, zero, suc, _+_, _-_, _≤_, _<_, min}
 use native.Mathlib.Omega.{arith}
-use native.Mathlib.Nat.{le-trans}
-use lib.Dec.{leb, eqb, lit<}
-use lib.ListN.{length, length-append}
+use lib.Dec.{leb, eqb}
 use borrow.Author.Tests.{leb-true, leb-false, eqb-false, ne-eqb}
 use Rattle.rules.specs.declared.Entry.{Entry}
-use Rattle.rules.specs.Measures.{total, mostLots}
-use Rattle.rules.specs.Ledger.{entry, putEntry, isFrom, isTo, lotsOf, countOf, firstOf, lower, stepLots, through, stepped, Pairing, paired, pairing}
-use Rattle.rules.specs.Book.{daysSound}
+use Rattle.rules.specs.Ledger.{entry, putEntry, isFrom, isTo, countOf, firstOf, lower, stepLots, through, stepped, paired, pairing}
 use Rattle.laws.proofs.Basics.{byTest, either, total-append, Every, each-append, each-map}
 use Rattle.laws.proofs.Sound.{SoundEntry}
-use Rattle.laws.proofs.Meeting.{withLots, Steady, length-putEntry, each-putEntry, days-append}
-use Rattle.laws.proofs.Lowering.{firstLots, first-pos, first-live, first-none, first-bound, count-put, lower-le, lower-gone, first-stays, count-stays, length-lower, length-gone, each-lower, sound-lower, days-lower, Apart, and-no, from-not-to, to-not-from, first-from, first-to}
+use Rattle.laws.proofs.Meeting.{withLots, Steady, each-putEntry}
+use Rattle.laws.proofs.Lowering.{firstLots, first-pos, first-live, first-none, count-put, lower-le, lower-gone, first-stays, count-stays, each-lower, Apart, and-no, from-not-to, to-not-from, first-from, first-to}
 
 -- The entry P to Q
 

@@ -1,12 +1,12 @@
 -- What was written is read back: each field of a word is at its place, so the first records of an
 -- output are those that were written there.
-use mathlib.Core.Path.{_≡_, refl, sym, ap, _∙_}
-use mathlib.Core.Bool.{Bool, true, false, cond, _&&_}
+use mathlib.Core.Path.{_≡_, refl, ap}
+use mathlib.Core.Bool.{_&&_}
 use mathlib.Core.List.{List, [], _∷_, _++_, map}
-use Prim.Native.Nat.{ℕ, zero, suc, _+_, _-_, _*_, _/_, _%_, _^_, _≤_, _<_}
+use Prim.Native.Nat.{ℕ, zero, suc, _+_, _-_, _*_, _^_, _<_}
 use native.Mathlib.Omega.{arith}
-use lib.Dec.{eqb, lit<}
-use lib.ListN.{length, drop, length-map}
+use lib.Dec.{eqb}
+use lib.ListN.{length, drop}
 use borrow.Author.Tests.{eq-eqb, ne-eqb}
 use Rattle.rules.specs.declared.Entry.{Entry}
 use Rattle.rules.specs.Measures.{total}
@@ -16,7 +16,7 @@ use Rattle.rules.specs.Book.{tab}
 use Rattle.rules.specs.Records.{Rec, handover, recordOf, headWord, lotsWord, words, over, kindBits, issueBits, fromBits, toBits, lotsBits, ofField, recordIn, recordsIn}
 use Rattle.rules.specs.Calls.{joined}
 use Rattle.rules.specs.Tally.{recordsOf}
-use Rattle.laws.proofs.Basics.{byTest, total-append, Every, each-append}
+use Rattle.laws.proofs.Basics.{byTest, Every, each-append}
 use Rattle.laws.proofs.Sound.{SoundEntry}
 
 -- Words

@@ -1,21 +1,20 @@
 -- 4,096 words are enough for the records of one call. An issue's fails are fewer than its shortfalls and
 -- stretches together, and an account is deliverer or receiver, not both. A delivery's units are full but for at
 -- most one an account.
-use mathlib.Core.Path.{_≡_, refl, sym, ap, _∙_}
-use mathlib.Core.Bool.{Bool, true, false, cond}
-use mathlib.Core.List.{List, [], _∷_, _++_, map}
+use mathlib.Core.Path.{_≡_, refl, ap, _∙_}
+use mathlib.Core.List.{List, [], _∷_, map}
 use Prim.Native.Nat.{ℕ, zero, suc, _+_, _-_, _*_, _/_, _%_, _≤_, _<_, min}
 use native.Mathlib.Omega.{arith}
-use lib.Dec.{leb, lit<}
+use lib.Dec.{lit<}
 use lib.IntN.{ℤ, pos, negsuc}
-use lib.ListN.{length, take, drop, replicate, length-map, length-append}
+use lib.ListN.{length, replicate, length-map, length-append}
 use Rattle.rules.specs.Measures.{total, sum, dueOf, owedOf, unitLots, mostLots, issueCount, outputWords}
 use Rattle.rules.specs.Units.{Part, part, put, parts, sumLots, largestFirst, receivers, fulls, smalls, units}
-use Rattle.rules.specs.Handover.{covered, stock, waiting, handovers, partials}
-use Rattle.rules.specs.Fails.{Fail, stretches, lacks, shorts, shortfalls, overlaps, fails}
+use Rattle.rules.specs.Handover.{covered, waiting, handovers, partials}
+use Rattle.rules.specs.Fails.{stretches, lacks, shorts, shortfalls, fails}
 use Rattle.rules.specs.Book.{tab, row, duesOf, owedsOf, deliveredTotal, orderIn}
 use Rattle.rules.specs.Records.{handover, recordOf}
-use Rattle.rules.specs.Calls.{deliverRecords, issuePartials, issueFails, failEntry, issueEntries, issueRecords, cutoffRecords, joined}
+use Rattle.rules.specs.Calls.{deliverRecords, issuePartials, issueFails, failEntry, issueRecords, cutoffRecords, joined}
 use Rattle.laws.proofs.Basics.{total-append, total-replicate, total-sort, total-take-le, total-drop-le, length-put}
 use Rattle.laws.proofs.Units.{Order, units-order}
 use Rattle.laws.proofs.Handover.{partials-length, order-stock, handovers-sum}

@@ -1,21 +1,22 @@
 -- Runs: the units of an issue as a short list. A receiver's full units are one run of lots / size × size lots,
 -- and its small unit is another; without the runs of 0 lots these are the stretches of all units.
 use mathlib.Core.Path.{_≡_, refl, sym, ap, _∙_}
-use mathlib.Core.Bool.{Bool, true, false, cond, _&&_}
+use mathlib.Core.Bool.{true}
 use mathlib.Core.List.{List, [], _∷_, _++_, map, append-assoc}
-use Prim.Native.Nat.{ℕ, zero, suc, _+_, _-_, _*_, _/_, _%_, _≤_, _<_, min}
+use Prim.Native.Nat.{ℕ, zero, suc, _+_, _*_, _/_, _%_, _≤_, _<_}
 use native.Mathlib.Omega.{arith}
-use native.Mathlib.Nat.{add-zero, zero-sub, sub-zero, zero-mod, zero-mul, one-mul, suc-mul}
+use native.Mathlib.Nat.{add-zero, zero-sub, sub-zero, zero-mod, zero-mul, mul-zero, one-mul, suc-mul}
 use lib.Dec.{leb, eqb}
 use lib.ListN.{length, replicate, length-append, length-map}
-use borrow.Author.Tests.{le-leb, lt-leb, eq-eqb, ne-eqb}
+use borrow.Author.Tests.{le-leb, lt-leb, eqb-true, eq-eqb, ne-eqb}
+use Rattle.rules.specs.Measures.{total}
 use Rattle.rules.specs.Units.{Part, part, put, parts, largestFirst, receivers, fulls, smalls, units}
-use Rattle.rules.specs.Fails.{isFullOf, join, stretches, skip, lacks}
-use Rattle.laws.proofs.Basics.{byTest, Every, and-both, put-pos, put-append, length-put, length-sort, length-parts, each-append, each-map, each-put, each-sort}
+use Rattle.rules.specs.Fails.{isFullOf, stretches, skip, lacks}
+use Rattle.laws.proofs.Basics.{byTest, either, Every, and-both, total-append, total-replicate, total-sort, put-pos, put-append, length-put, length-sort, each-append, each-map, each-put, each-sort}
 use Rattle.laws.proofs.Units.{Small, smalls-small}
 use Rattle.laws.proofs.Overlaps.{skip0-append, skip0-some, skip-skip0, length-skip}
-use Rattle.laws.proofs.Stretches.{NotFull, without-none, full-lots-none}
-use Rattle.laws.proofs.Ranking.{Distinct, distinct-sort, rising-parts}
+use Rattle.laws.proofs.Stretches.{NotFull, without-none, full-lots-none, ofSmall, isOf, account-stretches}
+use Rattle.laws.proofs.Ranking.{Distinct, Rising, distinct-sort, rising-parts, rising-smalls}
 use Rattle.laws.proofs.Joins.{not-full, not-full-other, lacks-units}
 
 -- a receiver's full units together
@@ -114,3 +115,45 @@ runs-length size dues =
 pub units-stretches : (size : ℕ) → 0 < size → (dues : List ℕ) → length (stretches size (units size dues)) ≤ 2 * length (receivers dues)
 units-stretches size h dues =
     omega (arith, ap length (stretches-runs size h dues), length-skip 0 (runs size dues), runs-length size dues)
+
+-- Of one account: at most one of full units and one small
+
+none-above : (a : ℕ) (us : List Part) → Every (λ v. a < v .account) us → total (isOf a) us ≡ 0
+none-above a [] ps = refl
+none-above a (u ∷ us) ps = rw (ne-eqb (u .account) a (λ e. omega (arith, ps .0)), none-above a us (ps .1))
+
+once-rising : (a : ℕ) (us : List Part) → Rising us → total (isOf a) us ≤ 1
+once-rising a [] rs = omega arith
+once-rising a (u ∷ us) rs =
+    byTest (eqb (u .account) a)
+    (λ e. simp (e, none-above a us (rw (eqb-true (u .account) a e) at (rs .0))) (omega arith))
+    (λ e. simp e (omega (arith, once-rising a us (rs .1))))
+
+small-fulls : (size : ℕ) (f : Part → ℕ) (rs : List Part) → total (ofSmall size f) (fulls size rs) ≡ 0
+small-fulls size f [] = refl
+small-fulls size f (r ∷ rs) =
+    let u = part (r .account) size in
+    let z : ofSmall size f u ≡ 0 = rw (le-leb size size (omega arith)) in
+    total-append (ofSmall size f) (replicate (r .lots / size) u) (fulls size rs)
+    ∙ rw (total-replicate (ofSmall size f) (r .lots / size) u, z, mul-zero, small-fulls size f rs)
+
+small-le : (size a : ℕ) (us : List Part) → total (ofSmall size (isOf a)) us ≤ total (isOf a) us
+small-le size a [] = omega arith
+small-le size a (u ∷ us) =
+    either (λ n. n + total (ofSmall size (isOf a)) us ≤ isOf a u + total (isOf a) us) (leb size (u .lots))
+    (omega (arith, small-le size a us)) (omega (arith, small-le size a us))
+
+pub two-stretches : (size a : ℕ) (dues : List ℕ) → total (isOf a) (stretches size (units size dues)) ≤ 2
+unfolding units
+two-stretches size a dues =
+    let rs = receivers dues in
+    let ss = smalls size rs in
+    omega (
+      arith,
+      account-stretches size a (fulls size (largestFirst rs) ++ largestFirst ss),
+      total-append (ofSmall size (isOf a)) (fulls size (largestFirst rs)) (largestFirst ss),
+      small-fulls size (isOf a) (largestFirst rs),
+      small-le size a (largestFirst ss),
+      total-sort (isOf a) ss,
+      once-rising a ss (rising-smalls size rs (rising-parts 0 dues)),
+    )

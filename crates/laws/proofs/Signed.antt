@@ -1,14 +1,14 @@
 -- Signed numbers by what is due and what is owed. A sum of signed numbers has the dues' sum on one side and the
 -- oweds' on the other, so that it is 0 exactly when these are equal.
-use mathlib.Core.Path.{_≡_, refl, sym, ap, _∙_}
-use mathlib.Core.Bool.{Bool, true, false}
+use mathlib.Core.Path.{_≡_, refl, ap}
+use mathlib.Core.Bool.{true}
 use mathlib.Core.List.{List, [], _∷_, map}
-use Prim.Native.Nat.{ℕ, zero, suc, _+_, _-_, _≤_, _<_}
+use Prim.Native.Nat.{ℕ, zero, suc, _+_, _≤_}
 use native.Mathlib.Omega.{arith}
-use lib.Dec.{ltb, eqb}
+use lib.Dec.{ltb}
 use lib.IntN.{ℤ, pos, negsuc, _+ℤ_, _-ℤ_, natAbs}
 use borrow.Author.Tests.{ltb-true, ltb-false, lt-ltb, eqb-true, eq-eqb}
-use Rattle.rules.specs.Measures.{total, sum, dueOf, owedOf}
+use Rattle.rules.specs.Measures.{sum, dueOf, owedOf}
 use Rattle.rules.specs.Book.{balanced}
 use Rattle.rules.specs.Tally.{sumℤ}
 use Rattle.laws.proofs.Basics.{byTest}

@@ -2,19 +2,17 @@
 -- then the same facts at one cell and at one entry, as code reads them.
 use mathlib.Core.Path.{_≡_, refl, sym, ap, _∙_}
 use mathlib.Core.Bool.{Bool, true, false, cond, not, _&&_, false≢true}
-use mathlib.Core.List.{List, [], _∷_, _++_, map, tail}
+use mathlib.Core.List.{List, [], _∷_}
 use Prim.Native.Nat.{ℕ, zero, suc, _+_, _-_, _*_, _≤_, _<_}
 use native.Mathlib.Omega.{arith}
 use lib.Dec.{leb, eqb}
-use lib.ListN.{length, getD, take, drop}
+use lib.ListN.{length, getD, drop}
 use lib.IntN.{ℤ, pos, natAbs}
 use borrow.Author.Tests.{leb-true, le-leb, eqb-true, eqb-false, eq-eqb, ne-eqb, not-true}
 use Rattle.rules.specs.declared.Book.{Book}
 use Rattle.rules.specs.declared.Entry.{Entry}
-use Rattle.rules.specs.declared.Phase.{Phase}
-use Rattle.rules.specs.Measures.{mostLots, mostEntries, mostCharge, between, total, sum, dueOf, owedOf}
-use Rattle.rules.specs.Ledger.{entry}
-use Rattle.rules.specs.Book.{isTaking, tab, all, row, headOr0, entries, ledgerOf, balanced, withinSize, withinOwed, isZero, entrySound, daysSound, conditions, sound}
+use Rattle.rules.specs.Measures.{mostLots, mostEntries, mostCharge, between, total, dueOf, owedOf}
+use Rattle.rules.specs.Book.{isTaking, tab, all, row, entries, ledgerOf, balanced, withinSize, withinOwed, isZero, entrySound, daysSound, conditions, sound}
 use Rattle.laws.proofs.Basics.{byTest, and-left, and-right, and-both, total-map, Every, each-map}
 
 -- Tests of all elements

@@ -1,24 +1,21 @@
 -- A sound book's issues: each row of nets and delivered lots is sound, so that what is proved of a row holds of
 -- every issue of the book.
-use mathlib.Core.Path.{_≡_, refl, sym, ap, _∙_}
-use mathlib.Core.Bool.{Bool, true, false}
-use mathlib.Core.List.{List, [], _∷_, map}
-use Prim.Native.Nat.{ℕ, zero, suc, _+_, _-_, _*_, _≤_, _<_}
+use mathlib.Core.Path.{_≡_, sym, _∙_}
+use mathlib.Core.List.{List}
+use Prim.Native.Nat.{ℕ, _*_, _≤_, _<_}
 use native.Mathlib.Omega.{arith}
-use lib.IntN.{ℤ, pos, natAbs}
-use lib.ListN.{length, getD, take, drop}
+use lib.IntN.{ℤ, natAbs}
+use lib.ListN.{length, drop}
 use Rattle.rules.specs.declared.Book.{Book}
-use Rattle.rules.specs.Measures.{sum, dueOf, owedOf, unitLots, mostLots, outputWords}
-use Rattle.rules.specs.Units.{Part, units}
+use Rattle.rules.specs.Measures.{sum, owedOf, unitLots, mostLots, outputWords}
 use Rattle.rules.specs.Handover.{stock}
-use Rattle.rules.specs.Fails.{Fail, fails}
-use Rattle.rules.specs.Book.{row, duesOf, owedsOf, deliveredTotal, orderIn, orderOf, sound}
+use Rattle.rules.specs.Book.{row, duesOf, owedsOf, deliveredTotal, orderIn}
 use Rattle.rules.specs.Calls.{deliverRecords, issueFails, cutoffRecords}
 use Rattle.laws.proofs.Basics.{Every, each-map, each-take, each-drop}
 use Rattle.laws.proofs.Units.{Order, units-order}
 use Rattle.laws.proofs.Handover.{order-stock}
 use Rattle.laws.proofs.Fails.{Bounded, each-of-map}
-use Rattle.laws.proofs.Cutoff.{SoundRow, dues, oweds, Deliverer, Receiver, delivered-due, fails-bounded}
+use Rattle.laws.proofs.Cutoff.{SoundRow, Deliverer, Receiver, delivered-due, fails-bounded}
 use Rattle.laws.proofs.Room.{cutoff-room, deliver-room, issue-fails}
 use Rattle.laws.proofs.Cells.{length-row, within-row}
 use Rattle.laws.proofs.Signed.{size-of}

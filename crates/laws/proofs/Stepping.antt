@@ -1,9 +1,9 @@
 -- A step of pair-off, and so all of them, keeps entries sound, days never falling and the ledger no
 -- longer than it was: where an entry P to Q is added, one of the two that fell is gone.
-use mathlib.Core.Path.{_≡_, refl, sym, ap, _∙_}
-use mathlib.Core.Bool.{Bool, true, false, cond, _&&_}
-use mathlib.Core.List.{List, [], _∷_, _++_}
-use Prim.Native.Nat.{ℕ, zero, suc, _+_, _-_, _*_, _≤_, _<_, min}
+use mathlib.Core.Path.{_≡_, refl}
+use mathlib.Core.Bool.{true, false, cond}
+use mathlib.Core.List.{List, []}
+use Prim.Native.Nat.{ℕ, zero, suc, _+_, _-_, _≤_, _<_, min}
 use native.Mathlib.Omega.{arith}
 use native.Mathlib.Nat.{le-trans}
 use lib.Dec.{leb, eqb, lit<}
@@ -11,12 +11,12 @@ use lib.ListN.{length, length-append}
 use borrow.Author.Tests.{leb-true, leb-false, eqb-false}
 use Rattle.rules.specs.declared.Entry.{Entry}
 use Rattle.rules.specs.Measures.{mostLots}
-use Rattle.rules.specs.Ledger.{entry, putEntry, isFrom, isTo, countOf, firstOf, lower, stepLots, through, stepped, Pairing, paired, pairing}
+use Rattle.rules.specs.Ledger.{entry, putEntry, isFrom, isTo, countOf, firstOf, lower, stepLots, through, stepped, paired, pairing}
 use Rattle.rules.specs.Book.{daysSound}
 use Rattle.laws.proofs.Basics.{byTest, either, Every, each-append, each-map}
 use Rattle.laws.proofs.Sound.{SoundEntry}
 use Rattle.laws.proofs.Meeting.{length-putEntry, days-append}
-use Rattle.laws.proofs.Lowering.{firstLots, first-bound, first-stays, length-lower, length-gone, sound-lower, days-lower, Apart, from-not-to}
+use Rattle.laws.proofs.Lowering.{firstLots, first-bound, first-stays, length-lower, length-gone, sound-lower, days-lower, from-not-to}
 
 pub record StillSound (today : ℕ) (es es′ : List Entry) : Type 0 where
   pub each : Every SoundEntry es′

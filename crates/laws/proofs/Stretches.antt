@@ -1,19 +1,19 @@
 -- Stretches of any list of units: a stretch takes up the lots of the full units that it joins, so sums stay;
 -- of an account there is one stretch of full units at most, and small units are left as they are.
 use mathlib.Core.Path.{_≡_, refl, sym, ap, _∙_}
-use mathlib.Core.Bool.{Bool, true, false, cond, _&&_, false≢true}
-use mathlib.Core.List.{List, [], _∷_, _++_}
-use Prim.Native.Nat.{ℕ, zero, suc, _+_, _-_, _*_, _≤_, _<_, min}
+use mathlib.Core.Bool.{true, false, cond, false≢true}
+use mathlib.Core.List.{List, [], _∷_}
+use Prim.Native.Nat.{ℕ, zero, suc, _+_, _-_, _≤_}
 use native.Mathlib.Omega.{arith}
-use native.Mathlib.Nat.{zero-add, add-zero}
+use native.Mathlib.Nat.{zero-add}
 use lib.Dec.{leb, eqb}
 use lib.ListN.{length, drop}
 use borrow.Author.Tests.{leb-true, le-leb, eqb-true}
 use Rattle.rules.specs.Measures.{total}
 use Rattle.rules.specs.Units.{Part, part, sumLots}
-use Rattle.rules.specs.Handover.{covered, stock, handed, waiting}
-use Rattle.rules.specs.Fails.{isFullOf, fullLots, withoutFulls, join, stretches, skip, lacks}
-use Rattle.laws.proofs.Basics.{byTest, either, and-left, and-right, Every, each-map, each-drop}
+use Rattle.rules.specs.Handover.{covered, stock, waiting}
+use Rattle.rules.specs.Fails.{isFullOf, fullLots, withoutFulls, join, stretches, lacks}
+use Rattle.laws.proofs.Basics.{byTest, either, and-left, and-right, Every, each-drop}
 use Rattle.laws.proofs.Overlaps.{Additive, additive-zero, sum-skip, every-skip, length-skip}
 use Rattle.laws.proofs.Handover.{handed-stock, total-handed}
 

@@ -1,7 +1,7 @@
 -- Pair-off a turn at a time: where no step is left nothing changes, and where one is, pair-off is that
 -- step and pair-off of what it leaves. How many steps are allowed does not matter once they are enough.
 use mathlib.Core.Path.{_≡_, refl, sym, ap, _∙_}
-use mathlib.Core.Bool.{Bool, true, false, cond}
+use mathlib.Core.Bool.{Bool}
 use mathlib.Core.List.{List, [], _∷_, _++_, append-nil}
 use Prim.Native.Nat.{ℕ, zero, suc, _+_, _-_, _≤_, _<_, min}
 use native.Mathlib.Omega.{arith}
@@ -9,7 +9,7 @@ use native.Mathlib.Nat.{sub-zero}
 use lib.Dec.{leb, eqb}
 use borrow.Author.Tests.{leb-true, leb-false}
 use Rattle.rules.specs.declared.Entry.{Entry}
-use Rattle.rules.specs.Ledger.{entry, putEntry, isFrom, isTo, countOf, firstOf, lower, stepLots, through, stepped, Pairing, paired, pairing}
+use Rattle.rules.specs.Ledger.{entry, putEntry, isFrom, isTo, countOf, firstOf, lower, stepLots, stepped, Pairing, paired, pairing}
 use Rattle.laws.proofs.Basics.{byTest, either, Every, each-map}
 use Rattle.laws.proofs.Sound.{SoundEntry}
 use Rattle.laws.proofs.Lowering.{Apart}

@@ -1,9 +1,8 @@
 -- The units of accounts with any dues, for any size of a unit: their sums, sizes and accounts. Full and
 -- small units of a receiver are its quotient and its remainder by the size, and sorting changes no sum.
 use mathlib.Core.Path.{_≡_, refl, sym, ap, _∙_}
-use mathlib.Core.Bool.{Bool, true, false, cond}
-use mathlib.Core.List.{List, [], _∷_, _++_}
-use Prim.Native.Nat.{ℕ, zero, suc, _+_, _-_, _*_, _/_, _%_, _≤_, _<_}
+use mathlib.Core.List.{List, [], _∷_}
+use Prim.Native.Nat.{ℕ, zero, suc, _+_, _*_, _/_, _%_, _≤_, _<_}
 use native.Mathlib.Omega.{arith}
 use native.Mathlib.Nat.{div-add-mod', mod-lt, mul-assoc, add-mul, zero-add, add-zero, add-suc, suc-add}
 use lib.Dec.{eqb, lit<}

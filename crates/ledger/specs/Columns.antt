@@ -1,8 +1,8 @@
 -- Five columns that hold a list of entries, and stores into them.
 use mathlib.Core.Path.{_≡_}
-use mathlib.Core.List.{List}
-use Prim.Native.Nat.{ℕ, _≤_, _<_}
-use lib.ListN.{length, getD, set}
+use mathlib.Core.List.{List, _++_}
+use Prim.Native.Nat.{ℕ, _-_, _≤_}
+use lib.ListN.{length, getD, set, take, drop, replicate}
 use Rattle.rules.specs.declared.Entry.{Entry}
 use Rattle.rules.specs.Measures.{mostEntries}
 use Rattle.rules.specs.Book.{column, entries}
@@ -40,6 +40,20 @@ pub record Held (n : ℕ) (is fs ts xs ds : List ℕ) : Type 0 where
 -- an entry stored at a place
 abbrev pub Stored : ℕ → Entry → List ℕ → List ℕ → List ℕ → List ℕ → List ℕ → List ℕ → List ℕ → List ℕ → List ℕ → List ℕ → Type 0
 Stored at e i₀ f₀ t₀ x₀ d₀ i f t x d = EachPair (λ g c₀ c. c ≡ set c₀ at (g e)) i₀ f₀ t₀ x₀ d₀ i f t x d
+
+-- the entry at a place stored at another
+abbrev pub Copied : ℕ → ℕ → List ℕ → List ℕ → List ℕ → List ℕ → List ℕ → List ℕ → List ℕ → List ℕ → List ℕ → List ℕ → Type 0
+Copied to at i₀ f₀ t₀ x₀ d₀ i f t x d = EachPair (λ g c₀ c. c ≡ set c₀ to (getD c₀ at 0)) i₀ f₀ t₀ x₀ d₀ i f t x d
+
+-- places from n on are 0 in whole columns
+pub record Unused (n : ℕ) (is fs ts xs ds : List ℕ) : Type 0 where
+  pub most : n ≤ mostEntries
+  pub whole : Whole is fs ts xs ds
+  pub zeros : EachColumn (λ g c. drop n c ≡ replicate (mostEntries - n) 0) is fs ts xs ds
+
+-- places from n on made 0, those before kept
+abbrev pub Cleared : ℕ → List ℕ → List ℕ → List ℕ → List ℕ → List ℕ → List ℕ → List ℕ → List ℕ → List ℕ → List ℕ → Type 0
+Cleared n i₀ f₀ t₀ x₀ d₀ i f t x d = EachPair (λ g c₀ c. c ≡ take n c₀ ++ replicate (mostEntries - n) 0) i₀ f₀ t₀ x₀ d₀ i f t x d
 
 -- a ledger of so many entries, and its columns
 pub record Kept (es : List Entry) (n : ℕ) (is fs ts xs ds : List ℕ) : Type 0 where

@@ -8,7 +8,7 @@ ghost use lib.Dec.{eqb};
 ghost use lib.ListN.{length, getD, take};
 ghost use Rattle.rules.specs.Ledger.{entry, isFrom, isTo, lotsOf};
 ghost use Rattle.rules.specs.Book.{entries};
-ghost use Rattle.ledger.specs.Columns.{Columns, Whole, Held, Stored, Kept};
+ghost use Rattle.ledger.specs.Columns.{Columns, Whole, Held, Stored, Copied, Kept, Unused, Cleared};
 ghost use Rattle.ledger.specs.Places.{placeOf, placeIn, removeAt, lowerAt};
 
 // An entry at a place, whatever stood there.
@@ -126,4 +126,88 @@ pub fn first_to(count: usize, issues: &[u8], tos: &[u8], i: u32, a: u32) -> usiz
     ensures { λ r. ⌜ ((fs xs ds : List ℕ) → r ≡ placeOf (isTo i a) (entries count (now (issues .entry)) fs (now (tos .entry)) xs ds)) ⌝ }
 {
     first_of(count, issues, tos, i, a)
+}
+
+// The entry at one place again at another.
+fn copy(
+    issues: &mut [u8],
+    froms: &mut [u8],
+    tos: &mut [u8],
+    lots: &mut [u32],
+    days: &mut [u16],
+    to: usize,
+    at: usize,
+)
+    requires { ⌜ (to < 2048) × (at < 2048) × Whole (now issues) (now froms) (now tos) (now lots) (now days) ⌝ }
+    ensures { λ _. ⌜ Copied to at (now (issues .entry)) (now (froms .entry)) (now (tos .entry)) (now (lots .entry)) (now (days .entry)) (now (issues .exit)) (now (froms .exit)) (now (tos .exit)) (now (lots .exit)) (now (days .exit)) ⌝ }
+{
+    issues[to] = issues[at];
+    froms[to] = froms[at];
+    tos[to] = tos[at];
+    lots[to] = lots[at];
+    days[to] = days[at];
+}
+
+// Without the entry at place k: later ones move up, and the last place that was used is 0.
+fn remove(
+    count: usize,
+    k: usize,
+    issues: &mut [u8],
+    froms: &mut [u8],
+    tos: &mut [u8],
+    lots: &mut [u32],
+    days: &mut [u16],
+)
+    requires { ⌜ (k < count) × Held count (now issues) (now froms) (now tos) (now lots) (now days) ⌝ }
+    ensures { λ _. ⌜ Columns (removeAt k (entries count (now (issues .entry)) (now (froms .entry)) (now (tos .entry)) (now (lots .entry)) (now (days .entry)))) (now (issues .exit)) (now (froms .exit)) (now (tos .exit)) (now (lots .exit)) (now (days .exit)) ⌝ }
+{
+    let mut at = k;
+    while at + 1 < count {
+        copy(issues, froms, tos, lots, days, at, at + 1);
+        at += 1;
+    }
+    store(issues, froms, tos, lots, days, at, 0, 0, 0, 0, 0);
+}
+
+// The entry at place k falls by m of its lots, and goes where that leaves 0; answers the new count.
+pub fn lower_at(
+    count: usize,
+    k: usize,
+    m: u32,
+    issues: &mut [u8],
+    froms: &mut [u8],
+    tos: &mut [u8],
+    lots: &mut [u32],
+    days: &mut [u16],
+) -> usize
+    requires { ⌜ (k < count) × (m ≤ getD (now lots) k 0) × Held count (now issues) (now froms) (now tos) (now lots) (now days) ⌝ }
+    ensures { λ r. ⌜ Kept (lowerAt k m (entries count (now (issues .entry)) (now (froms .entry)) (now (tos .entry)) (now (lots .entry)) (now (days .entry)))) r (now (issues .exit)) (now (froms .exit)) (now (tos .exit)) (now (lots .exit)) (now (days .exit)) ⌝ }
+{
+    let left = lots[k] - m;
+    if left == 0 {
+        remove(count, k, issues, froms, tos, lots, days);
+        return count - 1;
+    }
+    lots[k] = left;
+    count
+}
+
+// Places from w on are 0. Those from `count` on are so already.
+pub fn clear(
+    w: usize,
+    count: usize,
+    issues: &mut [u8],
+    froms: &mut [u8],
+    tos: &mut [u8],
+    lots: &mut [u32],
+    days: &mut [u16],
+)
+    requires { ⌜ (w ≤ count) × Unused count (now issues) (now froms) (now tos) (now lots) (now days) ⌝ }
+    ensures { λ _. ⌜ Cleared w (now (issues .entry)) (now (froms .entry)) (now (tos .entry)) (now (lots .entry)) (now (days .entry)) (now (issues .exit)) (now (froms .exit)) (now (tos .exit)) (now (lots .exit)) (now (days .exit)) ⌝ }
+{
+    let mut j = w;
+    while j < count {
+        store(issues, froms, tos, lots, days, j, 0, 0, 0, 0, 0);
+        j += 1;
+    }
 }

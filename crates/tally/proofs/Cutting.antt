@@ -1,22 +1,22 @@
 -- Cutoff keeps the invariant: of sixteen issues' records and entries, those of one issue are that
 -- issue's, and there what is handed on and failed is each due and each owed.
-use mathlib.Core.Path.{_≡_, refl, sym, ap, _∙_}
-use mathlib.Core.Bool.{Bool, true, false, cond, _&&_}
+use mathlib.Core.Path.{_≡_, refl, ap, _∙_}
+use mathlib.Core.Bool.{true, cond}
 use mathlib.Core.List.{List, [], _∷_, _++_, map, append-nil}
-use Prim.Native.Nat.{ℕ, zero, suc, _+_, _-_, _*_, _≤_, _<_}
+use Prim.Native.Nat.{ℕ, zero, suc, _+_, _-_, _≤_, _<_}
 use native.Mathlib.Omega.{arith}
 use lib.Dec.{eqb}
 use lib.ListN.{length}
 use borrow.Author.Tests.{eqb-true, eqb-false, eq-eqb, ne-eqb}
 use Rattle.rules.specs.declared.Book.{Book}
 use Rattle.rules.specs.declared.Entry.{Entry}
-use Rattle.rules.specs.declared.Phase.the-variants.{Taking, Settling, Cut}
-use Rattle.rules.specs.Measures.{outputWords, total, dueOf, owedOf}
-use Rattle.rules.specs.Units.{Part, sumLots, ofAccount}
+use Rattle.rules.specs.declared.Phase.the-variants.{Cut}
+use Rattle.rules.specs.Measures.{outputWords, total, dueOf}
+use Rattle.rules.specs.Units.{ofAccount}
 use Rattle.rules.specs.Handover.{handed, partials}
 use Rattle.rules.specs.Fails.{Fail}
 use Rattle.rules.specs.Ledger.{isFrom, isTo, lotsOf}
-use Rattle.rules.specs.Book.{isSettling, tab, deliveredTotal, orderOf, ledgerOf, withPhase, withLedger}
+use Rattle.rules.specs.Book.{isSettling, tab, netAt, deliveredTotal, orderOf, ledgerOf, withPhase, withLedger}
 use Rattle.rules.specs.Records.{Rec, handover, recordOf}
 use Rattle.rules.specs.Questions.{askOutput, askSound}
 use Rattle.rules.specs.Calls.{issuePartials, issueFails, failEntry, issueEntries, issueRecords, joined, newEntries, cutoffRecords, cutoffAsks, cutoff}
@@ -27,8 +27,8 @@ use Rattle.laws.proofs.Sound.{SoundBook, sound-parts}
 use Rattle.laws.proofs.Ledger.{ledger-written}
 use Rattle.laws.proofs.Records.{Fits, records-read, recordsOf-append, tens-same, tens-other, tens-fails, each-joined}
 use Rattle.laws.proofs.Issue.{delivered-units, owed-out, due-in, records-fit}
-use Rattle.tally.proofs.Answers.{answered}
-use Rattle.tally.proofs.Invariant.{cutRow, RowIs, Inv, Keeps}
+use Rattle.laws.proofs.Answers.{answered}
+use Rattle.tally.proofs.Invariant.{cutRow, Inv, Keeps}
 use Rattle.tally.proofs.Delivering.{to-settling}
 
 -- One issue of sixteen
@@ -132,10 +132,10 @@ module _ (s : State) (v : Inv s) (g : SoundBook (s .book)) (p : isSettling (s .b
   abbrev new : List Entry
   new = newEntries (b .day) (b .nets) (b .delivered)
 
-  all-fit : Every Fits rs
+  pub all-fit : Every Fits rs
   all-fit =
       each-joined Fits (issueRecords (b .day) (b .nets) (b .delivered)) 0 16
-      (λ j h. records-fit b g j (omega arith) (v .sizeNets) (v .sizeDelivered) (b .day))
+      (λ j h. records-fit b g (v .sizeNets) (v .sizeDelivered) j (omega arith) (b .day))
 
   row-cut : (j : ℕ) → j < 16 → s .tally .rows j ++ recordsOf 10 j rs ≡ cutRow (orderOf b j) (deliveredTotal (b .delivered) j)
   unfolding issuePartials
@@ -145,19 +145,19 @@ module _ (s : State) (v : Inv s) (g : SoundBook (s .book)) (p : isSettling (s .b
       ∙ ap (λ z. handed (orderOf b j) (deliveredTotal (b .delivered) j) ++ z) (cutoff-tens b j hj)
 
   -- today's handed and what is failed to an account are its due, in the tally's words
-  due-handed : (j a : ℕ) → j < 16 → a < 64 →
-      total (ofAccount a) (s .tally .rows j ++ recordsOf 10 j rs) + lotsOf (isTo j a) new ≡ dueOf (Rattle.rules.specs.Book.netAt (b .nets) j a)
+  pub due-handed : (j a : ℕ) → j < 16 → a < 64 →
+      total (ofAccount a) (s .tally .rows j ++ recordsOf 10 j rs) + lotsOf (isTo j a) new ≡ dueOf (netAt (b .nets) j a)
   unfolding issuePartials
   due-handed j a hj ha =
       omega (
         arith,
         ap (total (ofAccount a)) (row-cut j hj),
         total-append (ofAccount a) (handed (orderOf b j) (deliveredTotal (b .delivered) j)) (partials (orderOf b j) (deliveredTotal (b .delivered) j)),
-        due-in b g j hj (v .sizeNets) (v .sizeDelivered) a ha,
+        due-in b g (v .sizeNets) (v .sizeDelivered) j hj a ha,
         new-to b j a hj,
       )
 
-  cut-inv : Inv (fed (Cutoff []) 0 rs (withPhase (withLedger b (ledgerOf b ++ new)) Cut) s)
+  pub cut-inv : Inv (fed (Cutoff []) 0 rs (withPhase (withLedger b (ledgerOf b ++ new)) Cut) s)
   cut-inv = record {
     sizeNets = v .sizeNets;
     sizeDelivered = v .sizeDelivered;
@@ -166,7 +166,7 @@ module _ (s : State) (v : Inv s) (g : SoundBook (s .book)) (p : isSettling (s .b
     given = v .given;
     handed = λ j c. omega (arith, v .handed j c, total-append (ofAccount c) (s .tally .rows j) (recordsOf 10 j rs));
     phase = refl;
-    rows = λ j hj. (row-cut j hj, delivered-units b g j hj (v .sizeNets) (v .sizeDelivered));
+    rows = λ j hj. (row-cut j hj, delivered-units b g (v .sizeNets) (v .sizeDelivered) j hj);
     balance = λ j a hj ha.
         rw (ledger-written b (ledgerOf b ++ new))
         (omega (
@@ -180,7 +180,7 @@ module _ (s : State) (v : Inv s) (g : SoundBook (s .book)) (p : isSettling (s .b
           total-append (ofAccount a) (s .tally .rows j) (recordsOf 10 j rs),
           due-handed j a hj ha,
           new-from b j a hj,
-          owed-out b g j hj (v .sizeNets) (v .sizeDelivered) a ha,
+          owed-out b g (v .sizeNets) (v .sizeDelivered) j hj a ha,
         ));
     charges = v .charges;
   }

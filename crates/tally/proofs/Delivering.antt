@@ -1,34 +1,31 @@
 -- Deliver keeps the invariant: the units that are handed over are the next of the order, so the row
 -- stays a front of it.
-use mathlib.Core.Path.{_≡_, refl, sym, ap, _∙_}
-use mathlib.Core.Bool.{Bool, true, false, cond, _&&_, false≢true}
-use mathlib.Core.List.{List, [], _∷_, _++_, map, append-nil}
-use Prim.Native.Nat.{ℕ, zero, suc, _+_, _-_, _*_, _^_, _≤_, _<_}
+use mathlib.Core.Path.{_≡_, sym, ap, _∙_}
+use mathlib.Core.Bool.{true, false, false≢true}
+use mathlib.Core.List.{List, [], _∷_, _++_, append-nil}
+use Prim.Native.Nat.{ℕ, _+_, _-_, _≤_, _<_}
 use native.Mathlib.Omega.{arith}
-use lib.Dec.{leb, eqb, lit<}
-use lib.ListN.{length, getD, set, length-set}
-use lib.IntN.{ℤ, pos}
+use lib.Dec.{eqb}
+use lib.ListN.{length-set}
 use borrow.Author.Tests.{leb-true, eqb-true, eqb-false}
-use Rattle.rules.specs.declared.Book.{Book}
 use Rattle.rules.specs.declared.Phase.{Phase}
 use Rattle.rules.specs.declared.Phase.the-variants.{Taking, Settling, Cut}
-use Rattle.rules.specs.Measures.{outputWords, total, sum, dueOf, owedOf}
-use Rattle.rules.specs.Units.{Part, sumLots, ofAccount}
+use Rattle.rules.specs.Measures.{outputWords, owedOf}
+use Rattle.rules.specs.Units.{Part, ofAccount}
 use Rattle.rules.specs.Handover.{handed, handovers}
-use Rattle.rules.specs.Book.{isSettling, row, cell, netAt, deliveredAt, duesOf, owedsOf, deliveredTotal, orderIn, orderOf, withinOwed, sound, withDelivered}
-use Rattle.rules.specs.Records.{Rec, handover, words}
+use Rattle.rules.specs.Book.{isSettling, cell, netAt, deliveredAt, deliveredTotal, orderOf, withDelivered}
+use Rattle.rules.specs.Records.{Rec, handover}
 use Rattle.rules.specs.Questions.{askOutput, askSound}
 use Rattle.rules.specs.Calls.{deliverAsks, raisedDelivered, deliverRecords, deliver}
 use Rattle.rules.specs.Tally.{State, Deliver, fed, recordsOf}
-use Rattle.laws.proofs.Basics.{byTest, total-append, total-map, Every, each-zip}
-use Rattle.laws.proofs.Units.{UnitSized}
+use Rattle.laws.proofs.Basics.{byTest, total-append, Every}
 use Rattle.laws.proofs.Handover.{handed-extends, each-handovers}
-use Rattle.laws.proofs.Fails.{shorts-sum, each-of-map}
-use Rattle.laws.proofs.Cells.{here, here-eq, cell-set, length-row, length-dues, row-other, delivered-rises, within-set, within-row}
+use Rattle.laws.proofs.Fails.{each-of-map}
+use Rattle.laws.proofs.Cells.{here, here-eq, cell-set, row-other, delivered-rises, within-set}
 use Rattle.laws.proofs.Sound.{SoundBook, sound-parts}
 use Rattle.laws.proofs.Records.{Fits, records-read, tens-same, tens-other}
 use Rattle.laws.proofs.Issue.{within-units, units-fit}
-use Rattle.tally.proofs.Answers.{answered}
+use Rattle.laws.proofs.Answers.{answered}
 use Rattle.tally.proofs.Invariant.{RowIs, Inv, Keeps}
 
 pub to-settling : (p : Phase) (us : List Part) (d : ℕ) (l : List Part) → isSettling p ≡ true → RowIs p us d l → RowIs Settling us d l

@@ -1,19 +1,17 @@
 -- The invariant of demand 3: the tally's numbers beside the book's. Today's nets are bought less sold,
 -- given is what the book has as delivered, and an issue's row of 10s is a front of its units, by phase.
 -- The balance is said in natural numbers, with terms on both sides.
-use mathlib.Core.Path.{_≡_, refl, sym, ap, _∙_}
-use mathlib.Core.Bool.{Bool, true, false}
-use mathlib.Core.List.{List, [], _∷_, _++_}
-use Prim.Native.Nat.{ℕ, zero, suc, _+_, _*_, _≤_, _<_}
+use mathlib.Core.Path.{_≡_}
+use mathlib.Core.List.{List, [], _++_}
+use Prim.Native.Nat.{ℕ, _+_, _≤_, _<_}
 use lib.ListN.{length}
-use Rattle.rules.specs.declared.Book.{Book}
 use Rattle.rules.specs.declared.Phase.{Phase}
 use Rattle.rules.specs.declared.Phase.the-variants.{Taking, Settling, Cut}
 use Rattle.rules.specs.Measures.{total, dueOf, owedOf}
 use Rattle.rules.specs.Units.{Part, sumLots, ofAccount}
 use Rattle.rules.specs.Handover.{handed, partials}
 use Rattle.rules.specs.Ledger.{isFrom, isTo, lotsOf}
-use Rattle.rules.specs.Book.{isSettling, duesOf, netAt, deliveredAt, deliveredTotal, orderIn, orderOf, ledgerOf}
+use Rattle.rules.specs.Book.{isSettling, netAt, deliveredAt, deliveredTotal, orderOf, ledgerOf}
 use Rattle.rules.specs.Records.{recordsIn}
 use Rattle.rules.specs.Calls.{Answer}
 use Rattle.rules.specs.Tally.{Call, State, fed}

@@ -1,6 +1,5 @@
 -- Demand 3, in reading order.
 pub mod Signs
-pub mod Answers
 pub mod Invariant
 pub mod Shown
 pub mod Taking
@@ -10,3 +9,6 @@ pub mod Resolving
 pub mod PairingOff
 pub mod Rolling
 pub mod Demand
+pub mod Reached
+pub mod Settles
+pub mod Corollaries

@@ -3,27 +3,26 @@
 -- nothing is owed any more, and both of its sides fall by m.
 use mathlib.Core.Path.{_≡_, refl, sym, ap, _∙_}
 use mathlib.Core.Bool.{Bool, true, false, cond, _&&_}
-use mathlib.Core.List.{List, [], _∷_, _++_}
+use mathlib.Core.List.{List, [], _∷_}
 use Prim.Native.Nat.{ℕ, zero, suc, _+_, _≤_, _<_}
 use native.Mathlib.Omega.{arith}
 use native.Mathlib.Nat.{add-zero}
 use lib.Dec.{leb, eqb}
 use borrow.Author.Tests.{leb-true, leb-false, eqb-true}
-use Rattle.rules.specs.declared.Book.{Book}
 use Rattle.rules.specs.declared.Entry.{Entry}
 use Rattle.rules.specs.Measures.{total}
-use Rattle.rules.specs.Ledger.{entry, isFrom, isTo, lotsOf, countOf, firstOf, lower, stepLots, through, stepped, Pairing, paired, pairing}
-use Rattle.rules.specs.Book.{ledgerOf, withLedger}
+use Rattle.rules.specs.Ledger.{entry, isFrom, isTo, lotsOf, countOf, firstOf, lower, stepLots, through, stepped, paired, pairing}
+use Rattle.rules.specs.Book.{ledgerOf}
 use Rattle.rules.specs.Questions.{askSound}
 use Rattle.rules.specs.Calls.{pairOffAsks, pairOff}
-use Rattle.rules.specs.Tally.{State, PairOff, ofPair, fed}
+use Rattle.rules.specs.Tally.{State, PairOff, ofPair}
 use Rattle.laws.proofs.Basics.{byTest, either, total-append, Every, each-map}
-use Rattle.laws.proofs.Sound.{SoundEntry, SoundBook, sound-parts}
+use Rattle.laws.proofs.Sound.{SoundEntry, sound-parts}
 use Rattle.laws.proofs.Ledger.{ledger-written}
 use Rattle.laws.proofs.Meeting.{withLots, lots-add, total-putEntry}
 use Rattle.laws.proofs.Lowering.{firstLots, first-pos, first-stays, lowered, Apart, from-not-to, issue-from, issue-to, account-from, account-to}
 use Rattle.laws.proofs.Pairing.{stepped-apart}
-use Rattle.tally.proofs.Answers.{pair-answered}
+use Rattle.laws.proofs.Answers.{pair-answered}
 use Rattle.tally.proofs.Invariant.{Inv, Keeps}
 
 -- A number of the first entry that goes by its issue and one other number

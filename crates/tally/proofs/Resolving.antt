@@ -1,28 +1,27 @@
 -- Resolve keeps the invariant: what is met from an account falls from what it owes in the ledger, and
 -- the 11s hand as much to those it was owed to.
-use mathlib.Core.Path.{_≡_, refl, sym, ap, _∙_}
-use mathlib.Core.Bool.{Bool, true, false, cond}
-use mathlib.Core.List.{List, [], _∷_, _++_, map}
-use Prim.Native.Nat.{ℕ, zero, suc, _+_, _≤_, _<_}
+use mathlib.Core.Path.{refl}
+use mathlib.Core.Bool.{cond}
+use mathlib.Core.List.{List, [], _∷_}
+use Prim.Native.Nat.{ℕ, _≤_, _<_}
 use native.Mathlib.Omega.{arith}
 use lib.Dec.{lit<}
 use borrow.Author.Tests.{leb-true}
-use Rattle.rules.specs.declared.Book.{Book}
 use Rattle.rules.specs.declared.Entry.{Entry}
-use Rattle.rules.specs.Measures.{outputWords, total}
+use Rattle.rules.specs.Measures.{outputWords}
 use Rattle.rules.specs.Ledger.{isFrom, isTo, lotsOf, meet, met}
 use Rattle.rules.specs.Book.{ledgerOf, withLedger}
-use Rattle.rules.specs.Records.{Rec, recordOf}
+use Rattle.rules.specs.Records.{recordOf}
 use Rattle.rules.specs.Questions.{askOutput, askSound}
 use Rattle.rules.specs.Calls.{resolveAsks, resolveRecords, resolve}
 use Rattle.rules.specs.Tally.{State, Resolve, fed}
-use Rattle.laws.proofs.Basics.{Every, each-map}
+use Rattle.laws.proofs.Basics.{each-map}
 use Rattle.laws.proofs.Fails.{each-of-map}
-use Rattle.laws.proofs.Sound.{SoundEntry, SoundBook, sound-parts}
+use Rattle.laws.proofs.Sound.{SoundEntry, sound-parts}
 use Rattle.laws.proofs.Ledger.{ledger-written}
 use Rattle.laws.proofs.Meeting.{lots-add, meet-met, met-from, sound-met}
 use Rattle.laws.proofs.Records.{Fits, entry-fits, records-read, elevens-to}
-use Rattle.tally.proofs.Answers.{answered}
+use Rattle.laws.proofs.Answers.{answered}
 use Rattle.tally.proofs.Invariant.{Inv, Keeps}
 
 module _ (s : State) (v : Inv s) (i a x : ℕ) (o : x ≤ lotsOf (isFrom i a) (ledgerOf (s .book))) where

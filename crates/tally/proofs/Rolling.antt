@@ -1,57 +1,24 @@
 -- Roll keeps the invariant: each charge is taken from one account and given to another, so that charges
 -- go on summing to 0; today's numbers are 0 in book and tally.
-use mathlib.Core.Path.{_≡_, refl, sym, ap, _∙_}
-use mathlib.Core.Bool.{Bool, true, false, false≢true}
+use mathlib.Core.Path.{_≡_, refl, _∙_}
+use mathlib.Core.Bool.{true, false, false≢true}
 use mathlib.Core.List.{List, [], _∷_}
-use Prim.Native.Nat.{ℕ, zero, suc, _+_, _≤_, _<_}
+use Prim.Native.Nat.{ℕ}
 use native.Mathlib.Omega.{arith}
-use lib.ListN.{length, getD, set, replicate, length-set, length-replicate}
-use lib.IntN.{ℤ, pos, _+ℤ_, _-ℤ_}
-use Rattle.rules.specs.declared.Book.{Book}
-use Rattle.rules.specs.declared.Entry.{Entry}
+use lib.ListN.{length-replicate}
+use lib.IntN.{pos}
 use Rattle.rules.specs.declared.Phase.{Phase}
 use Rattle.rules.specs.declared.Phase.the-variants.{Taking, Settling, Cut}
-use Rattle.rules.specs.Measures.{total, dueOf, owedOf, chargeOf}
-use Rattle.rules.specs.Ledger.{charged}
 use Rattle.rules.specs.Book.{isSettling, isCut, ledgerOf}
 use Rattle.rules.specs.Questions.{askSound}
 use Rattle.rules.specs.Calls.{rollAsks, rolled, roll}
 use Rattle.rules.specs.Tally.{State, Roll}
-use Rattle.laws.proofs.Basics.{Every}
-use Rattle.laws.proofs.Cells.{total-set, row-zeros}
-use Rattle.laws.proofs.Sound.{SoundEntry, sound-parts}
-use Rattle.tally.proofs.Signs.{rises, falls}
-use Rattle.tally.proofs.Answers.{answered}
+use Rattle.laws.proofs.Cells.{row-zeros}
+use Rattle.laws.proofs.Sound.{sound-parts}
+use Rattle.laws.proofs.Charges.{charged-length, charged-balance}
+use Rattle.laws.proofs.Answers.{answered}
 use Rattle.tally.proofs.Invariant.{Inv, Keeps}
 use Rattle.tally.proofs.Taking.{no-net, none-delivered}
-
-pub charged-length : (days rate : ℕ) (prices : List ℕ) (es : List Entry) (cs : List ℤ) → length (charged days rate prices es cs) ≡ length cs
-charged-length days rate prices [] cs = refl
-charged-length days rate prices (e ∷ es) cs = charged-length days rate prices es _ ∙ simp length-set
-
--- charges that sum to 0 do so after a roll
-pub charged-balance : (days rate : ℕ) (prices : List ℕ) (es : List Entry) (cs : List ℤ) → length cs ≡ 64 → Every SoundEntry es →
-    total dueOf cs ≡ total owedOf cs →
-    total dueOf (charged days rate prices es cs) ≡ total owedOf (charged days rate prices es cs)
-charged-balance days rate prices [] cs n ss h = h
-charged-balance days rate prices (e ∷ es) cs n ss h =
-    let y = chargeOf (e .lots) (getD prices (e .issue) 0) days rate in
-    let cs₁ = set cs (e .from) (getD cs (e .from) (pos 0) -ℤ pos y) in
-    let cs₂ = set cs₁ (e .to) (getD cs₁ (e .to) (pos 0) +ℤ pos y) in
-    let n₁ : length cs₁ ≡ 64 = simp length-set n in
-    let n₂ : length cs₂ ≡ 64 = simp length-set n in
-    let hf : e .from < length cs = omega (arith, ss .0 .from) in
-    let ht : e .to < length cs₁ = omega (arith, ss .0 .to) in
-    charged-balance days rate prices es cs₂ n₂ (ss .1)
-    (omega (
-      arith,
-      total-set dueOf cs (e .from) (getD cs (e .from) (pos 0) -ℤ pos y) (pos 0) hf,
-      total-set owedOf cs (e .from) (getD cs (e .from) (pos 0) -ℤ pos y) (pos 0) hf,
-      total-set dueOf cs₁ (e .to) (getD cs₁ (e .to) (pos 0) +ℤ pos y) (pos 0) ht,
-      total-set owedOf cs₁ (e .to) (getD cs₁ (e .to) (pos 0) +ℤ pos y) (pos 0) ht,
-      falls (getD cs (e .from) (pos 0)) y,
-      rises (getD cs₁ (e .to) (pos 0)) y,
-    ))
 
 cut-not-settling : (p : Phase) → isCut p ≡ true → isSettling p ≡ false
 cut-not-settling Taking h = refl

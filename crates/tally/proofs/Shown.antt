@@ -1,25 +1,25 @@
 -- Demand 3 from the invariant.
-use mathlib.Core.Path.{_≡_, refl, sym, ap, _∙_}
-use mathlib.Core.Bool.{Bool, true, false, cond, false≢true}
-use mathlib.Core.List.{List, [], _∷_, _++_, map}
-use Prim.Native.Nat.{ℕ, zero, suc, _+_, _-_, _*_, _≤_, _<_}
+use mathlib.Core.Path.{_≡_, refl, sym, ap}
+use mathlib.Core.Bool.{Bool, true, false, false≢true}
+use mathlib.Core.List.{List, [], _∷_, map}
+use Prim.Native.Nat.{ℕ, zero, suc, _-_, _≤_, _<_}
 use native.Mathlib.Omega.{arith}
 use lib.Dec.{leb}
-use lib.ListN.{length, getD, take}
-use lib.IntN.{ℤ, pos, _-ℤ_}
+use lib.ListN.{length}
+use lib.IntN.{pos, _-ℤ_}
 use borrow.Author.Tests.{leb-true, leb-false}
 use Rattle.rules.specs.declared.Phase.{Phase}
 use Rattle.rules.specs.declared.Phase.the-variants.{Taking, Settling, Cut}
-use Rattle.rules.specs.Measures.{unitLots, total, sum, dueOf}
-use Rattle.rules.specs.Units.{Part, part, put, sumLots, units}
-use Rattle.rules.specs.Handover.{stock, handed, waiting, firstUnit, partials}
-use Rattle.rules.specs.Book.{isSettling, row, duesOf, netAt, deliveredTotal, orderIn, orderOf}
-use Rattle.rules.specs.Tally.{State, Demand3, StockHeld, InTurn, nobody, netsToday, unitsToday, inIssue}
-use Rattle.laws.proofs.Basics.{byTest, total-append, total-put, Every, each-map}
-use Rattle.laws.proofs.Units.{Order, UnitSized}
+use Rattle.rules.specs.Measures.{unitLots, sum, dueOf}
+use Rattle.rules.specs.Units.{Part, put, sumLots, units}
+use Rattle.rules.specs.Handover.{stock, handed, partials}
+use Rattle.rules.specs.Book.{isSettling, row, netAt, deliveredTotal, orderIn, orderOf}
+use Rattle.rules.specs.Tally.{State, Demand3, StockHeld, InTurn, netsToday, unitsToday, inIssue}
+use Rattle.laws.proofs.Basics.{byTest, total-append, Every, each-map}
+use Rattle.laws.proofs.Units.{UnitSized}
 use Rattle.laws.proofs.Handover.{handed-stock, stock-bound, total-partials}
 use Rattle.laws.proofs.Cells.{tab-row}
-use Rattle.laws.proofs.Issue.{order-of}
+use Rattle.laws.proofs.SoundRows.{order-in}
 use Rattle.tally.proofs.Signs.{sum-zero, less, signed}
 use Rattle.tally.proofs.Invariant.{cutRow, RowIs, Inv}
 
@@ -114,7 +114,7 @@ module _ (s : State) (v : Inv s) (i : ℕ) (h : i < 16) where
   facts : Facts (orderOf (s .book) i) (deliveredTotal (s .book .delivered) i) (s .tally .rows i) (isSettling (s .book .phase))
   facts =
       row-facts (s .book .phase) (orderOf (s .book) i) (deliveredTotal (s .book .delivered) i) (s .tally .rows i)
-      (order-of (s .book .nets) i .sized) (v .rows i h)
+      (order-in (s .book .nets) i .sized) (v .rows i h)
 
 pub shown : (s : State) → Inv s → Demand3 s
 shown s v = record {

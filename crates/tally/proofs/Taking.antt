@@ -1,14 +1,13 @@
 -- The invariant is there at the start, and trade and close keep it.
 use mathlib.Core.Path.{_≡_, refl, sym, ap, _∙_}
-use mathlib.Core.Bool.{Bool, true, false, cond, not, _&&_, false≢true}
-use mathlib.Core.List.{List, [], _∷_, _++_}
-use Prim.Native.Nat.{ℕ, zero, suc, _+_, _-_, _*_, _≤_, _<_}
+use mathlib.Core.Bool.{true, false, cond, false≢true}
+use mathlib.Core.List.{List, [], _∷_}
+use Prim.Native.Nat.{ℕ, _+_, _-_, _<_}
 use native.Mathlib.Omega.{arith}
 use lib.Dec.{leb, eqb}
-use lib.ListN.{length, getD, set, take, replicate, length-set, length-replicate, getD-replicate}
+use lib.ListN.{getD, set, replicate, length-set, length-replicate, getD-replicate}
 use lib.IntN.{ℤ, pos, _+ℤ_, _-ℤ_}
 use borrow.Author.Tests.{leb-true, lt-leb, eqb-false, not-true}
-use Rattle.rules.specs.declared.Book.{Book}
 use Rattle.rules.specs.declared.Phase.{Phase}
 use Rattle.rules.specs.declared.Phase.the-variants.{Taking, Settling, Cut}
 use Rattle.rules.specs.Measures.{dueOf, owedOf}
@@ -21,9 +20,9 @@ use Rattle.rules.specs.Tally.{State, start, Trade, Close}
 use Rattle.laws.proofs.Basics.{byTest, and-left, and-right, Every}
 use Rattle.laws.proofs.Units.{UnitSized}
 use Rattle.laws.proofs.Cells.{here, here-eq, cell-set, row-zeros}
-use Rattle.tally.proofs.Signs.{rises, falls}
-use Rattle.laws.proofs.Issue.{order-of}
-use Rattle.tally.proofs.Answers.{answered}
+use Rattle.laws.proofs.Signed.{rises, falls}
+use Rattle.laws.proofs.SoundRows.{order-in}
+use Rattle.laws.proofs.Answers.{answered}
 use Rattle.tally.proofs.Invariant.{RowIs, Inv, Keeps}
 
 -- The start
@@ -131,7 +130,7 @@ keeps-close s v =
       given = v .given;
       handed = v .handed;
       phase = refl;
-      rows = λ j h. closed-row (b .phase) _ _ (s .tally .rows j) (order-of (b .nets) j .sized) (y .1 .0) (v .rows j h);
+      rows = λ j h. closed-row (b .phase) _ _ (s .tally .rows j) (order-in (b .nets) j .sized) (y .1 .0) (v .rows j h);
       balance = v .balance;
       charges = v .charges;
     })

@@ -1,11 +1,11 @@
 -- Records one behind the other in a lent output: a record put behind n records extends them.
-use mathlib.Core.Path.{_≡_, refl, ap}
+use mathlib.Core.Path.{_≡_, refl, ap, _∙_}
 use mathlib.Core.List.{List, [], _∷_, _++_}
-use Prim.Native.Nat.{ℕ, suc, _+_, _*_, _≤_}
+use Prim.Native.Nat.{ℕ, _+_, _*_, _≤_}
 use native.Mathlib.Numerals.{add-one}
 use native.Mathlib.Omega.{arith}
-use lib.ListN.{length, take, drop, set, length-append, length-drop}
-use lib.Seq.{take-at, drop-drop, drop-append-add, sets-eq}
+use lib.ListN.{length, drop, set, length-append, length-drop}
+use lib.Seq.{sets, take-at, drop-drop, drop-append-add, sets-eq}
 use Rattle.rules.specs.Records.{Rec, headWord, lotsWord, words, over}
 
 pub words-append : (rs ss : List Rec) → words (rs ++ ss) ≡ words rs ++ words ss
@@ -24,26 +24,29 @@ pub over-length : (ws o : List ℕ) → length ws ≤ length o → length (over 
 over-length ws o h = omega (arith, length-append ws (drop (length ws) o), length-drop (length ws) o)
 
 -- words stored behind words that stand in front of an output
-pub over-sets : (ws o : List ℕ) (h l : ℕ) → length ws + 2 ≤ length o →
-    set (set (over ws o) (length ws) h) (length ws + 1) l ≡ over (ws ++ (h ∷ l ∷ [])) o
-over-sets ws o h l f =
+pub over-more : (ws vs o : List ℕ) → length ws + length vs ≤ length o → sets (over ws o) (length ws) vs ≡ over (ws ++ vs) o
+over-more ws vs o f =
     let n = length ws in
+    let m = length vs in
     let e : length (over ws o) ≡ length o = over-length ws o (omega arith) in
-    let g : set (set (over ws o) n h) (suc n) l ≡ (take n (over ws o) ++ (h ∷ l ∷ [])) ++ drop (n + 2) (over ws o) =
-    sets-eq (h ∷ l ∷ []) (over ws o) n (omega arith) in
-    let d : length (ws ++ (h ∷ l ∷ [])) ≡ n + 2 = length-append ws (h ∷ l ∷ []) in
-    rw (add-one n, g, take-at ws (drop n o) n refl, drop-append-add ws (drop n o) 2, drop-drop 2 n o, d)
+    let d : length (ws ++ vs) ≡ n + m = length-append ws vs in
+    rw
+    (sets-eq vs (over ws o) n (omega arith), take-at ws (drop n o) n refl, drop-append-add ws (drop n o) m, drop-drop m n o, d)
 
--- THE LAW OF EVERY LOOP THAT WRITES RECORDS: one more behind those that are there
+-- records stored behind n that are there
+pub records-more : (rs ss : List Rec) (n : ℕ) (o out new : List ℕ) → n ≡ length rs → 2 * (n + length ss) ≤ length o →
+    out ≡ over (words rs) o → new ≡ sets out (2 * n) (words ss) → new ≡ over (words (rs ++ ss)) o
+records-more rs ss n o out new e f g s =
+    let w : length (words rs) ≡ 2 * n = omega (arith, words-length rs) in
+    rw (s, g, words-append rs ss, ← w) (over-more (words rs) (words ss) o (omega (arith, words-length ss)))
+
+-- the law of every loop that writes records: one more behind those that are there
 pub record-more : (rs : List Rec) (r : Rec) (n : ℕ) (o out new : List ℕ) → n ≡ length rs → 2 * n + 2 ≤ length o →
     out ≡ over (words rs) o →
     new ≡ set (set out (2 * n) (headWord (r .kind) (r .issue) (r .from) (r .to))) (2 * n + 1) (lotsWord (r .lots)) →
     new ≡ over (words (rs ++ (r ∷ []))) o
 record-more rs r n o out new e f g s =
-    let h = headWord (r .kind) (r .issue) (r .from) (r .to) in
-    let l = lotsWord (r .lots) in
-    let w : length (words rs) ≡ 2 * n = omega (arith, words-length rs) in
-    rw (s, g, words-append rs (r ∷ []), ← w) (over-sets (words rs) o h l (omega arith))
+    records-more rs (r ∷ []) n o out new e (omega arith) g (s ∙ rw (add-one (2 * n)))
 
 -- an output with records in front is as long as it was
 pub records-length : (rs : List Rec) (o : List ℕ) → 2 * length rs ≤ length o → length (over (words rs) o) ≡ length o

@@ -3,10 +3,10 @@
 //! Every combination of edges, then random cases. `--replay value L P` and
 //! `--replay charge L P D R` run one case alone.
 
+use library::desk;
 use reference::measures::{self, MOST_DAYS, MOST_LOTS, MOST_PRICE, MOST_RATE};
 use std::fmt;
 use std::process::ExitCode;
-use tests::desk;
 use tests::options::{number, Options};
 use tests::report::{progress, Mismatch};
 use tests::rng::Rng;
@@ -77,7 +77,7 @@ impl Case {
 }
 
 fn main() -> ExitCode {
-    let outcome = Options::of_command_line(DEFAULT_CASES).and_then(run);
+    let outcome = Options::of_command_line(DEFAULT_CASES, &[]).and_then(run);
     match outcome {
         Ok(line) => {
             println!("{line}");

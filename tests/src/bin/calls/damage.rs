@@ -1,0 +1,357 @@
+//! Part damage: each condition of soundness broken alone, at its edges, and random damage.
+//!
+//! Of a book that is not sound, `sound` says so, and `unit` and every call are refused by 2 and
+//! change nothing. Just inside an edge the book is sound and nothing is refused by 2.
+
+use crate::Failure;
+use reference::book::{place, Book, Entry, Phase};
+use reference::soundness::MOST_CHARGE_A_DAY;
+use tests::books::{random_book, Shape};
+use tests::case::Case;
+use tests::report::Mismatch;
+use tests::rng::Rng;
+use tests::steps::{set_entry, Call, Edit, Step};
+
+/// A change of a book, and whether the book is sound after it.
+type Change = (bool, fn(&mut Book));
+
+/// The changes of the book of `edges`, one condition of soundness each, inside and outside.
+const CHANGES: &[Change] = &[
+    (true, |_| {}),
+    // each net lies in −20,000,000..20,000,000
+    (true, |book| nets(book, 19_999_999)),
+    (true, |book| nets(book, 20_000_000)),
+    (false, |book| nets(book, 20_000_001)),
+    (false, |book| nets(book, i32::MAX)),
+    (false, |book| book.nets[place(9, 0)] = i32::MIN),
+    (false, |book| book.nets[place(9, 0)..place(9, 4)].fill(1 << 30)),
+    // each issue's nets sum to 0
+    (false, |book| book.nets[place(0, 0)] += 1),
+    (false, |book| book.nets[place(15, 63)] -= 1),
+    (false, |book| {
+        book.nets[place(7, 63)] = 1;
+        book.nets[place(8, 0)] = -1;
+    }),
+    // delivered lots lie in 0..−net where the net is negative
+    (true, |book| book.delivered[place(3, 5)] = 0),
+    (true, |book| book.delivered[place(3, 5)] = 20_000_000),
+    (false, |book| book.delivered[place(3, 5)] = 20_000_001),
+    (false, |book| book.delivered[place(3, 5)] = 1 << 31),
+    (false, |book| book.delivered[place(3, 5)] = u32::MAX),
+    // they are 0 elsewhere
+    (false, |book| book.delivered[place(3, 4)] = 1),
+    (false, |book| book.delivered[place(0, 0)] = 1),
+    (false, |book| book.delivered[place(15, 63)] = u32::MAX),
+    // they are 0 throughout in Taking
+    (true, taking),
+    (false, |book| {
+        taking(book);
+        book.delivered[place(3, 5)] = 1;
+    }),
+    (true, |book| book.phase = Phase::Cut),
+    // numbers in range, from unlike to
+    (true, |book| book.issues[1] = 15),
+    (false, |book| book.issues[1] = 16),
+    (false, |book| book.issues[0] = 255),
+    (true, |book| book.froms[1] = 62),
+    (false, |book| book.froms[1] = 64),
+    (false, |book| book.froms[2] = 255),
+    (true, |book| book.tos[2] = 62),
+    (false, |book| book.tos[2] = 64),
+    (false, |book| book.tos[0] = 255),
+    (false, |book| book.tos[0] = book.froms[0]),
+    (false, |book| book.froms[2] = book.tos[2]),
+    // lots 1..20,000,000
+    (true, |book| book.lots[1] = 1),
+    (true, |book| book.lots[1] = 20_000_000),
+    (false, |book| book.lots[1] = 0),
+    (false, |book| book.lots[1] = 20_000_001),
+    (false, |book| book.lots[2] = u32::MAX),
+    // days never falling along the ledger nor above today
+    (true, |book| book.days[0] = book.days[1]),
+    (false, |book| book.days[0] = book.days[1] + 1),
+    (true, |book| book.days[2] = book.day),
+    (false, |book| book.days[2] = book.day + 1),
+    (false, |book| book.days[2] = 65_535),
+    (true, |book| book.days[2] = book.days[1]),
+    (false, |book| book.days[2] = book.days[1] - 1),
+    // the entry count is at most 2,048
+    (true, |book| full(book, 2_048)),
+    (false, |book| full(book, 2_049)),
+    (false, |book| full(book, 4_096)),
+    (false, |book| full(book, 1 << 16)),
+    (false, |book| full(book, (1 << 32) + 2_048)),
+    (false, |book| full(book, usize::MAX)),
+    (false, |book| book.count = (1 << 32) + 3),
+    // unused entries are zero
+    (false, |book| book.count = 2),
+    (false, |book| book.count = 0),
+    (false, |book| book.count = 4),
+    (false, |book| book.issues[3] = 1),
+    (false, |book| book.froms[3] = 1),
+    (false, |book| book.tos[3] = 1),
+    (false, |book| book.lots[3] = 1),
+    (false, |book| book.days[3] = 1),
+    (false, |book| book.issues[2_047] = 1),
+    (false, |book| book.froms[2_047] = 1),
+    (false, |book| book.tos[2_047] = 1),
+    (false, |book| book.lots[2_047] = 1),
+    (false, |book| book.days[2_047] = 1),
+    // charges sum to 0, each of size at most 134,663,013,697,536 × day
+    (true, |book| book.charges = [0; 64]),
+    (false, |book| book.charges[0] -= 1),
+    (false, |book| book.charges[63] = 1),
+    (false, |book| {
+        book.charges[0] += 1;
+        book.charges[1] -= 1;
+    }),
+    (false, |book| book.day = 299),
+    (false, |book| {
+        book.charges[2] = i64::MIN;
+        book.charges[3] = i64::MAX;
+        book.charges[4] = 1;
+    }),
+    (false, |book| book.charges[2] = i64::MIN),
+    (true, |book| {
+        fresh_day(book, 0);
+        book.charges = [0; 64];
+    }),
+    (false, |book| {
+        fresh_day(book, 0);
+        book.charges = [0; 64];
+        book.charges[5] = 1;
+        book.charges[6] = -1;
+    }),
+];
+
+/// Runs all damage; gives the answers compared.
+pub fn run(seed: u64, cases: u64) -> Result<u64, Failure> {
+    let mut compared = 0;
+    for &(sound, change) in CHANGES {
+        let mut book = edges();
+        change(&mut book);
+        compared += ask_everything(&book, sound)?;
+    }
+    compared += charge_sums()?;
+    compared += every_place()?;
+    for at in 0..4 * cases {
+        compared += random_damage(&mut Rng::of_case(seed ^ 0x6461_6d61, at))?;
+    }
+    Ok(compared)
+}
+
+/// A sound book of day 300 in Settling, with every field at an edge and three entries.
+fn edges() -> Book {
+    let mut book = Book { day: 300, phase: Phase::Settling, ..Book::fresh() };
+    nets(&mut book, 20_000_000);
+    book.delivered[place(3, 5)] = 20_000_000;
+    let most = MOST_CHARGE_A_DAY as i64 * 300;
+    (book.charges[0], book.charges[1]) = (most, -most);
+    book.set_ledger(&[
+        Entry { issue: 15, from: 63, to: 0, lots: 1, day: 7 },
+        Entry { issue: 0, from: 0, to: 63, lots: 20_000_000, day: 9 },
+        Entry { issue: 3, from: 5, to: 4, lots: 10, day: 300 },
+    ]);
+    book
+}
+
+/// Nets of this size to both sides in an issue, with nothing delivered past them.
+fn nets(book: &mut Book, lots: i32) {
+    book.nets[place(3, 4)] = lots;
+    book.nets[place(3, 5)] = -lots;
+    book.delivered[place(3, 5)] = book.delivered[place(3, 5)].min(lots as u32);
+}
+
+/// In Taking, nothing delivered.
+fn taking(book: &mut Book) {
+    book.phase = Phase::Taking;
+    book.delivered.fill(0);
+}
+
+/// A ledger filled to its last place, of this count.
+fn full(book: &mut Book, count: usize) {
+    let entry = Entry { issue: 1, from: 2, to: 3, lots: 4, day: 300 };
+    (3..2_048).for_each(|at| set_entry(book, at, entry));
+    book.count = count;
+}
+
+/// The day with an empty ledger.
+fn fresh_day(book: &mut Book, day: u16) {
+    book.day = day;
+    book.set_ledger(&[]);
+}
+
+/// Puts `sound`, `unit` and every call; a book that is not sound refuses all by 2.
+fn ask_everything(book: &Book, sound: bool) -> Result<u64, Mismatch> {
+    let mut case = Case::of(book.clone());
+    case.expect(Call::Sound, u32::from(sound))?;
+    if !sound {
+        for call in every_call() {
+            case.expect(call, 2)?;
+        }
+        return Ok(case.engines.compared);
+    }
+    let mut compared = case.engines.compared;
+    for call in every_call() {
+        let mut case = Case::of(book.clone());
+        case.call(call)?;
+        compared += case.engines.compared;
+    }
+    Ok(compared)
+}
+
+/// The unit question and every call, with arguments in range.
+fn every_call() -> Vec<Call> {
+    let (issue, account, lots, out) = (3, 5, 1, 4_096);
+    vec![
+        Call::Unit { issue, k: 0 },
+        Call::Trade { issue, from: account, to: 6, lots },
+        Call::Close,
+        Call::Deliver { issue, account, lots, out },
+        Call::Cutoff { out },
+        Call::Resolve { issue, account, lots, out },
+        Call::PairOff { issue, account },
+        Call::Roll { days: 1, rate: 300, prices: vec![100_000; 16] },
+    ]
+}
+
+/// Charges within the limit of the last day whose sum is a multiple of 2^64, or truly 0.
+fn charge_sums() -> Result<u64, Mismatch> {
+    let most = MOST_CHARGE_A_DAY as i64 * 65_535;
+    let mut compared = 0;
+    for multiple in 1..=30 {
+        for sign in [1, -1] {
+            let mut book = Book { day: 65_535, ..Book::fresh() };
+            let mut left = i128::from(multiple) << 64;
+            for yen in &mut book.charges {
+                let part = left.min(most.into());
+                *yen = sign * part as i64;
+                left -= part;
+            }
+            assert_eq!(left, 0, "the charges take the whole sum");
+            compared += ask_everything(&book, false)?;
+        }
+    }
+    for split in [1, 31, 32] {
+        let mut book = Book { day: 65_535, ..Book::fresh() };
+        book.charges[..split].fill(most);
+        book.charges[64 - split..].fill(-most);
+        compared += ask_everything(&book, true)?;
+        book.charges[63] -= 1;
+        compared += ask_everything(&book, false)?;
+    }
+    Ok(compared)
+}
+
+/// One number damaged at each place of each column; `sound` is asked.
+fn every_place() -> Result<u64, Mismatch> {
+    let mut compared = 0;
+    for (issue, account) in (0..16).flat_map(|i| (0..64).map(move |a| (i, a))) {
+        let lots = edges().nets[place(issue, account)];
+        compared += not_sound(&edges(), Edit::Net { issue, account, lots: lots ^ 1 })?;
+        let lots = 1 + lots.min(0).unsigned_abs();
+        compared += not_sound(&edges(), Edit::Delivered { issue, account, lots })?;
+    }
+    for account in 0..64 {
+        let yen = edges().charges[account] ^ 1;
+        compared += not_sound(&edges(), Edit::Charge { account, yen })?;
+    }
+    let mut ledger = edges();
+    full(&mut ledger, 2_048);
+    let good = Entry { issue: 1, from: 2, to: 3, lots: 4, day: 300 };
+    for first in 3..2_048 {
+        let end = first + 1;
+        for entry in wrong_entries(good) {
+            compared += not_sound(&ledger, Edit::Entries { first, end, entry })?;
+        }
+        for entry in nonzero_entries() {
+            compared += not_sound(&edges(), Edit::Entries { first, end, entry })?;
+        }
+    }
+    Ok(compared)
+}
+
+/// Entries that differ from a sound one in one number that is out of range.
+fn wrong_entries(good: Entry) -> [Entry; 7] {
+    [
+        Entry { issue: 16, ..good },
+        Entry { from: 64, ..good },
+        Entry { to: 64, ..good },
+        Entry { from: good.to, ..good },
+        Entry { lots: 0, ..good },
+        Entry { lots: 20_000_001, ..good },
+        Entry { day: 299, ..good },
+    ]
+}
+
+/// Entries that are zero but for one number.
+fn nonzero_entries() -> [Entry; 5] {
+    let zero = Entry { issue: 0, from: 0, to: 0, lots: 0, day: 0 };
+    [
+        Entry { issue: 1, ..zero },
+        Entry { from: 1, ..zero },
+        Entry { to: 1, ..zero },
+        Entry { lots: 1, ..zero },
+        Entry { day: 1, ..zero },
+    ]
+}
+
+/// `sound` says no of the book with this change; the first full entry may fall in days.
+fn not_sound(book: &Book, edit: Edit) -> Result<u64, Mismatch> {
+    let mut changed = book.clone();
+    edit.apply(&mut changed);
+    if changed.sound() {
+        let day_of_first =
+            matches!(edit, Edit::Entries { first: 3, entry, .. } if entry.day == 299);
+        assert!(day_of_first, "the change {edit} leaves the book sound");
+    }
+    let mut case = Case::of(changed);
+    case.call(Call::Sound).map(|_| 1)
+}
+
+/// A random sound book with one to three numbers changed; everything is asked of it.
+fn random_damage(rng: &mut Rng) -> Result<u64, Mismatch> {
+    let shape = Shape::few(rng);
+    let mut book = random_book(rng, &shape);
+    for _ in 0..rng.range(1, 3) {
+        random_edit(rng, &book).apply(&mut book);
+    }
+    let sound = book.sound();
+    let mut case = Case::of(book);
+    case.call(Call::Sound)?;
+    let calls = every_call();
+    for _ in 0..if sound { 1 } else { 3 } {
+        case.step(Step::Call(rng.pick(&calls).clone()))?;
+    }
+    Ok(case.engines.compared)
+}
+
+/// One number of the book changed to any number, or by one.
+fn random_edit(rng: &mut Rng, book: &Book) -> Edit {
+    let (issue, account) = (rng.range(0, 15) as usize, rng.range(0, 63) as usize);
+    let at = rng.range(0, 2_047) as usize;
+    match rng.range(0, 7) {
+        0 => Edit::Day(rng.next_u32() as u16),
+        1 => Edit::Phase(*rng.pick(&[Phase::Taking, Phase::Settling, Phase::Cut])),
+        2 => Edit::Net { issue, account, lots: rng.next_u32() as i32 },
+        3 => Edit::Delivered { issue, account, lots: rng.next_u32() >> rng.range(0, 31) },
+        4 => Edit::Charge { account, yen: rng.next_u64() as i64 },
+        5 => Edit::Count(match rng.range(0, 2) {
+            0 => book.count + 1,
+            1 => book.count.saturating_sub(1),
+            _ => rng.next_u64() as usize,
+        }),
+        _ => Edit::Entries { first: at, end: at + 1, entry: random_entry(rng) },
+    }
+}
+
+/// An entry of any numbers, mostly near their ranges.
+fn random_entry(rng: &mut Rng) -> Entry {
+    Entry {
+        issue: rng.range(0, 17) as u8,
+        from: rng.range(0, 66) as u8,
+        to: rng.range(0, 66) as u8,
+        lots: rng.next_u32() >> rng.range(0, 31),
+        day: rng.next_u32() as u16 >> rng.range(0, 15),
+    }
+}

@@ -1,0 +1,285 @@
+//! Part refusals: every question of every call at its edge, and their order.
+//!
+//! For each call the ways of each question, 'yes' and 'no' at the edge, are put together in every
+//! combination; the number is that of the first 'no', whatever comes after it.
+
+use crate::Failure;
+use reference::book::{place, Book, Entry, Phase};
+use tests::case::Case;
+use tests::report::Mismatch;
+use tests::steps::Call;
+
+/// A call with its book, before it is made.
+#[derive(Clone)]
+struct Asked {
+    book: Book,
+    out: usize,
+    issue: u32,
+    from: u32,
+    to: u32,
+    lots: u32,
+    days: u32,
+    rate: u32,
+    prices: Vec<u32>,
+}
+
+/// One way in which a question is answered: its number for 'no', or 0 for 'yes'.
+type Way = (u32, fn(&mut Asked));
+/// A call: its name, how it is made, and the ways of its questions, in the order they are set.
+type Plan = (&'static str, fn(&Asked) -> Call, &'static [&'static [Way]]);
+
+const OUTPUT: &[Way] = &[
+    (0, |asked| asked.out = 4_096),
+    (0, |asked| asked.out = 4_097),
+    (1, |asked| asked.out = 4_095),
+    (1, |asked| asked.out = 1),
+    (1, |asked| asked.out = 0),
+];
+const SOUND: &[Way] = &[
+    (0, |_| {}),
+    (2, |asked| asked.book.charges[63] = 1),
+    (2, |asked| asked.book.days[2_047] = 1),
+];
+const TAKING: &[Way] = &[(0, taking), (3, settling), (3, cut)];
+const SETTLING: &[Way] = &[(3, taking), (0, settling), (3, cut)];
+const CUT: &[Way] = &[(3, taking), (3, settling), (0, cut)];
+const ANY_PHASE: &[Way] = &[(0, taking), (0, settling), (0, cut)];
+const ISSUE: &[Way] = &[
+    (0, |asked| asked.issue = 0),
+    (0, |asked| asked.issue = 15),
+    (4, |asked| asked.issue = 16),
+    (4, |asked| asked.issue = 256),
+    (4, |asked| asked.issue = u32::MAX),
+];
+const FROM: &[Way] = &[
+    (0, |asked| asked.from = 1),
+    (0, |asked| asked.from = 63),
+    (5, |asked| asked.from = 64),
+    (5, |asked| asked.from = 257),
+    (5, |asked| asked.from = u32::MAX),
+];
+const TO: &[Way] = &[
+    (0, |asked| asked.to = 0),
+    (0, |asked| asked.to = 62),
+    (5, |asked| asked.to = 64),
+    (5, |asked| asked.to = u32::MAX),
+    (6, |asked| asked.to = asked.from),
+];
+const LOTS: &[Way] = &[
+    (0, |asked| asked.lots = 1),
+    (0, |asked| asked.lots = 20_000_000),
+    (7, |asked| asked.lots = 0),
+    (7, |asked| asked.lots = 20_000_001),
+    (7, |asked| asked.lots = u32::MAX),
+];
+const NETS: &[Way] = &[
+    (0, |asked| nets_before(asked, 0, 0)),
+    (8, |asked| nets_before(asked, 1, 0)),
+    (8, |asked| nets_before(asked, 0, 1)),
+    (8, |asked| nets_before(asked, 1, 1)),
+];
+const OWED_TODAY: &[Way] = &[
+    (7, |asked| asked.lots = 0),
+    (7, |asked| asked.lots = 20_000_001),
+    (7, |asked| asked.lots = u32::MAX),
+    (0, |asked| owe_today(asked, 1_000, 400, 600)),
+    (0, |asked| owe_today(asked, 1_000, 400, 1)),
+    (0, |asked| owe_today(asked, 20_000_000, 0, 20_000_000)),
+    (9, |asked| owe_today(asked, 1_000, 400, 601)),
+    (9, |asked| owe_today(asked, 20_000_000, 1, 20_000_000)),
+    (9, |asked| owe_today(asked, -1_000, 0, 1)),
+    (9, |asked| owe_today(asked, 0, 0, 20_000_000)),
+];
+const OWED_IN_LEDGER: &[Way] = &[
+    (7, |asked| asked.lots = 0),
+    (7, |asked| asked.lots = 20_000_001),
+    (7, |asked| asked.lots = u32::MAX),
+    (0, |asked| owe_in_ledger(asked, &[7, 5], 12)),
+    (0, |asked| owe_in_ledger(asked, &[7, 5], 1)),
+    (0, |asked| owe_in_ledger(asked, &[20_000_000, 1], 20_000_000)),
+    (9, |asked| owe_in_ledger(asked, &[7, 5], 13)),
+    (9, |asked| owe_in_ledger(asked, &[19_999_999], 20_000_000)),
+    (9, |asked| owe_in_ledger(asked, &[], 1)),
+];
+const ROOM: &[Way] = &[
+    (0, |asked| entries_before(asked, 0)),
+    (0, |asked| entries_before(asked, 2_046)),
+    (10, |asked| entries_before(asked, 2_047)),
+    (10, |asked| entries_before(asked, 2_048)),
+];
+const DAYS: &[Way] = &[
+    (0, |asked| asked.days = 1),
+    (0, |asked| asked.days = 12),
+    (11, |asked| asked.days = 0),
+    (11, |asked| asked.days = 13),
+    (11, |asked| asked.days = u32::MAX),
+];
+const RATE: &[Way] = &[
+    (0, |asked| asked.rate = 0),
+    (0, |asked| asked.rate = 10_000),
+    (11, |asked| asked.rate = 10_001),
+    (11, |asked| asked.rate = u32::MAX),
+];
+const PRICES: &[Way] = &[
+    (0, |asked| asked.prices = vec![1; 16]),
+    (0, |asked| asked.prices = vec![200_000; 16]),
+    (11, |asked| asked.prices = vec![]),
+    (11, |asked| asked.prices = vec![1; 15]),
+    (11, |asked| asked.prices = vec![1; 17]),
+    (11, |asked| asked.prices[0] = 0),
+    (11, |asked| asked.prices[15] = 0),
+    (11, |asked| asked.prices[0] = 200_001),
+    (11, |asked| asked.prices[15] = 200_001),
+    (11, |asked| asked.prices[7] = u32::MAX),
+];
+const DAY: &[Way] = &[
+    (0, |asked| asked.book.day = 0),
+    (0, |asked| asked.book.day = 65_534),
+    (12, |asked| asked.book.day = 65_535),
+];
+
+/// The calls with their questions.
+const PLANS: [Plan; 8] = [
+    ("unit", |asked| Call::Unit { issue: asked.issue, k: 0 }, &[ANY_PHASE, ISSUE, SOUND]),
+    ("trade", trade, &[TAKING, ISSUE, FROM, TO, LOTS, NETS, SOUND]),
+    ("close", |_| Call::Close, &[TAKING, SOUND]),
+    ("deliver", deliver, &[OUTPUT, SETTLING, ISSUE, FROM, OWED_TODAY, SOUND]),
+    ("cutoff", |asked| Call::Cutoff { out: asked.out }, &[OUTPUT, SETTLING, ROOM, SOUND]),
+    ("resolve", resolve, &[OUTPUT, ANY_PHASE, ISSUE, FROM, OWED_IN_LEDGER, SOUND]),
+    ("pair-off", pair_off, &[ANY_PHASE, ISSUE, FROM, SOUND]),
+    ("roll", roll, &[CUT, DAYS, RATE, PRICES, DAY, SOUND]),
+];
+
+/// Makes every combination of every call; gives the answers compared.
+pub fn run(_seed: u64, _cases: u64) -> Result<u64, Failure> {
+    let mut compared = 0;
+    for plan in &PLANS {
+        compared += combine(plan, &start(), 0, 0)?;
+    }
+    Ok(compared)
+}
+
+/// Sets the ways of the questions from here on in every combination, and makes the call.
+fn combine(plan: &Plan, asked: &Asked, at: usize, first_no: u32) -> Result<u64, Mismatch> {
+    let (_, call, questions) = plan;
+    let Some(ways) = questions.get(at) else {
+        let mut case = Case::of(asked.book.clone());
+        return case.expect(call(asked), first_no).map(|_| 1);
+    };
+    let mut compared = 0;
+    for &(number, set) in *ways {
+        let mut asked = asked.clone();
+        set(&mut asked);
+        let first_no = [first_no, number].into_iter().filter(|&no| no != 0).min().unwrap_or(0);
+        compared += combine(plan, &asked, at + 1, first_no)?;
+    }
+    Ok(compared)
+}
+
+/// A fresh book and arguments in range.
+fn start() -> Asked {
+    Asked {
+        book: Book::fresh(),
+        out: 4_096,
+        issue: 0,
+        from: 1,
+        to: 2,
+        lots: 1,
+        days: 1,
+        rate: 300,
+        prices: vec![100_000; 16],
+    }
+}
+
+fn taking(asked: &mut Asked) {
+    asked.book.phase = Phase::Taking;
+}
+
+fn settling(asked: &mut Asked) {
+    asked.book.phase = Phase::Settling;
+}
+
+fn cut(asked: &mut Asked) {
+    asked.book.phase = Phase::Cut;
+}
+
+/// The trade asked.
+fn trade(asked: &Asked) -> Call {
+    let Asked { issue, from, to, lots, .. } = *asked;
+    Call::Trade { issue, from, to, lots }
+}
+
+/// The delivery asked.
+fn deliver(asked: &Asked) -> Call {
+    let Asked { issue, from: account, lots, out, .. } = *asked;
+    Call::Deliver { issue, account, lots, out }
+}
+
+/// The resolve asked.
+fn resolve(asked: &Asked) -> Call {
+    let Asked { issue, from: account, lots, out, .. } = *asked;
+    Call::Resolve { issue, account, lots, out }
+}
+
+/// The pair-off asked.
+fn pair_off(asked: &Asked) -> Call {
+    Call::PairOff { issue: asked.issue, account: asked.from }
+}
+
+/// The roll asked.
+fn roll(asked: &Asked) -> Call {
+    let Asked { days, rate, ref prices, .. } = *asked;
+    Call::Roll { days, rate, prices: prices.clone() }
+}
+
+/// Where an issue and account stand, if both are in range.
+fn in_book(issue: u32, account: u32) -> Option<usize> {
+    (issue < 16 && account < 64).then(|| place(issue as usize, account as usize))
+}
+
+/// Nets that the trade brings to the limits, or so many lots past them; account 40 holds the rest.
+fn nets_before(asked: &mut Asked, from_past: i32, to_past: i32) {
+    let lots = asked.lots.clamp(1, 20_000_000) as i32;
+    let from = in_book(asked.issue, asked.from);
+    let to = in_book(asked.issue, asked.to);
+    if let (Some(from), Some(to), Some(rest)) = (from, to, in_book(asked.issue, 40)) {
+        if from != to {
+            asked.book.nets[from] = -20_000_000 + lots - from_past;
+            asked.book.nets[to] = 20_000_000 - lots + to_past;
+            asked.book.nets[rest] = from_past - to_past;
+        }
+    }
+}
+
+/// The account owes lots today and has delivered some (in Taking none); then the lots are asked.
+fn owe_today(asked: &mut Asked, owed: i32, delivered: u32, lots: u32) {
+    asked.lots = lots;
+    if let Some(at) = in_book(asked.issue, asked.from) {
+        asked.book.nets[at] = -owed;
+        asked.book.nets[place(asked.issue as usize, 40)] = owed;
+        if asked.book.phase != Phase::Taking {
+            asked.book.delivered[at] = delivered;
+        }
+    }
+}
+
+/// The account has entries of these lots, among entries of another account and issue.
+fn owe_in_ledger(asked: &mut Asked, entries: &[u32], lots: u32) {
+    asked.lots = lots;
+    if in_book(asked.issue, asked.from).is_some() {
+        let (issue, from) = (asked.issue as u8, asked.from as u8);
+        let entry = |issue, from, lots| Entry { issue, from, to: 40, lots, day: 0 };
+        let mut ledger = vec![entry(issue, 41, 100), entry(issue ^ 1, from, 100)];
+        ledger.extend(entries.iter().map(|&lots| entry(issue, from, lots)));
+        ledger.push(Entry { issue, from: 40, to: from, lots: 100, day: 0 });
+        asked.book.set_ledger(&ledger);
+    }
+}
+
+/// So many entries stand before a cutoff that makes two.
+fn entries_before(asked: &mut Asked, entries: usize) {
+    asked.book.nets[place(9, 3)] = 100_001;
+    asked.book.nets[place(9, 4)] = -100_001;
+    let entry = Entry { issue: 0, from: 1, to: 2, lots: 1, day: 0 };
+    asked.book.set_ledger(&vec![entry; entries]);
+}

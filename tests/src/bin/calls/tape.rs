@@ -1,0 +1,259 @@
+//! Part tape: reader and writer beside those of the second engine.
+//!
+//! Every kind with each single bit of each word turned, every truncation, every field at its limits
+//! and one past, outputs of every length at the edge, random words; written and read back both ways.
+
+use crate::Failure;
+use library::tape::{self as library_tape, fields_of, Fields, ReadAnswer, WriteAnswer};
+use reference::tape::{self, Instruction};
+use std::fmt::Display;
+use tests::engines::pattern;
+use tests::report::Mismatch;
+use tests::rng::Rng;
+
+/// The words of a tape that are read at most, a roll's and some more.
+const MOST_WORDS: usize = 20;
+/// The lengths of the writer's output.
+const OUTPUTS: [usize; 6] = [0, 1, 16, 17, 18, 40];
+
+/// Runs all words and fields; gives the answers compared.
+pub fn run(seed: u64, cases: u64) -> Result<u64, Failure> {
+    let mut compared = 0;
+    for words in whole_instructions() {
+        compared += read_turned(&words)? + read_cut(&words)?;
+    }
+    compared += read_heads()? + write_edges()?;
+    for at in 0..20 * cases {
+        let mut rng = Rng::of_case(seed ^ 0x7461_7065, at);
+        compared += compare_read(&random_words(&mut rng))?;
+        let (fields, prices) = random_fields(&mut rng);
+        compared += compare_write(&fields, &prices, *rng.pick(&OUTPUTS))?;
+    }
+    Ok(compared)
+}
+
+/// Reads or writes one replayed case.
+pub fn replay(text: &str) -> Result<String, String> {
+    let (name, rest) = text.split_once(' ').unwrap_or((text, ""));
+    let number = |word: &str| u32::from_str_radix(word, if name == "read" { 16 } else { 10 });
+    let words: Result<Vec<u32>, _> = rest.split_whitespace().map(number).collect();
+    let words = words.map_err(|_| format!("`{rest}` has a word that is not a number"))?;
+    match name {
+        "read" => compare_read(&words),
+        "write" if words.len() >= 6 => {
+            let fields = [words[0], words[1], words[2], words[3], words[4]];
+            compare_write(&fields, &words[6..], words[5] as usize)
+        }
+        _ => return Err("--replay takes: read WORDS, or write FIELDS OUT PRICES".to_string()),
+    }
+    .map(|_| "the case agrees".to_string())
+    .map_err(|mismatch| mismatch.to_string())
+}
+
+/// Every instruction with fields at both ends, as words, and two words after it.
+fn whole_instructions() -> Vec<Vec<u32>> {
+    let mut all = Vec::new();
+    for [issue, account, to, lots, days, rate, price] in [
+        [0, 0, 0, 0, 0, 0, 0],
+        [15, 63, 63, (1 << 28) - 1, 15, (1 << 14) - 1, (1 << 18) - 1],
+        [5, 42, 21, 0xa5a_5a5a, 10, 0x2aaa, 0x15555],
+    ] {
+        for instruction in [
+            Instruction::Trade { issue, from: account, to, lots },
+            Instruction::Deliver { issue, account, lots },
+            Instruction::Resolve { issue, account, lots },
+            Instruction::PairOff { issue, account },
+            Instruction::Close,
+            Instruction::Cutoff,
+            Instruction::Roll { days, rate },
+        ] {
+            let mut words = vec![0; 17];
+            let count = tape::write(&instruction, &[price; 16], &mut words).count as usize;
+            words.truncate(count);
+            words.extend([0x5000_0000, 0xffff_ffff]);
+            all.push(words);
+        }
+    }
+    all
+}
+
+/// Reads the words with each single bit of each word turned.
+fn read_turned(words: &[u32]) -> Result<u64, Mismatch> {
+    let mut compared = 0;
+    for at in 0..words.len() {
+        for bit in 0..32 {
+            let mut turned = words.to_vec();
+            turned[at] ^= 1 << bit;
+            compared += compare_read(&turned)? + read_cut(&turned[..=at])?;
+        }
+    }
+    Ok(compared)
+}
+
+/// Reads every part of the words that begins with the first.
+fn read_cut(words: &[u32]) -> Result<u64, Mismatch> {
+    (0..=words.len()).try_fold(0, |compared, end| Ok(compared + compare_read(&words[..end])?))
+}
+
+/// Reads every head of every kind with no bit and with each bit alone, before words of each kind.
+fn read_heads() -> Result<u64, Mismatch> {
+    let mut compared = 0;
+    for kind in 0..16_u32 {
+        for bits in (0..28).map(|bit| 1 << bit).chain([0, (1 << 28) - 1]) {
+            let head = kind << 28 | bits;
+            compared += compare_read(&[head])?;
+            for next in 0..16_u32 {
+                let mut words = vec![next << 28; MOST_WORDS];
+                words[0] = head;
+                compared += compare_read(&words)?;
+            }
+        }
+    }
+    Ok(compared)
+}
+
+/// Writes every instruction with each field at its limits and one past, to outputs of every length.
+fn write_edges() -> Result<u64, Mismatch> {
+    let mut compared = 0;
+    for kind in 1..=7 {
+        for field in 1..5 {
+            for bits in [4, 6, 14, 18, 28, 32] {
+                let end = (1_u64 << bits) as u32;
+                for number in [0, 1, end.wrapping_sub(1), end, end.wrapping_add(1), 1 << 31] {
+                    let mut fields = used_fields(kind);
+                    fields[field] = if fields[field] == 0 { 0 } else { number };
+                    for out in OUTPUTS {
+                        compared += compare_write(&fields, &[7; 16], out)?;
+                    }
+                }
+            }
+        }
+    }
+    for prices in edge_prices() {
+        for out in OUTPUTS {
+            compared += compare_write(&used_fields(7), &prices, out)?;
+            compared += compare_write(&used_fields(1), &prices, out)?;
+        }
+    }
+    Ok(compared)
+}
+
+/// An instruction of a kind with 1 in every field that it has.
+fn used_fields(kind: u32) -> Fields {
+    let used = match kind {
+        1 => 5,
+        2 | 3 => 4,
+        4 | 7 => 3,
+        _ => 1,
+    };
+    let mut fields = [0; 5];
+    fields[..used].fill(1);
+    fields[0] = kind;
+    fields
+}
+
+/// Lists of prices: of every length at the edge, and one price at its limits and one past.
+fn edge_prices() -> Vec<Vec<u32>> {
+    let mut all: Vec<Vec<u32>> = [0, 1, 15, 16, 17, 32].map(|length| vec![1; length]).to_vec();
+    for at in 0..16 {
+        for price in [0, (1 << 18) - 1, 1 << 18, u32::MAX] {
+            let mut prices = vec![1; 16];
+            prices[at] = price;
+            all.push(prices);
+        }
+    }
+    all
+}
+
+/// Random words: any, or kinds that follow one another rightly, with a bit turned now and then.
+fn random_words(rng: &mut Rng) -> Vec<u32> {
+    let length = rng.range(0, MOST_WORDS as u32) as usize;
+    let any = rng.chance(1, 4);
+    let next = if rng.chance(1, 2) { 8_u32 } else { 9 };
+    let mut words: Vec<u32> = (0..length)
+        .map(|at| match at {
+            _ if any => rng.next_u32(),
+            0 => rng.range(1, 7) << 28 | (rng.next_u32() >> 4 & (0x0fff_ffff << rng.range(0, 28))),
+            _ => next << 28 | rng.range(0, (1 << 18) - 1),
+        })
+        .collect();
+    if length > 0 && rng.chance(1, 3) {
+        words[rng.range(0, length as u32 - 1) as usize] ^= 1 << rng.range(0, 31);
+    }
+    words
+}
+
+/// Random fields of a kind that has them, mostly in range, and prices.
+fn random_fields(rng: &mut Rng) -> (Fields, Vec<u32>) {
+    let used = used_fields(rng.range(1, 7));
+    let mut fields = used;
+    for at in 1..5 {
+        if used[at] != 0 {
+            fields[at] = rng.next_u32() >> rng.range(18, 31);
+        }
+    }
+    let length = if rng.chance(9, 10) { 16 } else { rng.range(0, 20) };
+    let low = rng.range(13, 15);
+    (fields, (0..length).map(|_| rng.next_u32() >> low).collect())
+}
+
+/// Reads with both readers, and writes back what was read.
+fn compare_read(words: &[u32]) -> Result<u64, Mismatch> {
+    let answer = library_tape::read_fields(words);
+    let expected = match tape::read(words) {
+        Ok((instruction, count)) => {
+            ReadAnswer { number: 0, fields: fields_of(&instruction), count }
+        }
+        Err(number) => ReadAnswer { number, fields: [0; 5], count: 0 },
+    };
+    let case = format!("read {}", listed(words.iter().map(|word| format!("{word:08x}"))));
+    Mismatch::of(&case, expected, answer)?;
+    if answer.number != 0 {
+        return Ok(1);
+    }
+    let prices = library_tape::prices(words);
+    if answer.fields[0] == 7 {
+        Mismatch::of(&case, tape::prices(words), prices.to_vec())?;
+    }
+    let mut written = vec![0; 17];
+    let wrote = library_tape::write_fields(&answer.fields, &prices, &mut written);
+    Mismatch::of(&case, WriteAnswer { number: 0, count: answer.count }, wrote)?;
+    Mismatch::of(&case, &words[..answer.count], &written[..answer.count])?;
+    Ok(3)
+}
+
+/// Writes with both writers, and reads back what was written.
+fn compare_write(fields: &Fields, prices: &[u32], out: usize) -> Result<u64, Mismatch> {
+    let (mut reference, mut library) = (pattern(out + 2), pattern(out + 2));
+    let expected = tape::write(&instruction_of(*fields), prices, &mut reference[1..=out]);
+    let answer = library_tape::write_fields(fields, prices, &mut library[1..=out]);
+    let expected = WriteAnswer { number: expected.number, count: expected.count as usize };
+    let case = format!("write {} {out} {}", listed(fields), listed(prices));
+    Mismatch::of(&case, expected, answer)?;
+    Mismatch::of(&case, &reference, &library)?;
+    if answer.number != 0 {
+        Mismatch::of(&case, &pattern(out + 2), &library)?;
+        return Ok(1);
+    }
+    let back = library_tape::read_fields(&library[1..=answer.count]);
+    Mismatch::of(&case, ReadAnswer { number: 0, fields: *fields, count: answer.count }, back)?;
+    Ok(2)
+}
+
+/// The instruction of fields.
+fn instruction_of([kind, a, b, c, d]: Fields) -> Instruction {
+    match kind {
+        1 => Instruction::Trade { issue: a, from: b, to: c, lots: d },
+        2 => Instruction::Deliver { issue: a, account: b, lots: c },
+        3 => Instruction::Resolve { issue: a, account: b, lots: c },
+        4 => Instruction::PairOff { issue: a, account: b },
+        5 => Instruction::Close,
+        6 => Instruction::Cutoff,
+        _ => Instruction::Roll { days: a, rate: b },
+    }
+}
+
+/// Words with spaces between them.
+fn listed<T: Display>(words: impl IntoIterator<Item = T>) -> String {
+    words.into_iter().map(|word| word.to_string()).collect::<Vec<_>>().join(" ")
+}

@@ -1,0 +1,72 @@
+//! Part units: the unit question on random nets with many ties, beside units stored one by one.
+
+use crate::Failure;
+use library::trial::{self, UnitAnswer};
+use reference::book::{Book, Phase};
+use reference::units::units;
+use tests::books::{move_lots, two_of, MENU};
+use tests::report::Mismatch;
+use tests::rng::Rng;
+use tests::steps::{steps_to, text_of, Call, Step};
+
+/// What is asked beyond the number of units.
+const BEYOND: [u32; 6] = [255, 256, 65_535, 65_536, 1 << 31, u32::MAX];
+
+/// Asks every unit of random issues, and beyond; gives the answers compared.
+pub fn run(seed: u64, cases: u64) -> Result<u64, Failure> {
+    let mut compared = 0;
+    for at in 0..cases {
+        let mut rng = Rng::of_case(seed ^ 0x756e_6974, at);
+        let issue = rng.range(0, 15);
+        let mut book = random_nets(&mut rng, issue);
+        compared += ask_all(&mut book, issue)?;
+    }
+    Ok(compared)
+}
+
+/// A book with random nets in an issue: few or many receivers, many of them equal.
+fn random_nets(rng: &mut Rng, issue: u32) -> Book {
+    let phase = *rng.pick(&[Phase::Taking, Phase::Settling, Phase::Cut]);
+    let mut book = Book { phase, ..Book::fresh() };
+    let accounts: Vec<u32> = (0..rng.range(2, 64)).collect();
+    let menu = [*rng.pick(&MENU), *rng.pick(&MENU), 100_000 * rng.range(1, 3)];
+    for _ in 0..rng.range(0, 2 * accounts.len() as u32) {
+        let (from, to) = two_of(rng, &accounts);
+        move_lots(&mut book, issue, from, to, *rng.pick(&menu));
+    }
+    if rng.chance(1, 10) {
+        let (from, to) = two_of(rng, &accounts);
+        move_lots(&mut book, issue, from, to, rng.range(1, 20_000_000));
+    }
+    book
+}
+
+/// Asks every k up to the number of units, two more, and some far beyond.
+fn ask_all(book: &mut Book, issue: u32) -> Result<u64, Mismatch> {
+    let units = units(book.nets_of(issue as usize));
+    let asked = (0..units.len() as u32 + 2).chain(BEYOND);
+    let mut compared = 0;
+    for k in asked {
+        let expected = units.get(k as usize).map_or(none(), |unit| UnitAnswer {
+            number: 0,
+            found: 1,
+            account: unit.account,
+            lots: unit.lots,
+        });
+        let before = book.clone();
+        let answer = trial::unit(book, issue, k);
+        if answer != expected || *book != before {
+            let mut steps = steps_to(&before);
+            steps.push(Step::Call(Call::Unit { issue, k }));
+            let [reference, library] = [expected, answer].map(|answer| format!("{answer:?}"));
+            return Err(Mismatch { case: text_of(&steps), reference, library });
+        }
+        compared += 1;
+    }
+    Ok(compared)
+}
+
+/// The answer 'none'.
+fn none() -> UnitAnswer {
+    UnitAnswer { number: 0, found: 0, account: 0, lots: 0 }
+}

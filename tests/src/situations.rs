@@ -1,0 +1,344 @@
+//! What was met in a run: refusal numbers by call, and named situations. One never met is a fault.
+
+use crate::engines::Answer;
+use crate::steps::Call;
+use reference::book::{place, Book, Entry, ENTRIES};
+use reference::measures::{MOST_DAYS, MOST_LOTS, MOST_PRICE, MOST_RATE, UNIT_LOTS};
+use reference::units::{handed, units, Unit};
+use std::collections::BTreeMap;
+
+/// The numbers that each call can answer, by the paper; 0 is done.
+pub const NUMBERS: [(&str, &[u32]); 8] = [
+    ("unit", &[0, 2, 4]),
+    ("trade", &[0, 2, 3, 4, 5, 6, 7, 8]),
+    ("close", &[0, 2, 3]),
+    ("deliver", &[0, 1, 2, 3, 4, 5, 7, 9]),
+    ("cutoff", &[0, 1, 2, 3, 10]),
+    ("resolve", &[0, 1, 2, 4, 5, 7, 9]),
+    ("pair-off", &[0, 2, 4, 5]),
+    ("roll", &[0, 2, 3, 11, 12]),
+];
+
+/// The situations that a run of random lists must meet.
+const SITUATIONS: [&str; 50] = [
+    "trade: a net reaches 20,000,000",
+    "trade: a net reaches -20,000,000",
+    "trade: refused for from's net alone",
+    "trade: refused for to's net alone",
+    "trade: a net returns to 0",
+    "trade: a deliverer becomes a receiver",
+    "unit: found full",
+    "unit: found small",
+    "unit: none, just past the last",
+    "unit: equals among full units",
+    "unit: equals among small units of unlike nets",
+    "unit: a smaller net has the larger small unit",
+    "deliver: all that is owed",
+    "deliver: ends inside a full unit",
+    "deliver: ends inside a small unit",
+    "deliver: ends where a unit ends",
+    "deliver: hands over nothing",
+    "deliver: hands over more than 20 units",
+    "deliver: a smaller later unit would be covered",
+    "deliver: hands over among equal full units",
+    "deliver: hands over among equal small units",
+    "cutoff: nothing failed",
+    "cutoff: nothing delivered",
+    "cutoff: stock goes to a full unit",
+    "cutoff: stock goes to a small unit",
+    "cutoff: stock goes to a full unit with more of its account after it",
+    "cutoff: a deliverer fails several receivers",
+    "cutoff: several deliverers fail a receiver",
+    "cutoff: full units and small unit of one account failed by one deliverer",
+    "cutoff: more than one issue fails",
+    "cutoff: the ledger is full to 2,048",
+    "cutoff: 2,049 entries are refused",
+    "resolve: part of an entry",
+    "resolve: one entry whole",
+    "resolve: several entries",
+    "resolve: entries of others lie between",
+    "resolve: all that the account owes",
+    "resolve: on a full ledger",
+    "pair-off: entries in alone",
+    "pair-off: entries out alone",
+    "pair-off: P and Q are the same",
+    "pair-off: an entry P to Q is appended",
+    "pair-off: entry in and entry out are equal",
+    "pair-off: steps are a + b - 1, above 2",
+    "pair-off: on a full ledger",
+    "roll: entries of several days",
+    "roll: price 1 charges 0 yen",
+    "roll: highest price, rate and days",
+    "roll: day becomes 65,535",
+    "roll: lots were delivered",
+];
+
+/// How often each number and situation was met.
+#[derive(Clone, Debug, Default)]
+pub struct Coverage {
+    met: BTreeMap<String, u64>,
+}
+
+/// One call as it was made: the book before and after it, and its answer.
+pub struct Made<'a> {
+    pub before: &'a Book,
+    pub after: &'a Book,
+    pub call: &'a Call,
+    pub answer: Answer,
+}
+
+impl Coverage {
+    /// Notes the numbers and situations of a call.
+    pub fn note(&mut self, made: &Made) {
+        if *made.call == Call::Sound {
+            return;
+        }
+        self.meet(&number_name(made.call.name(), made.answer.number), true);
+        match *made.call {
+            Call::Trade { issue, from, to, lots } => self.trade(made, [issue, from, to, lots]),
+            Call::Unit { issue, k } => self.unit(made, issue, k),
+            Call::Deliver { issue, account, .. } => self.deliver(made, issue, account),
+            Call::Cutoff { .. } => self.cutoff(made),
+            Call::Resolve { issue, account, .. } => self.resolve(made, issue, account),
+            Call::PairOff { issue, account } => self.pair_off(made, issue, account),
+            Call::Roll { days, rate, ref prices } => self.roll(made, days, rate, prices),
+            Call::Close | Call::Sound => {}
+        }
+    }
+
+    /// Counts a name, if it was met.
+    fn meet(&mut self, name: &str, met: bool) {
+        if met {
+            *self.met.entry(name.to_string()).or_default() += 1;
+        }
+    }
+
+    /// Every name that was to be met with its count; an error names those that were never met.
+    pub fn report(&self) -> Result<String, String> {
+        let count = |name: &str| self.met.get(name).copied().unwrap_or(0);
+        let names = expected();
+        let missing: Vec<&str> =
+            names.iter().filter(|name| count(name) == 0).map(String::as_str).collect();
+        if missing.is_empty() {
+            let lines = names.iter().map(|name| format!("{:>9}  {name}", count(name)));
+            return Ok(lines.collect::<Vec<_>>().join("\n"));
+        }
+        Err(format!("never met, so more cases are wanted (--cases):\n  {}", missing.join("\n  ")))
+    }
+
+    /// The situations of a trade.
+    fn trade(&mut self, made: &Made, [issue, from, to, lots]: [u32; 4]) {
+        let most = MOST_LOTS as i32;
+        let at = |book: &Book, account| book.nets[place(issue as usize, account as usize)];
+        if made.answer.number == 8 {
+            let from_stays = at(made.before, from) - lots as i32 >= -most;
+            let to_stays = at(made.before, to) + lots as i32 <= most;
+            self.meet("trade: refused for from's net alone", to_stays);
+            self.meet("trade: refused for to's net alone", from_stays);
+        }
+        if made.answer.number == 0 {
+            self.meet("trade: a net reaches 20,000,000", at(made.after, to) == most);
+            self.meet("trade: a net reaches -20,000,000", at(made.after, from) == -most);
+            let nets = [at(made.after, from), at(made.after, to)];
+            self.meet("trade: a net returns to 0", nets.contains(&0));
+            let turns = at(made.before, to) < 0 && at(made.after, to) > 0;
+            self.meet("trade: a deliverer becomes a receiver", turns);
+        }
+    }
+
+    /// The situations of the unit question.
+    fn unit(&mut self, made: &Made, issue: u32, k: u32) {
+        if made.answer.number != 0 {
+            return;
+        }
+        let units = units(made.before.nets_of(issue as usize));
+        let unit = units.get(k as usize);
+        self.meet("unit: found full", unit.is_some_and(|unit| unit.full));
+        self.meet("unit: found small", unit.is_some_and(|unit| !unit.full));
+        let past = !units.is_empty() && k as usize == units.len();
+        self.meet("unit: none, just past the last", past);
+        if let Some(unit) = unit {
+            let others = || units.iter().filter(|other| other.account != unit.account);
+            let equal_full = others().any(|other| equal_full(unit, other));
+            self.meet("unit: equals among full units", equal_full);
+            let small = || others().filter(|other| !unit.full && !other.full);
+            let equal = small().any(|other| other.lots == unit.lots && other.net != unit.net);
+            self.meet("unit: equals among small units of unlike nets", equal);
+            let turned = small().any(|other| other.lots < unit.lots && other.net > unit.net);
+            self.meet("unit: a smaller net has the larger small unit", turned);
+        }
+    }
+
+    /// The situations of a delivery.
+    fn deliver(&mut self, made: &Made, issue: u32, account: u32) {
+        if made.answer.number != 0 {
+            return;
+        }
+        let issue = issue as usize;
+        let units = units(made.after.nets_of(issue));
+        let (first, _) = handed(&units, made.before.delivered_total(issue));
+        let (count, stock) = handed(&units, made.after.delivered_total(issue));
+        let next = units.get(count);
+        let inside = |full| stock > 0 && next.is_some_and(|unit| unit.full == full);
+        let owed = made.after.owed_today(issue, account as usize);
+        self.meet("deliver: all that is owed", owed == 0);
+        self.meet("deliver: ends inside a full unit", inside(true));
+        self.meet("deliver: ends inside a small unit", inside(false));
+        self.meet("deliver: ends where a unit ends", stock == 0);
+        self.meet("deliver: hands over nothing", first == count);
+        self.meet("deliver: hands over more than 20 units", count - first > 20);
+        let smaller = units[count..].iter().any(|unit| u64::from(unit.lots) <= stock);
+        self.meet("deliver: a smaller later unit would be covered", smaller);
+        let now = &units[first..count];
+        let among =
+            |equal: fn(&Unit, &Unit) -> bool| now.windows(2).any(|two| equal(&two[0], &two[1]));
+        self.meet("deliver: hands over among equal full units", among(equal_full));
+        self.meet("deliver: hands over among equal small units", among(equal_small));
+    }
+
+    /// The situations of a cutoff.
+    fn cutoff(&mut self, made: &Made) {
+        let refused = made.answer.number == 10 && room_for_one_less(made.before);
+        self.meet("cutoff: 2,049 entries are refused", refused);
+        if made.answer.number != 0 {
+            return;
+        }
+        let ledger = made.after.ledger();
+        let fails = &ledger[made.before.count..];
+        let nothing = fails.is_empty() && made.after.nets.iter().any(|&net| net != 0);
+        self.meet("cutoff: nothing failed", nothing);
+        let nothing = made.before.delivered.iter().all(|&lots| lots == 0);
+        self.meet("cutoff: nothing delivered", nothing);
+        let full = ledger.len() == ENTRIES && !fails.is_empty();
+        self.meet("cutoff: the ledger is full to 2,048", full);
+        self.fails(fails);
+        for issue in 0..16 {
+            self.remaining_stock(made.before, issue);
+        }
+    }
+
+    /// The situations of the fails of a cutoff.
+    fn fails(&mut self, fails: &[Entry]) {
+        let pairs = || fails.windows(2).filter(|two| two[0].issue == two[1].issue);
+        let some = |same_from: bool, same_to: bool| {
+            pairs().any(|two| {
+                (two[0].from == two[1].from) == same_from && (two[0].to == two[1].to) == same_to
+            })
+        };
+        self.meet("cutoff: a deliverer fails several receivers", some(true, false));
+        self.meet("cutoff: several deliverers fail a receiver", some(false, true));
+        let both = "cutoff: full units and small unit of one account failed by one deliverer";
+        self.meet(both, some(true, true));
+        let issues = fails.first().zip(fails.last());
+        let unlike = issues.is_some_and(|(first, last)| first.issue != last.issue);
+        self.meet("cutoff: more than one issue fails", unlike);
+    }
+
+    /// The situations of an issue's remaining stock at cutoff.
+    fn remaining_stock(&mut self, book: &Book, issue: usize) {
+        let total = book.delivered_total(issue);
+        if total == 0 {
+            return;
+        }
+        let units = units(book.nets_of(issue));
+        let (count, stock) = handed(&units, total);
+        if stock > 0 {
+            let unit = units[count];
+            self.meet("cutoff: stock goes to a full unit", unit.full);
+            self.meet("cutoff: stock goes to a small unit", !unit.full);
+            let more =
+                units.get(count + 1).is_some_and(|next| next.full && next.account == unit.account);
+            self.meet(
+                "cutoff: stock goes to a full unit with more of its account after it",
+                unit.full && more,
+            );
+        }
+    }
+
+    /// The situations of a resolve.
+    fn resolve(&mut self, made: &Made, issue: u32, account: u32) {
+        if made.answer.number != 0 {
+            return;
+        }
+        let (before, after) = (made.before.ledger(), made.after.ledger());
+        let records = made.answer.others[0];
+        let gone = before.len() - after.len();
+        self.meet("resolve: part of an entry", gone == 0);
+        self.meet("resolve: one entry whole", gone == 1 && records == 1);
+        self.meet("resolve: several entries", records > 1);
+        let first = before.iter().position(|entry| entry.is_from(issue, account)).unwrap_or(0);
+        let others = before[first..].iter().take(gone).any(|entry| !entry.is_from(issue, account));
+        self.meet("resolve: entries of others lie between", others);
+        let owed = made.after.owed_in_ledger(issue, account);
+        self.meet("resolve: all that the account owes", owed == 0);
+        self.meet("resolve: on a full ledger", before.len() == ENTRIES);
+    }
+
+    /// The situations of a pair-off.
+    fn pair_off(&mut self, made: &Made, issue: u32, account: u32) {
+        if made.answer.number != 0 {
+            return;
+        }
+        let before = made.before.ledger();
+        let inward: Vec<&Entry> = before.iter().filter(|e| e.is_to(issue, account)).collect();
+        let outward: Vec<&Entry> = before.iter().filter(|e| e.is_from(issue, account)).collect();
+        self.meet("pair-off: entries in alone", !inward.is_empty() && outward.is_empty());
+        self.meet("pair-off: entries out alone", inward.is_empty() && !outward.is_empty());
+        if let (Some(first), Some(second)) = (inward.first(), outward.first()) {
+            self.meet("pair-off: P and Q are the same", first.from == second.to);
+            self.meet("pair-off: an entry P to Q is appended", first.from != second.to);
+            self.meet("pair-off: entry in and entry out are equal", first.lots == second.lots);
+            let most = (inward.len() + outward.len() - 1) as u64;
+            let steps = made.answer.others[0];
+            self.meet("pair-off: steps are a + b - 1, above 2", steps == most && steps > 2);
+            self.meet("pair-off: on a full ledger", before.len() == ENTRIES);
+        }
+    }
+
+    /// The situations of a roll.
+    fn roll(&mut self, made: &Made, days: u32, rate: u32, prices: &[u32]) {
+        if made.answer.number != 0 {
+            return;
+        }
+        let ledger = made.before.ledger();
+        let several = ledger.first().zip(ledger.last()).is_some_and(|(a, b)| a.day != b.day);
+        self.meet("roll: entries of several days", several);
+        let nothing = |e: &Entry| prices[usize::from(e.issue)] == 1 && e.lots < 9 && rate > 0;
+        self.meet("roll: price 1 charges 0 yen", ledger.iter().any(nothing));
+        let highest = |e: &Entry| prices[usize::from(e.issue)] == MOST_PRICE;
+        let highest = ledger.iter().any(highest) && rate == MOST_RATE && days == MOST_DAYS;
+        self.meet("roll: highest price, rate and days", highest);
+        self.meet("roll: day becomes 65,535", made.after.day == u16::MAX);
+        self.meet("roll: lots were delivered", made.before.delivered.iter().any(|&lots| lots > 0));
+    }
+}
+
+/// Would the cutoff be accepted with one entry less in the ledger?
+fn room_for_one_less(book: &Book) -> bool {
+    let mut room = book.clone();
+    room.set_ledger(&book.ledger()[1..]);
+    reference::calls::cutoff_on_sound(&mut room, &mut [0; 4_096]).number == 0
+}
+
+/// The name under which a call's number is counted.
+fn number_name(call: &str, number: u32) -> String {
+    format!("{call}: answers {number}")
+}
+
+/// All names that a run must meet.
+fn expected() -> Vec<String> {
+    let numbers = NUMBERS
+        .iter()
+        .flat_map(|(call, numbers)| numbers.iter().map(move |&number| number_name(call, number)));
+    numbers.chain(SITUATIONS.iter().map(|name| name.to_string())).collect()
+}
+
+/// Are these full units of two accounts with equal nets?
+fn equal_full(one: &Unit, other: &Unit) -> bool {
+    one.full && other.full && one.account != other.account && one.net == other.net
+}
+
+/// Are these small units of equal size?
+fn equal_small(one: &Unit, other: &Unit) -> bool {
+    !one.full && !other.full && one.lots == other.lots && one.lots < UNIT_LOTS
+}
