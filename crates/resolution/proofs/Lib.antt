@@ -1,2 +1,3 @@
 pub mod Alone
 pub mod Sweeping
+pub mod Opening

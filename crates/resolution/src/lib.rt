@@ -1,4 +1,6 @@
 // Resolve and pair-off: the ledger's fails met, and set against one another.
+use rules::Book;
+use rules::Reply;
 ghost use mathlib.Core.Path.{_≡_};
 ghost use mathlib.Core.Bool.{true, cond, _&&_};
 ghost use mathlib.Core.List.{List};
@@ -6,11 +8,12 @@ ghost use Prim.Native.Nat.{ℕ, _+_, _-_, _*_, _≤_, _<_, min};
 ghost use lib.Dec.{eqb};
 ghost use lib.ListN.{length};
 ghost use Rattle.rules.specs.Ledger.{entry, isFrom};
-ghost use Rattle.rules.specs.Book.{entries, entrySound};
+ghost use Rattle.rules.specs.Book.{entries, entrySound, sound};
 ghost use Rattle.rules.specs.Questions.{firstNo};
-ghost use Rattle.rules.specs.Calls.{resolveAsks, pairOffAsks};
+ghost use Rattle.rules.specs.Calls.{AnswerIs, resolveAsks, resolve as resolveOf, pairOffAsks};
+ghost use Rattle.rules.specs.Measures.{outputWords};
 ghost use Rattle.ledger.specs.Columns.{Whole};
-ghost use Rattle.resolution.specs.Resolving.{entryAt, Put, Recorded, CanMeet, WasMet, Resolvable, Resolved};
+ghost use Rattle.resolution.specs.Resolving.{resolveAnswer, entryAt, Put, Recorded, CanMeet, WasMet, Resolvable, Resolved};
 
 // What a resolve leaves: the number of entries in the ledger, and of records written.
 pub struct Counts {
@@ -188,4 +191,66 @@ pub fn pair_off_asks(i: u32, a: u32) -> u32
         return 5;
     }
     0
+}
+
+// A resolve of a sound book whose questions are all answered 'yes'.
+fn resolve_book(b: Book, i: u32, a: u32, x: u32, out: &mut [u32]) -> Reply
+    requires { ⌜ (outputWords ≤ length (now out)) × (sound b ≡ true) ⌝ }
+    ensures { λ r. ⌜ AnswerIs (resolveAnswer b i a x (now (out .entry))) r (now (out .exit)) ⌝ }
+{
+    let count = b.count;
+    let mut issues = b.issues;
+    let mut froms = b.froms;
+    let mut tos = b.tos;
+    let mut lots = b.lots;
+    let mut days = b.days;
+    let left = resolve_in(
+        count,
+        &mut issues,
+        &mut froms,
+        &mut tos,
+        &mut lots,
+        &mut days,
+        i,
+        a,
+        x,
+        out,
+    );
+    let next = book::with_columns(b, left.entries, issues, froms, tos, lots, days);
+    Reply {
+        refusal: 0,
+        count: left.records,
+        book: next,
+    }
+}
+
+// Entries of issue i from account a are met by x lots in ledger order, and each gives one record.
+// A refusal gives its number, 0 records, and the book and the output as they were.
+pub fn resolve(b: Book, i: u32, a: u32, x: u32, out: &mut [u32]) -> Reply
+    ensures { λ r. ⌜ AnswerIs (resolveOf b i a x (now (out .entry))) r (now (out .exit)) ⌝ }
+{
+    if out.len() < 4096 {
+        return Reply {
+            refusal: 1,
+            count: 0,
+            book: b,
+        };
+    }
+    if !book::sound(b) {
+        return Reply {
+            refusal: 2,
+            count: 0,
+            book: b,
+        };
+    }
+    let count = b.count;
+    let no = resolve_asks(count, &b.issues, &b.froms, &b.lots, i, a, x);
+    if no != 0 {
+        return Reply {
+            refusal: no,
+            count: 0,
+            book: b,
+        };
+    }
+    resolve_book(b, i, a, x, out)
 }

@@ -201,7 +201,9 @@ fn random_fields(rng: &mut Rng) -> (Fields, Vec<u32>) {
 fn compare_read(words: &[u32]) -> Result<u64, Mismatch> {
     let answer = library_tape::read_fields(words);
     let expected = match tape::read(words) {
-        Ok((instruction, count)) => ReadAnswer { number: 0, fields: fields_of(&instruction), count },
+        Ok((instruction, count)) => {
+            ReadAnswer { number: 0, fields: fields_of(&instruction), count }
+        }
         Err(number) => ReadAnswer { number, fields: [0; 5], count: 0 },
     };
     let case = format!("read {}", listed(words.iter().map(|word| format!("{word:08x}"))));
