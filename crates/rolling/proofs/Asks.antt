@@ -31,7 +31,7 @@ no-and : (a b : Bool) → a ≡ false → a && b ≡ false
 no-and a b e = ap (λ t. t && b) e
 
 -- a roll's terms, found right
-pub record Terms (today days rate : ℕ) (prices : List ℕ) : Type 0 where
+pub record Terms (days rate : ℕ) (prices : List ℕ) : Type 0 where
   pub term : termRight days rate ≡ true
   pub count : length prices ≡ 16
   pub price : all priceRight prices ≡ true
@@ -71,7 +71,7 @@ module _ (p : Phase) (today days rate : ℕ) (prices : List ℕ) where
     pub no11-price : all priceRight prices ≡ false → 11 ≡ asks
     no11-price h = no11 (and-no (termRight days rate && eqb (length prices) issueCount) (all priceRight prices) h)
 
-    module _ (t : Terms today days rate prices) where
+    module _ (t : Terms days rate prices) where
       yes11 : asks ≡ firstNo from12
       yes11 =
           yes3
@@ -86,7 +86,7 @@ module _ (p : Phase) (today days rate : ℕ) (prices : List ℕ) where
       pub none : today < lastDay → 0 ≡ asks
       none h = sym (yes11 ∙ said-yes 12 (ltb today lastDay) [] (lt-ltb today lastDay h))
 
-  pub terms : asks ≡ 0 → Terms today days rate prices
+  pub terms : asks ≡ 0 → Terms days rate prices
   terms h =
       let y3 = yes 2 (isCut p) from11 h in
       let y11 = yes 10 right from12 (y3 .others) in

@@ -21,7 +21,7 @@ at4 c = at2 (c .before .before .before)
 cut : (c : tie.Else1) → isCut (at1 c .args .phase) ≡ true
 cut c = sym (c .before .cut .ensures) ∙ not-false (c .before .cut .result) (c .if1 .left)
 
-terms : (c : tie.Else4) → let a = at4 c .args in Terms (a .today) (a .days) (a .rate) (now (a .prices))
+terms : (c : tie.Else4) → let a = at4 c .args in Terms (a .days) (a .rate) (now (a .prices))
 terms c =
     let e = c .before .before .before in
     record {
