@@ -4,3 +4,4 @@ pub mod Fails
 pub mod Issues
 pub mod Cutting
 pub mod Going
+pub mod Books
