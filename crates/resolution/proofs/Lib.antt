@@ -1,3 +1,4 @@
 pub mod Alone
 pub mod Sweeping
 pub mod Opening
+pub mod Stepping

@@ -3,16 +3,17 @@ use rules::Book;
 use rules::Reply;
 ghost use mathlib.Core.Path.{_≡_};
 ghost use mathlib.Core.Bool.{true, cond, _&&_};
-ghost use mathlib.Core.List.{List};
+ghost use mathlib.Core.List.{List, _++_};
 ghost use Prim.Native.Nat.{ℕ, _+_, _-_, _*_, _≤_, _<_, min};
 ghost use lib.Dec.{eqb};
 ghost use lib.ListN.{length};
-ghost use Rattle.rules.specs.Ledger.{entry, isFrom};
+ghost use Rattle.rules.specs.Ledger.{entry, isFrom, isTo, lower, through};
 ghost use Rattle.rules.specs.Book.{entries, entrySound, sound};
 ghost use Rattle.rules.specs.Questions.{firstNo};
 ghost use Rattle.rules.specs.Calls.{AnswerIs, resolveAsks, resolve as resolveOf, pairOffAsks};
 ghost use Rattle.rules.specs.Measures.{outputWords};
-ghost use Rattle.ledger.specs.Columns.{Whole};
+ghost use Rattle.ledger.specs.Columns.{Whole, Held, Kept};
+ghost use Rattle.resolution.specs.Pairs.{Pairable, CanFall, CanStep, WasStepped, WasPaired, FewSteps};
 ghost use Rattle.resolution.specs.Resolving.{resolveAnswer, entryAt, Put, Recorded, CanMeet, WasMet, Resolvable, Resolved};
 
 // What a resolve leaves: the number of entries in the ledger, and of records written.
@@ -253,4 +254,112 @@ pub fn resolve(b: Book, i: u32, a: u32, x: u32, out: &mut [u32]) -> Reply
         };
     }
     resolve_book(b, i, a, x, out)
+}
+
+// What pair-off leaves: the steps made, the lots cancelled, the number of entries in the ledger.
+pub struct Steps {
+    pub steps: usize,
+    pub cancelled: u64,
+    pub count: usize,
+}
+
+// After one step: the number of entries, and the lots by which both entries fell.
+pub struct Fallen {
+    pub count: usize,
+    pub lots: u32,
+}
+
+fn smaller(x: u32, y: u32) -> u32
+    ensures { λ r. ⌜ r ≡ min x y ⌝ }
+{
+    if x < y {
+        return x;
+    }
+    y
+}
+
+// The first entry of issue i to account a falls by m lots; answers the number of entries.
+fn fall_to(
+    count: usize,
+    issues: &mut [u8],
+    froms: &mut [u8],
+    tos: &mut [u8],
+    lots: &mut [u32],
+    days: &mut [u16],
+    i: u32,
+    a: u32,
+    m: u32,
+) -> usize
+    requires { ⌜ CanFall m count i a (now issues) (now froms) (now tos) (now lots) (now days) ⌝ }
+    ensures { λ r. ⌜ Kept (lower (isTo i a) m (entries count (now (issues .entry)) (now (froms .entry)) (now (tos .entry)) (now (lots .entry)) (now (days .entry)))) r (now (issues .exit)) (now (froms .exit)) (now (tos .exit)) (now (lots .exit)) (now (days .exit)) ⌝ }
+{
+    let k = ledger::first_to(count, issues, tos, i, a);
+    ledger::lower_at(count, k, m, issues, froms, tos, lots, days)
+}
+
+// An entry p to q of m lots, today, behind the others, where p and q differ; answers the number of
+// entries.
+fn pass_on(
+    count: usize,
+    issues: &mut [u8],
+    froms: &mut [u8],
+    tos: &mut [u8],
+    lots: &mut [u32],
+    days: &mut [u16],
+    i: u8,
+    p: u8,
+    q: u8,
+    m: u32,
+    today: u16,
+) -> usize
+    requires { ⌜ (count < 2048) × (1 ≤ m) × Held count (now issues) (now froms) (now tos) (now lots) (now days) ⌝ }
+    ensures { λ r. ⌜ Kept (entries count (now (issues .entry)) (now (froms .entry)) (now (tos .entry)) (now (lots .entry)) (now (days .entry)) ++ through today i p q m) r (now (issues .exit)) (now (froms .exit)) (now (tos .exit)) (now (lots .exit)) (now (days .exit)) ⌝ }
+{
+    if p == q {
+        return count;
+    }
+    ledger::append(count, issues, froms, tos, lots, days, i, p, q, m, today);
+    count + 1
+}
+
+// One step: the entry to account a at place t and the one from it at place f fall by the smaller
+// lots, and what goes through the account is passed on.
+fn step_in(
+    count: usize,
+    issues: &mut [u8],
+    froms: &mut [u8],
+    tos: &mut [u8],
+    lots: &mut [u32],
+    days: &mut [u16],
+    today: u16,
+    i: u32,
+    a: u32,
+    t: usize,
+    f: usize,
+) -> Fallen
+    requires { ⌜ CanStep today count i a t f (now issues) (now froms) (now tos) (now lots) (now days) ⌝ }
+    ensures { λ r. ⌜ WasStepped (entries count (now (issues .entry)) (now (froms .entry)) (now (tos .entry)) (now (lots .entry)) (now (days .entry))) today i a r (now (issues .exit)) (now (froms .exit)) (now (tos .exit)) (now (lots .exit)) (now (days .exit)) ⌝ }
+{
+    let p = froms[t];
+    let q = tos[f];
+    let m = smaller(lots[t], lots[f]);
+    let fewer = ledger::lower_at(count, f, m, issues, froms, tos, lots, days);
+    let left = fall_to(fewer, issues, froms, tos, lots, days, i, a, m);
+    let next = pass_on(
+        left,
+        issues,
+        froms,
+        tos,
+        lots,
+        days,
+        i as u8,
+        p,
+        q,
+        m,
+        today,
+    );
+    Fallen {
+        count: next,
+        lots: m,
+    }
 }
