@@ -2,3 +2,4 @@ pub mod Alone
 pub mod Sweeping
 pub mod Opening
 pub mod Stepping
+pub mod Pairs

@@ -40,7 +40,7 @@ first-there p es m s h =
     (λ t. absurd (omega (arith, first-none (λ e. e .lots) p es (ltb-false _ _ t))))
 
 -- and where there is one it has lots
-first-some : (p : Entry → Bool) (es : List Entry) → Every SoundEntry es → placeOf p es < length es → 1 ≤ firstLots p es
+pub first-some : (p : Entry → Bool) (es : List Entry) → Every SoundEntry es → placeOf p es < length es → 1 ≤ firstLots p es
 first-some p [] s h = absurd (omega arith)
 first-some p (e ∷ es) s h =
     byTest (p e) (λ t. rw t (s .0 .some)) (λ t. rw t (first-some p es (s .1) (omega (arith, rw t at h))))

@@ -7,7 +7,7 @@ ghost use mathlib.Core.List.{List, _++_};
 ghost use Prim.Native.Nat.{ℕ, _+_, _-_, _*_, _≤_, _<_, min};
 ghost use lib.Dec.{eqb};
 ghost use lib.ListN.{length};
-ghost use Rattle.rules.specs.Ledger.{entry, isFrom, isTo, lower, through};
+ghost use Rattle.rules.specs.Ledger.{entry, isFrom, isTo, lower, through, pairing};
 ghost use Rattle.rules.specs.Book.{entries, entrySound, sound};
 ghost use Rattle.rules.specs.Questions.{firstNo};
 ghost use Rattle.rules.specs.Calls.{AnswerIs, resolveAsks, resolve as resolveOf, pairOffAsks};
@@ -361,5 +361,47 @@ fn step_in(
     Fallen {
         count: next,
         lots: m,
+    }
+}
+
+// Pair-off in place: while there is an entry of issue i to account a and one from it, a step.
+pub fn pair_off_in(
+    count: usize,
+    issues: &mut [u8],
+    froms: &mut [u8],
+    tos: &mut [u8],
+    lots: &mut [u32],
+    days: &mut [u16],
+    today: u16,
+    i: u32,
+    a: u32,
+) -> Steps
+    requires { ⌜ Pairable today count i (now issues) (now froms) (now tos) (now lots) (now days) ⌝ }
+    ensures { λ r. ⌜ WasPaired (pairing today i a (entries count (now (issues .entry)) (now (froms .entry)) (now (tos .entry)) (now (lots .entry)) (now (days .entry)))) r (now (issues .exit)) (now (froms .exit)) (now (tos .exit)) (now (lots .exit)) (now (days .exit)) ⌝ }
+{
+    let mut n = count;
+    let mut steps: usize = 0;
+    let mut cancelled: u64 = 0;
+    loop {
+        let t = ledger::first_to(n, issues, tos, i, a);
+        if t == n {
+            return Steps {
+                steps,
+                cancelled,
+                count: n,
+            };
+        }
+        let f = ledger::first_from(n, issues, froms, i, a);
+        if f == n {
+            return Steps {
+                steps,
+                cancelled,
+                count: n,
+            };
+        }
+        let s = step_in(n, issues, froms, tos, lots, days, today, i, a, t, f);
+        n = s.count;
+        steps += 1;
+        cancelled += s.lots as u64;
     }
 }
