@@ -1,5 +1,6 @@
 // Resolve and pair-off: the ledger's fails met, and set against one another.
 use rules::Book;
+use rules::Paired;
 use rules::Reply;
 ghost use mathlib.Core.Path.{_≡_};
 ghost use mathlib.Core.Bool.{true, cond, _&&_};
@@ -8,9 +9,9 @@ ghost use Prim.Native.Nat.{ℕ, _+_, _-_, _*_, _≤_, _<_, min};
 ghost use lib.Dec.{eqb};
 ghost use lib.ListN.{length};
 ghost use Rattle.rules.specs.Ledger.{entry, isFrom, isTo, lower, through, pairing};
-ghost use Rattle.rules.specs.Book.{entries, entrySound, sound};
+ghost use Rattle.rules.specs.Book.{entries, entrySound, ledgerOf, sound};
 ghost use Rattle.rules.specs.Questions.{firstNo};
-ghost use Rattle.rules.specs.Calls.{AnswerIs, resolveAsks, resolve as resolveOf, pairOffAsks};
+ghost use Rattle.rules.specs.Calls.{AnswerIs, resolveAsks, resolve as resolveOf, pairOffAsks, PairAnswerIs, pairAnswer, pairOff};
 ghost use Rattle.rules.specs.Measures.{outputWords};
 ghost use Rattle.ledger.specs.Columns.{Whole, Held, Kept};
 ghost use Rattle.resolution.specs.Pairs.{Pairable, CanFall, CanStep, WasStepped, WasPaired, FewSteps};
@@ -404,4 +405,63 @@ pub fn pair_off_in(
         steps += 1;
         cancelled += s.lots as u64;
     }
+}
+
+// Pair-off of a sound book whose questions are all answered 'yes'.
+fn pair_off_book(b: Book, i: u32, a: u32) -> Paired
+    requires { ⌜ (i < 16) × (sound b ≡ true) ⌝ }
+    ensures { λ r. ⌜ PairAnswerIs (pairAnswer 0 b (pairing (b .day) i a (ledgerOf b))) r ⌝ }
+{
+    let count = b.count;
+    let today = b.day;
+    let mut issues = b.issues;
+    let mut froms = b.froms;
+    let mut tos = b.tos;
+    let mut lots = b.lots;
+    let mut days = b.days;
+    let made = pair_off_in(
+        count,
+        &mut issues,
+        &mut froms,
+        &mut tos,
+        &mut lots,
+        &mut days,
+        today,
+        i,
+        a,
+    );
+    let next = book::with_columns(b, made.count, issues, froms, tos, lots, days);
+    Paired {
+        refusal: 0,
+        steps: made.steps,
+        cancelled: made.cancelled,
+        book: next,
+    }
+}
+
+// Fails to account a in issue i are set against its fails from there, first against first; the answer
+// carries the steps made and the lots cancelled. A refusal gives its number, 0 steps and 0 lots, and
+// the book as it was.
+pub fn pair_off(b: Book, i: u32, a: u32) -> Paired
+    ensures answer { λ r. ⌜ PairAnswerIs (pairOff b i a) r ⌝ }
+    ensures few { λ r. ⌜ FewSteps b i a (r .steps) ⌝ }
+{
+    if !book::sound(b) {
+        return Paired {
+            refusal: 2,
+            steps: 0,
+            cancelled: 0,
+            book: b,
+        };
+    }
+    let no = pair_off_asks(i, a);
+    if no != 0 {
+        return Paired {
+            refusal: no,
+            steps: 0,
+            cancelled: 0,
+            book: b,
+        };
+    }
+    pair_off_book(b, i, a)
 }
