@@ -35,7 +35,8 @@ pub struct Book {
     pub days: [u16; 2048],
 }
 
-// A fail entry of the ledger.
+// A fail entry of the ledger, laid out as in C for a host that keeps its entries as structs.
+#[repr(C)]
 pub struct Entry {
     pub issue: u8,
     pub from: u8,

@@ -1,0 +1,91 @@
+-- The flag and the tests of the entries that are left, from the last day on, are those of all entries.
+use mathlib.Core.Path.{_≡_}
+use mathlib.Core.Bool.{_&&_}
+use Prim.Native.Nat.{_-_, _≤_}
+use native.Mathlib.Omega.{arith}
+use denote.Ref.{now}
+use Rattle.rules.specs.Book.{entries}
+use Rattle.book.specs.Scan.{entriesSound}
+use Rattle.book.proofs.ScanLaws.{restOfLedger, ledger-more, ledger-end}
+use borrow.Author.Needs.{needs}
+use Rattle.book.proofs.scan.entries_sound.Statement.{statement}
+use Rattle.book.proofs.scan.entries_sound.Tie as tie
+
+abbrev Inv-loop : tie.InvT-loop
+Inv-loop today count issues froms tos lots days good₀ last₀ k₀ good last k =
+    (k ≤ count)
+    × (good && restOfLedger today last k (entries count issues froms tos lots days)
+    ≡ restOfLedger today 0 0 (entries count issues froms tos lots days))
+
+abbrev μ-loop : tie.MeasureT-loop
+μ-loop today count issues froms tos lots days good₀ last₀ k₀ good last k = count - k
+
+loop-holds : tie.Need-loop-holds Inv-loop μ-loop
+loop-holds c = search needs
+
+mul-d : tie.Need-mul-d Inv-loop μ-loop
+mul-d c = search needs
+
+shared-slice-read-d : tie.Need-shared-slice-read-d Inv-loop μ-loop
+shared-slice-read-d c = search needs
+
+shared-slice-read-entry-sound : tie.Need-shared-slice-read-entry-sound Inv-loop μ-loop
+shared-slice-read-entry-sound c = search needs
+
+shared-slice-read-entry-sound-2 : tie.Need-shared-slice-read-entry-sound-2 Inv-loop μ-loop
+shared-slice-read-entry-sound-2 c = search needs
+
+shared-slice-read-entry-sound-3 : tie.Need-shared-slice-read-entry-sound-3 Inv-loop μ-loop
+shared-slice-read-entry-sound-3 c = search needs
+
+mul-entry-sound : tie.Need-mul-entry-sound Inv-loop μ-loop
+mul-entry-sound c = search needs
+
+shared-slice-read-entry-sound-4 : tie.Need-shared-slice-read-entry-sound-4 Inv-loop μ-loop
+shared-slice-read-entry-sound-4 c = search needs
+
+entry-sound-requires : tie.Need-entry-sound-requires Inv-loop μ-loop
+entry-sound-requires c κs = search needs
+
+add-k : tie.Need-add-k Inv-loop μ-loop
+add-k c = search needs
+
+loop-less : tie.Need-loop-less Inv-loop μ-loop
+loop-less c = search needs
+
+loop-again : tie.Need-loop-again Inv-loop μ-loop
+loop-again c =
+    let s = c .before .before .before .before .before .before .before .before .before .before .before .before .before in
+    let l = c .before .before .before .before .before .before .before .loop in (
+      search needs,
+      ledger-more (s .args .today) (s .args .count) (now (s .args .issues)) (now (s .args .froms)) (now (s .args .tos))
+          (now (s .args .lots)) (now (s .args .days)) (l .last) (l .k) (l .good) _ _ (omega arith) (c .entry-sound .ensures) (l .inv .1),
+    )
+
+returns : tie.Need-returns Inv-loop μ-loop
+unfolding entriesSound
+returns c =
+    let s = c .before .before .before .before .before .before .before in
+    let l = c .before .loop in
+    ledger-end (s .args .today) (s .args .count) (now (s .args .issues)) (now (s .args .froms)) (now (s .args .tos))
+    (now (s .args .lots)) (now (s .args .days)) (l .last) (l .k) (l .good) _ (omega arith) (l .inv .1)
+
+pub entries-sound-spec : {M : Type 1} → statement M
+entries-sound-spec =
+    tie.close
+    (tie.spec
+    Inv-loop
+    μ-loop
+    loop-holds
+    mul-d
+    shared-slice-read-d
+    shared-slice-read-entry-sound
+    shared-slice-read-entry-sound-2
+    shared-slice-read-entry-sound-3
+    mul-entry-sound
+    shared-slice-read-entry-sound-4
+    entry-sound-requires
+    add-k
+    loop-less
+    loop-again
+    returns)

@@ -1,0 +1,126 @@
+-- The flag and the tests that are left, and each sum and what is left of it, are those of the whole row.
+use mathlib.Core.Path.{_≡_, ap, _∙_}
+use mathlib.Core.Bool.{_&&_}
+use mathlib.Core.List.{map}
+use Prim.Native.Nat.{_+_, _-_, _*_, _≤_, _<_}
+use native.Mathlib.Omega.{arith}
+use denote.Ref.{now}
+use lib.ListN.{length, drop, getD}
+use lib.IntN.{pos}
+use mir.Syntax.{w32}
+use mir.ValLaws.{toZ-ofZ}
+use Rattle.rules.specs.Measures.{mostLots, sum, dueOf, owedOf}
+use Rattle.rules.specs.Book.{all, withinSize, withinOwed}
+use Rattle.book.proofs.ScanLaws.{restOfRow, row-more, row-end, sum-more, sum-none}
+use borrow.Author.Needs.{needs}
+use Rattle.book.proofs.scan.row_sound.Statement.{statement}
+use Rattle.book.proofs.scan.row_sound.Tie as tie
+
+abbrev Inv-loop : tie.InvT-loop
+Inv-loop net delivered good₀ dues₀ oweds₀ i₀ good dues oweds i =
+    (i ≤ 64)
+    × (good && restOfRow net delivered i ≡ all (withinSize mostLots) net && withinOwed net delivered)
+    × (dues + sum (map dueOf (drop i net)) ≡ sum (map dueOf net))
+    × (oweds + sum (map owedOf (drop i net)) ≡ sum (map owedOf net))
+    × (dues ≤ 4294967295 * i)
+    × (oweds ≤ 4294967295 * i)
+
+abbrev μ-loop : tie.MeasureT-loop
+μ-loop net delivered good₀ dues₀ oweds₀ i₀ good dues oweds i = 64 - i
+
+loop-holds : tie.Need-loop-holds Inv-loop μ-loop
+loop-holds c = search needs
+
+mul-n : tie.Need-mul-n Inv-loop μ-loop
+mul-n c = search needs
+
+shared-slice-copy-out-n : tie.Need-shared-slice-copy-out-n Inv-loop μ-loop
+shared-slice-copy-out-n c = search needs
+
+due-requires : tie.Need-due-requires Inv-loop μ-loop
+due-requires c κs = search needs
+
+owed-requires : tie.Need-owed-requires Inv-loop μ-loop
+owed-requires c κs = search needs
+
+cast-dues : tie.Need-cast-dues Inv-loop μ-loop
+cast-dues c = search needs
+
+add-dues : tie.Need-add-dues Inv-loop μ-loop
+add-dues c = search needs
+
+cast-oweds : tie.Need-cast-oweds Inv-loop μ-loop
+cast-oweds c = search needs
+
+add-oweds : tie.Need-add-oweds Inv-loop μ-loop
+add-oweds c = search needs
+
+within-requires : tie.Need-within-requires Inv-loop μ-loop
+within-requires c κs = search needs
+
+mul-good : tie.Need-mul-good Inv-loop μ-loop
+mul-good c = search needs
+
+shared-slice-read-good : tie.Need-shared-slice-read-good Inv-loop μ-loop
+shared-slice-read-good c = search needs
+
+add-i : tie.Need-add-i Inv-loop μ-loop
+add-i c = search needs
+
+loop-less : tie.Need-loop-less Inv-loop μ-loop
+loop-less c = search needs
+
+loop-again : tie.Need-loop-again Inv-loop μ-loop
+loop-again c =
+    let s = c .before .before .before .before .before .before .before .before in
+    let l = c .before .before .before .before .before .before .loop in
+    let ns = now (s .args .net) in
+    let ds = now (s .args .delivered) in
+    let n = getD ns (l .i) (pos 0) in
+    let z = toZ-ofZ w32 n (search needs) in
+    let d : c .before .before .before .due .result ≡ dueOf n = c .before .before .before .due .ensures ∙ ap dueOf z in
+    let o : c .before .before .owed .result ≡ owedOf n = c .before .before .owed .ensures ∙ ap owedOf z in
+    let w : c .before .within .result ≡ withinSize mostLots n = c .before .within .ensures ∙ ap (withinSize mostLots) z in
+    let hn : l .i < length ns = omega arith in
+    let hd : l .i < length ds = omega arith in (
+      search needs,
+      row-more ns ds (l .i) (l .good) _ _ _ hn hd o w (l .inv .1),
+      omega (arith, d, sum-more dueOf ns (l .i) (pos 0) hn, l .inv .2),
+      omega (arith, o, sum-more owedOf ns (l .i) (pos 0) hn, l .inv .3),
+      search needs,
+      search needs,
+    )
+
+returns : tie.Need-returns Inv-loop μ-loop
+returns c =
+    let s = c .before .before .before in
+    let l = c .before .loop in
+    let ns = now (s .args .net) in
+    let h : length ns ≤ l .i = omega arith in
+    row-end ns (now (s .args .delivered)) (l .i) (l .good) (l .dues) (l .oweds) h
+    (omega (arith, sum-none dueOf ns (l .i) h, l .inv .2))
+    (omega (arith, sum-none owedOf ns (l .i) h, l .inv .3))
+    (l .inv .1)
+
+pub row-sound-spec : {M : Type 1} → statement M
+row-sound-spec =
+    tie.close
+    (tie.spec
+    Inv-loop
+    μ-loop
+    loop-holds
+    mul-n
+    shared-slice-copy-out-n
+    due-requires
+    owed-requires
+    cast-dues
+    add-dues
+    cast-oweds
+    add-oweds
+    within-requires
+    mul-good
+    shared-slice-read-good
+    add-i
+    loop-less
+    loop-again
+    returns)

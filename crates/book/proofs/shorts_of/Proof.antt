@@ -1,0 +1,103 @@
+-- Writing all shortfalls from the start is the same as writing from here those that are left.
+use mathlib.Core.Path.{_≡_, sym, ap, _∙_}
+use mathlib.Core.List.{map}
+use Prim.Native.Nat.{_-_}
+use native.Mathlib.Omega.{arith}
+use borrow.Author.Needs.{needs}
+use denote.Ref.{now}
+use lib.ListN.{length, drop, getD, length-set}
+use Rattle.rules.specs.Measures.{owedOf}
+use lib.Seq.{sets}
+use Rattle.rules.specs.Fails.{shorts}
+use Rattle.book.proofs.RowLaws.{shorts-more, shorts-end, sets-all, shorts-length}
+use lib.IntN.{pos}
+use lib.ListN.{length-map}
+use mir.Syntax.{w32}
+use mir.ValLaws.{toZ-ofZ}
+use Rattle.book.proofs.shorts_of.Statement.{statement}
+use Rattle.book.proofs.shorts_of.Tie as tie
+
+abbrev Inv-loop : tie.InvT-loop
+Inv-loop net delivered short₀ i₀ short i = (length short ≡ length short₀) × (sets short₀ 0 (shorts (map owedOf net) delivered) ≡ sets short i (shorts (drop i (map owedOf net)) (drop i delivered)))
+
+abbrev μ-loop : tie.MeasureT-loop
+μ-loop net delivered short₀ i₀ short i = length net - i
+
+owes : (c : tie.After-owed Inv-loop μ-loop) → c .owed .result ≡ owedOf (getD (now (c .before .before .before .before .before .before .args .net)) (c .before .before .before .loop .i) (pos 0))
+owes c = c .owed .ensures ∙ ap owedOf (toZ-ofZ w32 (getD (now (c .before .before .before .before .before .before .args .net)) (c .before .before .before .loop .i) (pos 0)) (search needs))
+
+loop-holds : tie.Need-loop-holds Inv-loop μ-loop
+loop-holds c = search needs
+
+mul-n : tie.Need-mul-n Inv-loop μ-loop
+mul-n c = search needs
+
+shared-slice-copy-out-n : tie.Need-shared-slice-copy-out-n Inv-loop μ-loop
+shared-slice-copy-out-n c = search needs
+
+owed-requires : tie.Need-owed-requires Inv-loop μ-loop
+owed-requires c κs = search needs
+
+mul-short : tie.Need-mul-short Inv-loop μ-loop
+mul-short c = search needs
+
+shared-slice-read-short : tie.Need-shared-slice-read-short Inv-loop μ-loop
+shared-slice-read-short c = search needs
+
+sub-short : tie.Need-sub-short Inv-loop μ-loop
+sub-short c =
+    let s = c .before .before .before .before .before .before .before in
+    omega (arith, owes (c .before), s .pre .most (c .before .before .before .before .loop .i))
+
+mul-short-2 : tie.Need-mul-short-2 Inv-loop μ-loop
+mul-short-2 c = search needs
+
+slice-write-short : tie.Need-slice-write-short Inv-loop μ-loop
+slice-write-short c = search needs
+
+add-i : tie.Need-add-i Inv-loop μ-loop
+add-i c = search needs
+
+loop-less : tie.Need-loop-less Inv-loop μ-loop
+loop-less c = search needs
+
+loop-again : tie.Need-loop-again Inv-loop μ-loop
+loop-again c =
+    let s = c .before .before .before .before .before .before .before in
+    let l = c .before .before .before .before .loop in (
+      simp length-set (l .inv .0),
+      shorts-more (now (s .args .net)) (now (s .args .delivered)) (l .i) _ (l .short) _ (omega arith) (omega arith) (ap (λ z. z - getD (now (s .args .delivered)) (l .i) 0) (owes (c .before))) (l .inv .1),
+    )
+
+same-length : tie.Need-same-length Inv-loop μ-loop
+same-length c = search needs
+
+returns : tie.Need-returns Inv-loop μ-loop
+returns c =
+    let s = c .before .before .before .before in
+    let l = c .before .loop in
+    let ns = now (s .args .net) in
+    let ds = now (s .args .delivered) in
+    let n : length (shorts (map owedOf ns) ds) ≡ length (now (s .args .short)) = omega (arith, shorts-length (map owedOf ns) ds (omega (arith, length-map ns owedOf)), length-map ns owedOf, s .pre) in
+    sym (shorts-end ns ds (l .i) _ (l .short) (omega arith) (l .inv .1)) ∙ sets-all (shorts (map owedOf ns) ds) (now (s .args .short)) n
+
+pub shorts-of-spec : {M : Type 1} → statement M
+shorts-of-spec =
+    tie.close
+    (tie.spec
+    Inv-loop
+    μ-loop
+    loop-holds
+    mul-n
+    shared-slice-copy-out-n
+    owed-requires
+    mul-short
+    shared-slice-read-short
+    sub-short
+    mul-short-2
+    slice-write-short
+    add-i
+    loop-less
+    loop-again
+    same-length
+    returns)

@@ -1,0 +1,4 @@
+pub mod Nets
+pub mod Rows
+pub mod Columns
+pub mod Scan

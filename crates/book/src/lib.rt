@@ -1,0 +1,242 @@
+// The book's leaves: signed nets as lots due and lots owed, an issue's rows, the phases, soundness.
+pub mod scan;
+
+use rules::Book;
+use rules::Phase;
+ghost use mathlib.Core.Path.{_≡_};
+ghost use mathlib.Core.List.{map};
+ghost use Prim.Native.Nat.{_<_};
+ghost use lib.ListN.{length};
+ghost use Rattle.rules.specs.Measures.{mostLots, sum, dueOf, owedOf};
+ghost use Rattle.rules.specs.Fails.{shorts};
+ghost use Rattle.rules.specs.Book.{isTaking, isSettling, isCut, withinSize, sound as soundOf, fresh as freshOf, withDay, withNets, withDelivered, withCharges};
+ghost use Rattle.book.specs.Nets.{Small, Lowered, Raised};
+ghost use Rattle.book.specs.Columns.{withColumns};
+ghost use Rattle.book.specs.Rows.{Owing};
+
+// The lots due to an account with this net, 0 where it is not positive.
+pub fn due(n: i32) -> u32
+    ensures { λ r. ⌜ r ≡ dueOf n ⌝ }
+{
+    if 0 < n { n as u32 } else { 0 }
+}
+
+// The lots that an account with this net owes, 0 where it is not negative.
+pub fn owed(n: i32) -> u32
+    ensures { λ r. ⌜ r ≡ owedOf n ⌝ }
+{
+    if n < 0 { (-1 - n) as u32 + 1 } else { 0 }
+}
+
+// A net that falls by lots.
+pub fn lowered(n: i32, x: u32) -> i32
+    requires { ⌜ Small n x ⌝ }
+    ensures { λ r. ⌜ Lowered n x r ⌝ }
+{
+    n - (x as i32)
+}
+
+// A net that rises by lots.
+pub fn raised(n: i32, x: u32) -> i32
+    requires { ⌜ Small n x ⌝ }
+    ensures { λ r. ⌜ Raised n x r ⌝ }
+{
+    n + (x as i32)
+}
+
+// Does the net lie in −20,000,000..20,000,000?
+pub fn within(n: i32) -> bool
+    ensures { λ r. ⌜ r ≡ withinSize mostLots n ⌝ }
+{
+    -20_000_000 <= n && n <= 20_000_000
+}
+
+// The lots due to each account of an issue, from its nets.
+pub fn dues_of(net: &[i32], dues: &mut [u32])
+    requires { ⌜ length (now dues) ≡ length (now net) ⌝ }
+    ensures { λ _. ⌜ now (dues .exit) ≡ map dueOf (now (net .entry)) ⌝ }
+{
+    let mut i = 0;
+    while i < net.len() {
+        let n = net[i];
+        dues[i] = due(n);
+        i += 1;
+    }
+}
+
+// The sum of an issue's lots.
+pub fn total(d: &[u32]) -> u32
+    requires { ⌜ sum (now d) < 4294967296 ⌝ }
+    ensures { λ r. ⌜ r ≡ sum (now (d .entry)) ⌝ }
+{
+    let mut t: u32 = 0;
+    let mut i = 0;
+    while i < d.len() {
+        t += d[i];
+        i += 1;
+    }
+    t
+}
+
+// What each account of an issue owes and has not delivered.
+pub fn shorts_of(net: &[i32], delivered: &[u32], short: &mut [u32])
+    requires { ⌜ Owing (now net) (now delivered) (now short) ⌝ }
+    ensures { λ _. ⌜ now (short .exit) ≡ shorts (map owedOf (now (net .entry))) (now (delivered .entry)) ⌝ }
+{
+    let mut i = 0;
+    while i < net.len() {
+        let n = net[i];
+        short[i] = owed(n) - delivered[i];
+        i += 1;
+    }
+}
+
+// Is the phase Taking?
+pub fn taking(p: Phase) -> bool
+    ensures { λ r. ⌜ r ≡ isTaking p ⌝ }
+{
+    match p {
+        Phase::Taking => true,
+        Phase::Settling => false,
+        Phase::Cut => false,
+    }
+}
+
+// Is the phase Settling?
+pub fn settling(p: Phase) -> bool
+    ensures { λ r. ⌜ r ≡ isSettling p ⌝ }
+{
+    match p {
+        Phase::Taking => false,
+        Phase::Settling => true,
+        Phase::Cut => false,
+    }
+}
+
+// Is the phase Cut?
+pub fn cut(p: Phase) -> bool
+    ensures { λ r. ⌜ r ≡ isCut p ⌝ }
+{
+    match p {
+        Phase::Taking => false,
+        Phase::Settling => false,
+        Phase::Cut => true,
+    }
+}
+
+// Day 0, Taking, all zero, ledger empty.
+pub fn fresh() -> Book
+    ensures { λ r. ⌜ r ≡ freshOf ⌝ }
+{
+    Book {
+        day: 0,
+        phase: Phase::Taking,
+        nets: [0; 1024],
+        delivered: [0; 1024],
+        charges: [0; 64],
+        count: 0,
+        issues: [0; 2048],
+        froms: [0; 2048],
+        tos: [0; 2048],
+        lots: [0; 2048],
+        days: [0; 2048],
+    }
+}
+
+// The book with other nets.
+pub fn with_nets(b: Book, nets: [i32; 1024]) -> Book
+    ensures { λ r. ⌜ r ≡ withNets b nets ⌝ }
+{
+    let mut next = b;
+    next.nets = nets;
+    next
+}
+
+// The book with other delivered lots.
+pub fn with_delivered(b: Book, delivered: [u32; 1024]) -> Book
+    ensures { λ r. ⌜ r ≡ withDelivered b delivered ⌝ }
+{
+    let mut next = b;
+    next.delivered = delivered;
+    next
+}
+
+// The book with other charges.
+pub fn with_charges(b: Book, charges: [i64; 64]) -> Book
+    ensures { λ r. ⌜ r ≡ withCharges b charges ⌝ }
+{
+    let mut next = b;
+    next.charges = charges;
+    next
+}
+
+// The book with another day and phase.
+pub fn with_day(b: Book, day: u16, phase: Phase) -> Book
+    ensures { λ r. ⌜ r ≡ withDay b day phase ⌝ }
+{
+    let nets = b.nets;
+    let delivered = b.delivered;
+    let charges = b.charges;
+    let issues = b.issues;
+    let froms = b.froms;
+    let tos = b.tos;
+    let lots = b.lots;
+    let days = b.days;
+    Book {
+        day,
+        phase,
+        nets,
+        delivered,
+        charges,
+        count: b.count,
+        issues,
+        froms,
+        tos,
+        lots,
+        days,
+    }
+}
+
+// The book with another ledger, given by its columns.
+pub fn with_columns(
+    b: Book,
+    count: usize,
+    issues: [u8; 2048],
+    froms: [u8; 2048],
+    tos: [u8; 2048],
+    lots: [u32; 2048],
+    days: [u16; 2048],
+) -> Book
+    ensures { λ r. ⌜ r ≡ withColumns b count issues froms tos lots days ⌝ }
+{
+    let mut next = b;
+    next.count = count;
+    next.issues = issues;
+    next.froms = froms;
+    next.tos = tos;
+    next.lots = lots;
+    next.days = days;
+    next
+}
+
+// Is the book sound? Any book is scanned, damaged ones too.
+pub fn sound(b: Book) -> bool
+    ensures { λ r. ⌜ r ≡ soundOf b ⌝ }
+{
+    let day = b.day;
+    let phase = b.phase;
+    let count = b.count;
+    scan::sound_columns(
+        day,
+        phase,
+        &b.nets,
+        &b.delivered,
+        &b.charges,
+        count,
+        &b.issues,
+        &b.froms,
+        &b.tos,
+        &b.lots,
+        &b.days,
+    )
+}

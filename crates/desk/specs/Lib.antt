@@ -1,0 +1,2 @@
+-- How an answer leaves for a host.
+pub mod Plain

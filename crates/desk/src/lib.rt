@@ -1,0 +1,37 @@
+// Value and charge for a host in C: plain numbers in, the refusal's number (0: paid) and yen out.
+use rules::Amount;
+use rules::Lots;
+ghost use Rattle.rules.specs.Calls.{paidAnswer, value, charge};
+ghost use Rattle.desk.specs.Plain.{Plain};
+
+// An amount in plain numbers: 0 with the yen, or the refusal's number with 0 yen.
+fn plain(a: Amount, yen: &mut u64) -> u32
+    ensures { λ r. ⌜ Plain (paidAnswer a) r (now (yen .exit)) ⌝ }
+{
+    match a {
+        Amount::Paid(y) => {
+            *yen = y.0;
+            0
+        }
+        Amount::Refused(no) => {
+            *yen = 0;
+            no
+        }
+    }
+}
+
+// The value of lots at a price: 0 with the yen, or 7 (lots) or 11 (price) with 0 yen.
+#[no_mangle]
+pub extern "C" fn day_value(lots: u32, price: u32, yen: &mut u64) -> u32
+    ensures { λ r. ⌜ Plain (value lots price) r (now (yen .exit)) ⌝ }
+{
+    plain(measures::value(Lots(lots), price), yen)
+}
+
+// The charge on lots at a price over days at a rate: 0 with the yen, or 7 (lots) or 11 (price, days, rate) with 0 yen.
+#[no_mangle]
+pub extern "C" fn day_charge(lots: u32, price: u32, days: u32, rate: u32, yen: &mut u64) -> u32
+    ensures { λ r. ⌜ Plain (charge lots price days rate) r (now (yen .exit)) ⌝ }
+{
+    plain(measures::charge(Lots(lots), price, days, rate), yen)
+}

@@ -1,0 +1,201 @@
+-- Each accepted call keeps the book sound. What a call changes is shown sound anew; the rest is as it
+-- was, and the ledger's part goes by its columns alone.
+use mathlib.Core.Path.{_≡_, refl, ap, _∙_}
+use mathlib.Core.Bool.{true, false, _&&_, false≢true}
+use mathlib.Core.List.{List, [], _∷_, _++_, map}
+use Prim.Native.Nat.{ℕ, _+_, _-_, _*_, _≤_, _<_}
+use native.Mathlib.Omega.{arith}
+use native.Mathlib.Nat.{le-trans}
+use lib.Dec.{eqb}
+use lib.ListN.{length, getD, set, drop, replicate, length-append, length-set}
+use lib.Seq.{getD-set-other}
+use lib.IntN.{ℤ, pos, natAbs, _+ℤ_, _-ℤ_}
+use borrow.Author.Tests.{leb-true, eqb-true, eqb-false}
+use Rattle.rules.specs.declared.Book.{Book}
+use Rattle.rules.specs.declared.Phase.{Phase}
+use Rattle.rules.specs.declared.Phase.the-variants.{Taking, Settling, Cut}
+use Rattle.rules.specs.Measures.{mostLots, mostEntries, mostCharge, mostDays, mostRate, mostPrice, total, dueOf, owedOf}
+use Rattle.rules.specs.Fails.{Fail}
+use Rattle.rules.specs.Ledger.{isFrom, meet, pairing, charged}
+use Rattle.rules.specs.Book.{isTaking, isSettling, isZero, row, cell, netAt, deliveredAt, ledgerOf, withinSize, withPhase, withNets, withDelivered, withLedger}
+use Rattle.rules.specs.Calls.{tradedNets, raisedDelivered, failEntry, issueEntries, issueFails, newEntries, rolled}
+use Rattle.laws.proofs.Basics.{byTest, and-left, and-right, all-replicate, Every, each-append, each-map, each-take, each-drop, each-replicate}
+use Rattle.laws.proofs.Signed.{rises, falls}
+use Rattle.laws.proofs.Cells.{row-same, row-other, getD-row, length-row, total-set, each-set, within-set, within-zeros}
+use Rattle.laws.proofs.Sound.{SoundEntry, SoundBook}
+use Rattle.laws.proofs.Ledger.{length-ledger, with-ledger}
+use Rattle.laws.proofs.Meeting.{length-meet, sound-meet, days-meet, days-append, days-later}
+use Rattle.laws.proofs.Stepping.{pairing-sound}
+use Rattle.laws.proofs.Records.{each-joined}
+use Rattle.laws.proofs.Issue.{entries-sound}
+use Rattle.laws.proofs.Charges.{charged-balance, charged-most}
+
+-- Trade
+
+-- two stores in a row of nets keep it in balance: what is due is what is owed
+trade-balance : (l : List ℤ) (f t x : ℕ) → f < length l → t < length l → (f ≡ t → ⊥) → total dueOf l ≡ total owedOf l →
+    total dueOf (set (set l f (getD l f (pos 0) -ℤ pos x)) t (getD l t (pos 0) +ℤ pos x))
+    ≡ total owedOf (set (set l f (getD l f (pos 0) -ℤ pos x)) t (getD l t (pos 0) +ℤ pos x))
+trade-balance l f t x hf ht ne h =
+    let nf = getD l f (pos 0) in
+    let nt = getD l t (pos 0) in
+    let l₁ = set l f (nf -ℤ pos x) in
+    let ht₁ : t < length l₁ = rw length-set ht in
+    let same : getD l₁ t (pos 0) ≡ nt = getD-set-other l f t (nf -ℤ pos x) (pos 0) (omega arith) in
+    omega (
+      arith,
+      total-set dueOf l f (nf -ℤ pos x) (pos 0) hf,
+      total-set owedOf l f (nf -ℤ pos x) (pos 0) hf,
+      total-set dueOf l₁ t (nt +ℤ pos x) (pos 0) ht₁,
+      total-set owedOf l₁ t (nt +ℤ pos x) (pos 0) ht₁,
+      ap dueOf same,
+      ap owedOf same,
+      rises nt x,
+      falls nf x,
+    )
+
+pub trade-kept : (b : Book) → length (b .nets) ≡ 1024 → SoundBook b → (i f c x : ℕ) → i < 16 → f < 64 → c < 64 → (f ≡ c → ⊥) →
+    isTaking (b .phase) ≡ true →
+    withinSize mostLots (netAt (b .nets) i f -ℤ pos x) && withinSize mostLots (netAt (b .nets) i c +ℤ pos x) ≡ true →
+    SoundBook (withNets b (tradedNets (b .nets) i f c x))
+trade-kept b n g i f c x hi hf hc ne ph sm =
+    let ns = b .nets in
+    let nf = netAt ns i f -ℤ pos x in
+    let nc = netAt ns i c +ℤ pos x in
+    let l = row i ns in
+    let q₁ = getD-row ns i f (pos 0) hf in
+    let q₂ = getD-row ns i c (pos 0) hc in
+    let k = length-row ns i n hi in
+    let e : row i (tradedNets ns i f c x) ≡ set (set l f (getD l f (pos 0) -ℤ pos x)) c (getD l c (pos 0) +ℤ pos x) =
+    row-same (set ns (cell i f) nf) i c nc hc ∙ ap (λ z. set z c nc) (row-same ns i f nf hf) ∙ rw (q₁, q₂) refl in
+    record {
+      size = each-set (λ m. natAbs m ≤ mostLots) (set ns (cell i f) nf) (cell i c) nc
+          (each-set (λ m. natAbs m ≤ mostLots) ns (cell i f) nf (g .size)
+          (leb-true _ _ (and-left (withinSize mostLots nf) (withinSize mostLots nc) sm)))
+          (leb-true _ _ (and-right (withinSize mostLots nf) (withinSize mostLots nc) sm));
+      rows = λ j hj.
+          byTest (eqb j i)
+          (λ p. rw (eqb-true j i p, e) (trade-balance l f c x (omega arith) (omega arith) ne (g .rows i hi)))
+          (λ p.
+          let nj = eqb-false j i p in
+          rw (row-other (set ns (cell i f) nf) i c j nc hc nj, row-other ns i f j nf hf nj) (g .rows j hj));
+      owed = within-zeros (tradedNets ns i f c x) (b .delivered) (g .taking ph);
+      taking = g .taking;
+      ledger = g .ledger;
+      balance = g .balance;
+      bounded = g .bounded;
+    }
+
+-- Close and deliver
+
+pub close-kept : (b : Book) → SoundBook b → SoundBook (withPhase b Settling)
+close-kept b g = record {
+  size = g .size;
+  rows = g .rows;
+  owed = g .owed;
+  taking = λ h. absurd (false≢true h);
+  ledger = g .ledger;
+  balance = g .balance;
+  bounded = g .bounded;
+}
+
+not-taking : (p : Phase) → isSettling p ≡ true → isTaking p ≡ true → ⊥
+not-taking Taking h k = false≢true h
+not-taking Settling h k = false≢true k
+not-taking Cut h k = false≢true h
+
+pub deliver-kept : (b : Book) → SoundBook b → (i a x : ℕ) → isSettling (b .phase) ≡ true →
+    deliveredAt (b .delivered) i a + x ≤ owedOf (netAt (b .nets) i a) → SoundBook (withDelivered b (raisedDelivered (b .delivered) i a x))
+deliver-kept b g i a x ph o = record {
+  size = g .size;
+  rows = g .rows;
+  owed = within-set (b .nets) (b .delivered) (cell i a) (deliveredAt (b .delivered) i a + x) (g .owed) o;
+  taking = λ h. absurd (not-taking (b .phase) ph h);
+  ledger = g .ledger;
+  balance = g .balance;
+  bounded = g .bounded;
+}
+
+-- Resolve and pair-off
+
+pub resolve-kept : (b : Book) → SoundBook b → (i a x : ℕ) → SoundBook (withLedger b (meet (isFrom i a) x (ledgerOf b)))
+resolve-kept b g i a x =
+    with-ledger b (meet (isFrom i a) x (ledgerOf b)) g
+    (omega (arith, length-meet (isFrom i a) x (ledgerOf b), length-ledger b, g .ledger .count))
+    (sound-meet (isFrom i a) x (ledgerOf b) (g .ledger .each)) (days-meet 0 (b .day) (isFrom i a) x (ledgerOf b) (g .ledger .days))
+
+pub pair-off-kept : (b : Book) → SoundBook b → (i a : ℕ) → i < 16 → SoundBook (withLedger b (pairing (b .day) i a (ledgerOf b) .ledger))
+pair-off-kept b g i a hi =
+    let r = pairing-sound (b .day) i a (ledgerOf b) hi (g .ledger .each) (g .ledger .days) in
+    with-ledger b (pairing (b .day) i a (ledgerOf b) .ledger) g
+    (le-trans (r .few) (rw (length-ledger b) (g .ledger .count))) (r .each) (r .days)
+
+-- Cutoff
+
+module _ (b : Book) (n : length (b .nets) ≡ 1024) (m : length (b .delivered) ≡ 1024) (g : SoundBook b) where
+  new-sound : Every SoundEntry (newEntries (b .day) (b .nets) (b .delivered))
+  new-sound =
+      each-joined SoundEntry (issueEntries (b .day) (b .nets) (b .delivered)) 0 16
+      (λ j h. entries-sound b g n m j (omega arith) (b .day))
+
+  all-today : (j : ℕ) (fs : List Fail) → Every (λ e. e .day ≡ b .day) (map (failEntry (b .day) j) fs)
+  all-today j [] = tt
+  all-today j (f ∷ fs) = (refl, all-today j fs)
+
+  new-today : Every (λ e. e .day ≡ b .day) (newEntries (b .day) (b .nets) (b .delivered))
+  new-today =
+      each-joined (λ e. e .day ≡ b .day) (issueEntries (b .day) (b .nets) (b .delivered)) 0 16
+      (λ j h. all-today j (issueFails (b .nets) (b .delivered) j))
+
+  pub cutoff-kept : b .count + length (newEntries (b .day) (b .nets) (b .delivered)) ≤ mostEntries →
+      SoundBook (withPhase (withLedger b (ledgerOf b ++ newEntries (b .day) (b .nets) (b .delivered))) Cut)
+  cutoff-kept few =
+      let new = newEntries (b .day) (b .nets) (b .delivered) in
+      let r = with-ledger b (ledgerOf b ++ new) g
+      (rw (length-append (ledgerOf b) new, length-ledger b) few)
+      (each-append SoundEntry (ledgerOf b) new (g .ledger .each) new-sound)
+      (days-append 0 (b .day) (ledgerOf b) new (g .ledger .days) new-today) in
+      record {
+        size = r .size;
+        rows = r .rows;
+        owed = r .owed;
+        taking = λ h. absurd (false≢true h);
+        ledger = r .ledger;
+        balance = r .balance;
+        bounded = r .bounded;
+      }
+
+-- Roll
+
+none-due : (ns : List ℤ) → Every (λ n. n ≡ pos 0) ns → total dueOf ns ≡ total owedOf ns
+none-due [] h = refl
+none-due (n ∷ ns) h = omega (arith, ap dueOf (h .0), ap owedOf (h .0), none-due ns (h .1))
+
+pub roll-kept : (b : Book) → length (b .charges) ≡ 64 → SoundBook b → (days rate : ℕ) (prices : List ℕ) → days ≤ mostDays → rate ≤ mostRate →
+    Every (λ p. p ≤ mostPrice) prices → SoundBook (rolled b days rate prices)
+roll-kept b n g days rate prices hd hr hp =
+    let f = g .ledger in
+    let l = length-ledger b in
+    record {
+      size = each-replicate (λ m. natAbs m ≤ mostLots) 1024 (pos 0) (omega arith);
+      rows = λ i h. none-due (row i (replicate 1024 (pos 0)))
+          (each-take (λ m. m ≡ pos 0) 64 (drop (i * 64) (replicate 1024 (pos 0)))
+          (each-drop (λ m. m ≡ pos 0) (i * 64) (replicate 1024 (pos 0)) (each-replicate (λ m. m ≡ pos 0) 1024 (pos 0) refl)));
+      owed = within-zeros (replicate 1024 (pos 0)) (replicate 1024 0) (all-replicate isZero 1024 0 refl);
+      taking = λ h. all-replicate isZero 1024 0 refl;
+      ledger = record {
+        count = f .count;
+        each = f .each;
+        days = days-later 0 (b .day) (ledgerOf b) (f .days);
+        unusedIssues = f .unusedIssues;
+        unusedFroms = f .unusedFroms;
+        unusedTos = f .unusedTos;
+        unusedLots = f .unusedLots;
+        unusedDays = f .unusedDays;
+      };
+      balance = charged-balance days rate prices (ledgerOf b) (b .charges) n (f .each) (g .balance);
+      bounded = each-map (λ c. natAbs c ≤ mostCharge * b .day + length (ledgerOf b) * 65753424657)
+          (λ c. natAbs c ≤ mostCharge * (b .day + 1)) (λ c q. omega (arith, q, l, f .count))
+          (charged days rate prices (ledgerOf b) (b .charges))
+          (charged-most days rate prices (ledgerOf b) (b .charges) (mostCharge * b .day) hd hr hp (f .each) (g .bounded));
+    }

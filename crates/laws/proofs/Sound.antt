@@ -1,0 +1,239 @@
+-- A sound book taken apart, and put together again: each condition of the test is a fact with a name,
+-- then the same facts at one cell and at one entry, as code reads them.
+use mathlib.Core.Path.{_≡_, refl, sym, ap, _∙_}
+use mathlib.Core.Bool.{Bool, true, false, cond, not, _&&_, false≢true}
+use mathlib.Core.List.{List, [], _∷_}
+use Prim.Native.Nat.{ℕ, zero, suc, _+_, _-_, _*_, _≤_, _<_}
+use native.Mathlib.Omega.{arith}
+use lib.Dec.{leb, eqb}
+use lib.ListN.{length, getD, drop}
+use lib.IntN.{ℤ, pos, natAbs}
+use borrow.Author.Tests.{leb-true, le-leb, eqb-true, eqb-false, eq-eqb, ne-eqb, not-true}
+use Rattle.rules.specs.declared.Book.{Book}
+use Rattle.rules.specs.declared.Entry.{Entry}
+use Rattle.rules.specs.Measures.{mostLots, mostEntries, mostCharge, between, total, dueOf, owedOf}
+use Rattle.rules.specs.Book.{isTaking, tab, all, row, entries, ledgerOf, balanced, withinSize, withinOwed, isZero, entrySound, daysSound, conditions, sound}
+use Rattle.laws.proofs.Basics.{byTest, and-left, and-right, and-both, total-map, Every, each-map}
+
+-- Tests of all elements
+
+pub all-each {ℓ} : {A : Type ℓ} (p : A → Bool) (l : List A) → all p l ≡ true → Every (λ x. p x ≡ true) l
+all-each p [] h = tt
+all-each p (x ∷ xs) h = (and-left (p x) (all p xs) h, all-each p xs (and-right (p x) (all p xs) h))
+
+pub each-all {ℓ} : {A : Type ℓ} (p : A → Bool) (l : List A) → Every (λ x. p x ≡ true) l → all p l ≡ true
+each-all p [] h = refl
+each-all p (x ∷ xs) h = and-both (p x) (all p xs) (h .0) (each-all p xs (h .1))
+
+pub each-getD {ℓ} : {A : Type ℓ} (P : A → Type 0) (l : List A) (k : ℕ) (d : A) → Every P l → P d → P (getD l k d)
+each-getD P [] k d p q = q
+each-getD P (x ∷ xs) zero d p q = p .0
+each-getD P (x ∷ xs) (suc k) d p q = each-getD P xs k d (p .1) q
+
+each-tab {ℓ} : {A : Type ℓ} (P : A → Type 0) (f : ℕ → A) (k n : ℕ) → ((i : ℕ) → i < k + n → P (f i)) → Every P (tab f k n)
+each-tab P f k zero h = tt
+each-tab P f k (suc n) h = (h k (omega arith), each-tab P f (suc k) n (λ i l. h i (omega arith)))
+
+tab-each {ℓ} : {A : Type ℓ} (P : A → Type 0) (f : ℕ → A) (k n i : ℕ) → Every P (tab f k n) → k ≤ i → i < k + n → P (f i)
+tab-each P f k zero i p h l = absurd (omega arith)
+tab-each P f k (suc n) i p h l =
+    byTest (eqb k i)
+    (λ e. rw (← (eqb-true k i e)) (p .0))
+    (λ e. tab-each P f (suc k) n i (p .1) (let ne = eqb-false k i e in omega arith) (omega arith))
+
+pub zero-at : (xs : List ℕ) (k : ℕ) → all isZero xs ≡ true → getD xs k 0 ≡ 0
+zero-at xs k h = each-getD (λ x. x ≡ 0) xs k 0 (each-map (λ x. isZero x ≡ true) (λ x. x ≡ 0) (λ x q. eqb-true x 0 q) xs (all-each isZero xs h)) refl
+
+pub within-at : (ns : List ℤ) (ds : List ℕ) (k : ℕ) → length ns ≡ length ds → withinOwed ns ds ≡ true →
+    getD ds k 0 ≤ owedOf (getD ns k (pos 0))
+within-at [] [] k e h = omega arith
+within-at [] (d ∷ ds) k e h = absurd (omega arith)
+within-at (n ∷ ns) [] k e h = absurd (omega arith)
+within-at (n ∷ ns) (d ∷ ds) zero e h = leb-true d (owedOf n) (and-left (leb d (owedOf n)) (withinOwed ns ds) h)
+within-at (n ∷ ns) (d ∷ ds) (suc k) e h =
+    within-at ns ds k (omega arith) (and-right (leb d (owedOf n)) (withinOwed ns ds) h)
+
+-- An entry
+
+pub record SoundEntry (e : Entry) : Type 0 where
+  pub issue : e .issue < 16
+  pub from : e .from < 64
+  pub to : e .to < 64
+  pub apart : e .from ≡ e .to → ⊥
+  pub some : 1 ≤ e .lots
+  pub most : e .lots ≤ mostLots
+
+pub entry-parts : (e : Entry) → entrySound e ≡ true → SoundEntry e
+entry-parts e h =
+    let a = leb (e .issue) 15 in
+    let b = leb (e .from) 63 in
+    let c = leb (e .to) 63 in
+    let n = not (eqb (e .from) (e .to)) in
+    let l = between 1 mostLots (e .lots) in
+    let h₁ = and-left (a && b && c && n) l h in
+    let h₂ = and-left (a && b && c) n h₁ in
+    let h₃ = and-left (a && b) c h₂ in
+    let h₄ = and-right (a && b && c && n) l h in
+    record {
+      issue = omega (arith, leb-true (e .issue) 15 (and-left a b h₃));
+      from = omega (arith, leb-true (e .from) 63 (and-right a b h₃));
+      to = omega (arith, leb-true (e .to) 63 (and-right (a && b) c h₂));
+      apart = eqb-false (e .from) (e .to) (not-true (eqb (e .from) (e .to)) (and-right (a && b && c) n h₁));
+      some = leb-true 1 (e .lots) (and-left (leb 1 (e .lots)) (leb (e .lots) mostLots) h₄);
+      most = leb-true (e .lots) mostLots (and-right (leb 1 (e .lots)) (leb (e .lots) mostLots) h₄);
+    }
+
+pub parts-entry : (e : Entry) → SoundEntry e → entrySound e ≡ true
+parts-entry e s =
+    let a = leb (e .issue) 15 in
+    let b = leb (e .from) 63 in
+    let c = leb (e .to) 63 in
+    let n = not (eqb (e .from) (e .to)) in
+    and-both (a && b && c && n) (between 1 mostLots (e .lots))
+    (and-both (a && b && c) n
+    (and-both (a && b) c
+    (and-both a b (le-leb (e .issue) 15 (omega (arith, s .issue))) (le-leb (e .from) 63 (omega (arith, s .from))))
+    (le-leb (e .to) 63 (omega (arith, s .to))))
+    (ap not (ne-eqb (e .from) (e .to) (s .apart))))
+    (and-both (leb 1 (e .lots)) (leb (e .lots) mostLots) (le-leb 1 (e .lots) (s .some)) (le-leb (e .lots) mostLots (s .most)))
+
+-- A ledger, by its columns alone: so it stays as it is where other fields of a book change
+pub record SoundLedger (today n : ℕ) (is fs ts xs ds : List ℕ) : Type 0 where
+  pub count : n ≤ mostEntries
+  pub each : Every SoundEntry (entries n is fs ts xs ds)
+  pub days : daysSound 0 today (entries n is fs ts xs ds) ≡ true
+  pub unusedIssues : all isZero (drop n is) ≡ true
+  pub unusedFroms : all isZero (drop n fs) ≡ true
+  pub unusedTos : all isZero (drop n ts) ≡ true
+  pub unusedLots : all isZero (drop n xs) ≡ true
+  pub unusedDays : all isZero (drop n ds) ≡ true
+
+-- what a sound book has
+pub record SoundBook (b : Book) : Type 0 where
+  -- each net lies in −20,000,000..20,000,000
+  pub size : Every (λ n. natAbs n ≤ mostLots) (b .nets)
+  -- each issue's nets sum to 0
+  pub rows : (i : ℕ) → i < 16 → total dueOf (row i (b .nets)) ≡ total owedOf (row i (b .nets))
+  -- delivered lots are at most what is owed
+  pub owed : withinOwed (b .nets) (b .delivered) ≡ true
+  -- and are 0 throughout in Taking
+  pub taking : isTaking (b .phase) ≡ true → all isZero (b .delivered) ≡ true
+  pub ledger : SoundLedger (b .day) (b .count) (b .issues) (b .froms) (b .tos) (b .lots) (b .days)
+  -- charges sum to 0, and each is bounded by the day
+  pub balance : total dueOf (b .charges) ≡ total owedOf (b .charges)
+  pub bounded : Every (λ c. natAbs c ≤ mostCharge * b .day) (b .charges)
+
+-- in balance: by the test, and as an equation of sums
+pub balanced-parts : (ns : List ℤ) → balanced ns ≡ true → total dueOf ns ≡ total owedOf ns
+balanced-parts ns h = sym (total-map (λ x. x) dueOf ns) ∙ eqb-true _ _ h ∙ total-map (λ x. x) owedOf ns
+
+pub parts-balanced : (ns : List ℤ) → total dueOf ns ≡ total owedOf ns → balanced ns ≡ true
+parts-balanced ns h = eq-eqb _ _ (total-map (λ x. x) dueOf ns ∙ h ∙ sym (total-map (λ x. x) owedOf ns))
+
+if-taking : (c d : Bool) → cond c d true ≡ true → c ≡ true → d ≡ true
+if-taking true d h k = h
+if-taking false d h k = absurd (false≢true k)
+
+taking-if : (c d : Bool) → (c ≡ true → d ≡ true) → cond c d true ≡ true
+taking-if true d h = h refl
+taking-if false d h = refl
+
+pub sound-parts : (b : Book) → sound b ≡ true → SoundBook b
+unfolding sound conditions
+sound-parts b h =
+    let e : Every (λ c. c ≡ true) (conditions b) = all-each (λ c. c) (conditions b) h in
+    let e₂ = e .1 .1 in
+    let e₅ = e₂ .1 .1 .1 in
+    let e₈ = e₅ .1 .1 .1 in
+    let e₁₁ = e₈ .1 .1 .1 in
+    record {
+      size = each-map (λ n. withinSize mostLots n ≡ true) (λ n. natAbs n ≤ mostLots) (λ n q. leb-true _ _ q) (b .nets)
+          (all-each (withinSize mostLots) (b .nets) (e .0));
+      rows = λ i l. balanced-parts (row i (b .nets))
+          (tab-each (λ j. balanced (row j (b .nets)) ≡ true) (λ j. j) 0 16 i
+          (all-each (λ j. balanced (row j (b .nets))) (tab (λ j. j) 0 16) (e .1 .0)) (omega arith) (omega arith));
+      owed = e₂ .0;
+      taking = if-taking (isTaking (b .phase)) (all isZero (b .delivered)) (e₂ .1 .0);
+      ledger = record {
+        count = leb-true _ _ (e₂ .1 .1 .0);
+        each = each-map (λ d. entrySound d ≡ true) SoundEntry entry-parts (ledgerOf b)
+            (all-each entrySound (ledgerOf b) (e₅ .0));
+        days = e₅ .1 .0;
+        unusedIssues = e₅ .1 .1 .0;
+        unusedFroms = e₈ .0;
+        unusedTos = e₈ .1 .0;
+        unusedLots = e₈ .1 .1 .0;
+        unusedDays = e₁₁ .0;
+      };
+      balance = balanced-parts (b .charges) (e₁₁ .1 .0);
+      bounded = each-map (λ c. withinSize (mostCharge * b .day) c ≡ true) (λ c. natAbs c ≤ mostCharge * b .day)
+          (λ c q. leb-true _ _ q) (b .charges) (all-each (withinSize (mostCharge * b .day)) (b .charges) (e₁₁ .1 .1 .0));
+    }
+
+pub parts-sound : (b : Book) → SoundBook b → sound b ≡ true
+unfolding sound conditions
+parts-sound b g =
+    each-all (λ c. c) (conditions b) (
+      each-all (withinSize mostLots) (b .nets)
+          (each-map _ (λ n. withinSize mostLots n ≡ true) (λ n h. le-leb _ _ h) (b .nets) (g .size)),
+      (
+        each-all (λ i. balanced (row i (b .nets))) (tab (λ i. i) 0 16)
+            (each-tab (λ i. balanced (row i (b .nets)) ≡ true) (λ i. i) 0 16
+            (λ i h. parts-balanced (row i (b .nets)) (g .rows i (omega arith)))),
+        (
+          g .owed,
+          (
+            taking-if (isTaking (b .phase)) (all isZero (b .delivered)) (g .taking),
+            (
+              le-leb _ _ (g .ledger .count),
+              (
+                each-all entrySound (ledgerOf b)
+                    (each-map SoundEntry (λ e. entrySound e ≡ true) parts-entry (ledgerOf b) (g .ledger .each)),
+                (
+                  g .ledger .days,
+                  (
+                    g .ledger .unusedIssues,
+                    (
+                      g .ledger .unusedFroms,
+                      (
+                        g .ledger .unusedTos,
+                        (
+                          g .ledger .unusedLots,
+                          (
+                            g .ledger .unusedDays,
+                            (
+                              parts-balanced (b .charges) (g .balance),
+                              (
+                                each-all (withinSize (mostCharge * b .day)) (b .charges)
+                                    (each-map _ (λ c. withinSize (mostCharge * b .day) c ≡ true) (λ c h. le-leb _ _ h) (b .charges) (g .bounded)),
+                                tt,
+                              ),
+                            ),
+                          ),
+                        ),
+                      ),
+                    ),
+                  ),
+                ),
+              ),
+            ),
+          ),
+        ),
+      ),
+    )
+
+-- At one cell, one entry, one account
+
+module _ (b : Book) (s : SoundBook b) where
+  pub net-bounded : (k : ℕ) → natAbs (getD (b .nets) k (pos 0)) ≤ mostLots
+  net-bounded k = each-getD (λ n. natAbs n ≤ mostLots) (b .nets) k (pos 0) (s .size) (omega arith)
+
+  pub delivered-owed : (k : ℕ) → length (b .nets) ≡ length (b .delivered) →
+      getD (b .delivered) k 0 ≤ owedOf (getD (b .nets) k (pos 0))
+  delivered-owed k e = within-at (b .nets) (b .delivered) k e (s .owed)
+
+  pub delivered-none : (k : ℕ) → isTaking (b .phase) ≡ true → getD (b .delivered) k 0 ≡ 0
+  delivered-none k t = zero-at (b .delivered) k (s .taking t)
+
+  pub charge-bounded : (a : ℕ) → natAbs (getD (b .charges) a (pos 0)) ≤ mostCharge * b .day
+  charge-bounded a = each-getD (λ c. natAbs c ≤ mostCharge * b .day) (b .charges) a (pos 0) (s .bounded) (omega arith)

@@ -1,0 +1,75 @@
+-- A sound book's issues: each row of nets and delivered lots is sound, so that what is proved of a row holds of
+-- every issue of the book.
+use mathlib.Core.Path.{_≡_, sym, _∙_}
+use mathlib.Core.List.{List}
+use Prim.Native.Nat.{ℕ, _*_, _≤_, _<_}
+use native.Mathlib.Omega.{arith}
+use lib.IntN.{ℤ, natAbs}
+use lib.ListN.{length, drop}
+use Rattle.rules.specs.declared.Book.{Book}
+use Rattle.rules.specs.Measures.{sum, owedOf, unitLots, mostLots, outputWords}
+use Rattle.rules.specs.Handover.{stock}
+use Rattle.rules.specs.Book.{row, duesOf, owedsOf, deliveredTotal, orderIn}
+use Rattle.rules.specs.Calls.{deliverRecords, issueFails, cutoffRecords}
+use Rattle.laws.proofs.Basics.{Every, each-map, each-take, each-drop}
+use Rattle.laws.proofs.Units.{Order, units-order}
+use Rattle.laws.proofs.Handover.{order-stock}
+use Rattle.laws.proofs.Fails.{Bounded, each-of-map}
+use Rattle.laws.proofs.Cutoff.{SoundRow, Deliverer, Receiver, delivered-due, fails-bounded}
+use Rattle.laws.proofs.Room.{cutoff-room, deliver-room, issue-fails}
+use Rattle.laws.proofs.Cells.{length-row, within-row}
+use Rattle.laws.proofs.Signed.{size-of}
+use Rattle.laws.proofs.Sound.{SoundBook, parts-balanced}
+
+-- the order of an issue has what laws assume of an order
+pub order-in : (nets : List ℤ) (i : ℕ) → Order (duesOf nets i) (orderIn nets i)
+unfolding orderIn
+order-in nets i = units-order (duesOf nets i)
+
+module _ (b : Book) (s : SoundBook b) (n : length (b .nets) ≡ 1024) (d : length (b .delivered) ≡ 1024) where
+  module _ (i : ℕ) (h : i < 16) where
+    pub sound-row : SoundRow (row i (b .nets)) (row i (b .delivered))
+    sound-row =
+        record {
+          lengths = length-row (b .nets) i n h ∙ sym (length-row (b .delivered) i d h);
+          balance = parts-balanced (row i (b .nets)) (s .rows i h);
+          owed = within-row i (b .nets) (b .delivered) (s .owed);
+        }
+
+    -- what is delivered in an issue is at most what is due
+    pub total-due : deliveredTotal (b .delivered) i ≤ sum (duesOf (b .nets) i)
+    total-due = delivered-due (row i (b .nets)) (row i (b .delivered)) sound-row
+
+    -- the stock is at most 99,999
+    pub stock-small : stock (orderIn (b .nets) i) (deliveredTotal (b .delivered) i) ≤ 99999
+    stock-small =
+        order-stock (duesOf (b .nets) i) (orderIn (b .nets) i) (deliveredTotal (b .delivered) i) (order-in (b .nets) i) total-due
+
+    -- nobody owes more than 20,000,000
+    pub owed-small : Every (λ x. x ≤ mostLots) (owedsOf (b .nets) i)
+    owed-small =
+        each-of-map (λ x. x ≤ mostLots) owedOf (row i (b .nets))
+        (each-take (λ m. owedOf m ≤ mostLots) 64 (drop (i * 64) (b .nets))
+        (each-drop (λ m. owedOf m ≤ mostLots) (i * 64) (b .nets)
+        (each-map (λ m. natAbs m ≤ mostLots) (λ m. owedOf m ≤ mostLots) (λ m p. omega (arith, size-of m)) (b .nets) (s .size))))
+
+    -- an issue's fails run from deliverers to receivers and have 1 to 20,000,000 lots
+    pub issue-bounded :
+        Every (Bounded (Deliverer (row i (b .nets))) (Receiver (row i (b .nets))) mostLots) (issueFails (b .nets) (b .delivered) i)
+    unfolding issueFails
+    issue-bounded =
+        fails-bounded (row i (b .nets)) (row i (b .delivered)) (orderIn (b .nets) i) unitLots mostLots (order-in (b .nets) i)
+        (sound-row .lengths) owed-small
+
+    -- and are at most 126
+    pub issue-few : length (issueFails (b .nets) (b .delivered) i) ≤ 126
+    unfolding issueFails orderIn
+    issue-few = issue-fails (row i (b .nets)) (row i (b .delivered)) (length-row (b .nets) i n h) sound-row
+
+    -- the records of a delivery fit
+    pub deliver-fits : (x : ℕ) → x ≤ mostLots → 2 * length (deliverRecords (b .nets) (b .delivered) i x) ≤ outputWords
+    deliver-fits x l = deliver-room (b .nets) (b .delivered) i x (length-row (b .nets) i n h) sound-row l
+
+  -- and so do those of a cutoff
+  pub cutoff-fits : 2 * length (cutoffRecords (b .day) (b .nets) (b .delivered)) ≤ outputWords
+  cutoff-fits = cutoff-room (b .day) (b .nets) (b .delivered) (λ i h. length-row (b .nets) i n h) (λ i h. sound-row i h)

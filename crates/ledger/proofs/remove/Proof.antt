@@ -1,0 +1,97 @@
+-- `ledger::remove` meets its contract. The loop's invariant: without place j, and 0 behind, each column is what it is to be.
+use Prim.Native.Nat.{_+_, _-_, _≤_, _<_}
+use native.Mathlib.Omega.{arith}
+use borrow.Author.Needs.{needs}
+use denote.Ref.{now}
+use mathlib.Core.List.{List}
+use Rattle.rules.specs.declared.Entry.{Entry}
+use Rattle.rules.specs.Book.{entries}
+use Rattle.ledger.specs.Columns.{Whole}
+use Rattle.ledger.specs.Places.{removeAt}
+use Rattle.ledger.proofs.Removing.{Gaps, gaps-start, gaps-more, gaps-end, gaps-whole}
+use Rattle.ledger.proofs.remove.Statement.{statement}
+use Rattle.ledger.proofs.remove.Tie as tie
+
+abbrev Inv-loop : tie.InvT-loop
+Inv-loop count k issues₀ froms₀ tos₀ lots₀ days₀ j₀ issues froms tos lots days j =
+    (j < count) × Whole issues froms tos lots days
+    × Gaps (removeAt k (entries count issues₀ froms₀ tos₀ lots₀ days₀)) j count issues froms tos lots days
+
+abbrev μ-loop : tie.MeasureT-loop
+μ-loop count k issues₀ froms₀ tos₀ lots₀ days₀ j₀ issues froms tos lots days j = count - j
+
+-- the ledger without the entry
+abbrev new : tie.At-loop Inv-loop μ-loop → List Entry
+new c =
+    let a = c .before .before .before .before .before .before .args in
+    removeAt (a .k) (entries (a .count) (now (a .issues)) (now (a .froms)) (now (a .tos)) (now (a .lots)) (now (a .days)))
+
+loop-holds : tie.Need-loop-holds Inv-loop μ-loop
+loop-holds c = (search needs, search needs, gaps-start _ _ _ _ _ _ _ (c .before .before .before .before .before .pre .0) (c .before .before .before .before .before .pre .1))
+
+add-loop : tie.Need-add-loop Inv-loop μ-loop
+add-loop c = search needs
+
+add-copy : tie.Need-add-copy Inv-loop μ-loop
+add-copy c = search needs
+
+copy-requires : tie.Need-copy-requires Inv-loop μ-loop
+copy-requires c κs = search needs
+
+add-at : tie.Need-add-at Inv-loop μ-loop
+add-at c = search needs
+
+loop-less : tie.Need-loop-less Inv-loop μ-loop
+loop-less c = search needs
+
+loop-again : tie.Need-loop-again Inv-loop μ-loop
+loop-again c =
+    let es = new (c .before .before .before .before .before .before .before .before .before .before .before .before .before .before .before .before .before) in
+    let g =
+    gaps-more es (c .before .before .before .before .before .before .before .before .before .before .before .before .before .before .before .before .before .loop .at) (c .before .before .before .before .before .before .before .before .before .before .before .before .before .before .before .before .before .before .before .before .before .before .before .args .count) _ _ _ _ _ _ _ _ _ _ (c .before .before .before .before .before .before .before .before .before .before .before .before .before .before .before .before .loop-test .taken) (c .before .before .before .before .before .before .before .before .before .before .before .before .before .before .before .before .before .before .before .before .before .before .before .pre .1 .most)
+    (c .before .before .before .before .before .before .before .before .before .before .before .before .before .before .before .before .before .loop .inv .2) (c .before .before .before .before .before .before .before .before .before .before .copy .ensures) in
+    (search needs, gaps-whole es _ _ _ _ _ _ _ g, g)
+
+store-requires : tie.Need-store-requires Inv-loop μ-loop
+store-requires c κs = search needs
+
+same-length : tie.Need-same-length Inv-loop μ-loop
+same-length c = search needs
+
+same-length-2 : tie.Need-same-length-2 Inv-loop μ-loop
+same-length-2 c = search needs
+
+same-length-3 : tie.Need-same-length-3 Inv-loop μ-loop
+same-length-3 c = search needs
+
+same-length-4 : tie.Need-same-length-4 Inv-loop μ-loop
+same-length-4 c = search needs
+
+same-length-5 : tie.Need-same-length-5 Inv-loop μ-loop
+same-length-5 c = search needs
+
+returns : tie.Need-returns Inv-loop μ-loop
+returns c =
+    gaps-end (new (c .before .before .before .before .before .before .before .before .before .before .before .before .before .before .before .before .before)) (c .before .before .before .before .before .before .before .before .before .before .before .before .before .before .before .before .before .loop .at) (c .before .before .before .before .before .before .before .before .before .before .before .before .before .before .before .before .before .before .before .before .before .before .before .args .count) _ _ _ _ _ _ _ _ _ _ (c .before .before .before .before .before .before .before .before .before .before .before .before .before .before .before .before .before .loop .inv .0) (c .before .before .before .before .before .before .before .before .before .before .before .before .before .before .before .before .loop-test .left)
+    (c .before .before .before .before .before .before .before .before .before .before .before .before .before .before .before .before .before .before .before .before .before .before .before .pre .1 .most) (c .before .before .before .before .before .before .before .before .before .before .before .before .before .before .before .before .before .loop .inv .2) (c .before .before .before .before .before .before .before .before .before .before .store .ensures)
+
+pub remove-spec : {M : Type 1} → statement M
+remove-spec =
+    tie.close
+    (tie.spec
+    Inv-loop
+    μ-loop
+    loop-holds
+    add-loop
+    add-copy
+    copy-requires
+    add-at
+    loop-less
+    loop-again
+    store-requires
+    same-length
+    same-length-2
+    same-length-3
+    same-length-4
+    same-length-5
+    returns)

@@ -1,0 +1,109 @@
+// Value and charge of lots, and the questions 7 and 11 on the numbers that they take.
+use rules::Amount;
+use rules::Lots;
+use rules::Yen;
+ghost use mathlib.Core.Path.{_≡_};
+ghost use mathlib.Core.Bool.{_&&_};
+ghost use mathlib.Core.List.{[], _∷_};
+ghost use Prim.Native.Nat.{_/_};
+ghost use Rattle.rules.specs.Measures.{between, mostLots};
+ghost use Rattle.rules.specs.Questions.{ask, firstNo, priceRight, termRight};
+ghost use Rattle.rules.specs.Calls.{paidAnswer, value as valueAnswer, charge as chargeAnswer};
+ghost use Rattle.measures.specs.Range.{Priced, Termed, ValueIs, ChargeIs};
+
+const MOST_LOTS: u32 = 20_000_000;
+
+const MOST_PRICE: u32 = 200_000;
+
+const MOST_DAYS: u32 = 12;
+
+const MOST_RATE: u32 = 10_000;
+
+// x lies in lo..hi.
+fn within(lo: u32, hi: u32, x: u32) -> bool
+    ensures { λ r. ⌜ r ≡ between lo hi x ⌝ }
+{
+    lo <= x && x <= hi
+}
+
+// Question 7: lots are 1..20,000,000.
+pub fn lots_right(x: u32) -> bool
+    ensures { λ r. ⌜ r ≡ between 1 mostLots x ⌝ }
+{
+    within(1, MOST_LOTS, x)
+}
+
+// Question 11 on a price: it is 1..200,000.
+pub fn price_right(price: u32) -> bool
+    ensures { λ r. ⌜ r ≡ priceRight price ⌝ }
+{
+    within(1, MOST_PRICE, price)
+}
+
+// Question 11 on days and rate: days are 1..12, the rate is 0..10,000.
+pub fn term_right(days: u32, rate: u32) -> bool
+    ensures { λ r. ⌜ r ≡ termRight days rate ⌝ }
+{
+    within(1, MOST_DAYS, days) && rate <= MOST_RATE
+}
+
+// Question 11 on all that a charge is counted from beside the lots.
+fn charge_right(price: u32, days: u32, rate: u32) -> bool
+    ensures { λ r. ⌜ r ≡ priceRight price && termRight days rate ⌝ }
+{
+    price_right(price) && term_right(days, rate)
+}
+
+// The number of the first question answered 'no', 7 on lots and then 11 on the rest; 0 where both say 'yes'.
+fn refusal(lots: bool, rest: bool) -> u32
+    ensures { λ r. ⌜ r ≡ firstNo (ask 7 lots ∷ ask 11 rest ∷ []) ⌝ }
+{
+    if lots { if rest { 0 } else { 11 } } else { 7 }
+}
+
+// Half of x, rounded down.
+fn halved(x: u64) -> u64
+    ensures { λ r. ⌜ r ≡ x / 2 ⌝ }
+{
+    x / 2
+}
+
+// The value of lots at a price, in yen, rounded down.
+pub fn value_of(lots: u32, price: u32) -> u64
+    requires { ⌜ Priced lots price ⌝ }
+    ensures { λ r. ⌜ ValueIs lots price r ⌝ }
+{
+    halved((lots as u64) * (price as u64))
+}
+
+// The charge on that value over days at a rate, in yen, rounded down.
+pub fn charge_of(lots: u32, price: u32, days: u32, rate: u32) -> u64
+    requires { ⌜ Priced lots price × Termed days rate ⌝ }
+    ensures { λ r. ⌜ ChargeIs lots price days rate r ⌝ }
+{
+    value_of(lots, price) * (rate as u64) * (days as u64) / 3_650_000
+}
+
+// The value of lots at a price, or refusal 7 (lots) or 11 (price).
+pub fn value(lots: Lots, price: u32) -> Amount
+    ensures { λ r. ⌜ paidAnswer r ≡ valueAnswer (lots .0) price ⌝ }
+{
+    let n = lots.0;
+    let no = refusal(lots_right(n), price_right(price));
+    if 0 < no {
+        return Amount::Refused(no);
+    }
+    Amount::Paid(Yen(value_of(n, price)))
+}
+
+// The charge on lots at a price over days at a rate, or refusal 7 (lots) or 11 (price, days, rate).
+pub fn charge(lots: Lots, price: u32, days: u32, rate: u32) -> Amount
+    ensures { λ r. ⌜ paidAnswer r ≡ chargeAnswer (lots .0) price days rate ⌝ }
+{
+    let n = lots.0;
+    let no = refusal(lots_right(n), charge_right(price, days, rate));
+    if 0 < no {
+        return Amount::Refused(no);
+    }
+    Amount::Paid(Yen(charge_of(n, price, days, rate)))
+}

@@ -1,0 +1,52 @@
+-- `resolution::resolve_asks` meets its contract: each comparison is one question, and the lots owed are the ledger's.
+use mathlib.Core.Path.{_∙_, sym}
+use native.Mathlib.Omega.{arith}
+use borrow.Author.Tests.{le-leb, lt-leb}
+use borrow.Author.Needs.{needs}
+use Rattle.resolution.proofs.resolve_asks.Statement.{statement}
+use Rattle.resolution.proofs.resolve_asks.Tie as tie
+
+returns : tie.Need-returns
+returns c = λ ts ds. simp (lt-leb _ _ (c .if1 .taken))
+
+returns-2 : tie.Need-returns-2
+returns-2 c = λ ts ds. simp (le-leb _ _ (c .before .if1 .left), lt-leb _ _ (c .if2 .taken))
+
+returns-3 : tie.Need-returns-3
+returns-3 c = λ ts ds. simp (le-leb _ _ (c .before .before .if1 .left), le-leb _ _ (c .before .if2 .left), lt-leb _ _ (c .if3 .taken))
+
+returns-4 : tie.Need-returns-4
+returns-4 c =
+    λ ts ds.
+    simp
+    (le-leb _ _ (c .before .before .before .if1 .left), le-leb _ _ (c .before .before .if2 .left), le-leb _ _ (c .before .if3 .left), lt-leb _ _ (c .if4 .taken))
+
+owed-lots-requires : tie.Need-owed-lots-requires
+owed-lots-requires c κs = search needs
+
+returns-5 : tie.Need-returns-5
+returns-5 c =
+    λ ts ds.
+    simp (
+      le-leb _ _ (c .before .before .before .before .before .if1 .left),
+      le-leb _ _ (c .before .before .before .before .if2 .left),
+      le-leb _ _ (c .before .before .before .if3 .left),
+      le-leb _ _ (c .before .before .if4 .left),
+      lt-leb _ _ (rw (c .before .owed-lots .ensures ts ds) at (c .if5 .taken)),
+    )
+
+returns-6 : tie.Need-returns-6
+returns-6 c =
+    λ ts ds.
+    simp (
+      le-leb _ _ (c .before .before .before .before .before .if1 .left),
+      le-leb _ _ (c .before .before .before .before .if2 .left),
+      le-leb _ _ (c .before .before .before .if3 .left),
+      le-leb _ _ (c .before .before .if4 .left),
+      le-leb _ _ (rw (c .before .owed-lots .ensures ts ds) at (c .if5 .left)),
+    )
+
+pub resolve-asks-spec : {M : Type 1} → statement M
+resolve-asks-spec =
+    tie.close
+    (tie.spec returns returns-2 returns-3 returns-4 owed-lots-requires returns-5 returns-6)

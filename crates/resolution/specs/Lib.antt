@@ -1,0 +1,2 @@
+-- What resolve and pair-off do to the ledger's columns and to the lent output.
+pub mod Resolving

@@ -1,0 +1,256 @@
+// Resolve and pair-off: the ledger's fails met, and set against one another.
+use rules::Book;
+use rules::Reply;
+ghost use mathlib.Core.Path.{_≡_};
+ghost use mathlib.Core.Bool.{true, cond, _&&_};
+ghost use mathlib.Core.List.{List};
+ghost use Prim.Native.Nat.{ℕ, _+_, _-_, _*_, _≤_, _<_, min};
+ghost use lib.Dec.{eqb};
+ghost use lib.ListN.{length};
+ghost use Rattle.rules.specs.Ledger.{entry, isFrom};
+ghost use Rattle.rules.specs.Book.{entries, entrySound, sound};
+ghost use Rattle.rules.specs.Questions.{firstNo};
+ghost use Rattle.rules.specs.Calls.{AnswerIs, resolveAsks, resolve as resolveOf, pairOffAsks};
+ghost use Rattle.rules.specs.Measures.{outputWords};
+ghost use Rattle.ledger.specs.Columns.{Whole};
+ghost use Rattle.resolution.specs.Resolving.{resolveAnswer, entryAt, Put, Recorded, CanMeet, WasMet, Resolvable, Resolved};
+
+// What a resolve leaves: the number of entries in the ledger, and of records written.
+pub struct Counts {
+    pub entries: usize,
+    pub records: usize,
+}
+
+// After one entry: the next place for an entry, for a record, and the lots left.
+pub struct Turn {
+    pub entries: usize,
+    pub records: usize,
+    pub left: u32,
+}
+
+// What of x lots of account a in issue i meets an entry of this issue, from and y lots.
+fn met_by(issue: u8, from: u8, y: u32, i: u32, a: u32, x: u32) -> u32
+    ensures { λ r. ⌜ r ≡ cond (eqb issue i && eqb from a) (min x y) 0 ⌝ }
+{
+    if ledger::is_of(issue, from, i, a) {
+        if x < y {
+            return x;
+        }
+        return y;
+    }
+    0
+}
+
+// The entry at place w, unless its lots are 0; answers the place behind it.
+fn keep(
+    issues: &mut [u8],
+    froms: &mut [u8],
+    tos: &mut [u8],
+    lots: &mut [u32],
+    days: &mut [u16],
+    w: usize,
+    i: u8,
+    f: u8,
+    t: u8,
+    x: u32,
+    d: u16,
+) -> usize
+    requires { ⌜ (w < 2048) × Whole (now issues) (now froms) (now tos) (now lots) (now days) ⌝ }
+    ensures { λ r. ⌜ ((y : ℕ) → Put (entry i f t y d) x w r (now (issues .entry)) (now (froms .entry)) (now (tos .entry)) (now (lots .entry)) (now (days .entry)) (now (issues .exit)) (now (froms .exit)) (now (tos .exit)) (now (lots .exit)) (now (days .exit))) ⌝ }
+{
+    if x == 0 {
+        return w;
+    }
+    ledger::store(issues, froms, tos, lots, days, w, i, f, t, x, d);
+    w + 1
+}
+
+// A handover's record behind n others, unless its lots are 0; answers the number of records.
+fn hand(out: &mut [u32], n: usize, i: u8, f: u8, t: u8, x: u32) -> usize
+    requires { ⌜ (2 * n + 2 ≤ length (now out)) × (i < 16) × (f < 64) × (t < 64) × (x < 268435456) ⌝ }
+    ensures { λ r. ⌜ ((y d : ℕ) → Recorded (entry i f t y d) x n r (now (out .entry)) (now (out .exit))) ⌝ }
+{
+    if x == 0 {
+        return n;
+    }
+    words::record_at(out, n, 11, i as u32, f as u32, t as u32, x);
+    n + 1
+}
+
+// The entry at place k met by x lots of account a in issue i: what is left of it goes to place w,
+// the record of what was met behind n others.
+fn meet_at(
+    k: usize,
+    w: usize,
+    n: usize,
+    i: u32,
+    a: u32,
+    x: u32,
+    issues: &mut [u8],
+    froms: &mut [u8],
+    tos: &mut [u8],
+    lots: &mut [u32],
+    days: &mut [u16],
+    out: &mut [u32],
+) -> Turn
+    requires { ⌜ CanMeet k w n (now issues) (now froms) (now tos) (now lots) (now days) (now out) ⌝ }
+    ensures { λ r. ⌜ WasMet i a x k w n r (now (issues .entry)) (now (froms .entry)) (now (tos .entry)) (now (lots .entry)) (now (days .entry)) (now (out .entry)) (now (issues .exit)) (now (froms .exit)) (now (tos .exit)) (now (lots .exit)) (now (days .exit)) (now (out .exit)) ⌝ }
+{
+    let issue = issues[k];
+    let f = froms[k];
+    let t = tos[k];
+    let y = lots[k];
+    let d = days[k];
+    let m = met_by(issue, f, y, i, a, x);
+    let records = hand(out, n, issue, f, t, m);
+    let entries = keep(issues, froms, tos, lots, days, w, issue, f, t, y - m, d);
+    Turn {
+        entries,
+        records,
+        left: x - m,
+    }
+}
+
+// Entries of issue i from account a met by x lots in ledger order, in one pass: what is left of them
+// moves up, an entry at 0 goes, and each that is met gives one record.
+pub fn resolve_in(
+    count: usize,
+    issues: &mut [u8],
+    froms: &mut [u8],
+    tos: &mut [u8],
+    lots: &mut [u32],
+    days: &mut [u16],
+    i: u32,
+    a: u32,
+    x: u32,
+    out: &mut [u32],
+) -> Counts
+    requires { ⌜ Resolvable count (now issues) (now froms) (now tos) (now lots) (now days) (now out) ⌝ }
+    ensures { λ r. ⌜ Resolved (entries count (now (issues .entry)) (now (froms .entry)) (now (tos .entry)) (now (lots .entry)) (now (days .entry))) i a x r (now (issues .exit)) (now (froms .exit)) (now (tos .exit)) (now (lots .exit)) (now (days .exit)) (now (out .entry)) (now (out .exit)) ⌝ }
+{
+    let mut k = 0;
+    let mut w = 0;
+    let mut n = 0;
+    let mut left = x;
+    while k < count {
+        let t = meet_at(k, w, n, i, a, left, issues, froms, tos, lots, days, out);
+        w = t.entries;
+        n = t.records;
+        left = t.left;
+        k += 1;
+    }
+    ledger::clear(w, count, issues, froms, tos, lots, days);
+    Counts {
+        entries: w,
+        records: n,
+    }
+}
+
+// The number of the first of resolve's questions answered 'no', from the issue on; 0 where there is
+// none.
+pub fn resolve_asks<'a>(
+    count: usize,
+    issues: &'a [u8],
+    froms: &'a [u8],
+    lots: &'a [u32],
+    i: u32,
+    a: u32,
+    x: u32,
+) -> u32
+    requires { ⌜ (count ≤ 2048) × (length (now issues) ≡ 2048) × (length (now froms) ≡ 2048) × (length (now lots) ≡ 2048) ⌝ }
+    ensures { λ r. ⌜ ((ts ds : List ℕ) → r ≡ firstNo (resolveAsks (entries count (now (issues .entry)) (now (froms .entry)) ts (now (lots .entry)) ds) i a x)) ⌝ }
+{
+    if 15 < i {
+        return 4;
+    }
+    if 63 < a {
+        return 5;
+    }
+    if x < 1 {
+        return 7;
+    }
+    if 20_000_000 < x {
+        return 7;
+    }
+    let owed = ledger::owed_lots(count, issues, froms, lots, i, a);
+    if owed < x as u64 {
+        return 9;
+    }
+    0
+}
+
+// The number of the first of pair-off's questions answered 'no', from the issue on; 0 where there is
+// none.
+pub fn pair_off_asks(i: u32, a: u32) -> u32
+    ensures { λ r. ⌜ r ≡ firstNo (pairOffAsks i a) ⌝ }
+{
+    if 15 < i {
+        return 4;
+    }
+    if 63 < a {
+        return 5;
+    }
+    0
+}
+
+// A resolve of a sound book whose questions are all answered 'yes'.
+fn resolve_book(b: Book, i: u32, a: u32, x: u32, out: &mut [u32]) -> Reply
+    requires { ⌜ (outputWords ≤ length (now out)) × (sound b ≡ true) ⌝ }
+    ensures { λ r. ⌜ AnswerIs (resolveAnswer b i a x (now (out .entry))) r (now (out .exit)) ⌝ }
+{
+    let count = b.count;
+    let mut issues = b.issues;
+    let mut froms = b.froms;
+    let mut tos = b.tos;
+    let mut lots = b.lots;
+    let mut days = b.days;
+    let left = resolve_in(
+        count,
+        &mut issues,
+        &mut froms,
+        &mut tos,
+        &mut lots,
+        &mut days,
+        i,
+        a,
+        x,
+        out,
+    );
+    let next = book::with_columns(b, left.entries, issues, froms, tos, lots, days);
+    Reply {
+        refusal: 0,
+        count: left.records,
+        book: next,
+    }
+}
+
+// Entries of issue i from account a are met by x lots in ledger order, and each gives one record.
+// A refusal gives its number, 0 records, and the book and the output as they were.
+pub fn resolve(b: Book, i: u32, a: u32, x: u32, out: &mut [u32]) -> Reply
+    ensures { λ r. ⌜ AnswerIs (resolveOf b i a x (now (out .entry))) r (now (out .exit)) ⌝ }
+{
+    if out.len() < 4096 {
+        return Reply {
+            refusal: 1,
+            count: 0,
+            book: b,
+        };
+    }
+    if !book::sound(b) {
+        return Reply {
+            refusal: 2,
+            count: 0,
+            book: b,
+        };
+    }
+    let count = b.count;
+    let no = resolve_asks(count, &b.issues, &b.froms, &b.lots, i, a, x);
+    if no != 0 {
+        return Reply {
+            refusal: no,
+            count: 0,
+            book: b,
+        };
+    }
+    resolve_book(b, i, a, x, out)
+}

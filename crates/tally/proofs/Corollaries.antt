@@ -1,0 +1,92 @@
+-- What demand 3 and its invariant say in a clearing house's own words, of every list of calls.
+use mathlib.Core.Path.{_≡_, sym, _∙_}
+use mathlib.Core.Bool.{true}
+use mathlib.Core.List.{List}
+use Prim.Native.Nat.{ℕ, _-_, _≤_, _<_}
+use native.Mathlib.Omega.{arith}
+use lib.Dec.{leb}
+use lib.ListN.{length, getD}
+use borrow.Author.Tests.{leb-true, leb-false}
+use Rattle.rules.specs.declared.Phase.{Phase}
+use Rattle.rules.specs.declared.Phase.the-variants.{Taking, Settling, Cut}
+use Rattle.rules.specs.Measures.{unitLots, total, dueOf, owedOf}
+use Rattle.rules.specs.Units.{Part, ofAccount}
+use Rattle.rules.specs.Handover.{handed, partials}
+use Rattle.rules.specs.Book.{cell, netAt, deliveredTotal, orderOf, sound}
+use Rattle.rules.specs.Tally.{State, Call, Cutoff, called, after, afterAll, start, nobody, unitsToday}
+use Rattle.laws.proofs.Basics.{byTest, total-append}
+use Rattle.laws.proofs.Fails.{additive-account}
+use Rattle.laws.proofs.Cutoff.{settled}
+use Rattle.laws.proofs.Cells.{due-at}
+use Rattle.laws.proofs.Sound.{delivered-owed}
+use Rattle.laws.proofs.SoundRows.{order-in}
+use Rattle.tally.proofs.Signs.{less}
+use Rattle.tally.proofs.Invariant.{RowIs}
+use Rattle.tally.proofs.Demand.{reached, demand3}
+use Rattle.tally.proofs.Reached.{reached-standing, reached-sound}
+use Rattle.tally.proofs.Settles.{netToday, Settled, cutoff-settles}
+
+-- every book that a list of calls reaches is sound
+pub every-book-is-sound : (cs : List Call) → sound (afterAll start cs .book) ≡ true
+every-book-is-sound = reached-sound
+
+module _ (cs : List Call) where
+  abbrev s : State
+  s = afterAll start cs
+
+  -- no unit is handed to two accounts: the k-th handover of a day is to the account of the k-th unit
+  pub no-unit-to-two-accounts : (i : ℕ) → i < 16 → (k : ℕ) → k < length (s .tally .rows i) →
+      getD (s .tally .rows i) k nobody .account ≡ getD (unitsToday (s .tally) i) k nobody .account
+  no-unit-to-two-accounts i h k l = demand3 cs .turns i h k l .named
+
+  -- nor twice: there are no more handovers than units
+  pub no-unit-twice : (i : ℕ) → i < 16 → length (s .tally .rows i) ≤ length (unitsToday (s .tally) i)
+  no-unit-twice i h =
+      let n = length (s .tally .rows i) in
+      byTest (leb n 0)
+      (λ e. omega (arith, leb-true n 0 e))
+      (λ e. let l = leb-false n 0 e in omega (arith, demand3 cs .turns i h (n - 1) (omega arith) .exists))
+
+  -- and none is handed more than it is
+  pub no-unit-overfilled : (i : ℕ) → i < 16 → (k : ℕ) → k < length (s .tally .rows i) →
+      getD (s .tally .rows i) k nobody .lots ≤ getD (unitsToday (s .tally) i) k nobody .lots
+  no-unit-overfilled i h k l = demand3 cs .turns i h k l .most
+
+  net-is : (i a : ℕ) → i < 16 → a < 64 → netToday (s .tally) i a ≡ netAt (s .book .nets) i a
+  net-is i a hi ha = less (netAt (s .book .nets) i a) (s .tally .today .sold i a) (s .tally .today .bought i a) (reached cs .nets i a hi ha)
+
+  -- no account is handed more in a day than its due
+  pub no-account-handed-more-than-its-due : (i a : ℕ) → i < 16 → a < 64 → s .tally .today .handed i a ≤ dueOf (netToday (s .tally) i a)
+  no-account-handed-more-than-its-due i a hi ha =
+      let v = reached cs in
+      rw (net-is i a hi ha)
+      (omega (
+        arith,
+        v .handed i a,
+        row-most (s .book .phase) (orderOf (s .book) i) (deliveredTotal (s .book .delivered) i) (s .tally .rows i) a (v .rows i hi),
+        order-in (s .book .nets) i .due a,
+        due-at (s .book .nets) i a ha,
+      ))
+    where
+      row-most : (p : Phase) (us : List Part) (d : ℕ) (row : List Part) (a : ℕ) → RowIs p us d row → total (ofAccount a) row ≤ total (ofAccount a) us
+      row-most Taking us d row a r = rw (r .0) (omega arith)
+      row-most Settling us d row a r = rw (r .0) (omega (arith, settled unitLots (ofAccount a) (additive-account a) us d (r .1)))
+      row-most Cut us d row a r =
+          rw (r .0)
+          (omega (arith, total-append (ofAccount a) (handed us d) (partials us d), settled unitLots (ofAccount a) (additive-account a) us d (r .1)))
+
+  -- and none gives more than it owes
+  pub no-account-gives-more-than-it-owes : (i a : ℕ) → i < 16 → a < 64 → s .tally .today .given i a ≤ owedOf (netToday (s .tally) i a)
+  no-account-gives-more-than-it-owes i a hi ha =
+      let v = reached cs in
+      rw (net-is i a hi ha)
+      (omega (
+        arith,
+        v .given i a hi ha,
+        delivered-owed (s .book) (reached-standing cs .parts) (cell i a) (v .sizeNets ∙ sym (v .sizeDelivered)),
+      ))
+
+  -- after an accepted cutoff the house holds nothing, every account's due is what it was handed and
+  -- what is failed to it, and what it owes is what it gave and what it fails
+  pub a-cutoff-settles-the-day : (out : List ℕ) → called (s .book) (Cutoff out) .refusal ≡ 0 → Settled s (after s (Cutoff out))
+  a-cutoff-settles-the-day out h = cutoff-settles s (reached cs) out h

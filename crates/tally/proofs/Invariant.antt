@@ -1,0 +1,48 @@
+-- The invariant of demand 3: the tally's numbers beside the book's. Today's nets are bought less sold,
+-- given is what the book has as delivered, and an issue's row of 10s is a front of its units, by phase.
+-- The balance is said in natural numbers, with terms on both sides.
+use mathlib.Core.Path.{_≡_}
+use mathlib.Core.List.{List, [], _++_}
+use Prim.Native.Nat.{ℕ, _+_, _≤_, _<_}
+use lib.ListN.{length}
+use Rattle.rules.specs.declared.Phase.{Phase}
+use Rattle.rules.specs.declared.Phase.the-variants.{Taking, Settling, Cut}
+use Rattle.rules.specs.Measures.{total, dueOf, owedOf}
+use Rattle.rules.specs.Units.{Part, sumLots, ofAccount}
+use Rattle.rules.specs.Handover.{handed, partials}
+use Rattle.rules.specs.Ledger.{isFrom, isTo, lotsOf}
+use Rattle.rules.specs.Book.{isSettling, netAt, deliveredAt, deliveredTotal, orderOf, ledgerOf}
+use Rattle.rules.specs.Records.{recordsIn}
+use Rattle.rules.specs.Calls.{Answer}
+use Rattle.rules.specs.Tally.{Call, State, fed}
+
+-- an issue's 10s after a cutoff: the units handed, and the stock to the next
+abbrev pub cutRow : List Part → ℕ → List Part
+cutRow us d = handed us d ++ partials us d
+
+-- an issue's row of 10s beside its units, by phase and delivered total
+abbrev pub RowIs : Phase → List Part → ℕ → List Part → Type 0
+RowIs Taking us d row = (row ≡ []) × (d ≡ 0)
+RowIs Settling us d row = (row ≡ handed us d) × (d ≤ sumLots us)
+RowIs Cut us d row = (row ≡ cutRow us d) × (d ≤ sumLots us)
+
+pub record Inv (s : State) : Type 0 where
+  pub sizeNets : length (s .book .nets) ≡ 1024
+  pub sizeDelivered : length (s .book .delivered) ≡ 1024
+  pub sizeCharges : length (s .book .charges) ≡ 64
+  pub nets : (i a : ℕ) → i < 16 → a < 64 →
+      dueOf (netAt (s .book .nets) i a) + s .tally .today .sold i a
+      ≡ s .tally .today .bought i a + owedOf (netAt (s .book .nets) i a)
+  pub given : (i a : ℕ) → i < 16 → a < 64 → s .tally .today .given i a ≡ deliveredAt (s .book .delivered) i a
+  pub handed : (i a : ℕ) → s .tally .today .handed i a ≡ total (ofAccount a) (s .tally .rows i)
+  pub phase : s .settling ≡ isSettling (s .book .phase)
+  pub rows : (i : ℕ) → i < 16 →
+      RowIs (s .book .phase) (orderOf (s .book) i) (deliveredTotal (s .book .delivered) i) (s .tally .rows i)
+  pub balance : (i a : ℕ) → i < 16 → a < 64 →
+      s .tally .inAll .bought i a + s .tally .inAll .given i a + lotsOf (isFrom i a) (ledgerOf (s .book))
+      ≡ s .tally .inAll .sold i a + s .tally .inAll .handed i a + lotsOf (isTo i a) (ledgerOf (s .book))
+  pub charges : total dueOf (s .book .charges) ≡ total owedOf (s .book .charges)
+
+-- what is to be shown of a call's answer
+abbrev pub Keeps : Call → State → Answer → Type 0
+Keeps c s r = Inv (fed c (r .refusal) (recordsIn (r .count) (r .out)) (r .book) s)

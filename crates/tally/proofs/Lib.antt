@@ -1,0 +1,14 @@
+-- Demand 3, in reading order.
+pub mod Signs
+pub mod Invariant
+pub mod Shown
+pub mod Taking
+pub mod Delivering
+pub mod Cutting
+pub mod Resolving
+pub mod PairingOff
+pub mod Rolling
+pub mod Demand
+pub mod Reached
+pub mod Settles
+pub mod Corollaries

@@ -1,0 +1,47 @@
+-- Roll keeps the invariant: each charge is taken from one account and given to another, so that charges
+-- go on summing to 0; today's numbers are 0 in book and tally.
+use mathlib.Core.Path.{_≡_, refl, _∙_}
+use mathlib.Core.Bool.{true, false, false≢true}
+use mathlib.Core.List.{List, [], _∷_}
+use Prim.Native.Nat.{ℕ}
+use native.Mathlib.Omega.{arith}
+use lib.ListN.{length-replicate}
+use lib.IntN.{pos}
+use Rattle.rules.specs.declared.Phase.{Phase}
+use Rattle.rules.specs.declared.Phase.the-variants.{Taking, Settling, Cut}
+use Rattle.rules.specs.Book.{isSettling, isCut, ledgerOf}
+use Rattle.rules.specs.Questions.{askSound}
+use Rattle.rules.specs.Calls.{rollAsks, rolled, roll}
+use Rattle.rules.specs.Tally.{State, Roll}
+use Rattle.laws.proofs.Cells.{row-zeros}
+use Rattle.laws.proofs.Sound.{sound-parts}
+use Rattle.laws.proofs.Charges.{charged-length, charged-balance}
+use Rattle.laws.proofs.Answers.{answered}
+use Rattle.tally.proofs.Invariant.{Inv, Keeps}
+use Rattle.tally.proofs.Taking.{no-net, none-delivered}
+
+cut-not-settling : (p : Phase) → isCut p ≡ true → isSettling p ≡ false
+cut-not-settling Taking h = refl
+cut-not-settling Settling h = absurd (false≢true h)
+cut-not-settling Cut h = refl
+
+pub keeps-roll : (s : State) → Inv s → (days rate : ℕ) (prices : List ℕ) → Keeps (Roll days rate prices) s (roll (s .book) days rate prices)
+unfolding roll
+keeps-roll s v days rate prices =
+    let b = s .book in
+    answered (Keeps (Roll days rate prices) s) (askSound b ∷ rollAsks (b .phase) (b .day) days rate prices) b []
+    (rolled b days rate prices) [] (omega arith)
+    (λ y. record {
+      sizeNets = length-replicate 1024 (pos 0);
+      sizeDelivered = length-replicate {A = ℕ} 1024 0;
+      sizeCharges = charged-length days rate prices (ledgerOf b) (b .charges) ∙ v .sizeCharges;
+      nets = λ i a h k. rw (no-net i a h k) refl;
+      given = none-delivered;
+      handed = λ i a. refl;
+      phase = v .phase ∙ cut-not-settling (b .phase) (y .1 .0);
+      rows = λ i h. (refl, row-zeros i 1024);
+      balance = v .balance;
+      charges = charged-balance days rate prices (ledgerOf b) (b .charges) (v .sizeCharges)
+          (sound-parts b (y .0) .ledger .each) (v .charges);
+    })
+    (λ r. v)

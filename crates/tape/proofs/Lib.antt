@@ -1,0 +1,10 @@
+-- Laws of the tape.
+pub mod Reading
+pub mod PriceWords
+pub mod Writing
+pub mod Sized
+pub mod There
+pub mod Back
+pub mod Run
+pub mod Window
+pub mod Rolls

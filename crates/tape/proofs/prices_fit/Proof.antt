@@ -1,0 +1,69 @@
+-- Invariant: all prices fit where those from `at` on do.
+use mathlib.Core.Path.{_≡_}
+use Prim.Native.Nat.{_≤_, _-_}
+use native.Mathlib.Numerals.{add-one}
+use native.Mathlib.Omega.{arith}
+use borrow.Author.Needs.{needs}
+use borrow.Author.Tests.{lt-ltb, le-ltb}
+use denote.Ref.{now}
+use lib.ListN.{length, getD, drop, drop-of-length-le}
+use lib.Seq.{drop-cons}
+use Rattle.rules.specs.Book.{all}
+use Rattle.rules.specs.Records.{priceBits}
+use Rattle.rules.specs.Tape.{fits}
+use Rattle.tape.proofs.prices_fit.Statement.{statement}
+use Rattle.tape.proofs.prices_fit.Tie as tie
+
+abbrev Inv-loop : tie.InvT-loop
+Inv-loop prices at₀ at = (at ≤ length prices) × (all (fits priceBits) (drop at prices) ≡ all (fits priceBits) prices)
+
+abbrev μ-loop : tie.MeasureT-loop
+μ-loop prices at₀ at = length prices - at
+
+loop-holds : tie.Need-loop-holds Inv-loop μ-loop
+loop-holds c = search needs
+
+mul-if1 : tie.Need-mul-if1 Inv-loop μ-loop
+mul-if1 c = search needs
+
+shared-slice-read-if1 : tie.Need-shared-slice-read-if1 Inv-loop μ-loop
+shared-slice-read-if1 c = search needs
+
+returns : tie.Need-returns Inv-loop μ-loop
+returns c =
+    let l = c .before .before .before .loop in
+    let ps = now (c .before .before .before .before .args .prices) in
+    rw (← l .inv .1, drop-cons ps (l .at) 0 (omega arith), le-ltb (getD ps (l .at) 0) 262144 (c .if1 .taken))
+
+add-at : tie.Need-add-at Inv-loop μ-loop
+add-at c = search needs
+
+loop-less : tie.Need-loop-less Inv-loop μ-loop
+loop-less c = search needs
+
+loop-again : tie.Need-loop-again Inv-loop μ-loop
+loop-again c =
+    let l = c .before .before .before .loop in
+    let ps = now (c .before .before .before .before .args .prices) in
+    (omega arith, rw (← l .inv .1, drop-cons ps (l .at) 0 (omega arith), lt-ltb (getD ps (l .at) 0) 262144 (c .if1 .left), add-one (l .at)))
+
+returns-2 : tie.Need-returns-2 Inv-loop μ-loop
+returns-2 c =
+    let l = c .before .loop in
+    let ps = now (c .before .before .args .prices) in
+    rw (← l .inv .1, drop-of-length-le ps (c .loop-test .left))
+
+pub prices-fit-spec : {M : Type 1} → statement M
+prices-fit-spec =
+    tie.close
+    (tie.spec
+    Inv-loop
+    μ-loop
+    loop-holds
+    mul-if1
+    shared-slice-read-if1
+    returns
+    add-at
+    loop-less
+    loop-again
+    returns-2)

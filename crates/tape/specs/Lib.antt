@@ -1,0 +1,2 @@
+-- What the tape's functions promise.
+pub mod Answers

@@ -1,0 +1,139 @@
+-- What a turn of each loop does: a list filled or changed place by place, and the runs from j on taken one by one.
+use mathlib.Core.Path.{_≡_, refl, sym, ap, _∙_}
+use mathlib.Core.List.{List, [], _∷_, _++_, map, map-append}
+use Prim.Native.Nat.{ℕ, suc, _+_, _-_, _*_, _/_, _%_, _≤_, _<_}
+use native.Mathlib.Omega.{arith}
+use native.Mathlib.Numerals.{add-one}
+use lib.ListN.{length, length-append, take, drop, getD, set, length-map, List·getD-map, drop-of-length-le}
+use lib.Seq.{take-suc, take-suc-set, drop-cons, getD-take, length-take-le, take-append-add, take-append-le}
+use lib.IntN.{ℤ, pos, natAbs}
+use Rattle.rules.specs.Measures.{dueOf}
+use Rattle.rules.specs.Units.{parts, largestFirst}
+use Rattle.rules.specs.Handover.{covered, stock}
+use Rattle.rules.specs.declared.Found.the-variants.{Unit}
+use Rattle.laws.proofs.Basics.{Every}
+use Rattle.laws.proofs.Sound.{each-getD}
+use Rattle.laws.proofs.Signed.{size-of}
+use Rattle.laws.proofs.Handover.{covered-past, stock-past}
+use Rattle.units.specs.Runs.{partOf, runsIn, unitsOfRun, unitsOfRuns, fullOf, smallLots, runsOf, foundOf, Prepared}
+use Rattle.units.proofs.Units.{units-runs, run-length, run-lots, unit-past, unit-full, unit-small, covered-run, stock-run}
+
+-- a list filled by a function of another's elements
+pub fill-more : (f : ℕ → ℕ) (src out : List ℕ) (i : ℕ) → i < length src → i < length out →
+    take i out ≡ map f (take i src) → take (i + 1) (set out i (f (getD src i 0))) ≡ map f (take (i + 1) src)
+fill-more f src out i h g e =
+    rw (add-one, take-suc-set out i (f (getD src i 0)) g, take-suc src i 0 h, map-append, e)
+
+-- the same in place, seen through g and h
+pub turn-more : {B : Type 0} (g h : ℕ → B) (k₀ ks : List ℕ) (i v : ℕ) → i < length k₀ → i < length ks → g v ≡ h (getD k₀ i 0) →
+    map g (take i ks) ≡ map h (take i k₀) → map g (take (i + 1) (set ks i v)) ≡ map h (take (i + 1) k₀)
+turn-more g h k₀ ks i v l m e f =
+    rw (add-one, take-suc-set ks i v m, take-suc k₀ i 0 l, map-append, map-append, f, e)
+
+pub full-key : (k : ℕ) → partOf (k - k / 64 % 100000 * 64) ≡ fullOf (partOf k)
+full-key k =
+    let p : (k - k / 64 % 100000 * 64) % 64 ≡ k % 64 = omega arith in
+    let q : (k - k / 64 % 100000 * 64) / 64 ≡ k / 64 / 100000 * 100000 = omega arith in
+    rw (p, q)
+
+module _ (runs : List ℕ) (n j : ℕ) (l : n ≤ length runs) where
+  pub runs-length : length (runsIn runs n) ≡ n
+  runs-length = length-map (take n runs) partOf ∙ length-take-le n runs l
+
+  pub runs-end : n ≤ j → drop j (runsIn runs n) ≡ []
+  runs-end h = let e : length (runsIn runs n) ≤ j = omega (arith, runs-length) in drop-of-length-le (runsIn runs n) e
+
+  pub runs-at : j < n → drop j (runsIn runs n) ≡ partOf (getD runs j 0) ∷ drop (suc j) (runsIn runs n)
+  runs-at h =
+      drop-cons (runsIn runs n) j (partOf 0) (omega (arith, runs-length))
+      ∙ ap (λ u. u ∷ drop (suc j) (runsIn runs n)) (List·getD-map partOf (take n runs) j 0 ∙ ap partOf (getD-take n runs j 0 h))
+
+  pub units-at : j < n → unitsOfRuns (drop j (runsIn runs n)) ≡ unitsOfRun (partOf (getD runs j 0)) ++ unitsOfRuns (drop (suc j) (runsIn runs n))
+  units-at h = ap unitsOfRuns (runs-at h)
+
+  -- how many units there are
+  pub number-next : j < n →
+      length (unitsOfRuns (drop j (runsIn runs n)))
+      ≡ (getD runs j 0 / 64 + 99999) / 100000 + length (unitsOfRuns (drop (j + 1) (runsIn runs n)))
+  number-next h =
+      let u = partOf (getD runs j 0) in
+      let us = unitsOfRuns (drop (suc j) (runsIn runs n)) in
+      rw (units-at h, add-one) (omega (arith, length-append (unitsOfRun u) us, run-length u))
+
+  -- the k-th unit
+  pub unit-next : (k c : ℕ) → j < n → c ≡ (getD runs j 0 / 64 + 99999) / 100000 → c ≤ k →
+      drop k (unitsOfRuns (drop j (runsIn runs n))) ≡ drop (k - c) (unitsOfRuns (drop (j + 1) (runsIn runs n)))
+  unit-next k c h e g =
+      rw (units-at h, add-one, e) (unit-past (partOf (getD runs j 0)) (unitsOfRuns (drop (suc j) (runsIn runs n))) k (omega arith))
+
+  pub unit-is-full : (k : ℕ) → j < n → k * 100000 + 100000 ≤ getD runs j 0 / 64 →
+      Unit (getD runs j 0 % 64) 100000 ≡ foundOf (drop k (unitsOfRuns (drop j (runsIn runs n))))
+  unit-is-full k h g = rw (units-at h) (sym (unit-full (partOf (getD runs j 0)) (unitsOfRuns (drop (suc j) (runsIn runs n))) k g))
+
+  pub unit-is-small : (k : ℕ) → j < n → k * 100000 < getD runs j 0 / 64 → getD runs j 0 / 64 < k * 100000 + 100000 →
+      Unit (getD runs j 0 % 64) (getD runs j 0 / 64 - k * 100000) ≡ foundOf (drop k (unitsOfRuns (drop j (runsIn runs n))))
+  unit-is-small k h g g′ = rw (units-at h) (sym (unit-small (partOf (getD runs j 0)) (unitsOfRuns (drop (suc j) (runsIn runs n))) k g g′))
+
+  -- what a total covers
+  pub covered-next : (d : ℕ) → j < n → getD runs j 0 / 64 ≤ d →
+      covered (unitsOfRuns (drop j (runsIn runs n))) d
+      ≡ (getD runs j 0 / 64 + 99999) / 100000 + covered (unitsOfRuns (drop (j + 1) (runsIn runs n))) (d - getD runs j 0 / 64)
+  covered-next d h g =
+      let u = partOf (getD runs j 0) in
+      let us = unitsOfRuns (drop (suc j) (runsIn runs n)) in
+      rw (units-at h, add-one, ← run-length u)
+      (covered-past (unitsOfRun u) us d (omega (arith, run-lots u)) ∙ ap (λ x. length (unitsOfRun u) + covered us (d - x)) (run-lots u))
+
+  pub stock-next : (d : ℕ) → j < n → getD runs j 0 / 64 ≤ d →
+      stock (unitsOfRuns (drop j (runsIn runs n))) d ≡ stock (unitsOfRuns (drop (j + 1) (runsIn runs n))) (d - getD runs j 0 / 64)
+  stock-next d h g =
+      let u = partOf (getD runs j 0) in
+      let us = unitsOfRuns (drop (suc j) (runsIn runs n)) in
+      rw (units-at h, add-one) (stock-past (unitsOfRun u) us d (omega (arith, run-lots u)) ∙ ap (λ x. stock us (d - x)) (run-lots u))
+
+  pub covered-last : (d : ℕ) → j < n → d < getD runs j 0 / 64 → covered (unitsOfRuns (drop j (runsIn runs n))) d ≡ d / 100000
+  covered-last d h g = rw (units-at h) (covered-run (partOf (getD runs j 0)) (unitsOfRuns (drop (suc j) (runsIn runs n))) d g)
+
+  pub stock-last : (d : ℕ) → j < n → d < getD runs j 0 / 64 → stock (unitsOfRuns (drop j (runsIn runs n))) d ≡ d % 100000
+  stock-last d h g = rw (units-at h) (stock-run (partOf (getD runs j 0)) (unitsOfRuns (drop (suc j) (runsIn runs n))) d g)
+
+pub full-keys : (ks : List ℕ) → map (λ k. fullOf (partOf k)) ks ≡ map fullOf (map partOf ks)
+full-keys [] = refl
+full-keys (k ∷ ks) = ap (λ l. fullOf (partOf k) ∷ l) (full-keys ks)
+
+pub rest-small : (dues rests : List ℕ) → rests ≡ map smallLots dues → (a : ℕ) → getD rests a 0 ≤ 20000000
+rest-small dues rests e a = rw (e, List·getD-map smallLots dues a 0) (omega arith)
+
+-- n keys, and m behind them in the part that was lent
+pub behind : (r₁ r₂ : List ℕ) (n m k : ℕ) → n ≤ length r₁ → m ≤ length r₂ →
+    take (n + m) (take n r₁ ++ (r₂ ++ drop k (drop n r₁))) ≡ take n r₁ ++ take m r₂
+behind r₁ r₂ n m k h g =
+    let e : n + m ≡ length (take n r₁) + m = omega (arith, length-take-le n r₁ h) in
+    ap (λ i. take i (take n r₁ ++ (r₂ ++ drop k (drop n r₁)))) e ∙ take-append-add (take n r₁) (r₂ ++ drop k (drop n r₁)) m
+    ∙ ap (λ l. take n r₁ ++ l) (take-append-le m r₂ (drop k (drop n r₁)) g)
+
+pub ordered : (dues rests r₀ r₁ r₂ : List ℕ) (n m k : ℕ) → n ≤ length r₁ → m ≤ length r₂ →
+    map partOf (take n r₀) ≡ largestFirst (parts 0 dues) →
+    map partOf (take n r₁) ≡ map fullOf (map partOf (take n r₀)) →
+    rests ≡ map smallLots dues →
+    map partOf (take m r₂) ≡ largestFirst (parts 0 rests) →
+    map partOf (take (n + m) (take n r₁ ++ (r₂ ++ drop k (drop n r₁)))) ≡ runsOf dues
+unfolding runsOf
+ordered dues rests r₀ r₁ r₂ n m k h g e f r s =
+    ap (map partOf) (behind r₁ r₂ n m k h g) ∙ map-append partOf (take n r₁) (take m r₂) ∙ rw (f, e, s, r)
+
+-- what the dues of small nets can be ranked by
+pub dues-small : (ns : List ℤ) (dues : List ℕ) → dues ≡ map dueOf ns → Every (λ m. natAbs m ≤ 20000000) ns →
+    (a : ℕ) → getD dues a 0 ≤ 20000000
+dues-small ns dues e h a =
+    rw (e, List·getD-map dueOf ns a (pos 0))
+    (omega (arith, size-of (getD ns a (pos 0)), each-getD (λ m. natAbs m ≤ 20000000) ns a (pos 0) h (omega arith)))
+
+pub dues-length : (ns : List ℤ) (dues : List ℕ) → dues ≡ map dueOf ns → length ns ≡ 64 → length dues ≡ 64
+dues-length ns dues e h = ap length e ∙ length-map ns dueOf ∙ h
+
+pub prepared : (ns : List ℤ) (dues runs : List ℕ) (n : ℕ) → dues ≡ map dueOf ns → n ≤ 128 → n ≤ length runs → runsIn runs n ≡ runsOf dues →
+    Prepared ns runs n
+prepared ns dues runs n e few held r =
+    let q : runsIn runs n ≡ runsOf (map dueOf ns) = r ∙ ap runsOf e in
+    record { few = few; held = held; ranked = q; units = ap unitsOfRuns q ∙ units-runs (map dueOf ns) }

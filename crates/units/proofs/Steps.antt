@@ -1,0 +1,112 @@
+-- The cursor's steps: a shortfall or a run of 0 lots in front changes no overlap, so the cursor may go on to the next;
+-- and what a step says of the list of overlaps that are left.
+use mathlib.Core.Path.{_≡_, refl, sym, ap, _∙_}
+use mathlib.Core.List.{List, [], _∷_}
+use Prim.Native.Nat.{ℕ, zero, suc, _+_, _-_, _/_, _%_, _≤_, _<_}
+use native.Mathlib.Numerals.{add-one}
+use native.Mathlib.Omega.{arith}
+use lib.ListN.{length, drop, getD, drop-of-length-le}
+use Rattle.rules.specs.Units.{Part, part, put, parts}
+use Rattle.rules.specs.Fails.{overlaps}
+use Rattle.laws.proofs.Overlaps.{overlaps-short0, overlaps-lack0, overlaps-end, overlaps-short, overlaps-lack}
+use Rattle.units.specs.declared.Cursor.{Cursor}
+use Rattle.units.specs.declared.Next.{Next}
+use Rattle.units.specs.declared.Next.the-variants.{Overlap, Done}
+use Rattle.units.specs.Runs.{runsIn}
+use Rattle.units.specs.Cursor.{overlapsFrom, overlapsOf, AtShort, AtRun, Advanced, OverlapInRange}
+use Rattle.units.proofs.Ranking.{parts-at}
+use Rattle.units.proofs.Loops.{runs-at, runs-end}
+
+-- what is left of the shortfalls, and of the runs
+abbrev pub ahead : ℕ → ℕ → ℕ → List ℕ → List Part
+ahead f x a ss = part f x ∷ parts a (drop a ss)
+
+abbrev pub behind : ℕ → ℕ → ℕ → List Part → List Part
+behind t y j us = part t y ∷ drop j us
+
+overlaps-put : (a x : ℕ) (ss vs : List Part) → overlaps (put a x ss) vs ≡ overlaps (part a x ∷ ss) vs
+overlaps-put a zero ss vs = sym (overlaps-short0 ss vs a)
+overlaps-put a (suc n) ss vs = refl
+
+pub short-next : (ss : List ℕ) (vs : List Part) (f x a : ℕ) → x ≡ 0 → a < length ss →
+    overlaps (ahead f x a ss) vs ≡ overlaps (ahead a (getD ss a 0) (a + 1) ss) vs
+short-next ss vs f x a e h =
+    rw (e, add-one)
+    (overlaps-short0 (parts a (drop a ss)) vs f
+    ∙ ap (λ l. overlaps l vs) (parts-at ss a h)
+    ∙ overlaps-put a (getD ss a 0) (parts (suc a) (drop (suc a) ss)) vs)
+
+pub short-end : (ss : List ℕ) (vs : List Part) (f x a : ℕ) → x ≡ 0 → length ss ≤ a → overlaps (ahead f x a ss) vs ≡ []
+short-end ss vs f x a e h =
+    rw e (overlaps-short0 (parts a (drop a ss)) vs f ∙ ap (λ l. overlaps (parts a l) vs) (drop-of-length-le ss h))
+
+module _ (ss : List Part) (runs : List ℕ) (n j : ℕ) (l : n ≤ length runs) where
+  pub run-next : (t y : ℕ) → y ≡ 0 → j < n →
+      overlaps ss (behind t y j (runsIn runs n))
+      ≡ overlaps ss (behind (getD runs j 0 % 64) (getD runs j 0 / 64) (j + 1) (runsIn runs n))
+  run-next t y e h =
+      rw (e, add-one) (overlaps-lack0 ss (drop j (runsIn runs n)) t ∙ ap (overlaps ss) (runs-at runs n j l h))
+
+  pub run-end : (t y : ℕ) → y ≡ 0 → n ≤ j → overlaps ss (behind t y j (runsIn runs n)) ≡ []
+  run-end t y e h =
+      rw e (overlaps-lack0 ss (drop j (runsIn runs n)) t ∙ ap (overlaps ss) (runs-end runs n j l h) ∙ overlaps-end ss)
+
+-- one step: on to a shortfall, on to a run, then the smaller of the two is handed out
+module _ (us : List Part) (ss : List ℕ) (c s : Cursor) (p : AtShort ss c s) where
+  pub none-short : s .short ≡ 0 → Advanced us ss c Done
+  none-short e = record { list = p .same us ∙ p .none e us; range = tt }
+
+  module _ (v : Cursor) (q : AtRun us s v) where
+    pub none-run : v .lack ≡ 0 → Advanced us ss c Done
+    none-run e = record { list = p .same us ∙ q .same ss ∙ q .none e ss; range = tt }
+
+    pub hand-short : 0 < v .short → v .short ≤ v .lack →
+        Advanced us ss c
+        (Overlap (v .from) (v .to) (v .short)
+        (record { account = v .account; from = v .from; short = 0; run = v .run; to = v .to; lack = v .lack - v .short }))
+    unfolding overlapsFrom
+    hand-short some few =
+        let r = q .range in
+        record {
+          list = p .same us ∙ q .same ss
+              ∙ overlaps-short (parts (v .account) (drop (v .account) ss)) (drop (v .run) us) (v .from) (v .short) (v .to) (v .lack) some few;
+          range = record {
+            from = r .from;
+            to = r .to;
+            lots = r .short;
+            cursor = record { from = r .from; to = r .to; short = omega arith };
+          };
+        }
+
+    pub hand-lack : 0 < v .lack → v .lack ≤ v .short →
+        Advanced us ss c
+        (Overlap (v .from) (v .to) (v .lack)
+        (record { account = v .account; from = v .from; short = v .short - v .lack; run = v .run; to = v .to; lack = 0 }))
+    unfolding overlapsFrom
+    hand-lack some few =
+        let r = q .range in
+        record {
+          list = p .same us ∙ q .same ss
+              ∙ overlaps-lack (parts (v .account) (drop (v .account) ss)) (drop (v .run) us) (v .from) (v .short) (v .to) (v .lack) some few;
+          range = record {
+            from = r .from;
+            to = r .to;
+            lots = omega (arith, r .short);
+            cursor = record { from = r .from; to = r .to; short = omega (arith, r .short) };
+          };
+        }
+
+-- what a step says
+module _ (us : List Part) (ss : List ℕ) (c : Cursor) (r : Next) (l : Advanced us ss c r) where
+  pub step-list : (c′ : Cursor) (f t x : ℕ) → r ≡ Overlap f t x c′ → overlapsFrom us ss c ≡ overlapsOf us ss (Overlap f t x c′)
+  step-list c′ f t x e = l .list ∙ ap (overlapsOf us ss) e
+
+  pub step-range : (c′ : Cursor) (f t x : ℕ) → r ≡ Overlap f t x c′ → OverlapInRange f t x c′
+  step-range c′ f t x e = rw e at (l .range)
+
+  pub step-length : (c′ : Cursor) (f t x : ℕ) → r ≡ Overlap f t x c′ →
+      length (overlapsFrom us ss c) ≡ suc (length (overlapsFrom us ss c′))
+  step-length c′ f t x e = ap length (step-list c′ f t x e)
+
+  pub step-end : r ≡ Done → overlapsFrom us ss c ≡ []
+  step-end e = l .list ∙ ap (overlapsOf us ss) e

@@ -1,0 +1,55 @@
+-- On to a shortfall, on to a run; of the two the smaller is laid, and the other keeps its rest.
+use native.Mathlib.Omega.{arith}
+use borrow.Author.Needs.{needs}
+use denote.Ref.{now}
+use Rattle.units.specs.Runs.{runsIn}
+use Rattle.units.proofs.Steps.{none-short, none-run, hand-short, hand-lack}
+use Rattle.units.proofs.advance.Statement.{statement}
+use Rattle.units.proofs.advance.Tie as tie
+
+next-short-requires : tie.Need-next-short-requires
+next-short-requires c κs = search needs
+
+returns : tie.Need-returns
+returns c =
+    let s = c .before .before .next-short in
+    let a = c .before .before .before .before .before .args in
+    let us = runsIn (now (a .runs)) (a .n) in
+    none-short us (now (a .shorts)) (a .c) (s .result) (s .ensures) (c .if1 .taken)
+
+next-run-requires : tie.Need-next-run-requires
+next-run-requires c κs = search needs
+
+returns-2 : tie.Need-returns-2
+returns-2 c =
+    let s = c .before .before .before .before .before .next-short in
+    let a = c .before .before .before .before .before .before .before .before .args in
+    let us = runsIn (now (a .runs)) (a .n) in
+    let r = c .before .before .next-run in
+    none-run us (now (a .shorts)) (a .c) (s .result) (s .ensures) (r .result) (r .ensures) (c .if2 .taken)
+
+sub-t8 : tie.Need-sub-t8
+sub-t8 c = search needs
+
+returns-3 : tie.Need-returns-3
+returns-3 c =
+    let s = c .before .before .before .before .before .before .before .before .next-short in
+    let a = c .before .before .before .before .before .before .before .before .before .before .before .args in
+    let us = runsIn (now (a .runs)) (a .n) in
+    let r = c .before .before .before .before .before .next-run in
+    hand-short us (now (a .shorts)) (a .c) (s .result) (s .ensures) (r .result) (r .ensures)
+    (omega (arith, r .ensures .short)) (omega arith)
+
+returns-4 : tie.Need-returns-4
+returns-4 c =
+    let s = c .before .before .before .before .before .before .before .before .next-short in
+    let a = c .before .before .before .before .before .before .before .before .before .before .before .args in
+    let us = runsIn (now (a .runs)) (a .n) in
+    let r = c .before .before .before .before .before .next-run in
+    hand-lack us (now (a .shorts)) (a .c) (s .result) (s .ensures) (r .result) (r .ensures)
+    (omega arith) (omega arith)
+
+pub advance-spec : {M : Type 1} → statement M
+advance-spec =
+    tie.close
+    (tie.spec next-short-requires returns next-run-requires returns-2 sub-t8 returns-3 returns-4)

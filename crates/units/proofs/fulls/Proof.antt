@@ -1,0 +1,90 @@
+-- The invariant: the first i keys are full of what they were, the others as they were.
+use mathlib.Core.Path.{_≡_, refl, ap, _∙_}
+use mathlib.Core.List.{map}
+use Prim.Native.Nat.{ℕ, _-_, _*_, _/_, _%_, _≤_}
+use native.Mathlib.Omega.{arith}
+use borrow.Author.Needs.{needs}
+use denote.Ref.{now}
+use lib.ListN.{length, take, getD, length-set}
+use Rattle.units.specs.Runs.{partOf, fullOf}
+use Rattle.units.proofs.Loops.{turn-more, full-key}
+use lib.Seq.{getD-set-other}
+use Rattle.units.proofs.Loops.{full-keys}
+use Rattle.units.proofs.fulls.Statement.{statement}
+use Rattle.units.proofs.fulls.Tie as tie
+
+abbrev Inv-loop : tie.InvT-loop
+Inv-loop keys₀ n i₀ keys i =
+    (i ≤ n) × (length keys ≡ length keys₀) × ((j : ℕ) → i ≤ j → getD keys j 0 ≡ getD keys₀ j 0)
+    × (map partOf (take i keys) ≡ map (λ k. fullOf (partOf k)) (take i keys₀))
+
+abbrev μ-loop : tie.MeasureT-loop
+μ-loop keys₀ n i₀ keys i = n - i
+
+loop-holds : tie.Need-loop-holds Inv-loop μ-loop
+loop-holds c = (search needs, refl, (λ j h. refl), refl)
+
+mul-k : tie.Need-mul-k Inv-loop μ-loop
+mul-k c = search needs
+
+slice-read-k : tie.Need-slice-read-k Inv-loop μ-loop
+slice-read-k c = search needs
+
+mul-keys : tie.Need-mul-keys Inv-loop μ-loop
+mul-keys c = search needs
+
+sub-keys : tie.Need-sub-keys Inv-loop μ-loop
+sub-keys c = search needs
+
+mul-keys-2 : tie.Need-mul-keys-2 Inv-loop μ-loop
+mul-keys-2 c = search needs
+
+slice-write-keys : tie.Need-slice-write-keys Inv-loop μ-loop
+slice-write-keys c = search needs
+
+add-i : tie.Need-add-i Inv-loop μ-loop
+add-i c = search needs
+
+loop-less : tie.Need-loop-less Inv-loop μ-loop
+loop-less c = search needs
+
+loop-again : tie.Need-loop-again Inv-loop μ-loop
+loop-again c =
+    let a = c .before .before .before .args in
+    let l = c .before .before .loop in
+    let k = getD (l .keys) (l .i) 0 in (
+      search needs,
+      simp length-set (l .inv .1),
+      (λ j h. getD-set-other (l .keys) (l .i) j (k - k / 64 % 100000 * 64) 0 (λ e. omega arith) ∙ l .inv .2 j (omega arith)),
+      turn-more partOf (λ k. fullOf (partOf k)) (now (a .keys)) (l .keys) (l .i) (k - k / 64 % 100000 * 64) (omega arith) (omega arith)
+          (full-key k ∙ ap (λ k. fullOf (partOf k)) (l .inv .2 (l .i) (omega arith))) (l .inv .3),
+    )
+
+same-length : tie.Need-same-length Inv-loop μ-loop
+same-length c = search needs
+
+returns : tie.Need-returns Inv-loop μ-loop
+returns c =
+    let a = c .before .before .args in
+    let l = c .before .loop in
+    let e : l .i ≡ a .n = omega arith in
+    rw e at (l .inv .3) ∙ full-keys (take (a .n) (now (a .keys)))
+
+pub fulls-spec : {M : Type 1} → statement M
+fulls-spec =
+    tie.close
+    (tie.spec
+    Inv-loop
+    μ-loop
+    loop-holds
+    mul-k
+    slice-read-k
+    mul-keys
+    sub-keys
+    mul-keys-2
+    slice-write-keys
+    add-i
+    loop-less
+    loop-again
+    same-length
+    returns)

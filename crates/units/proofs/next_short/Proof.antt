@@ -1,0 +1,90 @@
+-- The invariant: against whatever lacks, the shortfalls from here overlap as those from the start.
+use mathlib.Core.Path.{_≡_, refl, _∙_}
+use mathlib.Core.List.{List}
+use Prim.Native.Nat.{_-_, _≤_, _<_}
+use native.Mathlib.Omega.{arith}
+use borrow.Author.Needs.{needs}
+use denote.Ref.{now}
+use Rattle.rules.specs.Units.{Part}
+use Rattle.rules.specs.Fails.{overlaps}
+use Rattle.units.specs.Cursor.{overlapsFrom}
+use Rattle.units.proofs.Steps.{ahead, behind, short-next, short-end}
+use Rattle.units.proofs.next_short.Statement.{statement}
+use Rattle.units.proofs.next_short.Tie as tie
+
+abbrev Inv-loop : tie.InvT-loop
+Inv-loop shorts c a₀ f₀ x₀ a f x =
+    (f < 64) × (x ≤ 20000000) × ((vs : List Part) → overlaps (ahead f₀ x₀ a₀ shorts) vs ≡ overlaps (ahead f x a shorts) vs)
+
+abbrev μ-loop : tie.MeasureT-loop
+μ-loop shorts c a₀ f₀ x₀ a f x = 64 - a
+
+loop-holds : tie.Need-loop-holds Inv-loop μ-loop
+loop-holds c = (c .pre .range .from, c .pre .range .short, (λ vs. refl))
+
+returns : tie.Need-returns Inv-loop μ-loop
+unfolding overlapsFrom
+returns c =
+    let s = c .before .before .before in
+    let k = s .args .c in
+    let l = c .before .before .loop in
+    let z : l .x ≡ 0 = omega arith in
+    record {
+      same = λ us. rw z at (l .inv .2 (behind (k .to) (k .lack) (k .run) us));
+      none = λ q us.
+          short-end (now (s .args .shorts)) (behind (k .to) (k .lack) (k .run) us) (l .f) 0 (l .a) refl
+          (omega (arith, s .pre .accounts));
+      range = record { from = l .inv .0; to = s .pre .range .to; short = omega arith };
+    }
+
+cast-f : tie.Need-cast-f Inv-loop μ-loop
+cast-f c = search needs
+
+mul-x : tie.Need-mul-x Inv-loop μ-loop
+mul-x c = search needs
+
+shared-slice-read-x : tie.Need-shared-slice-read-x Inv-loop μ-loop
+shared-slice-read-x c = search needs
+
+add-a : tie.Need-add-a Inv-loop μ-loop
+add-a c = search needs
+
+loop-less : tie.Need-loop-less Inv-loop μ-loop
+loop-less c = search needs
+
+loop-again : tie.Need-loop-again Inv-loop μ-loop
+loop-again c =
+    let s = c .before .before .before .before in
+    let l = c .before .before .before .loop in (
+      omega arith,
+      s .pre .small (l .a),
+      (λ vs. l .inv .2 vs ∙ short-next (now (s .args .shorts)) vs (l .f) (l .x) (l .a) (omega arith) (omega arith)),
+    )
+
+returns-2 : tie.Need-returns-2 Inv-loop μ-loop
+unfolding overlapsFrom
+returns-2 c =
+    let s = c .before .before in
+    let k = s .args .c in
+    let l = c .before .loop in
+    record {
+      same = λ us. l .inv .2 (behind (k .to) (k .lack) (k .run) us);
+      none = λ q us. absurd (omega arith);
+      range = record { from = l .inv .0; to = s .pre .range .to; short = l .inv .1 };
+    }
+
+pub next-short-spec : {M : Type 1} → statement M
+next-short-spec =
+    tie.close
+    (tie.spec
+    Inv-loop
+    μ-loop
+    loop-holds
+    returns
+    cast-f
+    mul-x
+    shared-slice-read-x
+    add-a
+    loop-less
+    loop-again
+    returns-2)

@@ -1,0 +1,61 @@
+-- `place` answers how many keys at the front are larger. The invariant: every key passed is larger.
+use Prim.Native.Nat.{ℕ, _-_, _/_, _≤_, _<_}
+use native.Mathlib.Omega.{arith}
+use borrow.Author.Needs.{needs}
+use denote.Ref.{now}
+use lib.ListN.{getD}
+use Rattle.units.proofs.Ranking.{larger-take}
+use borrow.Author.Count.{below-more}
+use Rattle.units.proofs.place.Statement.{statement}
+use Rattle.units.proofs.place.Tie as tie
+
+abbrev Inv-loop : tie.InvT-loop
+Inv-loop keys n lots p₀ p = (p ≤ n) × ((i : ℕ) → i < p → lots < getD keys i 0 / 64)
+
+abbrev μ-loop : tie.MeasureT-loop
+μ-loop keys n lots p₀ p = n - p
+
+loop-holds : tie.Need-loop-holds Inv-loop μ-loop
+loop-holds c = search needs
+
+mul-if1 : tie.Need-mul-if1 Inv-loop μ-loop
+mul-if1 c = search needs
+
+shared-slice-read-if1 : tie.Need-shared-slice-read-if1 Inv-loop μ-loop
+shared-slice-read-if1 c = search needs
+
+returns : tie.Need-returns Inv-loop μ-loop
+returns c =
+    let a = c .before .before .before .before .args in
+    let l = c .before .before .before .loop in
+    larger-take (a .lots) (now (a .keys)) (a .n) (l .p) (search needs) (search needs) (l .inv .1) (λ q. omega arith)
+
+add-p : tie.Need-add-p Inv-loop μ-loop
+add-p c = search needs
+
+loop-less : tie.Need-loop-less Inv-loop μ-loop
+loop-less c = search needs
+
+loop-again : tie.Need-loop-again Inv-loop μ-loop
+loop-again c = (search needs, below-more _ _ (c .before .before .before .loop .inv .1) (omega arith))
+
+returns-2 : tie.Need-returns-2 Inv-loop μ-loop
+returns-2 c =
+    let a = c .before .before .args in
+    let l = c .before .loop in
+    larger-take (a .lots) (now (a .keys)) (a .n) (l .p) (search needs) (search needs) (l .inv .1) (λ q. absurd (omega arith))
+
+pub place-spec : {M : Type 1} → statement M
+place-spec =
+    tie.close
+    (tie.spec
+    Inv-loop
+    μ-loop
+    loop-holds
+    mul-if1
+    shared-slice-read-if1
+    returns
+    add-p
+    loop-less
+    loop-again
+    returns-2)

@@ -1,0 +1,3 @@
+-- What the contracts of the order cite.
+pub mod Runs
+pub mod Cursor

@@ -1,0 +1,121 @@
+/* measures: the value of lots, or the charge on them, in yen. Prints what the library
+ * answers; a refusal is told with the number that is out of range. */
+#include <ctype.h>
+#include <errno.h>
+#include <inttypes.h>
+#include <stdio.h>
+#include <stdlib.h>
+#include <string.h>
+
+#include "day_measures.h"
+
+enum status { DONE = 0, REFUSED = 1, BAD_USE = 2, NOT_WRITTEN = 3 };
+
+/* What a number is called, its range, and the refusal that a number outside it meets. */
+struct range {
+    const char *name;
+    uint32_t low;
+    uint32_t high;
+    uint32_t refusal;
+};
+
+/* The numbers of a charge in the order of the command; a value takes the first two. */
+static const struct range ranges[] = {
+    {"LOTS", 1, 20000000, DAY_LOTS_REFUSED},
+    {"PRICE", 1, 200000, DAY_TERMS_REFUSED},
+    {"DAYS", 1, 12, DAY_TERMS_REFUSED},
+    {"RATE", 0, 10000, DAY_TERMS_REFUSED},
+};
+
+enum { VALUE_NUMBERS = 2, CHARGE_NUMBERS = 4 };
+
+static void usage(FILE *to)
+{
+    fputs("usage: measures value LOTS PRICE\n"
+          "       measures charge LOTS PRICE DAYS RATE\n"
+          "Prints yen, rounded down.\n"
+          "  LOTS   1 to 20000000, lots of 50,000 yen face\n"
+          "  PRICE  1 to 200000, thousandths of a yen per 100 yen face\n"
+          "  DAYS   1 to 12\n"
+          "  RATE   0 to 10000, hundredths of a percent a year\n"
+          "Status: 0 done, 1 refused, 2 bad use, 3 the answer could not be written.\n",
+          to);
+}
+
+static int bad_use(void)
+{
+    usage(stderr);
+    return BAD_USE;
+}
+
+/* Reads a whole number of 32 bits, digits alone; 0 where the word is none. */
+static int read_number(const char *word, uint32_t *number)
+{
+    char *end;
+    if (!isdigit((unsigned char)word[0])) {
+        return 0;
+    }
+    errno = 0;
+    uintmax_t read = strtoumax(word, &end, 10);
+    if (*end != '\0' || errno != 0 || read > UINT32_MAX) {
+        return 0;
+    }
+    *number = (uint32_t)read;
+    return 1;
+}
+
+/* Says which number is out of which range. */
+static int refused(uint32_t refusal, const uint32_t *numbers, size_t count)
+{
+    fprintf(stderr, "measures: refused %" PRIu32, refusal);
+    for (size_t i = 0; i < count; i++) {
+        const struct range *r = &ranges[i];
+        if (r->refusal == refusal && (numbers[i] < r->low || numbers[i] > r->high)) {
+            fprintf(stderr, ": %s is %" PRIu32 ", give %" PRIu32 " to %" PRIu32, r->name,
+                    numbers[i], r->low, r->high);
+        }
+    }
+    fputc('\n', stderr);
+    return REFUSED;
+}
+
+int main(int argc, char **argv)
+{
+    uint32_t n[CHARGE_NUMBERS];
+    size_t count;
+    uint64_t yen = 0;
+
+    if (argc == 2 && strcmp(argv[1], "--help") == 0) {
+        usage(stdout);
+        return DONE;
+    }
+    if (argc > 1 && strcmp(argv[1], "value") == 0) {
+        count = VALUE_NUMBERS;
+    } else if (argc > 1 && strcmp(argv[1], "charge") == 0) {
+        count = CHARGE_NUMBERS;
+    } else {
+        fputs("measures: say 'value' or 'charge'\n", stderr);
+        return bad_use();
+    }
+    if ((size_t)argc != count + 2) {
+        fprintf(stderr, "measures: %s takes %zu numbers, not %d\n", argv[1], count, argc - 2);
+        return bad_use();
+    }
+    for (size_t i = 0; i < count; i++) {
+        if (!read_number(argv[i + 2], &n[i])) {
+            fprintf(stderr, "measures: %s is '%s', not a whole number from 0 to %" PRIu32 "\n",
+                    ranges[i].name, argv[i + 2], UINT32_MAX);
+            return bad_use();
+        }
+    }
+    uint32_t refusal = count == VALUE_NUMBERS ? day_value(n[0], n[1], &yen)
+                                              : day_charge(n[0], n[1], n[2], n[3], &yen);
+    if (refusal != 0) {
+        return refused(refusal, n, count);
+    }
+    if (printf("%" PRIu64 "\n", yen) < 0 || fflush(stdout) != 0) {
+        perror("measures: the answer could not be written");
+        return NOT_WRITTEN;
+    }
+    return DONE;
+}
