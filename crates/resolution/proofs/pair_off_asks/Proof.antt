@@ -2,18 +2,13 @@
 use borrow.Author.Tests.{le-leb, lt-leb}
 use Rattle.resolution.proofs.pair_off_asks.Statement.{statement}
 use Rattle.resolution.proofs.pair_off_asks.Tie as tie
-use Rattle.resolution.proofs.pair_off_asks.Reads as reads
-use Rattle.resolution.proofs.pair_off_asks.Lts as lts
 
--- src/lib.rt:177:9
 returns : tie.Need-returns
 returns c = simp (lt-leb _ _ (c .if1 .taken))
 
--- src/lib.rt:180:9
 returns-2 : tie.Need-returns-2
 returns-2 c = simp (le-leb _ _ (c .before .if1 .left), lt-leb _ _ (c .if2 .taken))
 
--- src/lib.rt:173:1
 returns-3 : tie.Need-returns-3
 returns-3 c = simp (le-leb _ _ (c .before .if1 .left), le-leb _ _ (c .if2 .left))
 

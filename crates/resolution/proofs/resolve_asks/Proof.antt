@@ -5,34 +5,25 @@ use borrow.Author.Tests.{le-leb, lt-leb}
 use borrow.Author.Needs.{needs}
 use Rattle.resolution.proofs.resolve_asks.Statement.{statement}
 use Rattle.resolution.proofs.resolve_asks.Tie as tie
-use Rattle.resolution.proofs.resolve_asks.Reads as reads
-use Rattle.resolution.proofs.resolve_asks.Lts as lts
-use Rattle.ledger.proofs.owed_lots.Reads as owed-lots-reads
 
--- src/lib.rt:153:9
 returns : tie.Need-returns
 returns c = λ ts ds. simp (lt-leb _ _ (c .if1 .taken))
 
--- src/lib.rt:156:9
 returns-2 : tie.Need-returns-2
 returns-2 c = λ ts ds. simp (le-leb _ _ (c .before .if1 .left), lt-leb _ _ (c .if2 .taken))
 
--- src/lib.rt:159:9
 returns-3 : tie.Need-returns-3
 returns-3 c = λ ts ds. simp (le-leb _ _ (c .before .before .if1 .left), le-leb _ _ (c .before .if2 .left), lt-leb _ _ (c .if3 .taken))
 
--- src/lib.rt:162:9
 returns-4 : tie.Need-returns-4
 returns-4 c =
     λ ts ds.
     simp
     (le-leb _ _ (c .before .before .before .if1 .left), le-leb _ _ (c .before .before .if2 .left), le-leb _ _ (c .before .if3 .left), lt-leb _ _ (c .if4 .taken))
 
--- src/lib.rt:164:9
 owed-lots-requires : tie.Need-owed-lots-requires
 owed-lots-requires c κs = search needs
 
--- src/lib.rt:166:9
 returns-5 : tie.Need-returns-5
 returns-5 c =
     λ ts ds.
@@ -44,7 +35,6 @@ returns-5 c =
       lt-leb _ _ (rw (c .before .owed-lots .ensures ts ds) at (c .if5 .taken)),
     )
 
--- src/lib.rt:148:1
 returns-6 : tie.Need-returns-6
 returns-6 c =
     λ ts ds.
