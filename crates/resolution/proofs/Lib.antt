@@ -1,3 +1,5 @@
 pub mod Alone
 pub mod Sweeping
 pub mod Opening
+pub mod Stepping
+pub mod Pairs

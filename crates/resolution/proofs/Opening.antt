@@ -3,17 +3,18 @@
 use mathlib.Core.Path.{_≡_, refl, sym, ap, _∙_}
 use mathlib.Core.Bool.{Bool, true, false}
 use mathlib.Core.List.{List, [], _∷_}
-use Prim.Native.Nat.{ℕ, _≤_, _<_}
+use Prim.Native.Nat.{ℕ, zero, suc, _≤_, _<_}
 use native.Mathlib.Omega.{arith}
 use lib.Dec.{leb}
 use lib.ListN.{length}
-use borrow.Author.Tests.{le-leb, lt-leb}
+use borrow.Author.Tests.{le-leb, lt-leb, leb-true}
 use Rattle.rules.specs.declared.Book.{Book}
 use Rattle.rules.specs.declared.Entry.{Entry}
+use Rattle.rules.specs.declared.Paired.{Paired}
 use Rattle.rules.specs.declared.Reply.{Reply}
-use Rattle.rules.specs.Ledger.{isFrom, meet}
-use Rattle.rules.specs.Questions.{Question, firstNo, askSound, askOutput}
-use Rattle.rules.specs.Calls.{AnswerIs, answer, resolve, resolveAsks, resolveRecords}
+use Rattle.rules.specs.Ledger.{isFrom, meet, pairing}
+use Rattle.rules.specs.Questions.{Question, firstNo, askSound, askOutput, askAccount}
+use Rattle.rules.specs.Calls.{AnswerIs, answer, resolve, resolveAsks, resolveRecords, PairAnswerIs, pairAnswer, pairOff, pairOffAsks}
 use Rattle.rules.specs.Measures.{mostEntries, outputWords}
 use Rattle.rules.specs.Book.{all, entries, ledgerOf, withLedger, entrySound, sound}
 use Rattle.laws.proofs.Basics.{each-map}
@@ -21,8 +22,11 @@ use Rattle.laws.proofs.Sound.{SoundEntry, SoundBook, sound-parts, parts-entry, 
 use Rattle.laws.proofs.Ledger.{FullColumns, columns-back}
 use Rattle.book.specs.Columns.{withColumns}
 use Rattle.ledger.specs.Columns.{Columns, Whole, Held}
-use Rattle.book.proofs.Answers.{said-yes, said-no, reply, refused}
+use Rattle.book.proofs.Answers.{yes, said-yes, said-no, reply, refused}
+use Rattle.laws.proofs.Pairing.{pairing-steps}
 use Rattle.resolution.specs.declared.Counts.{Counts}
+use Rattle.resolution.specs.declared.Steps.{Steps}
+use Rattle.resolution.specs.Pairs.{Pairable, WasPaired, FewSteps}
 use Rattle.resolution.specs.Resolving.{Resolvable, Resolved, resolveAnswer}
 
 module _ (b : Book) (s : sound b ≡ true) (whole : Whole (b .issues) (b .froms) (b .tos) (b .lots) (b .days)) where
@@ -45,15 +49,13 @@ module _ (b : Book) (s : sound b ≡ true) (whole : Whole (b .issues) (b .froms)
             };
       }
 
+  book-entries : all entrySound (ledgerOf b) ≡ true
+  book-entries =
+      each-all entrySound (ledgerOf b)
+      (each-map SoundEntry (λ e. entrySound e ≡ true) parts-entry (ledgerOf b) (sound-parts b s .ledger .each))
+
   pub book-resolvable : (out : List ℕ) → outputWords ≤ length out → Resolvable (b .count) (b .issues) (b .froms) (b .tos) (b .lots) (b .days) out
-  book-resolvable out h =
-      record {
-        held = book-held;
-        sound =
-            each-all entrySound (ledgerOf b)
-            (each-map SoundEntry (λ e. entrySound e ≡ true) parts-entry (ledgerOf b) (sound-parts b s .ledger .each));
-        room = h;
-      }
+  book-resolvable out h = record { held = book-held; sound = book-entries; room = h }
 
 -- the book of a ledger's columns
 pub with-columns-ledger : (b : Book) (es : List Entry) (n : ℕ) (is fs ts xs ds : List ℕ) → n ≡ length es → Columns es is fs ts xs ds →
@@ -109,3 +111,65 @@ module _ (b : Book) (i a x : ℕ) (out : List ℕ) where
           AnswerIs (resolve b i a x out) r lent
       unfolding resolve
       resolve-yes n r lent e z q = rw (sounds ∙ sym e ∙ z) q
+
+-- Pair-off
+
+module _ (b : Book) (i a : ℕ) where
+  pub book-pairable : i < 16 → sound b ≡ true → Whole (b .issues) (b .froms) (b .tos) (b .lots) (b .days) →
+      Pairable (b .day) (b .count) i (b .issues) (b .froms) (b .tos) (b .lots) (b .days)
+  book-pairable h s whole =
+      record {
+        held = book-held b s whole;
+        sound = book-entries b s whole;
+        days = sound-parts b s .ledger .days;
+        issue = h;
+      }
+
+  -- the book put together after the steps
+  pub paired-book : (r : Steps) (new : Book) (is fs ts xs ds : List ℕ) →
+      WasPaired (pairing (b .day) i a (ledgerOf b)) r is fs ts xs ds → new ≡ withColumns b (r .count) is fs ts xs ds →
+      PairAnswerIs (pairAnswer 0 b (pairing (b .day) i a (ledgerOf b)))
+      (record { refusal = 0; steps = r .steps; cancelled = r .cancelled; book = new })
+  paired-book r new is fs ts xs ds w e =
+      record {
+        refusal = refl;
+        steps = w .steps;
+        cancelled = w .cancelled;
+        book = e ∙ with-columns-ledger b (pairing (b .day) i a (ledgerOf b) .ledger) (r .count) is fs ts xs ds (w .ledger .count) (w .ledger .columns);
+      }
+
+  abbrev nothing : ℕ → Paired
+  nothing k = record { refusal = k; steps = 0; cancelled = 0; book = b }
+
+  no-pairs : (n k : ℕ) → k ≡ n → (k ≡ 0 → ⊥) → PairAnswerIs (pairAnswer n b (pairing (b .day) i a (ledgerOf b))) (nothing k)
+  no-pairs zero k e h = absurd (h e)
+  no-pairs (suc n) k e h = record { refusal = e; steps = refl; cancelled = refl; book = refl }
+
+  -- 2: the book is not sound
+  pub pair-unsound : sound b ≡ false → PairAnswerIs (pairOff b i a) (nothing 2)
+  unfolding pairOff
+  pair-unsound s = no-pairs (firstNo (askSound b ∷ pairOffAsks i a)) 2 (sym (said-no 2 (sound b) (pairOffAsks i a) s)) (λ z. omega arith)
+
+  module _ (s : sound b ≡ true) where
+    -- another 'no'
+    pub pair-no : (n : ℕ) → n ≡ firstNo (pairOffAsks i a) → (n ≡ 0 → ⊥) → PairAnswerIs (pairOff b i a) (nothing n)
+    unfolding pairOff
+    pair-no n e h = no-pairs (firstNo (askSound b ∷ pairOffAsks i a)) n (e ∙ sym (said-yes 2 (sound b) (pairOffAsks i a) s)) h
+
+    -- no 'no': then the issue is one
+    pub pair-issue : (n : ℕ) → n ≡ firstNo (pairOffAsks i a) → n ≡ 0 → i < 16
+    pair-issue n e z = omega (arith, leb-true i 15 (yes 3 (leb i 15) (askAccount a ∷ []) (sym e ∙ z) .first))
+
+    pub pair-yes : (n : ℕ) (r : Paired) → n ≡ firstNo (pairOffAsks i a) → n ≡ 0 →
+        PairAnswerIs (pairAnswer 0 b (pairing (b .day) i a (ledgerOf b))) r → PairAnswerIs (pairOff b i a) r
+    unfolding pairOff
+    pair-yes n r e z q = rw (said-yes 2 (sound b) (pairOffAsks i a) s ∙ sym e ∙ z) q
+
+    -- the steps are few
+    pub pair-few : (r : Paired) → PairAnswerIs (pairAnswer 0 b (pairing (b .day) i a (ledgerOf b))) r → FewSteps b i a (r .steps)
+    pair-few r q =
+        let w = pairing-steps (b .day) i a (ledgerOf b) (sound-parts b s .ledger .each) in
+        record { most = λ h k. rw (q .steps) (w .most h k); none = λ z. q .steps ∙ w .none z }
+
+  pub none-few : FewSteps b i a 0
+  none-few = record { most = λ h k. omega arith; none = λ z. refl }

@@ -1,18 +1,20 @@
 // Resolve and pair-off: the ledger's fails met, and set against one another.
 use rules::Book;
+use rules::Paired;
 use rules::Reply;
 ghost use mathlib.Core.Path.{_≡_};
 ghost use mathlib.Core.Bool.{true, cond, _&&_};
-ghost use mathlib.Core.List.{List};
+ghost use mathlib.Core.List.{List, _++_};
 ghost use Prim.Native.Nat.{ℕ, _+_, _-_, _*_, _≤_, _<_, min};
 ghost use lib.Dec.{eqb};
 ghost use lib.ListN.{length};
-ghost use Rattle.rules.specs.Ledger.{entry, isFrom};
-ghost use Rattle.rules.specs.Book.{entries, entrySound, sound};
+ghost use Rattle.rules.specs.Ledger.{entry, isFrom, isTo, lower, through, pairing};
+ghost use Rattle.rules.specs.Book.{entries, entrySound, ledgerOf, sound};
 ghost use Rattle.rules.specs.Questions.{firstNo};
-ghost use Rattle.rules.specs.Calls.{AnswerIs, resolveAsks, resolve as resolveOf, pairOffAsks};
+ghost use Rattle.rules.specs.Calls.{AnswerIs, resolveAsks, resolve as resolveOf, pairOffAsks, PairAnswerIs, pairAnswer, pairOff};
 ghost use Rattle.rules.specs.Measures.{outputWords};
-ghost use Rattle.ledger.specs.Columns.{Whole};
+ghost use Rattle.ledger.specs.Columns.{Whole, Held, Kept};
+ghost use Rattle.resolution.specs.Pairs.{Pairable, CanFall, CanStep, WasStepped, WasPaired, FewSteps};
 ghost use Rattle.resolution.specs.Resolving.{resolveAnswer, entryAt, Put, Recorded, CanMeet, WasMet, Resolvable, Resolved};
 
 // What a resolve leaves: the number of entries in the ledger, and of records written.
@@ -253,4 +255,213 @@ pub fn resolve(b: Book, i: u32, a: u32, x: u32, out: &mut [u32]) -> Reply
         };
     }
     resolve_book(b, i, a, x, out)
+}
+
+// What pair-off leaves: the steps made, the lots cancelled, the number of entries in the ledger.
+pub struct Steps {
+    pub steps: usize,
+    pub cancelled: u64,
+    pub count: usize,
+}
+
+// After one step: the number of entries, and the lots by which both entries fell.
+pub struct Fallen {
+    pub count: usize,
+    pub lots: u32,
+}
+
+fn smaller(x: u32, y: u32) -> u32
+    ensures { λ r. ⌜ r ≡ min x y ⌝ }
+{
+    if x < y {
+        return x;
+    }
+    y
+}
+
+// The first entry of issue i to account a falls by m lots; answers the number of entries.
+fn fall_to(
+    count: usize,
+    issues: &mut [u8],
+    froms: &mut [u8],
+    tos: &mut [u8],
+    lots: &mut [u32],
+    days: &mut [u16],
+    i: u32,
+    a: u32,
+    m: u32,
+) -> usize
+    requires { ⌜ CanFall m count i a (now issues) (now froms) (now tos) (now lots) (now days) ⌝ }
+    ensures { λ r. ⌜ Kept (lower (isTo i a) m (entries count (now (issues .entry)) (now (froms .entry)) (now (tos .entry)) (now (lots .entry)) (now (days .entry)))) r (now (issues .exit)) (now (froms .exit)) (now (tos .exit)) (now (lots .exit)) (now (days .exit)) ⌝ }
+{
+    let k = ledger::first_to(count, issues, tos, i, a);
+    ledger::lower_at(count, k, m, issues, froms, tos, lots, days)
+}
+
+// An entry p to q of m lots, today, behind the others, where p and q differ; answers the number of
+// entries.
+fn pass_on(
+    count: usize,
+    issues: &mut [u8],
+    froms: &mut [u8],
+    tos: &mut [u8],
+    lots: &mut [u32],
+    days: &mut [u16],
+    i: u8,
+    p: u8,
+    q: u8,
+    m: u32,
+    today: u16,
+) -> usize
+    requires { ⌜ (count < 2048) × (1 ≤ m) × Held count (now issues) (now froms) (now tos) (now lots) (now days) ⌝ }
+    ensures { λ r. ⌜ Kept (entries count (now (issues .entry)) (now (froms .entry)) (now (tos .entry)) (now (lots .entry)) (now (days .entry)) ++ through today i p q m) r (now (issues .exit)) (now (froms .exit)) (now (tos .exit)) (now (lots .exit)) (now (days .exit)) ⌝ }
+{
+    if p == q {
+        return count;
+    }
+    ledger::append(count, issues, froms, tos, lots, days, i, p, q, m, today);
+    count + 1
+}
+
+// One step: the entry to account a at place t and the one from it at place f fall by the smaller
+// lots, and what goes through the account is passed on.
+fn step_in(
+    count: usize,
+    issues: &mut [u8],
+    froms: &mut [u8],
+    tos: &mut [u8],
+    lots: &mut [u32],
+    days: &mut [u16],
+    today: u16,
+    i: u32,
+    a: u32,
+    t: usize,
+    f: usize,
+) -> Fallen
+    requires { ⌜ CanStep today count i a t f (now issues) (now froms) (now tos) (now lots) (now days) ⌝ }
+    ensures { λ r. ⌜ WasStepped (entries count (now (issues .entry)) (now (froms .entry)) (now (tos .entry)) (now (lots .entry)) (now (days .entry))) today i a r (now (issues .exit)) (now (froms .exit)) (now (tos .exit)) (now (lots .exit)) (now (days .exit)) ⌝ }
+{
+    let p = froms[t];
+    let q = tos[f];
+    let m = smaller(lots[t], lots[f]);
+    let fewer = ledger::lower_at(count, f, m, issues, froms, tos, lots, days);
+    let left = fall_to(fewer, issues, froms, tos, lots, days, i, a, m);
+    let next = pass_on(
+        left,
+        issues,
+        froms,
+        tos,
+        lots,
+        days,
+        i as u8,
+        p,
+        q,
+        m,
+        today,
+    );
+    Fallen {
+        count: next,
+        lots: m,
+    }
+}
+
+// Pair-off in place: while there is an entry of issue i to account a and one from it, a step.
+pub fn pair_off_in(
+    count: usize,
+    issues: &mut [u8],
+    froms: &mut [u8],
+    tos: &mut [u8],
+    lots: &mut [u32],
+    days: &mut [u16],
+    today: u16,
+    i: u32,
+    a: u32,
+) -> Steps
+    requires { ⌜ Pairable today count i (now issues) (now froms) (now tos) (now lots) (now days) ⌝ }
+    ensures { λ r. ⌜ WasPaired (pairing today i a (entries count (now (issues .entry)) (now (froms .entry)) (now (tos .entry)) (now (lots .entry)) (now (days .entry)))) r (now (issues .exit)) (now (froms .exit)) (now (tos .exit)) (now (lots .exit)) (now (days .exit)) ⌝ }
+{
+    let mut n = count;
+    let mut steps: usize = 0;
+    let mut cancelled: u64 = 0;
+    loop {
+        let t = ledger::first_to(n, issues, tos, i, a);
+        if t == n {
+            return Steps {
+                steps,
+                cancelled,
+                count: n,
+            };
+        }
+        let f = ledger::first_from(n, issues, froms, i, a);
+        if f == n {
+            return Steps {
+                steps,
+                cancelled,
+                count: n,
+            };
+        }
+        let s = step_in(n, issues, froms, tos, lots, days, today, i, a, t, f);
+        n = s.count;
+        steps += 1;
+        cancelled += s.lots as u64;
+    }
+}
+
+// Pair-off of a sound book whose questions are all answered 'yes'.
+fn pair_off_book(b: Book, i: u32, a: u32) -> Paired
+    requires { ⌜ (i < 16) × (sound b ≡ true) ⌝ }
+    ensures { λ r. ⌜ PairAnswerIs (pairAnswer 0 b (pairing (b .day) i a (ledgerOf b))) r ⌝ }
+{
+    let count = b.count;
+    let today = b.day;
+    let mut issues = b.issues;
+    let mut froms = b.froms;
+    let mut tos = b.tos;
+    let mut lots = b.lots;
+    let mut days = b.days;
+    let made = pair_off_in(
+        count,
+        &mut issues,
+        &mut froms,
+        &mut tos,
+        &mut lots,
+        &mut days,
+        today,
+        i,
+        a,
+    );
+    let next = book::with_columns(b, made.count, issues, froms, tos, lots, days);
+    Paired {
+        refusal: 0,
+        steps: made.steps,
+        cancelled: made.cancelled,
+        book: next,
+    }
+}
+
+// Fails to account a in issue i are set against its fails from there, first against first; the answer
+// carries the steps made and the lots cancelled. A refusal gives its number, 0 steps and 0 lots, and
+// the book as it was.
+pub fn pair_off(b: Book, i: u32, a: u32) -> Paired
+    ensures answer { λ r. ⌜ PairAnswerIs (pairOff b i a) r ⌝ }
+    ensures few { λ r. ⌜ FewSteps b i a (r .steps) ⌝ }
+{
+    if !book::sound(b) {
+        return Paired {
+            refusal: 2,
+            steps: 0,
+            cancelled: 0,
+            book: b,
+        };
+    }
+    let no = pair_off_asks(i, a);
+    if no != 0 {
+        return Paired {
+            refusal: no,
+            steps: 0,
+            cancelled: 0,
+            book: b,
+        };
+    }
+    pair_off_book(b, i, a)
 }

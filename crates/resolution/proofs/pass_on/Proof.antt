@@ -1,0 +1,52 @@
+-- `resolution::pass_on` meets its contract: nothing is appended where p is q, else the entry.
+use mathlib.Core.Path.{sym}
+use denote.Ref.{now}
+use Rattle.resolution.proofs.Stepping.{kept-none, kept-one}
+use borrow.Author.Needs.{needs}
+use Rattle.resolution.proofs.pass_on.Statement.{statement}
+use Rattle.resolution.proofs.pass_on.Tie as tie
+
+returns : tie.Need-returns
+returns c =
+    let a = c .before .before .before .before .before .before .args in
+    kept-none (a .today) (a .i) (a .p) (a .q) (a .m) _ _ _ _ _ _ (c .if1 .taken) (c .before .before .before .before .before .before .pre .2)
+
+append-requires : tie.Need-append-requires
+append-requires c κs = search needs
+
+add-result : tie.Need-add-result
+add-result c = search needs
+
+same-length : tie.Need-same-length
+same-length c = search needs
+
+same-length-2 : tie.Need-same-length-2
+same-length-2 c = search needs
+
+same-length-3 : tie.Need-same-length-3
+same-length-3 c = search needs
+
+same-length-4 : tie.Need-same-length-4
+same-length-4 c = search needs
+
+same-length-5 : tie.Need-same-length-5
+same-length-5 c = search needs
+
+returns-2 : tie.Need-returns-2
+returns-2 c =
+    let a = c .before .before .before .before .before .before .before .before .before .before .before .before .before .before .before .before .before .before .before .before .before .before .args in
+    kept-one (a .today) (a .i) (a .p) (a .q) (a .m) (a .count) (now (a .issues)) (now (a .froms)) (now (a .tos)) (now (a .lots)) (now (a .days)) _ _ _ _ _ _ (c .before .before .before .before .before .before .before .before .before .before .before .before .before .before .before .before .if1 .left) (c .before .before .before .before .before .before .before .before .before .before .before .before .before .before .before .before .before .before .before .before .before .before .pre .1) (c .before .before .before .before .before .before .before .before .before .before .append .ensures)
+
+pub pass-on-spec : {M : Type 1} → statement M
+pass-on-spec =
+    tie.close
+    (tie.spec
+    returns
+    append-requires
+    add-result
+    same-length
+    same-length-2
+    same-length-3
+    same-length-4
+    same-length-5
+    returns-2)
