@@ -6,7 +6,6 @@ use rules::Reply;
 use units::Cursor;
 use units::Next;
 ghost use mathlib.Core.Path.{_≡_};
-ghost use mathlib.Core.List.{_∷_, []};
 ghost use Prim.Native.Nat.{_+_, _≤_, _<_};
 ghost use lib.ListN.{length};
 ghost use Rattle.rules.specs.Calls.{issueFails, cutoff as cutoffOf, AnswerIs};
