@@ -1,6 +1,5 @@
 -- `resolution::met_by` meets its contract: the test picks the smaller lots or 0.
 use mathlib.Core.Path.{sym, _∙_}
-use native.Mathlib.Nat.{min-eq-left, min-eq-right}
 use native.Mathlib.Omega.{arith}
 use borrow.Author.Needs.{needs}
 use Rattle.resolution.proofs.met_by.Statement.{statement}
