@@ -41,11 +41,8 @@ fn some_of(rng: &mut Rng, limit: u32, least: u32, most: u32) -> Vec<u32> {
     let count = rng.range(least, most) as usize;
     let mut numbers = Vec::new();
     while numbers.len() < count {
-        let number = if rng.chance(1, 3) {
-            *rng.pick(&[0, 1, limit - 1])
-        } else {
-            rng.range(0, limit - 1)
-        };
+        let number =
+            if rng.chance(1, 3) { *rng.pick(&[0, 1, limit - 1]) } else { rng.range(0, limit - 1) };
         if !numbers.contains(&number) {
             numbers.push(number);
         }
@@ -140,7 +137,13 @@ fn random_entries(rng: &mut Rng, shape: &Shape) -> Vec<Entry> {
             }
             let (from, to) = two_of(rng, &shape.accounts);
             let issue = *rng.pick(&shape.issues) as u8;
-            Entry { issue, from: from as u8, to: to as u8, lots: random_lots(rng, &shape.menu), day }
+            Entry {
+                issue,
+                from: from as u8,
+                to: to as u8,
+                lots: random_lots(rng, &shape.menu),
+                day,
+            }
         })
         .collect()
 }

@@ -141,15 +141,15 @@ fn answer_text(answer: Answer) -> String {
 pub fn book_difference(one: &Book, other: &Book) -> [String; 2] {
     let both = |tell: &dyn Fn(&Book) -> String| [tell(one), tell(other)];
     let differs = |texts: &[String; 2]| texts[0] != texts[1];
-    let header = both(&|book| {
-        format!("day {}, phase {:?}, {} entries", book.day, book.phase, book.count)
-    });
+    let header =
+        both(&|book| format!("day {}, phase {:?}, {} entries", book.day, book.phase, book.count));
     if differs(&header) {
         return header;
     }
     for (issue, account) in (0..ISSUES).flat_map(|i| (0..ACCOUNTS).map(move |a| (i, a))) {
         let texts = both(&|book| {
-            let (net, given) = (book.nets[place(issue, account)], book.delivered[place(issue, account)]);
+            let (net, given) =
+                (book.nets[place(issue, account)], book.delivered[place(issue, account)]);
             format!("issue {issue} account {account}: net {net}, delivered {given}")
         });
         if differs(&texts) {
@@ -174,9 +174,7 @@ pub fn by_reference(book: &mut Book, call: &Call, out: &mut [u32]) -> Answer {
             let unit = calls::unit(book, issue, k);
             plain(unit.number, [u64::from(unit.found), unit.account.into(), unit.lots.into()])
         }
-        Call::Trade { issue, from, to, lots } => {
-            counted(calls::trade(book, issue, from, to, lots))
-        }
+        Call::Trade { issue, from, to, lots } => counted(calls::trade(book, issue, from, to, lots)),
         Call::Close => counted(calls::close(book)),
         Call::Deliver { issue, account, lots, .. } => {
             counted(calls::deliver(book, issue, account, lots, out))
@@ -193,17 +191,44 @@ pub fn by_reference(book: &mut Book, call: &Call, out: &mut [u32]) -> Answer {
     }
 }
 
+/// The second engine's answer on a book known to be sound; `sound` is asked all the same.
+pub fn by_reference_on_sound(book: &mut Book, call: &Call, out: &mut [u32]) -> Answer {
+    match *call {
+        Call::Sound => by_reference(book, call, out),
+        Call::Unit { issue, k } => {
+            let unit = calls::unit_on_sound(book, issue, k);
+            plain(unit.number, [u64::from(unit.found), unit.account.into(), unit.lots.into()])
+        }
+        Call::Trade { issue, from, to, lots } => {
+            counted(calls::trade_on_sound(book, issue, from, to, lots))
+        }
+        Call::Close => counted(calls::close_on_sound(book)),
+        Call::Deliver { issue, account, lots, .. } => {
+            counted(calls::deliver_on_sound(book, issue, account, lots, out))
+        }
+        Call::Cutoff { .. } => counted(calls::cutoff_on_sound(book, out)),
+        Call::Resolve { issue, account, lots, .. } => {
+            counted(calls::resolve_on_sound(book, issue, account, lots, out))
+        }
+        Call::PairOff { issue, account } => {
+            let answer = calls::pair_off_on_sound(book, issue, account);
+            plain(answer.number, [answer.steps.into(), answer.lots, 0])
+        }
+        Call::Roll { days, rate, ref prices } => {
+            counted(calls::roll_on_sound(book, days, rate, prices))
+        }
+    }
+}
+
 /// The library's answer to an open call or question.
-fn by_library(book: &mut Book, call: &Call, out: &mut [u32]) -> Answer {
+pub fn by_library(book: &mut Book, call: &Call, out: &mut [u32]) -> Answer {
     match *call {
         Call::Sound => plain(trial::sound(book), [0; 3]),
         Call::Unit { issue, k } => {
             let unit = trial::unit(book, issue, k);
             plain(unit.number, [unit.found.into(), unit.account.into(), unit.lots.into()])
         }
-        Call::Trade { issue, from, to, lots } => {
-            recorded(open::trade(book, issue, from, to, lots))
-        }
+        Call::Trade { issue, from, to, lots } => recorded(open::trade(book, issue, from, to, lots)),
         Call::Close => recorded(open::close(book)),
         Call::Deliver { issue, account, lots, .. } => {
             recorded(open::deliver(book, issue, account, lots, out))
@@ -218,7 +243,7 @@ fn by_library(book: &mut Book, call: &Call, out: &mut [u32]) -> Answer {
 }
 
 /// The answer of the library's call in place; questions have the open form alone.
-fn by_library_in_place(book: &mut Book, call: &Call, out: &mut [u32]) -> Answer {
+pub fn by_library_in_place(book: &mut Book, call: &Call, out: &mut [u32]) -> Answer {
     match *call {
         Call::Sound | Call::Unit { .. } => by_library(book, call, out),
         Call::Trade { issue, from, to, lots } => {

@@ -1,13 +1,19 @@
 //! A failing list made short: parts are left out while the list still fails.
 
-/// A shortest list found by leaving out parts, halves first and single items last.
+use std::time::{Duration, Instant};
+
+/// The longest time that is spent on making a list short.
+const LIMIT: Duration = Duration::from_secs(15);
+
+/// A short list found by leaving out parts, halves first and single items last.
 pub fn shrink<T: Clone>(list: Vec<T>, mut fails: impl FnMut(&[T]) -> bool) -> Vec<T> {
+    let start = Instant::now();
     let mut list = list;
     let mut part = list.len().div_ceil(2);
     while part > 0 {
         let mut at = 0;
         let before = list.len();
-        while at < list.len() {
+        while at < list.len() && start.elapsed() < LIMIT {
             let end = (at + part).min(list.len());
             let shorter: Vec<T> = list[..at].iter().chain(&list[end..]).cloned().collect();
             if fails(&shorter) {

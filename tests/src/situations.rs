@@ -190,36 +190,48 @@ impl Coverage {
         let smaller = units[count..].iter().any(|unit| u64::from(unit.lots) <= stock);
         self.meet("deliver: a smaller later unit would be covered", smaller);
         let now = &units[first..count];
-        let among = |equal: fn(&Unit, &Unit) -> bool| now.windows(2).any(|two| equal(&two[0], &two[1]));
+        let among =
+            |equal: fn(&Unit, &Unit) -> bool| now.windows(2).any(|two| equal(&two[0], &two[1]));
         self.meet("deliver: hands over among equal full units", among(equal_full));
         self.meet("deliver: hands over among equal small units", among(equal_small));
     }
 
     /// The situations of a cutoff.
     fn cutoff(&mut self, made: &Made) {
-        self.meet("cutoff: 2,049 entries are refused", made.answer.number == 10 && {
-            let mut room = made.before.clone();
-            room.set_ledger(&made.before.ledger()[1..]);
-            reference::calls::cutoff_on_sound(&mut room, &mut [0; 4_096]).number == 0
-        });
+        let refused = made.answer.number == 10 && room_for_one_less(made.before);
+        self.meet("cutoff: 2,049 entries are refused", refused);
         if made.answer.number != 0 {
             return;
         }
         let ledger = made.after.ledger();
         let fails = &ledger[made.before.count..];
-        let pairs = || fails.iter().zip(fails.iter().skip(1)).filter(|(a, b)| a.issue == b.issue);
-        self.meet("cutoff: nothing failed", fails.is_empty() && made.after.nets.iter().any(|&n| n != 0));
-        self.meet("cutoff: nothing delivered", made.before.delivered.iter().all(|&lots| lots == 0));
-        self.meet("cutoff: a deliverer fails several receivers", pairs().any(|(a, b)| a.from == b.from && a.to != b.to));
-        self.meet("cutoff: several deliverers fail a receiver", pairs().any(|(a, b)| a.from != b.from && a.to == b.to));
-        let same = pairs().any(|(a, b)| a.from == b.from && a.to == b.to);
-        self.meet("cutoff: full units and small unit of one account failed by one deliverer", same);
-        let issues = fails.first().zip(fails.last());
-        self.meet("cutoff: more than one issue fails", issues.is_some_and(|(a, b)| a.issue != b.issue));
-        self.meet("cutoff: the ledger is full to 2,048", ledger.len() == ENTRIES && !fails.is_empty());
+        let nothing = fails.is_empty() && made.after.nets.iter().any(|&net| net != 0);
+        self.meet("cutoff: nothing failed", nothing);
+        let nothing = made.before.delivered.iter().all(|&lots| lots == 0);
+        self.meet("cutoff: nothing delivered", nothing);
+        let full = ledger.len() == ENTRIES && !fails.is_empty();
+        self.meet("cutoff: the ledger is full to 2,048", full);
+        self.fails(fails);
         for issue in 0..16 {
             self.remaining_stock(made.before, issue);
         }
+    }
+
+    /// The situations of the fails of a cutoff.
+    fn fails(&mut self, fails: &[Entry]) {
+        let pairs = || fails.windows(2).filter(|two| two[0].issue == two[1].issue);
+        let some = |same_from: bool, same_to: bool| {
+            pairs().any(|two| {
+                (two[0].from == two[1].from) == same_from && (two[0].to == two[1].to) == same_to
+            })
+        };
+        self.meet("cutoff: a deliverer fails several receivers", some(true, false));
+        self.meet("cutoff: several deliverers fail a receiver", some(false, true));
+        let both = "cutoff: full units and small unit of one account failed by one deliverer";
+        self.meet(both, some(true, true));
+        let issues = fails.first().zip(fails.last());
+        let unlike = issues.is_some_and(|(first, last)| first.issue != last.issue);
+        self.meet("cutoff: more than one issue fails", unlike);
     }
 
     /// The situations of an issue's remaining stock at cutoff.
@@ -234,8 +246,12 @@ impl Coverage {
             let unit = units[count];
             self.meet("cutoff: stock goes to a full unit", unit.full);
             self.meet("cutoff: stock goes to a small unit", !unit.full);
-            let more = units.get(count + 1).is_some_and(|next| next.full && next.account == unit.account);
-            self.meet("cutoff: stock goes to a full unit with more of its account after it", unit.full && more);
+            let more =
+                units.get(count + 1).is_some_and(|next| next.full && next.account == unit.account);
+            self.meet(
+                "cutoff: stock goes to a full unit with more of its account after it",
+                unit.full && more,
+            );
         }
     }
 
@@ -297,6 +313,13 @@ impl Coverage {
     }
 }
 
+/// Would the cutoff be accepted with one entry less in the ledger?
+fn room_for_one_less(book: &Book) -> bool {
+    let mut room = book.clone();
+    room.set_ledger(&book.ledger()[1..]);
+    reference::calls::cutoff_on_sound(&mut room, &mut [0; 4_096]).number == 0
+}
+
 /// The name under which a call's number is counted.
 fn number_name(call: &str, number: u32) -> String {
     format!("{call}: answers {number}")
@@ -304,9 +327,9 @@ fn number_name(call: &str, number: u32) -> String {
 
 /// All names that a run must meet.
 fn expected() -> Vec<String> {
-    let numbers = NUMBERS.iter().flat_map(|(call, numbers)| {
-        numbers.iter().map(move |&number| number_name(call, number))
-    });
+    let numbers = NUMBERS
+        .iter()
+        .flat_map(|(call, numbers)| numbers.iter().map(move |&number| number_name(call, number)));
     numbers.chain(SITUATIONS.iter().map(|name| name.to_string())).collect()
 }
 

@@ -19,12 +19,27 @@ pub enum Step {
 pub enum Edit {
     Day(u16),
     Phase(Phase),
-    Net { issue: usize, account: usize, lots: i32 },
-    Delivered { issue: usize, account: usize, lots: u32 },
-    Charge { account: usize, yen: i64 },
+    Net {
+        issue: usize,
+        account: usize,
+        lots: i32,
+    },
+    Delivered {
+        issue: usize,
+        account: usize,
+        lots: u32,
+    },
+    Charge {
+        account: usize,
+        yen: i64,
+    },
     Count(usize),
     /// The entries at these places, used or not, the last not included.
-    Entries { first: usize, end: usize, entry: Entry },
+    Entries {
+        first: usize,
+        end: usize,
+        entry: Entry,
+    },
 }
 
 /// A call with its arguments and the length of its output, or a question.

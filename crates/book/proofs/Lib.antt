@@ -3,3 +3,4 @@ pub mod RowLaws
 pub mod ScanLaws
 pub mod Halves
 pub mod Answers
+pub mod Lent

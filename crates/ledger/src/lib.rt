@@ -1,9 +1,10 @@
 // The ledger in five columns: issue, from, to, lots, day. The first `count` places of each are its
 // entries; the others are 0.
+use rules::Entry;
 ghost use mathlib.Core.Path.{_≡_};
 ghost use mathlib.Core.Bool.{cond, _&&_};
 ghost use mathlib.Core.List.{List, [], _∷_, _++_};
-ghost use Prim.Native.Nat.{ℕ, _+_, _-_, _≤_, _<_};
+ghost use Prim.Native.Nat.{ℕ, _+_, _-_, _≤_, _<_, min};
 ghost use lib.Dec.{eqb};
 ghost use lib.ListN.{length, getD};
 ghost use Rattle.rules.specs.Ledger.{entry, isFrom, isTo, lotsOf};
@@ -169,6 +170,22 @@ fn remove(
     store(issues, froms, tos, lots, days, at, 0, 0, 0, 0, 0);
 }
 
+// The lots left of an entry that is met by m lots: it is taken out of its columns and met in a lent
+// slice of entry structs.
+pub fn left_of(issue: u8, from: u8, to: u8, lots: u32, day: u16, m: u32) -> u32
+    ensures { λ r. ⌜ r ≡ lots - min lots m ⌝ }
+{
+    let e = Entry {
+        issue,
+        from,
+        to,
+        lots,
+        day,
+    };
+    let after = entries::met(e, m);
+    after.lots
+}
+
 // The entry at place k falls by m of its lots, and goes where that leaves 0; answers the new count.
 pub fn lower_at(
     count: usize,
@@ -183,7 +200,7 @@ pub fn lower_at(
     requires { ⌜ (k < count) × (m ≤ getD (now lots) k 0) × Held count (now issues) (now froms) (now tos) (now lots) (now days) ⌝ }
     ensures { λ r. ⌜ Kept (lowerAt k m (entries count (now (issues .entry)) (now (froms .entry)) (now (tos .entry)) (now (lots .entry)) (now (days .entry)))) r (now (issues .exit)) (now (froms .exit)) (now (tos .exit)) (now (lots .exit)) (now (days .exit)) ⌝ }
 {
-    let left = lots[k] - m;
+    let left = left_of(issues[k], froms[k], tos[k], lots[k], days[k], m);
     if left == 0 {
         remove(count, k, issues, froms, tos, lots, days);
         return count - 1;

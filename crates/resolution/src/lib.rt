@@ -30,15 +30,13 @@ pub struct Turn {
     pub left: u32,
 }
 
-// What of x lots of account a in issue i meets an entry of this issue, from and y lots.
-fn met_by(issue: u8, from: u8, y: u32, i: u32, a: u32, x: u32) -> u32
+// What of x lots of account a in issue i meets an entry of y lots: where it is of that issue and from
+// that account it is met in a lent slice of entry structs.
+fn met_by(issue: u8, from: u8, to: u8, y: u32, day: u16, i: u32, a: u32, x: u32) -> u32
     ensures { λ r. ⌜ r ≡ cond (eqb issue i && eqb from a) (min x y) 0 ⌝ }
 {
     if ledger::is_of(issue, from, i, a) {
-        if x < y {
-            return x;
-        }
-        return y;
+        return y - ledger::left_of(issue, from, to, y, day, x);
     }
     0
 }
@@ -103,7 +101,7 @@ fn meet_at(
     let t = tos[k];
     let y = lots[k];
     let d = days[k];
-    let m = met_by(issue, f, y, i, a, x);
+    let m = met_by(issue, f, t, y, d, i, a, x);
     let records = hand(out, n, issue, f, t, m);
     let entries = keep(issues, froms, tos, lots, days, w, issue, f, t, y - m, d);
     Turn {

@@ -1,19 +1,19 @@
 -- Read is written: a right head has its kind, its fields and nothing below them, so that it is the sum of its fields;
 -- likewise the words after it.
-use mathlib.Core.Path.{_≡_, refl, ap, sym, subst, _∙_}
-use mathlib.Core.Bool.{Bool, true, false, _&&_}
-use mathlib.Core.List.{List, [], _∷_, _++_, map}
+use mathlib.Core.Path.{_≡_, refl, ap, _∙_}
+use mathlib.Core.Bool.{Bool, true, _&&_}
+use mathlib.Core.List.{List, [], _∷_, map}
 use Prim.Native.Nat.{ℕ, zero, suc, _+_, _*_, _/_, _%_, _^_, _≤_, _<_}
 use native.Mathlib.Omega.{arith}
 use borrow.Author.Tests.{leb-true, eqb-true}
 use lib.Dec.{leb, eqb}
-use lib.ListN.{length, getD, take, drop, replicate}
+use lib.ListN.{length, getD, take, replicate}
 use Rattle.rules.specs.declared.Instruction.{Instruction}
 use Rattle.rules.specs.declared.Read.the-variants.{Instr}
-use Rattle.rules.specs.Records.{kindBits, issueBits, fromBits, toBits, lotsBits, daysBits, rateBits, priceBits, ofField, headWord, lotsWord}
+use Rattle.rules.specs.Records.{issueBits, fromBits, toBits, lotsBits, daysBits, rateBits, priceBits, ofField, headWord, lotsWord}
 use Rattle.rules.specs.Tape.{kindOf, unusedBelow, headRight, followers, lotsRight, priceWordRight, wordsWrong, instructionOf, readOf, pricesOf, rollWord, priceWord, wordsOf}
 use Rattle.laws.proofs.Basics.{byTest, and-left, and-right}
-use Rattle.tape.proofs.Sized.{ReadIs, read-is}
+use Rattle.tape.proofs.Sized.{read-is}
 
 -- each is a word
 abbrev pub Words : List ℕ → Type 0
@@ -70,7 +70,7 @@ module _ (w : ℕ) (word : w < 2 ^ 32) where
       e ∙ rw (k, z) (omega arith)
 
 -- a first word that is right leaves the words after it
-first-right : (right : ℕ → Bool) (rights : List (ℕ → Bool)) (w : ℕ) (ws : List ℕ) → 0 ≡ wordsWrong (right ∷ rights) (w ∷ ws) →
+pub first-right : (right : ℕ → Bool) (rights : List (ℕ → Bool)) (w : ℕ) (ws : List ℕ) → 0 ≡ wordsWrong (right ∷ rights) (w ∷ ws) →
     (right w ≡ true) × (0 ≡ wordsWrong rights ws)
 first-right right rights w ws e =
     byTest (right w) (λ t. (t, simp t at e)) (λ t. let z : _≡_ {A = ℕ} 0 14 = simp t at e in absurd (omega arith))
@@ -95,7 +95,7 @@ prices-after (suc n) (w ∷ ws) b e =
     ap (λ (x : ℕ). x ∷ take n ws) p ∙ ap (λ (xs : List ℕ). priceWord (ofField priceBits w) ∷ xs) q
 
 -- a kind from 1 to 7 is one of seven
-seven : (P : ℕ → Type 0) (k : ℕ) → 1 ≤ k → k ≤ 7 → P 1 → P 2 → P 3 → P 4 → P 5 → P 6 → P 7 → P k
+pub seven : (P : ℕ → Type 0) (k : ℕ) → 1 ≤ k → k ≤ 7 → P 1 → P 2 → P 3 → P 4 → P 5 → P 6 → P 7 → P k
 seven P zero l m a b c d e f g = absurd (omega arith)
 seven P (suc zero) l m a b c d e f g = a
 seven P (suc (suc zero)) l m a b c d e f g = b

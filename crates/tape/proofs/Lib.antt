@@ -5,3 +5,6 @@ pub mod Writing
 pub mod Sized
 pub mod There
 pub mod Back
+pub mod Run
+pub mod Window
+pub mod Rolls

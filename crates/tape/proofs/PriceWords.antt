@@ -1,10 +1,10 @@
 -- A roll's prices from a place on, one by one; and what is left of storing them, where the room or the tape ends.
 use mathlib.Core.Path.{_≡_, refl, ap, sym, _∙_}
 use mathlib.Core.List.{List, [], _∷_, _++_, map, append-nil}
-use Prim.Native.Nat.{ℕ, zero, suc, _+_, _-_, _≤_, _<_}
+use Prim.Native.Nat.{ℕ, suc, _+_, _-_, _≤_, _<_}
 use native.Mathlib.Numerals.{add-one}
 use native.Mathlib.Omega.{arith}
-use lib.ListN.{length, getD, set, take, drop, length-map, length-take, length-drop, drop-of-length-le, length-set}
+use lib.ListN.{length, getD, set, take, drop, length-map, length-take, length-drop, drop-of-length-le}
 use lib.Seq.{drop-cons, sets, sets-eq, set-out, take-nil}
 use Rattle.rules.specs.Records.{priceBits, ofField}
 use Rattle.rules.specs.Tape.{pricesOf}

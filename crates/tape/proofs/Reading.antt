@@ -1,8 +1,8 @@
 -- The words of an instruction are asked one by one: what the first question does to the words from `at` on.
-use mathlib.Core.Path.{_≡_, refl, sym, ap, _∙_}
+use mathlib.Core.Path.{_≡_, refl, ap, _∙_}
 use mathlib.Core.Bool.{Bool, true, false}
 use mathlib.Core.List.{List, [], _∷_}
-use Prim.Native.Nat.{ℕ, zero, suc, _+_, _-_, _/_, _%_, _^_, _≤_, _<_}
+use Prim.Native.Nat.{ℕ, zero, suc, _+_, _-_, _%_, _^_, _≤_, _<_}
 use native.Mathlib.Numerals.{add-one}
 use native.Mathlib.Omega.{arith}
 use borrow.Author.Tests.{le-leb, lt-leb, eq-eqb, ne-eqb}
@@ -10,7 +10,6 @@ use lib.ListN.{length, getD, drop, replicate, drop-of-length-le}
 use lib.Seq.{drop-cons}
 use Rattle.rules.specs.Tape.{kindOf, unusedBelow, headRight, lotsRight, priceWordRight, followers, wordsWrong, instructionOf, readAs, readOf}
 use Rattle.rules.specs.Records.{lotsBits, priceBits, ofField}
-use Rattle.rules.specs.declared.Read.{Read}
 use Rattle.rules.specs.declared.Read.the-variants.{Instr, Refused}
 
 module _ (right : ℕ → Bool) (rights : List (ℕ → Bool)) (ws : List ℕ) (at : ℕ) where

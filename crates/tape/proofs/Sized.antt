@@ -1,13 +1,12 @@
 -- What is read as an instruction has all its words: nothing was wrong of them, so none was missing.
-use mathlib.Core.Path.{_≡_, refl, ap, sym, subst, _∙_}
-use mathlib.Core.Bool.{Bool, true, false, cond}
+use mathlib.Core.Path.{_≡_, refl, _∙_}
+use mathlib.Core.Bool.{Bool}
 use mathlib.Core.List.{List, [], _∷_}
-use Prim.Native.Nat.{ℕ, zero, suc, _+_, _≤_, _<_}
+use Prim.Native.Nat.{ℕ, zero, suc, _+_, _≤_}
 use native.Mathlib.Omega.{arith}
 use lib.ListN.{length, getD}
 use Rattle.rules.specs.declared.Instruction.{Instruction}
-use Rattle.rules.specs.declared.Read.{Read}
-use Rattle.rules.specs.declared.Read.the-variants.{Instr, Refused}
+use Rattle.rules.specs.declared.Read.the-variants.{Instr}
 use Rattle.rules.specs.Records.{lotsBits, ofField}
 use Rattle.rules.specs.Tape.{kindOf, followers, headRight, wordsWrong, instructionOf, readAs, readOf}
 use Rattle.tape.proofs.Reading.{wrongOf, read-right}

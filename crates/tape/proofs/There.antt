@@ -1,20 +1,19 @@
 -- Written is read: each field of a written word lies apart from the others, so no word is wrong and each field is read back.
-use mathlib.Core.Path.{_≡_, refl, ap, sym, subst, _∙_}
-use mathlib.Core.Bool.{Bool, true, false, _&&_}
+use mathlib.Core.Path.{_≡_, refl, sym, _∙_}
+use mathlib.Core.Bool.{true, _&&_}
 use mathlib.Core.List.{List, [], _∷_, _++_, map}
-use Prim.Native.Nat.{ℕ, zero, suc, _+_, _%_, _^_, _≤_, _<_}
+use Prim.Native.Nat.{ℕ, suc, _+_, _%_, _^_, _≤_, _<_}
 use native.Mathlib.Omega.{arith}
 use borrow.Author.Tests.{ltb-true, eqb-true}
-use lib.Dec.{leb, ltb, eqb}
-use lib.ListN.{length, getD, take, drop, replicate, length-map}
+use lib.Dec.{leb, eqb}
+use lib.ListN.{length, getD, drop, replicate, length-map}
 use lib.Seq.{take-at}
 use Rattle.rules.specs.declared.Instruction.{Instruction}
 use Rattle.rules.specs.declared.Instruction.the-variants.{Trade, Deliver, Resolve, PairOff, Close, Cutoff, Roll}
-use Rattle.rules.specs.declared.Read.{Read}
-use Rattle.rules.specs.declared.Read.the-variants.{Instr, Refused}
+use Rattle.rules.specs.declared.Read.the-variants.{Instr}
 use Rattle.rules.specs.Book.{all}
-use Rattle.rules.specs.Records.{kindBits, issueBits, fromBits, toBits, lotsBits, daysBits, rateBits, priceBits, ofField, headWord, lotsWord, over}
-use Rattle.rules.specs.Tape.{kindOf, unusedBelow, followers, lotsRight, priceWordRight, wordsWrong, instructionOf, readOf, pricesOf, rollWord, priceWord, wordsOf, fits, fieldsFit, WriteAnswer, writeOf}
+use Rattle.rules.specs.Records.{issueBits, fromBits, toBits, lotsBits, daysBits, rateBits, priceBits, ofField, headWord, lotsWord, over}
+use Rattle.rules.specs.Tape.{kindOf, unusedBelow, followers, lotsRight, priceWordRight, wordsWrong, instructionOf, readOf, pricesOf, rollWord, priceWord, wordsOf, fits, fieldsFit, writeOf}
 use Rattle.laws.proofs.Basics.{byTest, and-left, and-right}
 use Rattle.words.specs.Fits.{HeadFits}
 use Rattle.words.proofs.Fields.{kind-read, issue-read, from-read, to-read, lots-read, lots-kind}

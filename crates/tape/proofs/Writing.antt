@@ -2,19 +2,19 @@
 use mathlib.Core.Path.{_≡_, refl, ap, sym, subst, _∙_}
 use mathlib.Core.Bool.{Bool, true, false, _&&_}
 use mathlib.Core.List.{List, [], _∷_, _++_, map}
-use Prim.Native.Nat.{ℕ, zero, suc, _+_, _≤_, _<_}
+use Prim.Native.Nat.{ℕ, suc, _+_, _≤_, _<_}
 use native.Mathlib.Nat.{zero-add}
 use native.Mathlib.Numerals.{add-one}
 use native.Mathlib.Omega.{arith}
 use borrow.Author.Tests.{le-leb, lt-leb, le-ltb, lt-ltb, eq-eqb, ne-eqb}
-use lib.ListN.{length, getD, take, drop, set, length-map}
+use lib.ListN.{length, getD, drop, set, length-map}
 use lib.Seq.{sets, sets-eq, drop-cons}
 use Rattle.rules.specs.declared.Written.{Written}
 use Rattle.rules.specs.declared.Instruction.{Instruction}
 use Rattle.rules.specs.declared.Instruction.the-variants.{Deliver, Resolve, Roll}
 use Rattle.rules.specs.Book.{all}
 use Rattle.rules.specs.Records.{issueBits, fromBits, toBits, lotsBits, priceBits, headWord, lotsWord, over}
-use Rattle.rules.specs.Tape.{rollWord, priceWord, fits, fieldsFit, wordsOf, WriteAnswer, writeAnswer, writeOf}
+use Rattle.rules.specs.Tape.{rollWord, priceWord, fits, fieldsFit, wordsOf, WriteAnswer, writeOf}
 use Rattle.tape.specs.Answers.{WriteAnswerIs, fitted, twoWords, oneWord, rollWords}
 
 pub sets-over : (ws out : List ℕ) → length ws ≤ length out → sets out 0 ws ≡ over ws out

@@ -222,7 +222,7 @@ fn prices_fit(prices: &[u32]) -> bool
     true
 }
 
-// A price as a kind 9 word.
+// A price as a kind 9 word: price in bits 17..0, the rest 0.
 fn price_word(price: u32) -> u32
     requires { ⌜ price < 2 ^ 18 ⌝ }
     ensures { λ r. ⌜ r ≡ priceWord price ⌝ }
@@ -230,7 +230,7 @@ fn price_word(price: u32) -> u32
     2415919104 + price
 }
 
-// The head of a roll.
+// The head of a roll: kind 7, days in bits 27..24, rate in 23..10, the rest 0.
 fn roll_head(days: u32, rate: u32) -> u32
     requires { ⌜ (days < 2 ^ 4) × (rate < 2 ^ 14) ⌝ }
     ensures { λ r. ⌜ r ≡ rollWord days rate ⌝ }

@@ -18,13 +18,20 @@ use Rattle.book.proofs.shorts_of.Statement.{statement}
 use Rattle.book.proofs.shorts_of.Tie as tie
 
 abbrev Inv-loop : tie.InvT-loop
-Inv-loop net delivered short₀ i₀ short i = (length short ≡ length short₀) × (sets short₀ 0 (shorts (map owedOf net) delivered) ≡ sets short i (shorts (drop i (map owedOf net)) (drop i delivered)))
+Inv-loop net delivered short₀ i₀ short i =
+    (length short ≡ length short₀)
+    × (sets short₀ 0 (shorts (map owedOf net) delivered)
+    ≡ sets short i (shorts (drop i (map owedOf net)) (drop i delivered)))
 
 abbrev μ-loop : tie.MeasureT-loop
 μ-loop net delivered short₀ i₀ short i = length net - i
 
-owes : (c : tie.After-owed Inv-loop μ-loop) → c .owed .result ≡ owedOf (getD (now (c .before .before .before .before .before .before .args .net)) (c .before .before .before .loop .i) (pos 0))
-owes c = c .owed .ensures ∙ ap owedOf (toZ-ofZ w32 (getD (now (c .before .before .before .before .before .before .args .net)) (c .before .before .before .loop .i) (pos 0)) (search needs))
+owes : (c : tie.After-owed Inv-loop μ-loop) →
+    let ns = now (c .before .before .before .before .before .before .args .net) in
+    c .owed .result ≡ owedOf (getD ns (c .before .before .before .loop .i) (pos 0))
+owes c =
+    let ns = now (c .before .before .before .before .before .before .args .net) in
+    c .owed .ensures ∙ ap owedOf (toZ-ofZ w32 (getD ns (c .before .before .before .loop .i) (pos 0)) (search needs))
 
 loop-holds : tie.Need-loop-holds Inv-loop μ-loop
 loop-holds c = search needs
@@ -66,7 +73,8 @@ loop-again c =
     let s = c .before .before .before .before .before .before .before in
     let l = c .before .before .before .before .loop in (
       simp length-set (l .inv .0),
-      shorts-more (now (s .args .net)) (now (s .args .delivered)) (l .i) _ (l .short) _ (omega arith) (omega arith) (ap (λ z. z - getD (now (s .args .delivered)) (l .i) 0) (owes (c .before))) (l .inv .1),
+      shorts-more (now (s .args .net)) (now (s .args .delivered)) (l .i) _ (l .short) _ (omega arith) (omega arith)
+          (ap (λ z. z - getD (now (s .args .delivered)) (l .i) 0) (owes (c .before))) (l .inv .1),
     )
 
 same-length : tie.Need-same-length Inv-loop μ-loop
@@ -78,8 +86,11 @@ returns c =
     let l = c .before .loop in
     let ns = now (s .args .net) in
     let ds = now (s .args .delivered) in
-    let n : length (shorts (map owedOf ns) ds) ≡ length (now (s .args .short)) = omega (arith, shorts-length (map owedOf ns) ds (omega (arith, length-map ns owedOf)), length-map ns owedOf, s .pre) in
-    sym (shorts-end ns ds (l .i) _ (l .short) (omega arith) (l .inv .1)) ∙ sets-all (shorts (map owedOf ns) ds) (now (s .args .short)) n
+    let m = length-map ns owedOf in
+    let k = shorts-length (map owedOf ns) ds (omega (arith, m, s .pre .both)) in
+    let n : length (shorts (map owedOf ns) ds) ≡ length (now (s .args .short)) = omega (arith, m, k, s .pre .room) in
+    sym (shorts-end ns ds (l .i) _ (l .short) (omega arith) (l .inv .1)) ∙ sets-all (shorts (map owedOf ns) ds)
+    (now (s .args .short)) n
 
 pub shorts-of-spec : {M : Type 1} → statement M
 shorts-of-spec =

@@ -1,4 +1,5 @@
--- `resolution::met_by` meets its contract: the test picks the smaller lots or 0.
+-- `resolution::met_by` meets its contract: where the test passes, what is left of the entry is its lots less the smaller
+-- of them and x.
 use mathlib.Core.Path.{sym, _∙_}
 use native.Mathlib.Omega.{arith}
 use borrow.Author.Needs.{needs}
@@ -8,14 +9,17 @@ use Rattle.resolution.proofs.met_by.Tie as tie
 is-of-requires : tie.Need-is-of-requires
 is-of-requires c κs = search needs
 
+left-of-requires : tie.Need-left-of-requires
+left-of-requires c κs = search needs
+
+sub-result : tie.Need-sub-result
+sub-result c = omega (arith, c .left-of .ensures)
+
 returns : tie.Need-returns
-returns c = simp (sym (c .before .before .is-of .ensures) ∙ c .before .if1 .taken) (omega arith)
+returns c = simp (sym (c .before .before .is-of .ensures) ∙ c .before .if1 .taken) (omega (arith, c .left-of .ensures))
 
 returns-2 : tie.Need-returns-2
-returns-2 c = simp (sym (c .before .before .is-of .ensures) ∙ c .before .if1 .taken) (omega arith)
-
-returns-3 : tie.Need-returns-3
-returns-3 c = simp (sym (c .before .is-of .ensures) ∙ c .if1 .left)
+returns-2 c = simp (sym (c .before .is-of .ensures) ∙ c .if1 .left)
 
 pub met-by-spec : {M : Type 1} → statement M
-met-by-spec = tie.close (tie.spec is-of-requires returns returns-2 returns-3)
+met-by-spec = tie.close (tie.spec is-of-requires left-of-requires sub-result returns returns-2)

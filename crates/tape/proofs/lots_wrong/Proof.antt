@@ -1,5 +1,5 @@
 -- The word at 1 is missing, wrong or right, as the laws of a word say.
-use mathlib.Core.Path.{_≡_, sym, _∙_}
+use mathlib.Core.Path.{sym, _∙_}
 use mathlib.Core.List.{[]}
 use native.Mathlib.Omega.{arith}
 use borrow.Author.Needs.{needs}

@@ -1,14 +1,13 @@
 -- Invariant: storing the prices from `at` on is storing them all.
 use mathlib.Core.Path.{_≡_, sym, ap, _∙_}
-use Prim.Native.Nat.{ℕ, _≤_, _-_, _+_}
-use native.Mathlib.Numerals.{add-one}
+use Prim.Native.Nat.{ℕ, _≤_, _-_}
 use native.Mathlib.Omega.{arith}
 use borrow.Author.Needs.{needs}
 use denote.Ref.{now}
 use lib.ListN.{length, length-set}
 use lib.Seq.{sets}
 use Rattle.rules.specs.Tape.{pricesOf}
-use Rattle.tape.proofs.PriceWords.{pricesFrom, price-cons, price-none, prices-next, sets-out}
+use Rattle.tape.proofs.PriceWords.{pricesFrom, price-none, prices-next, sets-out}
 use Rattle.tape.proofs.prices.Statement.{statement}
 use Rattle.tape.proofs.prices.Tie as tie
 

@@ -1,11 +1,11 @@
 -- Invariant: what the sixteen words give is what those from `at` on give.
 use mathlib.Core.Path.{_≡_, sym, ap, _∙_}
-use mathlib.Core.Bool.{true, false}
-use Prim.Native.Nat.{ℕ, _≤_, _<_, _-_, _%_, _^_}
+use mathlib.Core.Bool.{false}
+use Prim.Native.Nat.{ℕ, _≤_, _-_}
 use native.Mathlib.Omega.{arith}
 use borrow.Author.Needs.{needs}
 use denote.Ref.{now}
-use lib.ListN.{length, getD}
+use lib.ListN.{getD}
 use Rattle.rules.specs.Tape.{priceWordRight}
 use Rattle.tape.proofs.Reading.{pricesWrong, price-right, price-kind, price-unused, price-missing, price-wrong, price-next}
 use Rattle.tape.proofs.prices_wrong.Statement.{statement}

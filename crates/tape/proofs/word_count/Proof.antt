@@ -1,5 +1,4 @@
 -- The tests of the code are those of the definition.
-use native.Mathlib.Omega.{arith}
 use borrow.Author.Tests.{le-leb, lt-leb}
 use Rattle.tape.proofs.word_count.Statement.{statement}
 use Rattle.tape.proofs.word_count.Tie as tie

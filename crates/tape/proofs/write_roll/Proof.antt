@@ -1,10 +1,10 @@
 -- The first field that does not fit gives 15; where all fit, the head and then the price words are put over the output.
-use mathlib.Core.Path.{_≡_, sym, ap, _∙_}
+use mathlib.Core.Path.{sym, ap, _∙_}
 use native.Mathlib.Omega.{arith}
 use borrow.Author.Needs.{needs}
 use borrow.Author.Tests.{not-true, not-false}
 use denote.Ref.{now}
-use lib.ListN.{length, set, length-set}
+use lib.ListN.{length, length-set}
 use lib.Seq.{length-sets}
 use Rattle.tape.proofs.Writing.{roll-days, roll-rate, roll-count, roll-prices, roll-written}
 use Rattle.tape.proofs.write_roll.Statement.{statement}

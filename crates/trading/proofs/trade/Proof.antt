@@ -37,7 +37,8 @@ unfolding trade
 returns c =
     let a = c .before .before .args in
     let b = a .t1 in
-    unsound b (withNets b (tradedNets (b .nets) (a .i) (a .f) (a .t) (a .x))) [] [] (tradeAsks (b .phase) (b .nets) (a .i) (a .f) (a .t) (a .x))
+    unsound b (withNets b (tradedNets (b .nets) (a .i) (a .f) (a .t) (a .x))) [] []
+    (tradeAsks (b .phase) (b .nets) (a .i) (a .f) (a .t) (a .x))
     (sym (c .before .sound .ensures) ∙ not-true (c .before .sound .result) (c .if1 .taken))
 
 trade-asks-requires : tie.Need-trade-asks-requires
@@ -49,7 +50,8 @@ returns-2 c =
     let e = at2 (c .before) in
     let a = e .before .before .args in
     let b = a .t1 in
-    asked-no b (withNets b (tradedNets (b .nets) (a .i) (a .f) (a .t) (a .x))) [] [] (tradeAsks (b .phase) (b .nets) (a .i) (a .f) (a .t) (a .x))
+    asked-no b (withNets b (tradedNets (b .nets) (a .i) (a .f) (a .t) (a .x))) [] []
+    (tradeAsks (b .phase) (b .nets) (a .i) (a .f) (a .t) (a .x))
     (c .before .trade-asks .result) (at1 e) (c .before .trade-asks .ensures) (c .if2 .taken)
 
 slice-aggregate-trade-in : tie.Need-slice-aggregate-trade-in
@@ -71,7 +73,8 @@ returns-3 c =
     let e = at2 (k .before) in
     let a = e .before .before .args in
     let b = a .t1 in
-    asked-yes b (withNets b (tradedNets (b .nets) (a .i) (a .f) (a .t) (a .x))) [] [] (tradeAsks (b .phase) (b .nets) (a .i) (a .f) (a .t) (a .x))
+    asked-yes b (withNets b (tradedNets (b .nets) (a .i) (a .f) (a .t) (a .x))) [] []
+    (tradeAsks (b .phase) (b .nets) (a .i) (a .f) (a .t) (a .x))
     0 (c .with-nets .result) [] (at1 e) (answered k) refl
     (c .with-nets .ensures ∙ ap (withNets b) (c .before .before .trade-in .ensures)) refl
 

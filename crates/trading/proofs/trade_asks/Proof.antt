@@ -99,22 +99,29 @@ returns-3 c =
 returns-4 : tie.Need-returns-4
 returns-4 c =
     let a = at2 (c .before .before) .args in
-    no5-to (a .phase) (now (a .nets)) (a .i) (a .f) (a .t) (a .x) (taking (c .before .before .before)) (c .before .before .if2 .left) (c .if4 .taken)
+    no5-to (a .phase) (now (a .nets)) (a .i) (a .f) (a .t) (a .x) (taking (c .before .before .before))
+    (c .before .before .if2 .left) (c .if4 .taken)
 
 returns-5 : tie.Need-returns-5
 returns-5 c =
     let a = at4 (c .before) .args in
-    no6 (a .phase) (now (a .nets)) (a .i) (a .f) (a .t) (a .x) (taking (c .before .before .before .before)) (c .before .before .before .if2 .left) (c .before .before .if3 .left) (c .before .if4 .left) (c .if5 .taken)
+    no6 (a .phase) (now (a .nets)) (a .i) (a .f) (a .t) (a .x) (taking (c .before .before .before .before))
+    (c .before .before .before .if2 .left) (c .before .before .if3 .left) (c .before .if4 .left) (c .if5 .taken)
 
 returns-6 : tie.Need-returns-6
 returns-6 c =
     let a = at5 (c .before) .args in
-    no7 (a .phase) (now (a .nets)) (a .i) (a .f) (a .t) (a .x) (taking (c .before .before .before .before .before)) (c .before .before .before .before .if2 .left) (c .before .before .before .if3 .left) (c .before .before .if4 .left) (c .before .if5 .left) (c .if6 .taken)
+    no7 (a .phase) (now (a .nets)) (a .i) (a .f) (a .t) (a .x) (taking (c .before .before .before .before .before))
+    (c .before .before .before .before .if2 .left) (c .before .before .before .if3 .left)
+    (c .before .before .if4 .left) (c .before .if5 .left) (c .if6 .taken)
 
 returns-7 : tie.Need-returns-7
 returns-7 c =
     let a = at5 (c .before .before) .args in
-    no7-most (a .phase) (now (a .nets)) (a .i) (a .f) (a .t) (a .x) (taking (c .before .before .before .before .before .before)) (c .before .before .before .before .before .if2 .left) (c .before .before .before .before .if3 .left) (c .before .before .before .if4 .left) (c .before .before .if5 .left) (c .if7 .taken)
+    no7-most (a .phase) (now (a .nets)) (a .i) (a .f) (a .t) (a .x)
+    (taking (c .before .before .before .before .before .before)) (c .before .before .before .before .before .if2 .left)
+    (c .before .before .before .before .if3 .left) (c .before .before .before .if4 .left)
+    (c .before .before .if5 .left) (c .if7 .taken)
 
 mul-from : tie.Need-mul-from
 mul-from c = search needs

@@ -301,7 +301,8 @@ fn not_sound(book: &Book, edit: Edit) -> Result<u64, Mismatch> {
     let mut changed = book.clone();
     edit.apply(&mut changed);
     if changed.sound() {
-        let day_of_first = matches!(edit, Edit::Entries { first: 3, entry, .. } if entry.day == 299);
+        let day_of_first =
+            matches!(edit, Edit::Entries { first: 3, entry, .. } if entry.day == 299);
         assert!(day_of_first, "the change {edit} leaves the book sound");
     }
     let mut case = Case::of(changed);

@@ -11,9 +11,9 @@ mod refusals;
 mod tape;
 mod units;
 
+use std::fs;
 use std::process::ExitCode;
 use std::time::Instant;
-use std::fs;
 use tests::case::Case;
 use tests::options::Options;
 use tests::report::{save_case, Mismatch};

@@ -7,7 +7,10 @@ use Rattle.book.proofs.scan.entry_sound.Statement.{statement}
 use Rattle.book.proofs.scan.entry_sound.Tie as tie
 
 returns : tie.Need-returns
-returns c = and-assoc (leb (c .args .i) 15 && leb (c .args .f) 63 && leb (c .args .t) 63 && not (eqb (c .args .f) (c .args .t))) (leb 1 (c .args .x)) (leb (c .args .x) mostLots)
+returns c =
+    let a = c .args in
+    and-assoc (leb (a .i) 15 && leb (a .f) 63 && leb (a .t) 63 && not (eqb (a .f) (a .t)))
+    (leb 1 (a .x)) (leb (a .x) mostLots)
 
 pub entry-sound-spec : {M : Type 1} → statement M
 entry-sound-spec = tie.close (tie.spec returns)

@@ -73,7 +73,8 @@ returns : tie.Need-returns Inv-loop μ-loop
 returns c =
     let s = c .before .before .before in
     let l = c .before .loop in
-    nets-end (now (s .args .nets)) (now (s .args .delivered)) (l .i) (l .good) _ (s .pre .nets) (s .pre .delivered) (omega arith) (l .inv .1)
+    nets-end (now (s .args .nets)) (now (s .args .delivered)) (l .i) (l .good) _ (s .pre .nets) (s .pre .delivered)
+    (omega arith) (l .inv .1)
 
 pub nets-sound-spec : {M : Type 1} → statement M
 nets-sound-spec =

@@ -1,0 +1,76 @@
+-- From a sound book to its columns and back: what the cutoff in place asks, and the book that its columns make.
+use mathlib.Core.Path.{_≡_, refl, sym}
+use mathlib.Core.Bool.{Bool, true, false}
+use mathlib.Core.List.{List, [], _∷_, _++_}
+use Prim.Native.Nat.{ℕ, _+_, _≤_}
+use native.Mathlib.Omega.{arith}
+use lib.Dec.{leb}
+use lib.ListN.{length}
+use borrow.Author.Tests.{leb-true}
+use Rattle.rules.specs.declared.Book.{Book}
+use Rattle.rules.specs.declared.Phase.the-variants.{Cut}
+use Rattle.rules.specs.Measures.{mostEntries, outputWords}
+use Rattle.rules.specs.Book.{isSettling, ledgerOf, withDay, withPhase, withLedger}
+use Rattle.rules.specs.Questions.{ask, firstNo}
+use Rattle.rules.specs.Calls.{newEntries, cutoffAsks}
+use Rattle.laws.proofs.Sound.{SoundBook}
+use Rattle.laws.proofs.SoundRows.{sound-row}
+use Rattle.laws.proofs.Ledger.{FullColumns, columns-back}
+use Rattle.ledger.specs.Columns.{Held}
+use Rattle.book.specs.Columns.{withColumns}
+use Rattle.cutoff.specs.declared.Counts.{Counts}
+use Rattle.cutoff.specs.Write.{Lent, lent}
+use Rattle.cutoff.specs.Issue.{SoundCells}
+use Rattle.cutoff.specs.All.{CanCutAll, WasCutAll}
+
+-- a book's columns with an output
+abbrev pub columnsOf : Book → List ℕ → Lent
+columnsOf b o = lent (b .issues) (b .froms) (b .tos) (b .lots) (b .days) o
+
+-- where no question is answered 'no', the second is answered 'yes'
+both-yes : (m n : ℕ) (p q : Bool) → (m ≡ 0 → ⊥) → (n ≡ 0 → ⊥) → firstNo (ask m p ∷ ask n q ∷ []) ≡ 0 → q ≡ true
+both-yes m n true true h k e = refl
+both-yes m n true false h k e = absurd (k e)
+both-yes m n false q h k e = absurd (h e)
+
+module _ (b : Book) (s : SoundBook b) where
+  pub sound-cells : length (b .nets) ≡ 1024 → length (b .delivered) ≡ 1024 → SoundCells (b .nets) (b .delivered)
+  sound-cells n d = record { cells = n; both = d; small = s .size; rows = λ i h. sound-row b s n d i h }
+
+  held-book : FullColumns (b .issues) (b .froms) (b .tos) (b .lots) (b .days) →
+      Held (b .count) (b .issues) (b .froms) (b .tos) (b .lots) (b .days)
+  held-book f =
+      let c = columns-back (b .day) (b .count) (b .issues) (b .froms) (b .tos) (b .lots) (b .days) (s .ledger) f in
+      record {
+        most = s .ledger .count;
+        whole = record { issues = f .issues; froms = f .froms; tos = f .tos; lotss = f .lots; dayss = f .days };
+        columns = record {
+          issues = sym (c .issues);
+          froms = sym (c .froms);
+          tos = sym (c .tos);
+          lotss = sym (c .lots);
+          dayss = sym (c .days);
+        };
+      }
+
+  pub can-cut-all : (o : List ℕ) → SoundCells (b .nets) (b .delivered) →
+      FullColumns (b .issues) (b .froms) (b .tos) (b .lots) (b .days) → outputWords ≤ length o →
+      firstNo (cutoffAsks (b .phase) (b .count) (length (newEntries (b .day) (b .nets) (b .delivered)))) ≡ 0 →
+      CanCutAll (b .nets) (b .delivered) (b .day) (b .count) (columnsOf b o)
+  can-cut-all o c f h q =
+      let n = length (newEntries (b .day) (b .nets) (b .delivered)) in
+      record {
+        sound = c;
+        held = held-book f;
+        most = leb-true (b .count + n) mostEntries
+            (both-yes 3 10 (isSettling (b .phase)) (leb (b .count + n) mostEntries) (λ e. omega arith) (λ e. omega arith) q);
+        room = h;
+      }
+
+-- the columns make the definition's book
+pub made : (b : Book) (o : List ℕ) (r : Counts) (a : Lent) → WasCutAll (b .nets) (b .delivered) (b .day) (b .count) (columnsOf b o) r a →
+    withDay (withColumns b (r .entries) (a .issues) (a .froms) (a .tos) (a .lots) (a .days)) (b .day) Cut
+    ≡ withPhase (withLedger b (ledgerOf b ++ newEntries (b .day) (b .nets) (b .delivered))) Cut
+made b o r a w =
+    let c = w .columns in
+    rw (w .entries, c .issues, c .froms, c .tos, c .lotss, c .dayss)

@@ -1,0 +1,43 @@
+-- The phase is asked first; the entries are counted only where it is right.
+use mathlib.Core.Path.{_≡_, sym, _∙_}
+use mathlib.Core.Bool.{true}
+use borrow.Author.Needs.{needs}
+use borrow.Author.Tests.{not-true, not-false}
+use denote.Ref.{now}
+use Rattle.rules.specs.Book.{isSettling}
+use Rattle.cutoff.proofs.Going.{no-phase, no-room, all-yes}
+use Rattle.cutoff.proofs.cutoff_asks.Statement.{statement}
+use Rattle.cutoff.proofs.cutoff_asks.Tie as tie
+
+settling-requires : tie.Need-settling-requires
+settling-requires c κs = search needs
+
+right : (c : tie.Else1) → isSettling (c .before .before .before .args .phase) ≡ true
+right c = sym (c .before .settling .ensures) ∙ not-false _ (c .if1 .left)
+
+returns : tie.Need-returns
+returns c =
+    let a = c .before .before .before .args in
+    no-phase (a .phase) (a .old) (now (a .nets)) (now (a .delivered)) (sym (c .before .settling .ensures) ∙ not-true _ (c .if1 .taken))
+
+count-requires : tie.Need-count-requires
+count-requires c κs = search needs
+
+add-if2 : tie.Need-add-if2
+add-if2 c = search needs
+
+returns-2 : tie.Need-returns-2
+returns-2 c =
+    let a = c .before .before .before .before .before .args in
+    let k = c .before .count in
+    no-room (a .phase) (a .old) (now (a .nets)) (now (a .delivered)) (k .result) (right (c .before .before)) (k .ensures) (c .if2 .taken)
+
+returns-3 : tie.Need-returns-3
+returns-3 c =
+    let a = c .before .before .before .before .before .args in
+    let k = c .before .count in
+    all-yes (a .phase) (a .old) (now (a .nets)) (now (a .delivered)) (k .result) (right (c .before .before)) (k .ensures) (c .if2 .left)
+
+pub cutoff-asks-spec : {M : Type 1} → statement M
+cutoff-asks-spec =
+    tie.close (tie.spec settling-requires returns count-requires add-if2 returns-2 returns-3)

@@ -1,0 +1,3 @@
+-- Laws of the text, of signs and of the words.
+pub mod Texts
+pub mod Signed

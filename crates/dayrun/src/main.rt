@@ -1,0 +1,4 @@
+// Runs a tape from standard input and prints a line for each instruction, then the ledger and the charges.
+mod text;
+
+fn main() {}

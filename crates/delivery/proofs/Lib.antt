@@ -1,0 +1,3 @@
+pub mod Handing
+pub mod Serving
+pub mod Asking

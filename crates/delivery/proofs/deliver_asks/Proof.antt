@@ -1,0 +1,139 @@
+-- Each return rewrites with the tests that led there.
+use mathlib.Core.Path.{_≡_, refl, sym, ap, _∙_}
+use mathlib.Core.Bool.{true, false}
+use Prim.Native.Nat.{ℕ, _+_, _*_, _≤_, _<_}
+use native.Mathlib.Omega.{arith}
+use borrow.Author.Needs.{needs}
+use borrow.Author.Tests.{le-leb, lt-leb, leb-true, not-true, not-false}
+use mir.ValLaws.{toZ-ofZ}
+use mir.Syntax.{w32}
+use denote.Ref.{now}
+use lib.Dec.{leb}
+use lib.ListN.{getD}
+use lib.IntN.{ℤ, pos}
+use Rattle.rules.specs.Measures.{mostLots, between, owedOf}
+use Rattle.rules.specs.Book.{isSettling, netAt}
+use Rattle.laws.proofs.Basics.{and-right}
+use Rattle.delivery.proofs.deliver_asks.Statement.{statement}
+use Rattle.delivery.proofs.deliver_asks.Tie as tie
+use Rattle.delivery.proofs.deliver_asks.Reads as reads
+use Rattle.delivery.proofs.deliver_asks.Lts as lts
+use Rattle.book.proofs.owed.Reads as owed-reads
+use Rattle.book.proofs.settling.Reads as settling-reads
+use Rattle.measures.proofs.lots_right.Reads as lots-right-reads
+
+-- src/lib.rt:59:9
+-- what the answers so far say
+yes3 : (c : tie.Else1) → isSettling (c .before .before .before .args .phase) ≡ true
+yes3 c = sym (c .before .settling .ensures) ∙ not-false _ (c .if1 .left)
+
+yes7 : (c : tie.Else4) → between 1 mostLots (c .before .before .before .before .before .before .before .args .x) ≡ true
+yes7 c = sym (c .before .lots-right .ensures) ∙ not-false _ (c .if4 .left)
+
+owes : (c : tie.After-owed) →
+    let s = c .before .before .before .before .before .before .before .before .before in
+    c .owed .result ≡ owedOf (netAt (now (s .args .nets)) (s .args .i) (s .args .a))
+owes c =
+    let s = c .before .before .before .before .before .before .before .before .before in
+    c .owed .ensures ∙ ap owedOf (toZ-ofZ w32 (netAt (now (s .args .nets)) (s .args .i) (s .args .a)) (search needs))
+
+settling-requires : tie.Need-settling-requires
+settling-requires c κs = search needs
+
+-- src/lib.rt:60:9
+returns : tie.Need-returns
+returns c = simp (sym (c .before .settling .ensures) ∙ not-true _ (c .if1 .taken))
+
+-- src/lib.rt:63:9
+returns-2 : tie.Need-returns-2
+returns-2 c = simp (yes3 (c .before), lt-leb _ 15 (c .if2 .taken))
+
+-- src/lib.rt:66:9
+returns-3 : tie.Need-returns-3
+returns-3 c = simp (yes3 (c .before .before), le-leb _ 15 (c .before .if2 .left), lt-leb _ 63 (c .if3 .taken))
+
+-- src/lib.rt:68:9
+lots-right-requires : tie.Need-lots-right-requires
+lots-right-requires c κs = search needs
+
+-- src/lib.rt:69:9
+returns-4 : tie.Need-returns-4
+returns-4 c =
+    let k = c .before .before in
+    simp (
+      yes3 (k .before .before),
+      le-leb _ 15 (k .before .if2 .left),
+      le-leb _ 63 (k .if3 .left),
+      sym (c .before .lots-right .ensures) ∙ not-true _ (c .if4 .taken),
+    )
+
+-- src/lib.rt:71:14
+mul-at : tie.Need-mul-at
+mul-at c = search needs
+
+-- src/lib.rt:71:14
+add-at : tie.Need-add-at
+add-at c = search needs
+
+-- src/lib.rt:72:13
+mul-n : tie.Need-mul-n
+mul-n c = search needs
+
+-- src/lib.rt:72:13
+shared-slice-copy-out-n : tie.Need-shared-slice-copy-out-n
+shared-slice-copy-out-n c = search needs
+
+-- src/lib.rt:73:8
+owed-requires : tie.Need-owed-requires
+owed-requires c κs = search needs
+
+-- src/lib.rt:73:24
+mul-if5 : tie.Need-mul-if5
+mul-if5 c = search needs
+
+-- src/lib.rt:73:24
+shared-slice-read-if5 : tie.Need-shared-slice-read-if5
+shared-slice-read-if5 c = search needs
+
+-- src/lib.rt:73:24
+add-if5 : tie.Need-add-if5
+add-if5 c =
+    let s = c .before .before .before .before .before .before .before .before .before .before in
+    let k = c .before .before .before in
+    let x = leb-true (s .args .x) mostLots (and-right (leb 1 (s .args .x)) (leb (s .args .x) mostLots) (yes7 k)) in
+    omega (arith, x, s .pre .small (s .args .i * 64 + s .args .a))
+
+-- src/lib.rt:74:9
+returns-5 : tie.Need-returns-5
+returns-5 c =
+    let k = c .before .before .before .before in
+    let l = k .before .before in
+    simp (yes3 (l .before .before), le-leb _ 15 (l .before .if2 .left), le-leb _ 63 (l .if3 .left), yes7 k, lt-leb _ _ (rw (owes (c .before .before)) at (c .if5 .taken)))
+
+-- src/lib.rt:55:1
+returns-6 : tie.Need-returns-6
+returns-6 c =
+    let k = c .before .before .before .before in
+    let l = k .before .before in
+    simp (yes3 (l .before .before), le-leb _ 15 (l .before .if2 .left), le-leb _ 63 (l .if3 .left), yes7 k, le-leb _ _ (rw (owes (c .before .before)) at (c .if5 .left)))
+
+pub deliver-asks-spec : {M : Type 1} → statement M
+deliver-asks-spec =
+    tie.close
+    (tie.spec
+    settling-requires
+    returns
+    returns-2
+    returns-3
+    lots-right-requires
+    returns-4
+    mul-at
+    add-at
+    mul-n
+    shared-slice-copy-out-n
+    owed-requires
+    mul-if5
+    shared-slice-read-if5
+    add-if5
+    returns-5
+    returns-6)

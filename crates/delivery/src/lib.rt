@@ -1,0 +1,130 @@
+// deliver: an account's delivered lots rise, and the next units are handed over whole, in order.
+use rules::Book;
+use rules::Found;
+use rules::Phase;
+use rules::Reply;
+ghost use mathlib.Core.Path.{_≡_};
+ghost use Rattle.rules.specs.Questions.{firstNo};
+ghost use Rattle.rules.specs.Calls.{AnswerIs, deliverAsks, deliver as deliverAnswer};
+ghost use Rattle.rules.specs.Records.{words, over};
+ghost use Rattle.units.specs.Runs.{unitsIn};
+ghost use Rattle.delivery.specs.Deliver.{CanHand, handRecords, CanServe, Served, CanAsk, CanDeliver, Delivered};
+
+// Hands over `count` units of n runs, from unit c on: one record each.
+fn hand(runs: &[u32], n: usize, i: u32, c: u32, count: usize, out: &mut [u32])
+    requires { ⌜ CanHand (now runs) n i c count (now out) ⌝ }
+    ensures { λ _. ⌜ now (out .exit) ≡ over (words (handRecords (unitsIn (now (runs .entry)) n) i c count)) (now (out .entry)) ⌝ }
+{
+    let mut m: usize = 0;
+    while m < count {
+        let Found::Unit(to, lots) = units::unit_at(runs, n, c + m as u32) else {
+            return;
+        };
+        words::record_at(out, m, 10, i, 0, to, lots);
+        m += 1;
+    }
+}
+
+// The units of an issue that x more lots hand over, where d were delivered before; answers their number.
+fn serve(nets: &[i32], d: u32, x: u32, i: u32, out: &mut [u32]) -> usize
+    requires { ⌜ CanServe (now nets) d x i (now out) ⌝ }
+    ensures { λ r. ⌜ Served (now (nets .entry)) d x i (now (out .entry)) (now (out .exit)) r ⌝ }
+{
+    let mut runs = [0u32; 128];
+    let n = units::prepare(nets, &mut runs);
+    let before = units::handover(&runs, n, d);
+    let after = units::handover(&runs, n, d + x);
+    let c = before.count;
+    let new = (after.count - c) as usize;
+    hand(&runs, n, i, c, new, out);
+    new
+}
+
+// A delivery in place: the account's delivered lots rise by x; answers the number of records written.
+pub fn deliver_in(
+    nets: &[i32],
+    delivered: &mut [u32],
+    i: u32,
+    a: u32,
+    x: u32,
+    out: &mut [u32],
+) -> usize
+    requires { ⌜ CanDeliver (now nets) (now delivered) i a x (now out) ⌝ }
+    ensures { λ r. ⌜ Delivered (now (nets .entry)) (now (delivered .entry)) (now (delivered .exit)) i a x (now (out .entry)) (now (out .exit)) r ⌝ }
+{
+    let s = i as usize * 64;
+    let e = s + 64;
+    let d = book::total(&delivered[s..e]);
+    let at = s + a as usize;
+    delivered[at] = delivered[at] + x;
+    serve(&nets[s..e], d, x, i, out)
+}
+
+// Questions 3, 4, 5, 7 and 9 of a delivery: the number of the first 'no', 0 where there is none.
+pub fn deliver_asks<'a>(
+    phase: Phase,
+    nets: &'a [i32],
+    delivered: &'a [u32],
+    i: u32,
+    a: u32,
+    x: u32,
+) -> u32
+    requires { ⌜ CanAsk (now nets) (now delivered) ⌝ }
+    ensures { λ r. ⌜ r ≡ firstNo (deliverAsks phase (now (nets .entry)) (now (delivered .entry)) i a x) ⌝ }
+{
+    if !book::settling(phase) {
+        return 3;
+    }
+    if 15 < i {
+        return 4;
+    }
+    if 63 < a {
+        return 5;
+    }
+    if !measures::lots_right(x) {
+        return 7;
+    }
+    let at = i as usize * 64 + a as usize;
+    let n = nets[at];
+    if book::owed(n) < delivered[at] + x {
+        return 9;
+    }
+    0
+}
+
+// deliver issue i, account a, x lots: the answer of the rules on any book and any output.
+pub fn deliver(b: Book, i: u32, a: u32, x: u32, out: &mut [u32]) -> Reply
+    ensures { λ r. ⌜ AnswerIs (deliverAnswer b i a x (now (out .entry))) r (now (out .exit)) ⌝ }
+{
+    if out.len() < 4096 {
+        return Reply {
+            refusal: 1,
+            count: 0,
+            book: b,
+        };
+    }
+    if !book::sound(b) {
+        return Reply {
+            refusal: 2,
+            count: 0,
+            book: b,
+        };
+    }
+    let phase = b.phase;
+    let no = deliver_asks(phase, &b.nets, &b.delivered, i, a, x);
+    if no != 0 {
+        return Reply {
+            refusal: no,
+            count: 0,
+            book: b,
+        };
+    }
+    let mut delivered = b.delivered;
+    let count = deliver_in(&b.nets, &mut delivered, i, a, x, out);
+    let next = book::with_delivered(b, delivered);
+    Reply {
+        refusal: 0,
+        count,
+        book: next,
+    }
+}

@@ -1,0 +1,163 @@
+-- Charging all entries from the start is the same as charging from here those that are left.
+use mathlib.Core.Path.{_≡_, ap, _∙_}
+use mathlib.Core.List.{[]}
+use Prim.Native.Nat.{_+_, _-_, _*_, _≤_, _<_}
+use native.Mathlib.Omega.{arith}
+use denote.Ref.{now}
+use lib.ListN.{length, drop, getD}
+use Rattle.rules.specs.Measures.{mostCharge, lastDay}
+use Rattle.rules.specs.Ledger.{charged}
+use Rattle.rules.specs.Book.{entries}
+use Rattle.rolling.specs.Rolling.{paid}
+use Rattle.rolling.proofs.Charging.{Within, within-paid, length-paid, other-days, charge-more, charge-end}
+use borrow.Author.Needs.{needs}
+use Rattle.rolling.proofs.charge_entries.Statement.{statement}
+use Rattle.rolling.proofs.charge_entries.Tie as tie
+
+abbrev Inv-loop : tie.InvT-loop
+Inv-loop days rate prices count issues froms tos lots charges₀ k₀ charges k =
+    (k ≤ count)
+    × (length charges ≡ 64)
+    × Within (mostCharge * lastDay + k * 131506849314) charges
+    × (charged days rate prices (drop k (entries count issues froms tos lots [])) charges
+    ≡ charged days rate prices (entries count issues froms tos lots []) charges₀)
+
+abbrev μ-loop : tie.MeasureT-loop
+μ-loop days rate prices count issues froms tos lots charges₀ k₀ charges k = count - k
+
+loop-holds : tie.Need-loop-holds Inv-loop μ-loop
+loop-holds c = search needs
+
+shared-slice-read-i : tie.Need-shared-slice-read-i Inv-loop μ-loop
+shared-slice-read-i c = search needs
+
+cast-i : tie.Need-cast-i Inv-loop μ-loop
+cast-i c =
+    let l = c .before .before .loop in
+    let s = c .before .before .before .before .before .before .before .before in
+    let h : l .k < s .args .count = omega arith in
+    record { fits = omega (arith, s .pre .issue (l .k) h) }
+
+mul-charge-of : tie.Need-mul-charge-of Inv-loop μ-loop
+mul-charge-of c = search needs
+
+shared-slice-read-charge-of : tie.Need-shared-slice-read-charge-of Inv-loop μ-loop
+shared-slice-read-charge-of c = search needs
+
+mul-charge-of-2 : tie.Need-mul-charge-of-2 Inv-loop μ-loop
+mul-charge-of-2 c =
+    let l = c .before .before .before .loop in
+    let s = c .before .before .before .before .before .before .before .before .before in
+    let h : l .k < s .args .count = omega arith in
+    record { fits = omega (arith, s .pre .issue (l .k) h) }
+
+shared-slice-read-charge-of-2 : tie.Need-shared-slice-read-charge-of-2 Inv-loop μ-loop
+shared-slice-read-charge-of-2 c =
+    let l = c .before .before .before .before .loop in
+    let s = c .before .before .before .before .before .before .before .before .before .before in
+    let h : l .k < s .args .count = omega arith in
+    omega (arith, s .pre .issue (l .k) h, s .pre .priced)
+
+charge-of-requires : tie.Need-charge-of-requires Inv-loop μ-loop
+charge-of-requires c κs =
+    let l = c .before .before .before .before .loop in
+    let s = c .before .before .before .before .before .before .before .before .before .before in
+    let h : l .k < s .args .count = omega arith in
+    (record { lots = s .pre .most (l .k) h; price = s .pre .price (getD (now (s .args .issues)) (l .k) 0) }, s .pre .term)
+
+shared-slice-read-f : tie.Need-shared-slice-read-f Inv-loop μ-loop
+shared-slice-read-f c = search needs
+
+cast-f : tie.Need-cast-f Inv-loop μ-loop
+cast-f c =
+    let l = c .before .before .before .before .before .before .loop in
+    let s = c .before .before .before .before .before .before .before .before .before .before .before .before in
+    let h : l .k < s .args .count = omega arith in
+    record { fits = omega (arith, s .pre .from (l .k) h) }
+
+shared-slice-read-t : tie.Need-shared-slice-read-t Inv-loop μ-loop
+shared-slice-read-t c = search needs
+
+cast-t : tie.Need-cast-t Inv-loop μ-loop
+cast-t c =
+    let l = c .before .before .before .before .before .before .before .loop in
+    let s = c .before .before .before .before .before .before .before .before .before .before .before .before .before in
+    let h : l .k < s .args .count = omega arith in
+    record { fits = omega (arith, s .pre .to (l .k) h) }
+
+pay-requires : tie.Need-pay-requires Inv-loop μ-loop
+pay-requires c κs =
+    let l = c .before .before .before .before .before .before .before .before .loop in
+    let s = c .before .before .before .before .before .before .before .before .before .before .before .before .before .before in
+    let h : l .k < s .args .count = omega arith in
+    record {
+      accounts = l .inv .1;
+      from = s .pre .from (l .k) h;
+      to = s .pre .to (l .k) h;
+      room = λ a. let b = l .inv .2 a in omega (arith, c .before .before .before .charge-of .ensures .most, s .pre .count);
+    }
+
+add-k : tie.Need-add-k Inv-loop μ-loop
+add-k c = search needs
+
+loop-less : tie.Need-loop-less Inv-loop μ-loop
+loop-less c = search needs
+
+loop-again : tie.Need-loop-again Inv-loop μ-loop
+loop-again c =
+    let l = c .before .before .before .before .before .before .before .before .before .before .loop in
+    let s = c .before .before .before .before .before .before .before .before .before .before .before .before .before .before .before .before in
+    let h : l .k < s .args .count = omega arith in
+    let y = c .before .before .before .before .before .charge-of in
+    let a = s .args in
+    let f = getD (now (a .froms)) (l .k) 0 in
+    let t = getD (now (a .tos)) (l .k) 0 in
+    let p : c .before .pay .last .0 ≡ paid f t (y .result) (l .charges) = c .before .pay .ensures in (
+      search needs,
+      ap length p ∙ length-paid f t (y .result) (l .charges) ∙ l .inv .1,
+      λ j. let b = within-paid _ f t (y .result) (l .charges) (l .inv .2) j in
+          rw p (omega (arith, y .ensures .most)),
+      rw p
+          (charge-more (a .days) (a .rate) (now (a .prices)) (a .count) (now (a .issues)) (now (a .froms)) (now (a .tos))
+          (now (a .lots)) (l .k) _ (l .charges) (y .result) h (y .ensures .exact) (l .inv .3)),
+    )
+
+same-length : tie.Need-same-length Inv-loop μ-loop
+same-length c = search needs
+
+returns : tie.Need-returns Inv-loop μ-loop
+returns c =
+    let l = c .before .loop in
+    let a = c .before .before .before .before .before .before .before .args in
+    let e = charge-end (a .days) (a .rate) (now (a .prices)) (a .count) (now (a .issues)) (now (a .froms)) (now (a .tos))
+    (now (a .lots)) (l .k) _ (l .charges) (omega arith) (l .inv .3) in
+    record {
+      charges = λ ds. e ∙ other-days (a .days) (a .rate) (now (a .prices)) (a .count) (now (a .issues))
+          (now (a .froms)) (now (a .tos))
+          (now (a .lots)) [] ds (now (a .charges));
+    }
+
+pub charge-entries-spec : {M : Type 1} → statement M
+charge-entries-spec =
+    tie.close
+    (tie.spec
+    Inv-loop
+    μ-loop
+    loop-holds
+    shared-slice-read-i
+    cast-i
+    mul-charge-of
+    shared-slice-read-charge-of
+    mul-charge-of-2
+    shared-slice-read-charge-of-2
+    charge-of-requires
+    shared-slice-read-f
+    cast-f
+    shared-slice-read-t
+    cast-t
+    pay-requires
+    add-k
+    loop-less
+    loop-again
+    same-length
+    returns)

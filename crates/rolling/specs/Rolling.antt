@@ -1,0 +1,65 @@
+-- What a roll in place may count on, and what it leaves.
+use mathlib.Core.Path.{_≡_}
+use mathlib.Core.Bool.{true}
+use mathlib.Core.List.{List}
+use Prim.Native.Nat.{ℕ, _+_, _*_, _≤_, _<_, _^_}
+use lib.ListN.{length, getD, set, replicate}
+use lib.IntN.{ℤ, pos, natAbs, _+ℤ_, _-ℤ_}
+use Rattle.rules.specs.Measures.{mostLots, mostPrice, mostEntries, mostCharge, lastDay}
+use Rattle.rules.specs.Ledger.{charged}
+use Rattle.rules.specs.Book.{entries, sound}
+use Rattle.rules.specs.Questions.{firstNo}
+use Rattle.rules.specs.Calls.{rollAsks}
+use Rattle.rules.specs.declared.Book.{Book}
+use Rattle.measures.specs.Range.{Termed}
+
+-- yen added to a charge, or taken from it, leave a charge of 64 bits
+pub record Room (c : ℤ) (y : ℕ) : Type 0 where
+  pub room : natAbs c + y < 2 ^ 63
+
+-- the charges after y yen were taken from f and given to t
+abbrev pub paid : ℕ → ℕ → ℕ → List ℤ → List ℤ
+paid f t y cs =
+    let taken = set cs f (getD cs f (pos 0) -ℤ pos y) in
+    set taken t (getD taken t (pos 0) +ℤ pos y)
+
+pub record Payable (cs : List ℤ) (f t y : ℕ) : Type 0 where
+  pub accounts : length cs ≡ 64
+  pub from : f < 64
+  pub to : t < 64
+  pub room : (a : ℕ) → natAbs (getD cs a (pos 0)) + (y + y) < 2 ^ 63
+
+-- terms in range, entries with numbers in range, charges of a day before the last
+pub record Chargeable (days rate : ℕ) (prices : List ℕ) (n : ℕ) (is fs ts xs : List ℕ) (cs : List ℤ) : Type 0 where
+  pub term : Termed days rate
+  pub priced : length prices ≡ 16
+  pub price : (i : ℕ) → getD prices i 0 ≤ mostPrice
+  pub count : n ≤ mostEntries
+  pub issues : length is ≡ 2048
+  pub froms : length fs ≡ 2048
+  pub tos : length ts ≡ 2048
+  pub lots : length xs ≡ 2048
+  pub issue : (k : ℕ) → k < n → getD is k 0 < 16
+  pub from : (k : ℕ) → k < n → getD fs k 0 < 64
+  pub to : (k : ℕ) → k < n → getD ts k 0 < 64
+  pub most : (k : ℕ) → k < n → getD xs k 0 ≤ mostLots
+  pub accounts : length cs ≡ 64
+  pub charge : (a : ℕ) → natAbs (getD cs a (pos 0)) ≤ mostCharge * lastDay
+
+-- each entry is charged; its day counts for nothing
+pub record Charged (days rate : ℕ) (prices : List ℕ) (n : ℕ) (is fs ts xs : List ℕ) (cs after : List ℤ) : Type 0 where
+  pub charges : (ds : List ℕ) → after ≡ charged days rate prices (entries n is fs ts xs ds) cs
+
+pub record Cells (ns : List ℤ) (ds : List ℕ) : Type 0 where
+  pub nets : length ns ≡ 1024
+  pub delivered : length ds ≡ 1024
+
+-- nets and delivered lots are 0
+pub record Rolled (ns : List ℤ) (ds : List ℕ) : Type 0 where
+  pub nets : ns ≡ replicate 1024 (pos 0)
+  pub delivered : ds ≡ replicate 1024 0
+
+-- a sound book whose roll has its questions answered 'yes'
+pub record Ready (b : Book) (days rate : ℕ) (prices : List ℕ) : Type 0 where
+  pub sound : sound b ≡ true
+  pub asks : firstNo (rollAsks (b .phase) (b .day) days rate prices) ≡ 0

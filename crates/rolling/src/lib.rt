@@ -1,0 +1,202 @@
+// roll: its questions, its effect in place, and the open call.
+use rules::Book;
+use rules::Phase;
+use rules::Reply;
+ghost use mathlib.Core.Path.{_≡_};
+ghost use mathlib.Core.List.{[]};
+ghost use Prim.Native.Nat.{_+_, _<_};
+ghost use lib.ListN.{length, replicate};
+ghost use lib.IntN.{pos, _+ℤ_, _-ℤ_};
+ghost use Rattle.rules.specs.Book.{all};
+ghost use Rattle.rules.specs.Questions.{firstNo, priceRight};
+ghost use Rattle.rules.specs.Calls.{rollAsks, rolled as rolledOf, AnswerIs, roll as rollOf};
+ghost use Rattle.rolling.specs.Rolling.{Room, Payable, paid, Chargeable, Charged, Cells, Rolled, Ready};
+
+// Is each price 1..200,000?
+fn prices_right(prices: &[u32]) -> bool
+    ensures { λ r. ⌜ r ≡ all priceRight (now (prices .entry)) ⌝ }
+{
+    let mut good = true;
+    let mut i: usize = 0;
+    while i < prices.len() {
+        good = good & measures::price_right(prices[i]);
+        i += 1;
+    }
+    good
+}
+
+// roll's questions but that of soundness: the number of the first 'no', 0 where there is none.
+pub fn roll_asks(phase: Phase, today: u16, days: u32, rate: u32, prices: &[u32]) -> u32
+    ensures { λ r. ⌜ r ≡ firstNo (rollAsks phase today days rate (now (prices .entry))) ⌝ }
+{
+    if !book::cut(phase) {
+        return 3;
+    }
+    if !measures::term_right(days, rate) {
+        return 11;
+    }
+    if prices.len() != 16 {
+        return 11;
+    }
+    if !prices_right(prices) {
+        return 11;
+    }
+    if today < 65_535 {
+        return 0;
+    }
+    12
+}
+
+// A charge from which yen are taken.
+fn lowered(c: i64, y: u64) -> i64
+    requires { ⌜ Room c y ⌝ }
+    ensures { λ r. ⌜ r ≡ c -ℤ pos y ⌝ }
+{
+    c - (y as i64)
+}
+
+// A charge to which yen are given.
+fn raised(c: i64, y: u64) -> i64
+    requires { ⌜ Room c y ⌝ }
+    ensures { λ r. ⌜ r ≡ c +ℤ pos y ⌝ }
+{
+    c + (y as i64)
+}
+
+// Yen are taken from one account and given to another.
+fn pay(charges: &mut [i64], f: usize, t: usize, y: u64)
+    requires { ⌜ Payable (now charges) f t y ⌝ }
+    ensures { λ _. ⌜ now (charges .exit) ≡ paid f t y (now (charges .entry)) ⌝ }
+{
+    let falls = charges[f];
+    charges[f] = lowered(falls, y);
+    let rises = charges[t];
+    charges[t] = raised(rises, y);
+}
+
+// Each entry is charged: its charge is taken from 'from' and given to 'to'.
+fn charge_entries<'a>(
+    days: u32,
+    rate: u32,
+    prices: &[u32],
+    count: usize,
+    issues: &'a [u8],
+    froms: &'a [u8],
+    tos: &'a [u8],
+    lots: &'a [u32],
+    charges: &mut [i64],
+)
+    requires { ⌜ Chargeable days rate (now prices) count (now issues) (now froms) (now tos) (now lots) (now charges) ⌝ }
+    ensures { λ _. ⌜ Charged days rate (now (prices .entry)) count (now (issues .entry)) (now (froms .entry)) (now (tos .entry)) (now (lots .entry)) (now (charges .entry)) (now (charges .exit)) ⌝ }
+{
+    let mut k: usize = 0;
+    while k < count {
+        let i = issues[k] as usize;
+        let y = measures::charge_of(lots[k], prices[i], days, rate);
+        let f = froms[k] as usize;
+        let t = tos[k] as usize;
+        pay(charges, f, t, y);
+        k += 1;
+    }
+}
+
+// All nets are 0.
+fn clear_nets(nets: &mut [i32])
+    ensures { λ _. ⌜ now (nets .exit) ≡ replicate (length (now (nets .entry))) (pos 0) ⌝ }
+{
+    let mut i: usize = 0;
+    while i < nets.len() {
+        nets[i] = 0;
+        i += 1;
+    }
+}
+
+// All delivered lots are 0.
+fn clear_delivered(delivered: &mut [u32])
+    ensures { λ _. ⌜ now (delivered .exit) ≡ replicate (length (now (delivered .entry))) 0 ⌝ }
+{
+    let mut i: usize = 0;
+    while i < delivered.len() {
+        delivered[i] = 0;
+        i += 1;
+    }
+}
+
+// Entries are charged; then nets and delivered lots are 0.
+pub fn roll_in<'a>(
+    days: u32,
+    rate: u32,
+    prices: &[u32],
+    count: usize,
+    issues: &'a [u8],
+    froms: &'a [u8],
+    tos: &'a [u8],
+    lots: &'a [u32],
+    charges: &mut [i64],
+    nets: &mut [i32],
+    delivered: &mut [u32],
+)
+    requires { ⌜ Chargeable days rate (now prices) count (now issues) (now froms) (now tos) (now lots) (now charges) × Cells (now nets) (now delivered) ⌝ }
+    ensures { λ _. ⌜ Charged days rate (now (prices .entry)) count (now (issues .entry)) (now (froms .entry)) (now (tos .entry)) (now (lots .entry)) (now (charges .entry)) (now (charges .exit)) × Rolled (now (nets .exit)) (now (delivered .exit)) ⌝ }
+{
+    charge_entries(days, rate, prices, count, issues, froms, tos, lots, charges);
+    clear_nets(nets);
+    clear_delivered(delivered);
+}
+
+// A sound book, its questions answered: the book of the next day.
+fn rolled(b: Book, days: u32, rate: u32, prices: &[u32]) -> Book
+    requires { ⌜ Ready b days rate (now prices) ⌝ }
+    ensures { λ r. ⌜ r ≡ rolledOf b days rate (now (prices .entry)) ⌝ }
+{
+    let count = b.count;
+    let mut charges = b.charges;
+    let mut nets = b.nets;
+    let mut delivered = b.delivered;
+    roll_in(
+        days,
+        rate,
+        prices,
+        count,
+        &b.issues,
+        &b.froms,
+        &b.tos,
+        &b.lots,
+        &mut charges,
+        &mut nets,
+        &mut delivered,
+    );
+    let tomorrow = b.day + 1;
+    let charged = book::with_charges(b, charges);
+    let cleared = book::with_delivered(book::with_nets(charged, nets), delivered);
+    book::with_day(cleared, tomorrow, Phase::Taking)
+}
+
+// roll: on a refusal its number and the book as it came, else the book of the next day.
+pub fn roll(b: Book, days: u32, rate: u32, prices: &[u32]) -> Reply
+    ensures { λ r. ⌜ AnswerIs (rollOf b days rate (now (prices .entry))) r [] ⌝ }
+{
+    if !book::sound(b) {
+        return Reply {
+            refusal: 2,
+            count: 0,
+            book: b,
+        };
+    }
+    let phase = b.phase;
+    let today = b.day;
+    let no = roll_asks(phase, today, days, rate, prices);
+    if no != 0 {
+        return Reply {
+            refusal: no,
+            count: 0,
+            book: b,
+        };
+    }
+    let next = rolled(b, days, rate, prices);
+    Reply {
+        refusal: 0,
+        count: 0,
+        book: next,
+    }
+}

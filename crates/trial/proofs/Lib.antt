@@ -1,0 +1,3 @@
+pub mod Phases
+pub mod Answering
+pub mod Words

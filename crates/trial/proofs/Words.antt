@@ -1,0 +1,11 @@
+-- A kind that is none of 1 to 6 is taken for roll.
+use mathlib.Core.Path.{_≡_}
+use Prim.Native.Nat.{ℕ}
+use borrow.Author.Tests.{ne-eqb}
+use Rattle.rules.specs.declared.Instruction.the-variants.{Roll}
+use Rattle.trial.specs.Fields.{instructionOf}
+
+pub other-kind : (k a b c d : ℕ) → (k ≡ 1 → ⊥) → (k ≡ 2 → ⊥) → (k ≡ 3 → ⊥) → (k ≡ 4 → ⊥) → (k ≡ 5 → ⊥) → (k ≡ 6 → ⊥) →
+    Roll a b ≡ instructionOf k a b c d
+other-kind k a b c d n1 n2 n3 n4 n5 n6 =
+    simp (ne-eqb k 1 n1, ne-eqb k 2 n2, ne-eqb k 3 n3, ne-eqb k 4 n4, ne-eqb k 5 n5, ne-eqb k 6 n6)

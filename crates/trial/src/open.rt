@@ -1,0 +1,256 @@
+// The open calls on lent columns: any book, damaged ones too. Each answers the refusal's number (0: done).
+use crate::columns::book_in;
+use crate::columns::put_book;
+use rules::Found;
+ghost use mathlib.Core.Path.{_≡_};
+ghost use mathlib.Core.Bool.{cond};
+ghost use Rattle.rules.specs.Book.{sound as soundOf};
+ghost use Rattle.rules.specs.Calls.{unit as unitOf, foundAnswer, trade as tradeOf, close as closeOf, resolve as resolveOf};
+ghost use Rattle.trial.specs.Columns.{bookIn};
+ghost use Rattle.trial.specs.Answers.{UnitIs, Answered, Recorded};
+
+// Is the book sound? 1 sound, 0 not.
+#[no_mangle]
+pub extern "C" fn trial_sound<'a>(
+    day: &'a u16,
+    phase: &'a u32,
+    nets: &'a [i32; 1024],
+    delivered: &'a [u32; 1024],
+    charges: &'a [i64; 64],
+    count: &'a usize,
+    issues: &'a [u8; 2048],
+    froms: &'a [u8; 2048],
+    tos: &'a [u8; 2048],
+    lots: &'a [u32; 2048],
+    days: &'a [u16; 2048],
+) -> u32
+    ensures { λ r. ⌜ r ≡ cond (soundOf (bookIn (now (day .entry)) (now (phase .entry)) (now (nets .entry)) (now (delivered .entry)) (now (charges .entry)) (now (count .entry)) (now (issues .entry)) (now (froms .entry)) (now (tos .entry)) (now (lots .entry)) (now (days .entry)))) 1 0 ⌝ }
+{
+    let b = book_in(
+        day,
+        phase,
+        nets,
+        delivered,
+        charges,
+        count,
+        issues,
+        froms,
+        tos,
+        lots,
+        days,
+    );
+    if book::sound(b) { 1 } else { 0 }
+}
+
+// The unit question's answer in plain numbers: 1, account and lots, or three times 0.
+fn told(found: Found, answer: &mut [u32; 3]) -> u32
+    ensures { λ r. ⌜ UnitIs (foundAnswer found) r (now (answer .exit)) ⌝ }
+{
+    match found {
+        Found::Unit(account, x) => {
+            *answer = [1, account, x];
+            0
+        }
+        Found::Nothing => {
+            *answer = [0, 0, 0];
+            0
+        }
+        Found::Refused(no) => {
+            *answer = [0, 0, 0];
+            no
+        }
+    }
+}
+
+// The k-th unit of issue i, k from 0.
+#[no_mangle]
+pub extern "C" fn trial_unit<'a>(
+    day: &'a u16,
+    phase: &'a u32,
+    nets: &'a [i32; 1024],
+    delivered: &'a [u32; 1024],
+    charges: &'a [i64; 64],
+    count: &'a usize,
+    issues: &'a [u8; 2048],
+    froms: &'a [u8; 2048],
+    tos: &'a [u8; 2048],
+    lots: &'a [u32; 2048],
+    days: &'a [u16; 2048],
+    i: u32,
+    k: u32,
+    answer: &mut [u32; 3],
+) -> u32
+    ensures { λ r. ⌜ UnitIs (unitOf (bookIn (now (day .entry)) (now (phase .entry)) (now (nets .entry)) (now (delivered .entry)) (now (charges .entry)) (now (count .entry)) (now (issues .entry)) (now (froms .entry)) (now (tos .entry)) (now (lots .entry)) (now (days .entry))) i k) r (now (answer .exit)) ⌝ }
+{
+    let b = book_in(
+        day,
+        phase,
+        nets,
+        delivered,
+        charges,
+        count,
+        issues,
+        froms,
+        tos,
+        lots,
+        days,
+    );
+    told(units::unit(b, i, k), answer)
+}
+
+// trade: from's net falls, to's rises.
+#[no_mangle]
+pub extern "C" fn trial_trade(
+    day: &mut u16,
+    phase: &mut u32,
+    nets: &mut [i32; 1024],
+    delivered: &mut [u32; 1024],
+    charges: &mut [i64; 64],
+    count: &mut usize,
+    issues: &mut [u8; 2048],
+    froms: &mut [u8; 2048],
+    tos: &mut [u8; 2048],
+    lots: &mut [u32; 2048],
+    days: &mut [u16; 2048],
+    i: u32,
+    f: u32,
+    t: u32,
+    x: u32,
+) -> u32
+    ensures { λ r. ⌜ Answered (tradeOf (bookIn (now (day .entry)) (now (phase .entry)) (now (nets .entry)) (now (delivered .entry)) (now (charges .entry)) (now (count .entry)) (now (issues .entry)) (now (froms .entry)) (now (tos .entry)) (now (lots .entry)) (now (days .entry))) i f t x) r (now (phase .exit)) (bookIn (now (day .exit)) (now (phase .exit)) (now (nets .exit)) (now (delivered .exit)) (now (charges .exit)) (now (count .exit)) (now (issues .exit)) (now (froms .exit)) (now (tos .exit)) (now (lots .exit)) (now (days .exit))) ⌝ }
+{
+    let b = book_in(
+        day,
+        phase,
+        nets,
+        delivered,
+        charges,
+        count,
+        issues,
+        froms,
+        tos,
+        lots,
+        days,
+    );
+    let r = trading::trade(b, i, f, t, x);
+    let next = r.book;
+    put_book(
+        next,
+        day,
+        phase,
+        nets,
+        delivered,
+        charges,
+        count,
+        issues,
+        froms,
+        tos,
+        lots,
+        days,
+    );
+    r.refusal
+}
+
+// close: to Settling.
+#[no_mangle]
+pub extern "C" fn trial_close(
+    day: &mut u16,
+    phase: &mut u32,
+    nets: &mut [i32; 1024],
+    delivered: &mut [u32; 1024],
+    charges: &mut [i64; 64],
+    count: &mut usize,
+    issues: &mut [u8; 2048],
+    froms: &mut [u8; 2048],
+    tos: &mut [u8; 2048],
+    lots: &mut [u32; 2048],
+    days: &mut [u16; 2048],
+) -> u32
+    ensures { λ r. ⌜ Answered (closeOf (bookIn (now (day .entry)) (now (phase .entry)) (now (nets .entry)) (now (delivered .entry)) (now (charges .entry)) (now (count .entry)) (now (issues .entry)) (now (froms .entry)) (now (tos .entry)) (now (lots .entry)) (now (days .entry)))) r (now (phase .exit)) (bookIn (now (day .exit)) (now (phase .exit)) (now (nets .exit)) (now (delivered .exit)) (now (charges .exit)) (now (count .exit)) (now (issues .exit)) (now (froms .exit)) (now (tos .exit)) (now (lots .exit)) (now (days .exit))) ⌝ }
+{
+    let b = book_in(
+        day,
+        phase,
+        nets,
+        delivered,
+        charges,
+        count,
+        issues,
+        froms,
+        tos,
+        lots,
+        days,
+    );
+    let r = trading::close(b);
+    let next = r.book;
+    put_book(
+        next,
+        day,
+        phase,
+        nets,
+        delivered,
+        charges,
+        count,
+        issues,
+        froms,
+        tos,
+        lots,
+        days,
+    );
+    r.refusal
+}
+
+// resolve: entries of the issue from the account are met in ledger order.
+#[no_mangle]
+pub extern "C" fn trial_resolve(
+    day: &mut u16,
+    phase: &mut u32,
+    nets: &mut [i32; 1024],
+    delivered: &mut [u32; 1024],
+    charges: &mut [i64; 64],
+    count: &mut usize,
+    issues: &mut [u8; 2048],
+    froms: &mut [u8; 2048],
+    tos: &mut [u8; 2048],
+    lots: &mut [u32; 2048],
+    days: &mut [u16; 2048],
+    i: u32,
+    a: u32,
+    x: u32,
+    out: &mut [u32],
+    records: &mut usize,
+) -> u32
+    ensures { λ r. ⌜ Recorded (resolveOf (bookIn (now (day .entry)) (now (phase .entry)) (now (nets .entry)) (now (delivered .entry)) (now (charges .entry)) (now (count .entry)) (now (issues .entry)) (now (froms .entry)) (now (tos .entry)) (now (lots .entry)) (now (days .entry))) i a x (now (out .entry))) r (now (phase .exit)) (bookIn (now (day .exit)) (now (phase .exit)) (now (nets .exit)) (now (delivered .exit)) (now (charges .exit)) (now (count .exit)) (now (issues .exit)) (now (froms .exit)) (now (tos .exit)) (now (lots .exit)) (now (days .exit))) (now (out .exit)) (now (records .exit)) ⌝ }
+{
+    let b = book_in(
+        day,
+        phase,
+        nets,
+        delivered,
+        charges,
+        count,
+        issues,
+        froms,
+        tos,
+        lots,
+        days,
+    );
+    let r = resolution::resolve(b, i, a, x, out);
+    *records = r.count;
+    let next = r.book;
+    put_book(
+        next,
+        day,
+        phase,
+        nets,
+        delivered,
+        charges,
+        count,
+        issues,
+        froms,
+        tos,
+        lots,
+        days,
+    );
+    r.refusal
+}

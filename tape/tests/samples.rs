@@ -1,0 +1,67 @@
+//! Each sample of `tapes/` prints what is stored beside it.
+
+use std::fs;
+use std::path::{Path, PathBuf};
+use tape::{explain, text};
+
+/// The samples in text form.
+fn samples() -> Vec<PathBuf> {
+    let directory = Path::new(env!("CARGO_MANIFEST_DIR")).join("../tapes");
+    let files = fs::read_dir(directory).expect("the folder tapes/");
+    let mut samples: Vec<PathBuf> = files
+        .map(|file| file.expect("a file of tapes/").path())
+        .filter(|path| path.extension().is_some_and(|extension| extension == "txt"))
+        .collect();
+    samples.sort();
+    samples
+}
+
+/// The words of a sample.
+fn tape_of(sample: &Path) -> Vec<u8> {
+    let lines = fs::read_to_string(sample).expect("a sample in text form");
+    text::to_tape(&lines).unwrap_or_else(|error| panic!("{}: {error}", sample.display()))
+}
+
+#[test]
+fn each_sample_prints_what_is_stored() {
+    assert!(samples().len() >= 7, "the samples are there");
+    for sample in samples() {
+        let expected = fs::read_to_string(sample.with_extension("expected"));
+        let printed = reference::run::run(&tape_of(&sample));
+        assert_eq!(printed, expected.expect("the stored output"), "{}", sample.display());
+    }
+}
+
+#[test]
+fn each_sample_is_read_back() {
+    for sample in samples() {
+        let tape = tape_of(&sample);
+        assert_eq!(text::to_tape(&text::of_tape(&tape)), Ok(tape), "{}", sample.display());
+    }
+}
+
+#[test]
+fn each_sample_is_explained() {
+    for sample in samples() {
+        let told = explain::explain(&tape_of(&sample));
+        assert!(told.starts_with("Day 0\n") && told.contains("\nAt the end: day "), "{told}");
+    }
+}
+
+#[test]
+fn the_settled_days_are_told() {
+    let sample = Path::new(env!("CARGO_MANIFEST_DIR")).join("../tapes/p5-to-p9.txt");
+    let told = explain::explain(&tape_of(&sample));
+    for line in [
+        "issue 0: units 0 to 1 are account 2's, 100,000 lots each",
+        "issue 0: unit 5 is account 2's, 50,000 lots",
+        "unit 2 is handed to account 1: 100,000 lots",
+        "45,000 lots wait for unit 3 of account 1, 100,000 lots",
+        "issue 0: the remaining 45,000 lots go to unit 5 of account 2, which still lacks 5,000 lots",
+        "issue 0: account 5 fails account 1: 30,000 lots",
+        "account 4 is charged 20,547 yen for 5,000 lots of issue 0, which account 2 is given",
+        "account 5: -226,026 yen",
+    ] {
+        assert!(told.contains(line), "{line}\n{told}");
+    }
+}

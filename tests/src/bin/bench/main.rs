@@ -1,0 +1,49 @@
+//! `bench`: run times of the library and the program beside the second engine, as Markdown.
+//!
+//! Parts: calls, growth and programs; `--part NAME` runs one of them. `--cases N` is the number of
+//! rounds of which the middle one is shown. `--program PATH` and `--reference PATH` name the
+//! programs.
+
+mod calls;
+mod growth;
+mod programs;
+mod timing;
+
+use std::process::ExitCode;
+use tests::options::Options;
+
+/// The rounds of the default run.
+const DEFAULT_ROUNDS: u64 = 41;
+
+fn main() -> ExitCode {
+    let own = ["--part", "--program", "--reference"];
+    match Options::of_command_line(DEFAULT_ROUNDS, &own).and_then(run) {
+        Ok(()) => ExitCode::SUCCESS,
+        Err(error) => {
+            eprintln!("bench: {error}");
+            ExitCode::FAILURE
+        }
+    }
+}
+
+/// Runs one part or all of them; each prints its tables.
+fn run(options: Options) -> Result<(), String> {
+    let rounds = options.cases.max(1) as usize;
+    match options.own_or("--part", "all") {
+        "all" => {
+            calls::run(rounds);
+            growth::run(rounds);
+            programs::run(&options)
+        }
+        "calls" => {
+            calls::run(rounds);
+            Ok(())
+        }
+        "growth" => {
+            growth::run(rounds);
+            Ok(())
+        }
+        "programs" => programs::run(&options),
+        other => Err(format!("there is no part {other:?}: there are calls, growth and programs")),
+    }
+}
