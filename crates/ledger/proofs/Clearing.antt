@@ -1,14 +1,14 @@
 -- Places made 0 one by one. What stands before place j, with zeros behind it, stays the same.
 use mathlib.Core.Path.{_≡_, refl, ap, sym, _∙_}
 use mathlib.Core.List.{List, [], _∷_, _++_, append-assoc}
-use Prim.Native.Nat.{ℕ, zero, suc, _+_, _-_, _≤_, _<_}
+use Prim.Native.Nat.{ℕ, suc, _+_, _-_, _≤_, _<_}
 use native.Mathlib.Numerals.{add-one}
 use native.Mathlib.Omega.{arith}
-use lib.ListN.{length, set, take, drop, replicate, length-set, take-append-drop}
+use lib.ListN.{length, take, drop, replicate, length-set, take-append-drop}
 use lib.Seq.{take-suc-set, drop-set-lt}
 use Rattle.rules.specs.Measures.{mostEntries}
 use Rattle.rules.specs.Ledger.{entry}
-use Rattle.ledger.specs.Columns.{EachColumn, EachPair, Whole, Stored, Unused, Cleared}
+use Rattle.ledger.specs.Columns.{EachPair, Whole, Stored, Unused, Cleared}
 use Rattle.ledger.proofs.Each.{each-stay, each-then, each-map, each-after, both, zeroed}
 use Rattle.ledger.proofs.Entries.{unused-more}
 

@@ -3,13 +3,12 @@ use mathlib.Core.Path.{_≡_, refl, ap, sym, _∙_}
 use mathlib.Core.List.{List, [], _∷_, _++_, map, map-append, append-assoc, tail}
 use Prim.Native.Nat.{ℕ, zero, suc, _+_, _-_, _≤_, _<_}
 use native.Mathlib.Omega.{arith}
-use lib.ListN.{length, set, getD, replicate, length-append, length-map, length-replicate}
+use lib.ListN.{length, set, replicate, length-append, length-map, length-replicate}
 use lib.Seq.{set-at}
 use Rattle.rules.specs.declared.Entry.{Entry}
 use Rattle.rules.specs.Measures.{mostEntries}
-use Rattle.rules.specs.Ledger.{entry}
 use Rattle.rules.specs.Book.{entries, column}
-use Rattle.ledger.specs.Columns.{EachColumn, EachPair, Columns, Whole, Held, Stored, Kept}
+use Rattle.ledger.specs.Columns.{Columns, Held, Stored, Kept}
 use Rattle.ledger.proofs.Each.{each-column, each-pair}
 
 pub entries-length : (n : ℕ) (is fs ts xs ds : List ℕ) → length (entries n is fs ts xs ds) ≡ n

@@ -102,12 +102,20 @@ module _ (n : ℕ) (is cs : List ℕ) (i a : ℕ) where
       omega arith
 
 -- the place in two columns is the place in the ledger
-pub place-from : (n : ℕ) (is fs ts xs ds : List ℕ) (i a : ℕ) → placeIn n is fs i a ≡ placeOf (isFrom i a) (entries n is fs ts xs ds)
-place-from zero is fs ts xs ds i a = refl
-place-from (suc n) is fs ts xs ds i a =
-    ap (λ k. cond (eqb (headOr0 is) i && eqb (headOr0 fs) a) 0 (suc k)) (place-from n (tail is) (tail fs) (tail ts) (tail xs) (tail ds) i a)
+from-place : (n : ℕ) (is fs ts xs ds : List ℕ) (i a : ℕ) → placeIn n is fs i a ≡ placeOf (isFrom i a) (entries n is fs ts xs ds)
+from-place zero is fs ts xs ds i a = refl
+from-place (suc n) is fs ts xs ds i a =
+    ap (λ k. cond (eqb (headOr0 is) i && eqb (headOr0 fs) a) 0 (suc k)) (from-place n (tail is) (tail fs) (tail ts) (tail xs) (tail ds) i a)
 
-pub place-to : (n : ℕ) (is fs ts xs ds : List ℕ) (i a : ℕ) → placeIn n is ts i a ≡ placeOf (isTo i a) (entries n is fs ts xs ds)
-place-to zero is fs ts xs ds i a = refl
-place-to (suc n) is fs ts xs ds i a =
-    ap (λ k. cond (eqb (headOr0 is) i && eqb (headOr0 ts) a) 0 (suc k)) (place-to n (tail is) (tail fs) (tail ts) (tail xs) (tail ds) i a)
+to-place : (n : ℕ) (is fs ts xs ds : List ℕ) (i a : ℕ) → placeIn n is ts i a ≡ placeOf (isTo i a) (entries n is fs ts xs ds)
+to-place zero is fs ts xs ds i a = refl
+to-place (suc n) is fs ts xs ds i a =
+    ap (λ k. cond (eqb (headOr0 is) i && eqb (headOr0 ts) a) 0 (suc k)) (to-place n (tail is) (tail fs) (tail ts) (tail xs) (tail ds) i a)
+
+pub place-from : (n : ℕ) (is fs ts xs ds : List ℕ) (i a r : ℕ) → r ≡ placeIn n is fs i a →
+    r ≡ placeOf (isFrom i a) (entries n is fs ts xs ds)
+place-from n is fs ts xs ds i a r e = e ∙ from-place n is fs ts xs ds i a
+
+pub place-to : (n : ℕ) (is fs ts xs ds : List ℕ) (i a r : ℕ) → r ≡ placeIn n is ts i a →
+    r ≡ placeOf (isTo i a) (entries n is fs ts xs ds)
+place-to n is fs ts xs ds i a r e = e ∙ to-place n is fs ts xs ds i a

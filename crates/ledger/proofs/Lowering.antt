@@ -1,8 +1,8 @@
 -- An entry lowered where it stands: lots in one column, or the entry removed.
 use mathlib.Core.Path.{_≡_, refl, ap, sym, _∙_}
-use mathlib.Core.Bool.{Bool, true, false, cond}
-use mathlib.Core.List.{List, [], _∷_, _++_, map}
-use Prim.Native.Nat.{ℕ, zero, suc, _+_, _-_, _≤_, _<_}
+use mathlib.Core.Bool.{Bool}
+use mathlib.Core.List.{List, [], _∷_, map}
+use Prim.Native.Nat.{ℕ, zero, suc, _-_, _≤_, _<_}
 use native.Mathlib.Omega.{arith}
 use lib.ListN.{length, set, getD, replicate, length-map, List·getD-append}
 use lib.Seq.{set-append-left}
@@ -10,7 +10,7 @@ use Rattle.rules.specs.declared.Entry.{Entry}
 use Rattle.rules.specs.Measures.{mostEntries}
 use Rattle.rules.specs.Ledger.{entry, putEntry, lower, firstOf}
 use Rattle.rules.specs.Book.{entries, column}
-use Rattle.ledger.specs.Columns.{EachColumn, Columns, Held, Kept}
+use Rattle.ledger.specs.Columns.{Columns, Held, Kept}
 use Rattle.ledger.specs.Places.{placeOf, removeAt, lowerAt}
 use Rattle.ledger.proofs.Entries.{entries-length}
 use Rattle.ledger.proofs.Removing.{remove-length}

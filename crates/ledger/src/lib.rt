@@ -6,7 +6,7 @@ ghost use mathlib.Core.Bool.{cond, _&&_};
 ghost use mathlib.Core.List.{List, [], _∷_, _++_};
 ghost use Prim.Native.Nat.{ℕ, _+_, _-_, _≤_, _<_, min};
 ghost use lib.Dec.{eqb};
-ghost use lib.ListN.{length, getD, take};
+ghost use lib.ListN.{length, getD};
 ghost use Rattle.rules.specs.Ledger.{entry, isFrom, isTo, lotsOf};
 ghost use Rattle.rules.specs.Book.{entries};
 ghost use Rattle.ledger.specs.Columns.{Columns, Whole, Held, Stored, Copied, Kept, Unused, Cleared};

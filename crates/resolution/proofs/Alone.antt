@@ -1,17 +1,16 @@
 -- One entry kept, and one record written, unless it is at 0.
 use mathlib.Core.Path.{_≡_, refl, sym, ap, _∙_}
-use mathlib.Core.List.{List, [], _∷_, _++_, map}
-use Prim.Native.Nat.{ℕ, zero, suc, _+_, _-_, _*_, _≤_, _<_, min}
+use mathlib.Core.List.{List}
+use Prim.Native.Nat.{ℕ, zero, suc, _+_, _-_, _*_}
 use native.Mathlib.Numerals.{add-one}
 use native.Mathlib.Nat.{add-zero}
-use native.Mathlib.Omega.{arith}
-use lib.ListN.{length, set, getD}
+use lib.ListN.{set, getD}
 use Rattle.rules.specs.declared.Entry.{Entry}
 use Rattle.rules.specs.Ledger.{entry, isFrom, metBy}
 use Rattle.rules.specs.Records.{headWord, lotsWord}
-use Rattle.ledger.specs.Columns.{EachColumn, EachPair, Stored, Whole}
-use Rattle.ledger.proofs.Each.{each-stay, each-map}
-use Rattle.resolution.specs.Resolving.{entryAt, alone, Put, Recorded, WasMet}
+use Rattle.ledger.specs.Columns.{Stored}
+use Rattle.ledger.proofs.Each.{each-map}
+use Rattle.resolution.specs.Resolving.{entryAt, Put, Recorded, WasMet}
 
 pub put-none : (e : Entry) (x w : ℕ) (i f t xs d : List ℕ) → x ≡ 0 → Put e x w w i f t xs d i f t xs d
 put-none e x w i f t xs d z =

@@ -1,7 +1,7 @@
 -- A sound book's ledger lies in its columns; and a book put together of the columns after a call is the
 -- definition's book.
-use mathlib.Core.Path.{_≡_, refl, sym, ap, _∙_}
-use mathlib.Core.Bool.{Bool, true, false}
+use mathlib.Core.Path.{_≡_, refl, sym, _∙_}
+use mathlib.Core.Bool.{true, false}
 use mathlib.Core.List.{List, [], _∷_}
 use Prim.Native.Nat.{ℕ, zero, suc, _≤_, _<_}
 use native.Mathlib.Omega.{arith}
@@ -14,11 +14,11 @@ use Rattle.rules.specs.declared.Paired.{Paired}
 use Rattle.rules.specs.declared.Reply.{Reply}
 use Rattle.rules.specs.Ledger.{isFrom, meet, pairing}
 use Rattle.rules.specs.Questions.{Question, firstNo, askSound, askOutput, askAccount}
-use Rattle.rules.specs.Calls.{AnswerIs, answer, resolve, resolveAsks, resolveRecords, PairAnswerIs, pairAnswer, pairOff, pairOffAsks}
-use Rattle.rules.specs.Measures.{mostEntries, outputWords}
+use Rattle.rules.specs.Calls.{AnswerIs, resolve, resolveAsks, resolveRecords, PairAnswerIs, pairAnswer, pairOff, pairOffAsks}
+use Rattle.rules.specs.Measures.{outputWords}
 use Rattle.rules.specs.Book.{all, entries, ledgerOf, withLedger, entrySound, sound}
 use Rattle.laws.proofs.Basics.{each-map}
-use Rattle.laws.proofs.Sound.{SoundEntry, SoundBook, sound-parts, parts-entry, each-all}
+use Rattle.laws.proofs.Sound.{SoundEntry, sound-parts, parts-entry, each-all}
 use Rattle.laws.proofs.Ledger.{FullColumns, columns-back}
 use Rattle.book.specs.Columns.{withColumns}
 use Rattle.ledger.specs.Columns.{Columns, Whole, Held}

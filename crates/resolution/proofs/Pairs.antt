@@ -1,26 +1,24 @@
 -- All steps of pair-off: what the definition makes of the first ledger is what was made, and what it makes of
 -- the ledger now. Where a step is left its fuel is not used up; where none is left more fuel changes nothing.
-use mathlib.Core.Path.{_≡_, refl, sym, ap, _∙_, subst}
-use mathlib.Core.Bool.{Bool, true, false, cond}
-use mathlib.Core.List.{List, [], _∷_, _++_, append-nil}
-use Prim.Native.Nat.{ℕ, zero, suc, _+_, _-_, _*_, _≤_, _<_, min}
+use mathlib.Core.Path.{_≡_, refl, sym, ap, _∙_}
+use mathlib.Core.Bool.{Bool, true}
+use mathlib.Core.List.{List, [], _∷_, append-nil}
+use Prim.Native.Nat.{ℕ, zero, suc, _+_, _-_, _*_, _≤_, _<_}
 use native.Mathlib.Nat.{zero-add}
 use native.Mathlib.Omega.{arith}
 use lib.Dec.{eqb, lit<}
 use lib.ListN.{length}
 use Rattle.rules.specs.declared.Entry.{Entry}
-use Rattle.rules.specs.Ledger.{entry, putEntry, isFrom, isTo, countOf, firstOf, lower, stepLots, through, stepped, Pairing, paired, pairing}
-use Rattle.rules.specs.Book.{all, entries, entrySound}
+use Rattle.rules.specs.Ledger.{entry, putEntry, isFrom, isTo, countOf, firstOf, lower, stepLots, through, stepped, paired, pairing}
+use Rattle.rules.specs.Book.{entries, entrySound}
 use Rattle.laws.proofs.Basics.{byTest, either, Every, each-map}
 use Rattle.laws.proofs.Sound.{SoundEntry, all-each, entry-parts}
-use Rattle.laws.proofs.Lowering.{firstLots, first-bound, Apart}
+use Rattle.laws.proofs.Lowering.{first-bound, Apart}
 use Rattle.laws.proofs.Pairing.{StepCounts, stepped-counts}
-use Rattle.ledger.specs.Columns.{Held, Kept}
 use Rattle.ledger.specs.Places.{placeOf}
 use Rattle.ledger.proofs.Entries.{entries-length, kept-entries}
 use Rattle.ledger.proofs.Lowering.{first-none, place-most}
 use Rattle.resolution.specs.declared.Fallen.{Fallen}
-use Rattle.resolution.specs.declared.Steps.{Steps}
 use Rattle.resolution.specs.Pairs.{Pairable, CanStep, WasStepped, WasPaired}
 use Rattle.resolution.proofs.Stepping.{first-some, stepped-pairable}
 

@@ -1,25 +1,25 @@
 -- One step of pair-off in place: each of its three changes of the columns is the definition's, and one entry
 -- goes at least, so that there is room for the one that is passed on.
 use mathlib.Core.Path.{_≡_, refl, sym, ap, _∙_, subst}
-use mathlib.Core.Bool.{Bool, true, false, cond}
+use mathlib.Core.Bool.{Bool, true, false}
 use mathlib.Core.List.{List, [], _∷_, _++_, map, append-nil}
 use Prim.Native.Nat.{ℕ, zero, suc, _+_, _-_, _≤_, _<_, min}
 use native.Mathlib.Omega.{arith}
-use lib.Dec.{leb, ltb, eqb}
-use lib.ListN.{length, getD, replicate, length-map, length-append, List·getD-append}
+use lib.Dec.{leb, ltb}
+use lib.ListN.{length, getD, replicate, length-map, List·getD-append}
 use borrow.Author.Tests.{leb-true, leb-false, ltb-true, ltb-false, eq-eqb, ne-eqb}
 use Rattle.rules.specs.declared.Entry.{Entry}
 use Rattle.rules.specs.Measures.{mostEntries}
-use Rattle.rules.specs.Ledger.{entry, putEntry, isFrom, isTo, firstOf, lower, stepLots, through, stepped}
-use Rattle.rules.specs.Book.{all, entries, column, entrySound}
+use Rattle.rules.specs.Ledger.{entry, isFrom, isTo, firstOf, lower, stepLots, through, stepped}
+use Rattle.rules.specs.Book.{entries, column, entrySound}
 use Rattle.laws.proofs.Basics.{byTest, Every, each-map}
 use Rattle.laws.proofs.Sound.{SoundEntry, all-each, each-all, entry-parts, parts-entry}
 use Rattle.laws.proofs.Stepping.{stepped-sound}
 use Rattle.laws.proofs.Lowering.{firstLots, first-stays, length-lower, length-gone, from-not-to}
-use Rattle.ledger.specs.Columns.{Columns, Held, Kept}
+use Rattle.ledger.specs.Columns.{Held, Kept}
 use Rattle.ledger.specs.Places.{placeOf, lowerAt}
 use Rattle.ledger.proofs.Entries.{entries-length, kept-held, kept-entries}
-use Rattle.ledger.proofs.Lowering.{lower-place, first-place, first-none, place-most}
+use Rattle.ledger.proofs.Lowering.{lower-place, first-place, first-none}
 use Rattle.resolution.specs.declared.Fallen.{Fallen}
 use Rattle.resolution.specs.Pairs.{Pairable, CanFall, CanStep, WasStepped}
 

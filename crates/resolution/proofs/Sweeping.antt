@@ -1,27 +1,24 @@
 -- One pass over the ledger. Before place w stand the entries that were kept, from place k on those that are
 -- still to be met; what the definition makes of the whole ledger is the former and what it makes of the latter.
 use mathlib.Core.Path.{_≡_, refl, sym, ap, _∙_, subst}
-use mathlib.Core.Bool.{Bool, true}
+use mathlib.Core.Bool.{true}
 use mathlib.Core.List.{List, [], _∷_, _++_, map, map-append, append-assoc, append-nil}
-use Prim.Native.Nat.{ℕ, zero, suc, _+_, _-_, _*_, _≤_, _<_, min}
-use native.Mathlib.Numerals.{add-one}
+use Prim.Native.Nat.{ℕ, zero, suc, _+_, _-_, _≤_, _<_}
 use native.Mathlib.Nat.{add-zero}
 use native.Mathlib.Omega.{arith}
-use lib.ListN.{length, getD, set, take, drop, replicate, length-append, length-map, length-take}
+use lib.ListN.{length, getD, take, drop, replicate, length-append, length-map}
 use lib.Seq.{sets, length-sets, sets-eq, take-at, drop-append-add, drop-drop, getD-drop, length-take-le}
 use Rattle.rules.specs.declared.Entry.{Entry}
 use Rattle.rules.specs.Measures.{mostEntries}
-use Rattle.rules.specs.Ledger.{entry, putEntry, isFrom, metBy, meet, met}
+use Rattle.rules.specs.Ledger.{putEntry, isFrom, metBy, meet, met}
 use Rattle.rules.specs.Book.{all, entries, column, entrySound}
 use Rattle.rules.specs.Records.{recordOf, words, over}
-use Rattle.rules.specs.Calls.{resolveRecords}
 use Rattle.laws.proofs.Basics.{and-left, and-right}
 use Rattle.laws.proofs.Meeting.{length-putEntry}
 use Rattle.words.proofs.Output.{records-more, records-length}
-use Rattle.ledger.specs.Columns.{EachColumn, EachPair, Columns, Whole, Held, Unused, Cleared}
-use Rattle.ledger.proofs.Each.{each-column, each-pair, each-stay, both}
+use Rattle.ledger.specs.Columns.{EachColumn, Unused, Cleared}
+use Rattle.ledger.proofs.Each.{each-column, each-pair, both}
 use Rattle.ledger.proofs.Entries.{entries-length}
-use Rattle.resolution.specs.declared.Counts.{Counts}
 use Rattle.resolution.specs.declared.Turn.{Turn}
 use Rattle.resolution.specs.Resolving.{entryAt, alone, Put, Recorded, CanMeet, WasMet, Resolvable, Resolved}
 

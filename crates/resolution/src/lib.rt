@@ -8,14 +8,14 @@ ghost use mathlib.Core.List.{List, _++_};
 ghost use Prim.Native.Nat.{ℕ, _+_, _-_, _*_, _≤_, _<_, min};
 ghost use lib.Dec.{eqb};
 ghost use lib.ListN.{length};
-ghost use Rattle.rules.specs.Ledger.{entry, isFrom, isTo, lower, through, pairing};
-ghost use Rattle.rules.specs.Book.{entries, entrySound, ledgerOf, sound};
+ghost use Rattle.rules.specs.Ledger.{entry, isTo, lower, through, pairing};
+ghost use Rattle.rules.specs.Book.{entries, ledgerOf, sound};
 ghost use Rattle.rules.specs.Questions.{firstNo};
 ghost use Rattle.rules.specs.Calls.{AnswerIs, resolveAsks, resolve as resolveOf, pairOffAsks, PairAnswerIs, pairAnswer, pairOff};
 ghost use Rattle.rules.specs.Measures.{outputWords};
 ghost use Rattle.ledger.specs.Columns.{Whole, Held, Kept};
 ghost use Rattle.resolution.specs.Pairs.{Pairable, CanFall, CanStep, WasStepped, WasPaired, FewSteps};
-ghost use Rattle.resolution.specs.Resolving.{resolveAnswer, entryAt, Put, Recorded, CanMeet, WasMet, Resolvable, Resolved};
+ghost use Rattle.resolution.specs.Resolving.{resolveAnswer, Put, Recorded, CanMeet, WasMet, Resolvable, Resolved};
 
 // What a resolve leaves: the number of entries in the ledger, and of records written.
 pub struct Counts {

@@ -1,7 +1,7 @@
 -- What is written is read back: each field of a head lies apart from the others.
-use mathlib.Core.Path.{_≡_, refl, ap}
+use mathlib.Core.Path.{_≡_, refl}
 use mathlib.Core.List.{List, [], _∷_, _++_}
-use Prim.Native.Nat.{ℕ, zero, suc, _+_, _*_, _/_, _%_, _<_, _^_}
+use Prim.Native.Nat.{ℕ, _+_, _<_, _^_}
 use native.Mathlib.Omega.{arith}
 use lib.ListN.{length}
 use Rattle.rules.specs.Records.{kindBits, issueBits, fromBits, toBits, lotsBits, ofField, headWord, lotsWord, Rec, words, recordIn, recordsIn}

@@ -2,7 +2,6 @@
 use Prim.Native.Nat.{_-_, _≤_}
 use native.Mathlib.Omega.{arith}
 use borrow.Author.Needs.{needs}
-use denote.Ref.{now}
 use Rattle.ledger.specs.Columns.{Whole}
 use Rattle.ledger.proofs.Clearing.{Blanks, blanks-start, blanks-more, blanks-end, blanks-whole}
 use Rattle.ledger.proofs.clear.Statement.{statement}

@@ -1,7 +1,6 @@
 -- `ledger::first_of` meets its contract. The loop's invariant: the place is k and the place from k on.
 use mathlib.Core.Path.{sym, _∙_}
 use Prim.Native.Nat.{_-_}
-use native.Mathlib.Omega.{arith}
 use Rattle.ledger.proofs.Left.{Seek, seek-starts, seek-found, seek-more, seek-ends}
 use borrow.Author.Needs.{needs}
 use Rattle.ledger.proofs.first_of.Statement.{statement}

@@ -1,6 +1,5 @@
 -- `ledger::remove` meets its contract. The loop's invariant: without place j, and 0 behind, each column is what it is to be.
-use Prim.Native.Nat.{_+_, _-_, _≤_, _<_}
-use native.Mathlib.Omega.{arith}
+use Prim.Native.Nat.{_-_, _<_}
 use borrow.Author.Needs.{needs}
 use denote.Ref.{now}
 use mathlib.Core.List.{List}

@@ -3,7 +3,6 @@
 use Prim.Native.Nat.{_-_}
 use native.Mathlib.Omega.{arith}
 use borrow.Author.Needs.{needs}
-use denote.Ref.{now}
 use Rattle.rules.specs.Book.{entries}
 use Rattle.resolution.specs.Pairs.{CanStep}
 use Rattle.resolution.proofs.Pairs.{ends, Pairs, pairs-start, pairs-can, pairs-more, pairs-less, pairs-lots, pairs-end, none-in, none-out}

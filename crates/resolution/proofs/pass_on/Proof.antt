@@ -1,5 +1,4 @@
 -- `resolution::pass_on` meets its contract: nothing is appended where p is q, else the entry.
-use mathlib.Core.Path.{sym}
 use denote.Ref.{now}
 use Rattle.resolution.proofs.Stepping.{kept-none, kept-one}
 use borrow.Author.Needs.{needs}

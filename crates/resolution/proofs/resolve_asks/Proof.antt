@@ -1,6 +1,4 @@
 -- `resolution::resolve_asks` meets its contract: each comparison is one question, and the lots owed are the ledger's.
-use mathlib.Core.Path.{_∙_, sym}
-use native.Mathlib.Omega.{arith}
 use borrow.Author.Tests.{le-leb, lt-leb}
 use borrow.Author.Needs.{needs}
 use Rattle.resolution.proofs.resolve_asks.Statement.{statement}

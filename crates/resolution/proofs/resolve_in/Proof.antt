@@ -1,8 +1,6 @@
 -- `resolution::resolve_in` meets its contract. The loop's invariant is one pass over the ledger, at place k.
 use Prim.Native.Nat.{_-_}
-use native.Mathlib.Omega.{arith}
 use borrow.Author.Needs.{needs}
-use denote.Ref.{now}
 use Rattle.rules.specs.Book.{entries}
 use Rattle.resolution.proofs.Sweeping.{Sweep, sweep-starts, sweep-meet, sweep-more, sweep-unused, sweep-ends, sweep-length}
 use Rattle.resolution.proofs.resolve_in.Statement.{statement}

@@ -1,7 +1,6 @@
 -- `resolution::step_in` meets its contract: the three changes of the columns are those of one step.
-use mathlib.Core.Path.{_≡_, sym, _∙_}
+use mathlib.Core.Path.{sym, _∙_}
 use native.Mathlib.Omega.{arith}
-use denote.Ref.{now}
 use Rattle.resolution.proofs.Stepping.{step-fall, step-room, step-done, stepped-pairable}
 use borrow.Author.Needs.{needs}
 use Rattle.resolution.proofs.step_in.Statement.{statement}
