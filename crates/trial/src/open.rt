@@ -5,9 +5,9 @@ use rules::Found;
 ghost use mathlib.Core.Path.{_≡_};
 ghost use mathlib.Core.Bool.{cond};
 ghost use Rattle.rules.specs.Book.{sound as soundOf};
-ghost use Rattle.rules.specs.Calls.{unit as unitOf, foundAnswer, trade as tradeOf, close as closeOf, resolve as resolveOf};
+ghost use Rattle.rules.specs.Calls.{unit as unitOf, foundAnswer, trade as tradeOf, close as closeOf, deliver as deliverOf, cutoff as cutoffOf, resolve as resolveOf, pairOff as pairOffOf, roll as rollOf};
 ghost use Rattle.trial.specs.Columns.{bookIn};
-ghost use Rattle.trial.specs.Answers.{UnitIs, Answered, Recorded};
+ghost use Rattle.trial.specs.Answers.{UnitIs, Answered, PairedOff, Recorded};
 
 // Is the book sound? 1 sound, 0 not.
 #[no_mangle]
@@ -200,6 +200,113 @@ pub extern "C" fn trial_close(
     r.refusal
 }
 
+// deliver: delivered lots rise, and the next units are handed over.
+#[no_mangle]
+pub extern "C" fn trial_deliver(
+    day: &mut u16,
+    phase: &mut u32,
+    nets: &mut [i32; 1024],
+    delivered: &mut [u32; 1024],
+    charges: &mut [i64; 64],
+    count: &mut usize,
+    issues: &mut [u8; 2048],
+    froms: &mut [u8; 2048],
+    tos: &mut [u8; 2048],
+    lots: &mut [u32; 2048],
+    days: &mut [u16; 2048],
+    i: u32,
+    a: u32,
+    x: u32,
+    out: &mut [u32],
+    records: &mut usize,
+) -> u32
+    ensures { λ r. ⌜ Recorded (deliverOf (bookIn (now (day .entry)) (now (phase .entry)) (now (nets .entry)) (now (delivered .entry)) (now (charges .entry)) (now (count .entry)) (now (issues .entry)) (now (froms .entry)) (now (tos .entry)) (now (lots .entry)) (now (days .entry))) i a x (now (out .entry))) r (now (phase .exit)) (bookIn (now (day .exit)) (now (phase .exit)) (now (nets .exit)) (now (delivered .exit)) (now (charges .exit)) (now (count .exit)) (now (issues .exit)) (now (froms .exit)) (now (tos .exit)) (now (lots .exit)) (now (days .exit))) (now (out .exit)) (now (records .exit)) ⌝ }
+{
+    let b = book_in(
+        day,
+        phase,
+        nets,
+        delivered,
+        charges,
+        count,
+        issues,
+        froms,
+        tos,
+        lots,
+        days,
+    );
+    let r = delivery::deliver(b, i, a, x, out);
+    *records = r.count;
+    let next = r.book;
+    put_book(
+        next,
+        day,
+        phase,
+        nets,
+        delivered,
+        charges,
+        count,
+        issues,
+        froms,
+        tos,
+        lots,
+        days,
+    );
+    r.refusal
+}
+
+// cutoff: the stock goes to the next unit, and what units lack is failed.
+#[no_mangle]
+pub extern "C" fn trial_cutoff(
+    day: &mut u16,
+    phase: &mut u32,
+    nets: &mut [i32; 1024],
+    delivered: &mut [u32; 1024],
+    charges: &mut [i64; 64],
+    count: &mut usize,
+    issues: &mut [u8; 2048],
+    froms: &mut [u8; 2048],
+    tos: &mut [u8; 2048],
+    lots: &mut [u32; 2048],
+    days: &mut [u16; 2048],
+    out: &mut [u32],
+    records: &mut usize,
+) -> u32
+    ensures { λ r. ⌜ Recorded (cutoffOf (bookIn (now (day .entry)) (now (phase .entry)) (now (nets .entry)) (now (delivered .entry)) (now (charges .entry)) (now (count .entry)) (now (issues .entry)) (now (froms .entry)) (now (tos .entry)) (now (lots .entry)) (now (days .entry))) (now (out .entry))) r (now (phase .exit)) (bookIn (now (day .exit)) (now (phase .exit)) (now (nets .exit)) (now (delivered .exit)) (now (charges .exit)) (now (count .exit)) (now (issues .exit)) (now (froms .exit)) (now (tos .exit)) (now (lots .exit)) (now (days .exit))) (now (out .exit)) (now (records .exit)) ⌝ }
+{
+    let b = book_in(
+        day,
+        phase,
+        nets,
+        delivered,
+        charges,
+        count,
+        issues,
+        froms,
+        tos,
+        lots,
+        days,
+    );
+    let r = cutoff::cutoff(b, out);
+    *records = r.count;
+    let next = r.book;
+    put_book(
+        next,
+        day,
+        phase,
+        nets,
+        delivered,
+        charges,
+        count,
+        issues,
+        froms,
+        tos,
+        lots,
+        days,
+    );
+    r.refusal
+}
+
 // resolve: entries of the issue from the account are met in ledger order.
 #[no_mangle]
 pub extern "C" fn trial_resolve(
@@ -237,6 +344,113 @@ pub extern "C" fn trial_resolve(
     );
     let r = resolution::resolve(b, i, a, x, out);
     *records = r.count;
+    let next = r.book;
+    put_book(
+        next,
+        day,
+        phase,
+        nets,
+        delivered,
+        charges,
+        count,
+        issues,
+        froms,
+        tos,
+        lots,
+        days,
+    );
+    r.refusal
+}
+
+// pair-off: entries to the account and from it are set against one another.
+#[no_mangle]
+pub extern "C" fn trial_pair_off(
+    day: &mut u16,
+    phase: &mut u32,
+    nets: &mut [i32; 1024],
+    delivered: &mut [u32; 1024],
+    charges: &mut [i64; 64],
+    count: &mut usize,
+    issues: &mut [u8; 2048],
+    froms: &mut [u8; 2048],
+    tos: &mut [u8; 2048],
+    lots: &mut [u32; 2048],
+    days: &mut [u16; 2048],
+    i: u32,
+    a: u32,
+    steps: &mut usize,
+    cancelled: &mut u64,
+) -> u32
+    ensures { λ r. ⌜ PairedOff (pairOffOf (bookIn (now (day .entry)) (now (phase .entry)) (now (nets .entry)) (now (delivered .entry)) (now (charges .entry)) (now (count .entry)) (now (issues .entry)) (now (froms .entry)) (now (tos .entry)) (now (lots .entry)) (now (days .entry))) i a) r (now (phase .exit)) (bookIn (now (day .exit)) (now (phase .exit)) (now (nets .exit)) (now (delivered .exit)) (now (charges .exit)) (now (count .exit)) (now (issues .exit)) (now (froms .exit)) (now (tos .exit)) (now (lots .exit)) (now (days .exit))) (now (steps .exit)) (now (cancelled .exit)) ⌝ }
+{
+    let b = book_in(
+        day,
+        phase,
+        nets,
+        delivered,
+        charges,
+        count,
+        issues,
+        froms,
+        tos,
+        lots,
+        days,
+    );
+    let r = resolution::pair_off(b, i, a);
+    *steps = r.steps;
+    *cancelled = r.cancelled;
+    let next = r.book;
+    put_book(
+        next,
+        day,
+        phase,
+        nets,
+        delivered,
+        charges,
+        count,
+        issues,
+        froms,
+        tos,
+        lots,
+        days,
+    );
+    r.refusal
+}
+
+// roll: entries are charged, nets and delivered lots are 0, to the next day.
+#[no_mangle]
+pub extern "C" fn trial_roll(
+    day: &mut u16,
+    phase: &mut u32,
+    nets: &mut [i32; 1024],
+    delivered: &mut [u32; 1024],
+    charges: &mut [i64; 64],
+    count: &mut usize,
+    issues: &mut [u8; 2048],
+    froms: &mut [u8; 2048],
+    tos: &mut [u8; 2048],
+    lots: &mut [u32; 2048],
+    days: &mut [u16; 2048],
+    term: u32,
+    rate: u32,
+    prices: &[u32],
+) -> u32
+    ensures { λ r. ⌜ Answered (rollOf (bookIn (now (day .entry)) (now (phase .entry)) (now (nets .entry)) (now (delivered .entry)) (now (charges .entry)) (now (count .entry)) (now (issues .entry)) (now (froms .entry)) (now (tos .entry)) (now (lots .entry)) (now (days .entry))) term rate (now (prices .entry))) r (now (phase .exit)) (bookIn (now (day .exit)) (now (phase .exit)) (now (nets .exit)) (now (delivered .exit)) (now (charges .exit)) (now (count .exit)) (now (issues .exit)) (now (froms .exit)) (now (tos .exit)) (now (lots .exit)) (now (days .exit))) ⌝ }
+{
+    let b = book_in(
+        day,
+        phase,
+        nets,
+        delivered,
+        charges,
+        count,
+        issues,
+        froms,
+        tos,
+        lots,
+        days,
+    );
+    let r = rolling::roll(b, term, rate, prices);
     let next = r.book;
     put_book(
         next,
