@@ -32,6 +32,12 @@ pub record Taking (n : ℕ) (bytes words : List ℕ) (held : ℕ) : Type 0 where
   pub there : n ≤ length bytes
   pub room : held + n / 4 ≤ length words
 
+-- the words of n bytes behind those that are held, the bytes behind those words at the front
+pub record Taken (n held : ℕ) (bytes words bytes′ words′ : List ℕ) (r : Feed) : Type 0 where
+  pub decoded : Decoded n bytes words words′ held (r .held)
+  pub carried : Carried n bytes bytes′ (r .carried)
+  pub unended : r .ended ≡ false
+
 -- a whole word fits the bytes, and all words of the bytes fit behind sixteen
 pub record Ready (bytes words : List ℕ) (f : Feed) : Type 0 where
   pub held : f .held ≤ length words

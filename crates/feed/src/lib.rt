@@ -3,7 +3,7 @@ ghost use mathlib.Core.Path.{_≡_};
 ghost use Prim.Native.Nat.{_+_, _≤_, _<_};
 ghost use lib.ListN.{length, getD};
 ghost use Rattle.feed.specs.Bytes.{wordOf};
-ghost use Rattle.feed.specs.Held.{Decoded, Carried, Kept, Taking};
+ghost use Rattle.feed.specs.Held.{Decoded, Carried, Kept, Taking, Taken, Ready, Refilled, More};
 
 // What the buffers hold: words not yet read at the front of the words, bytes of a word that is not yet
 // whole at the front of the bytes, and whether the input has ended.
@@ -84,4 +84,63 @@ pub fn keep_unread(words: &mut [u32], at: usize, held: usize) -> usize
         i += 1;
     }
     k
+}
+
+// n bytes have come: their whole words go behind the words held, the bytes behind those to the front.
+fn taken(held: usize, n: usize, bytes: &mut [u8], words: &mut [u32]) -> Feed
+    requires { ⌜ Taking n (now bytes) (now words) held ⌝ }
+    ensures { λ r. ⌜ Taken n held (now (bytes .entry)) (now (words .entry)) (now (bytes .exit)) (now (words .exit)) r ⌝ }
+{
+    let more = decode(bytes, n, words, held);
+    let carried = carry(bytes, n);
+    Feed {
+        held: more,
+        carried,
+        ended: false,
+    }
+}
+
+// One read from standard input behind the bytes carried. The input has ended where it gives nothing, is
+// interrupted or fails.
+fn refill(feed: Feed, bytes: &mut [u8], words: &mut [u32]) -> Feed
+    requires { ⌜ Ready (now bytes) (now words) feed × (feed .held ≤ 16) ⌝ }
+    ensures { λ r. ⌜ Refilled feed (now (bytes .entry)) (now (words .entry)) (now (bytes .exit)) (now (words .exit)) r ⌝ }
+{
+    let held = feed.held;
+    let carried = feed.carried;
+    let got = libc::read(libc::STDIN_FILENO, &mut bytes[carried..]);
+    let n = io::count(got, &bytes[carried..]);
+    if n == 0 {
+        return Feed {
+            held,
+            carried,
+            ended: true,
+        };
+    }
+    taken(held, carried + n, bytes, words)
+}
+
+// The words from `at` on go to the front, and words come behind them until there are seventeen, which
+// hold any instruction, or the input has ended.
+pub fn more(feed: Feed, at: usize, bytes: &mut [u8], words: &mut [u32]) -> Feed
+    requires { ⌜ Ready (now bytes) (now words) feed × (at ≤ feed .held) ⌝ }
+    ensures { λ r. ⌜ More feed at (now (bytes .entry)) (now (words .entry)) (now (bytes .exit)) (now (words .exit)) r ⌝ }
+{
+    let held = feed.held;
+    let kept = keep_unread(words, at, held);
+    let mut next = Feed {
+        held: kept,
+        carried: feed.carried,
+        ended: feed.ended,
+    };
+    if next.ended {
+        return next;
+    }
+    while next.held < 17 {
+        next = refill(next, bytes, words);
+        if next.ended {
+            return next;
+        }
+    }
+    next
 }
