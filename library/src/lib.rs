@@ -1,5 +1,6 @@
-//! The proved library, called safely: the desk's value and charge, the calls on a book, the tape.
+//! The proved library, called safely: the desk's value and charge, entries met, the calls on a book, the tape.
 
 pub mod desk;
+pub mod entries;
 pub mod tape;
 pub mod trial;

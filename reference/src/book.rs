@@ -130,6 +130,13 @@ impl Book {
 }
 
 impl Entry {
+    /// Lowers the lots by at most so many, and answers how many were met.
+    pub fn meet(&mut self, lots: u32) -> u32 {
+        let met = lots.min(self.lots);
+        self.lots -= met;
+        met
+    }
+
     /// Is this an entry of that issue from that account?
     pub fn is_from(&self, issue: u32, account: u32) -> bool {
         u32::from(self.issue) == issue && u32::from(self.from) == account

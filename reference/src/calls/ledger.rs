@@ -38,8 +38,7 @@ fn meet(entries: &mut [Entry], issue: u32, account: u32, lots: u32) -> Vec<Recor
         if left == 0 {
             break;
         }
-        let met = left.min(entry.lots);
-        entry.lots -= met;
+        let met = entry.meet(left);
         left -= met;
         records.push(Record {
             kind: RESOLVED,
