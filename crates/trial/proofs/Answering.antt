@@ -1,13 +1,15 @@
 -- An open call's answer, once its book is made of columns and put back into them.
-use mathlib.Core.Path.{_≡_, ap, subst, _∙_}
+use mathlib.Core.Path.{_≡_, refl, sym, ap, subst, _∙_}
 use mathlib.Core.List.{List}
-use Prim.Native.Nat.{ℕ}
+use Prim.Native.Nat.{ℕ, _≤_}
 use Rattle.rules.specs.declared.Book.{Book}
 use Rattle.rules.specs.declared.Paired.{Paired}
 use Rattle.rules.specs.declared.Reply.{Reply}
 use Rattle.rules.specs.Calls.{Answer, AnswerIs, PairAnswer, PairAnswerIs}
-use Rattle.trial.specs.Columns.{numberOf, Written}
+use Rattle.book.proofs.Answers.{reply}
+use Rattle.trial.specs.Columns.{phaseOf, numberOf, Written}
 use Rattle.trial.specs.Answers.{Answered, Recorded, PairedOff}
+use Rattle.trial.proofs.Phases.{there}
 
 -- a book put back is the answer's
 written : (b d : Book) (phase : ℕ) (left : Book) → b ≡ d → Written b phase left → Written d phase left
@@ -36,3 +38,22 @@ module _ (made given : Book) (same : made ≡ given) (phase : ℕ) (left : Book)
         steps = a .steps;
         cancelled = a .cancelled;
       })
+
+-- In place the columns are left as the answer's book, and their phase is one of 0 to 2.
+module _ (number phase : ℕ) (left : Book) (at : left .phase ≡ phaseOf phase) (stage : phase ≤ 2) where
+  here-written : Written left phase left
+  here-written = record { book = refl; stage = there phase stage ∙ ap numberOf (sym at) }
+
+  module _ (d : Answer) (count : ℕ) (lent : List ℕ) (a : AnswerIs d (reply number count left) lent) where
+    pub answered-in : Answered d number phase left
+    answered-in = answered left left refl phase left (λ b. d) (reply number count left) lent a here-written
+
+    pub recorded-in : Recorded d number phase left lent count
+    recorded-in = recorded left left refl phase left (λ b. d) (reply number count left) lent a here-written
+
+  pub paired-off-in : (d : PairAnswer) (steps cancelled : ℕ) →
+      PairAnswerIs d (record { refusal = number; steps = steps; cancelled = cancelled; book = left }) →
+      PairedOff d number phase left steps cancelled
+  paired-off-in d steps cancelled a =
+      paired-off left left refl phase left (λ b. d)
+      (record { refusal = number; steps = steps; cancelled = cancelled; book = left }) a here-written

@@ -1,3 +1,4 @@
 pub mod Phases
 pub mod Answering
 pub mod Words
+pub mod InPlace

@@ -7,7 +7,8 @@ use lib.IntN.{ℤ}
 use Rattle.rules.specs.declared.Book.{Book}
 use Rattle.rules.specs.declared.Phase.{Phase}
 use Rattle.rules.specs.declared.Phase.the-variants.{Taking, Settling, Cut}
-use Rattle.rules.specs.Book.{bookOf}
+use Rattle.rules.specs.Book.{bookOf, sound}
+use Rattle.book.specs.Scan.{Lengths}
 
 -- 0 Taking, 1 Settling, any other Cut
 abbrev pub phaseOf : ℕ → Phase
@@ -29,3 +30,9 @@ bookIn day phase nets delivered charges count issues froms tos lots days =
 pub record Written (b : Book) (phase : ℕ) (left : Book) : Type 0 where
   pub book : left ≡ b
   pub stage : phase ≡ numberOf (b .phase)
+
+-- columns that hold a sound book, of its lengths
+pub record SoundIn (day phase : ℕ) (nets : List ℤ) (delivered : List ℕ) (charges : List ℤ) (count : ℕ) (issues froms tos lots days : List ℕ) : Type 0 where
+  pub stage : phase ≤ 2
+  pub sound : sound (bookIn day phase nets delivered charges count issues froms tos lots days) ≡ true
+  pub lengths : Lengths nets delivered charges issues froms tos lots days
