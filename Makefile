@@ -10,14 +10,15 @@ CRATE_FILES := crates.txt $(shell find crates -name '*.rt' -o -name '*.antt')
 
 help:
 	@echo 'make test    prove every crate from nothing, then run every test; the last line is the verdict'
-	@echo 'make run     build the host and show the value and the charge of a lot'
+	@echo 'make run     run the settled day P5 to P9 and show it'
+	@echo 'make host    build the host in C, build/measures'
 	@echo 'make clean   remove everything that was built'
 
 test:
 	@scripts/test.sh
 
-run: host
-	@scripts/run.sh $(HOST)
+run:
+	@scripts/run.sh
 
 host: $(HOST)
 

@@ -1,11 +1,18 @@
 #!/usr/bin/env bash
-# Shows the settled day P11 with the host in C. Usage: run.sh PROGRAM
+# Runs the settled day P5 to P9 and shows it: first what dayrun prints, then the day told for people.
 set -euo pipefail
+cd "$(dirname "$0")/.."
+scripts/tools.sh rt gcc cargo
 
-program=$1
-show() {
-    printf '%s: %s yen\n' "$*" "$("$program" "$@")"
-}
+echo 'Proving and building what is not built yet. The first time this takes some minutes.' >&2
+mkdir -p build
+rt check dayrun >build/dayrun.log || { tail -n 20 build/dayrun.log >&2; exit 1; }
+scripts/libraries.sh >build/libraries.log || { tail -n 20 build/libraries.log >&2; exit 1; }
+cargo build --quiet --release --offline -p tape
 
-show value 1 99999
-show charge 1 99999 12 10000
+day=tapes/p5-to-p9.txt
+build/release/tape write "$day" build/p5-to-p9.tape
+printf '%s, run by dayrun:\n' "$day"
+target/bin/dayrun <build/p5-to-p9.tape
+printf '\nThe same day, told:\n'
+build/release/tape explain build/p5-to-p9.tape

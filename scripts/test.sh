@@ -19,9 +19,14 @@ rt ci 2>&1 | tee build/proofs.log
 verdict=$(tail -n 1 build/proofs.log)
 [[ $verdict =~ ^[0-9]+\ passed,\ 0\ failed$ ]] || { echo 'tests failed: no verdict on the proofs'; exit 1; }
 
-step 'the library and the host in C' make --no-print-directory host
+step 'the libraries' scripts/libraries.sh
+step 'the host in C' make --no-print-directory host
 step 'what the host prints' scripts/test-host.sh build/measures
 step 'the tests in Rust' cargo test --release --offline
-step 'value and charge beside the second engine' cargo run --release --offline -p tests --bin measures
+step 'the test programs' cargo build --release --offline
+step 'value and charge beside the second engine' build/release/measures
+step 'entries beside the second engine' build/release/entries
+step 'the calls beside the second engine' build/release/calls
+step 'the program beside the second engine' build/release/tapes
 
 printf '%s\n' "$verdict"
