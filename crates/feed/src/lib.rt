@@ -40,7 +40,7 @@ pub fn passed(feed: Feed, k: usize) -> Feed
     }
 }
 
-// The same where all words are unread.
+// A feed whose words are all unread.
 struct Fill {
     held: usize,
     carried: usize,

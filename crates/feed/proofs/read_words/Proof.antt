@@ -31,6 +31,14 @@ loop-holds c =
           (few-carried _ (now (a .bytes)) (c .before .before .pre .few)),
     )
 
+-- what came before a read, and what it brought
+fed-on : (c : tie.After-refill Inv-loop μ-loop) →
+    let a = c .before .before .before .before .before .before .before .before .args in
+    let r = c .refill .result in
+    Fed (take (a .f .held) (now (a .words))) (take (a .f .carried) (now (a .bytes))) (take (r .held) (c .refill .last .1 .1 .0))
+    (take (r .carried) (c .refill .last .1 .0))
+fed-on c = fed-more _ _ _ _ _ _ (c .before .before .before .before .before .loop .inv .3) (c .refill .ensures .fed)
+
 refill-requires : tie.Need-refill-requires Inv-loop μ-loop
 refill-requires c κs = search needs
 
@@ -44,7 +52,7 @@ returns : tie.Need-returns Inv-loop μ-loop
 returns c =
     record {
       holding = search needs;
-      fed = fed-more _ _ _ _ _ _ (c .before .before .before .before .before .before .before .before .before .before .loop .inv .3) (c .before .before .before .before .before .refill .ensures .fed);
+      fed = fed-on (c .before .before .before .before .before);
       enough = λ e. absurd (true≢false (sym (c .if2 .taken) ∙ e));
     }
 
@@ -52,7 +60,7 @@ loop-less : tie.Need-loop-less Inv-loop μ-loop
 loop-less c = omega (arith, c .before .before .before .before .before .refill .ensures .more (c .if2 .left))
 
 loop-again : tie.Need-loop-again Inv-loop μ-loop
-loop-again c = (search needs, search needs, search needs, fed-more _ _ _ _ _ _ (c .before .before .before .before .before .before .before .before .before .before .loop .inv .3) (c .before .before .before .before .before .refill .ensures .fed))
+loop-again c = (search needs, search needs, search needs, fed-on (c .before .before .before .before .before))
 
 same-length-3 : tie.Need-same-length-3 Inv-loop μ-loop
 same-length-3 c = search needs
