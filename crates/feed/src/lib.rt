@@ -3,11 +3,13 @@ ghost use mathlib.Core.Path.{_≡_};
 ghost use Prim.Native.Nat.{_+_, _≤_, _<_};
 ghost use lib.ListN.{length, getD};
 ghost use Rattle.feed.specs.Bytes.{wordOf};
-ghost use Rattle.feed.specs.Held.{Decoded, Carried, Kept, Taking, Taken, Ready, Refilled, More};
+ghost use Rattle.feed.specs.Held.{Decoded, Carried, Kept, Taking, Taken, Holding, Refilled, Filled, Ready, More, Passed};
 
-// What the buffers hold: words not yet read at the front of the words, bytes of a word that is not yet
-// whole at the front of the bytes, and whether the input has ended.
+// What stands in the buffers: words at the front of the words, those from `at` on unread; bytes of a word
+// that is not yet whole at the front of the bytes; and whether the input has ended. Bytes carried at
+// the end are a last word that is not whole.
 pub struct Feed {
+    pub at: usize,
     pub held: usize,
     pub carried: usize,
     pub ended: bool,
@@ -15,13 +17,34 @@ pub struct Feed {
 
 // Nothing read yet.
 pub fn start() -> Feed
-    ensures { λ r. ⌜ (r .held ≡ 0) × (r .carried ≡ 0) ⌝ }
+    ensures { λ r. ⌜ (r .at ≡ 0) × (r .held ≡ 0) × (r .carried ≡ 0) ⌝ }
 {
     Feed {
+        at: 0,
         held: 0,
         carried: 0,
         ended: false,
     }
+}
+
+// The feed after k of its unread words.
+pub fn passed(feed: Feed, k: usize) -> Feed
+    requires { ⌜ feed .at + k ≤ feed .held ⌝ }
+    ensures { λ r. ⌜ Passed feed k r ⌝ }
+{
+    Feed {
+        at: feed.at + k,
+        held: feed.held,
+        carried: feed.carried,
+        ended: feed.ended,
+    }
+}
+
+// A feed whose words are all unread.
+struct Fill {
+    held: usize,
+    carried: usize,
+    ended: bool,
 }
 
 fn wide(x: u8) -> u32
@@ -87,13 +110,13 @@ pub fn keep_unread(words: &mut [u32], at: usize, held: usize) -> usize
 }
 
 // n bytes have come: their whole words go behind the words held, the bytes behind those to the front.
-fn taken(held: usize, n: usize, bytes: &mut [u8], words: &mut [u32]) -> Feed
+fn taken(held: usize, n: usize, bytes: &mut [u8], words: &mut [u32]) -> Fill
     requires { ⌜ Taking n (now bytes) (now words) held ⌝ }
     ensures { λ r. ⌜ Taken n held (now (bytes .entry)) (now (words .entry)) (now (bytes .exit)) (now (words .exit)) r ⌝ }
 {
     let more = decode(bytes, n, words, held);
     let carried = carry(bytes, n);
-    Feed {
+    Fill {
         held: more,
         carried,
         ended: false,
@@ -102,16 +125,16 @@ fn taken(held: usize, n: usize, bytes: &mut [u8], words: &mut [u32]) -> Feed
 
 // One read from standard input behind the bytes carried. The input has ended where it gives nothing, is
 // interrupted or fails.
-fn refill(feed: Feed, bytes: &mut [u8], words: &mut [u32]) -> Feed
-    requires { ⌜ Ready (now bytes) (now words) feed × (feed .held ≤ 16) ⌝ }
-    ensures { λ r. ⌜ Refilled feed (now (bytes .entry)) (now (words .entry)) (now (bytes .exit)) (now (words .exit)) r ⌝ }
+fn refill(f: Fill, bytes: &mut [u8], words: &mut [u32]) -> Fill
+    requires { ⌜ Holding (now bytes) (now words) (f .held) (f .carried) × (f .held ≤ 16) ⌝ }
+    ensures { λ r. ⌜ Refilled f (now (bytes .entry)) (now (words .entry)) (now (bytes .exit)) (now (words .exit)) r ⌝ }
 {
-    let held = feed.held;
-    let carried = feed.carried;
+    let held = f.held;
+    let carried = f.carried;
     let got = libc::read(libc::STDIN_FILENO, &mut bytes[carried..]);
     let n = io::count(got, &bytes[carried..]);
     if n == 0 {
-        return Feed {
+        return Fill {
             held,
             carried,
             ended: true,
@@ -120,22 +143,12 @@ fn refill(feed: Feed, bytes: &mut [u8], words: &mut [u32]) -> Feed
     taken(held, carried + n, bytes, words)
 }
 
-// The words from `at` on go to the front, and words come behind them until there are seventeen, which
-// hold any instruction, or the input has ended.
-pub fn more(feed: Feed, at: usize, bytes: &mut [u8], words: &mut [u32]) -> Feed
-    requires { ⌜ Ready (now bytes) (now words) feed × (at ≤ feed .held) ⌝ }
-    ensures { λ r. ⌜ More feed at (now (bytes .entry)) (now (words .entry)) (now (bytes .exit)) (now (words .exit)) r ⌝ }
+// Reads until seventeen words are held, which hold any instruction, or the input has ended.
+fn read_words(f: Fill, bytes: &mut [u8], words: &mut [u32]) -> Fill
+    requires { ⌜ Holding (now bytes) (now words) (f .held) (f .carried) ⌝ }
+    ensures { λ r. ⌜ Filled f (now (bytes .entry)) (now (words .entry)) (now (bytes .exit)) (now (words .exit)) r ⌝ }
 {
-    let held = feed.held;
-    let kept = keep_unread(words, at, held);
-    let mut next = Feed {
-        held: kept,
-        carried: feed.carried,
-        ended: feed.ended,
-    };
-    if next.ended {
-        return next;
-    }
+    let mut next = f;
     while next.held < 17 {
         next = refill(next, bytes, words);
         if next.ended {
@@ -143,4 +156,36 @@ pub fn more(feed: Feed, at: usize, bytes: &mut [u8], words: &mut [u32]) -> Feed
         }
     }
     next
+}
+
+// The feed with at least seventeen unread words, which hold any instruction, or with all that are left
+// of the input. Where they are fewer the unread words go to the front and the reads come behind them.
+pub fn more(feed: Feed, bytes: &mut [u8], words: &mut [u32]) -> Feed
+    requires { ⌜ Ready (now bytes) (now words) feed ⌝ }
+    ensures { λ r. ⌜ More feed (now (bytes .entry)) (now (words .entry)) (now (bytes .exit)) (now (words .exit)) r ⌝ }
+{
+    let at = feed.at;
+    let held = feed.held;
+    if feed.ended {
+        return feed;
+    }
+    if 17 <= held - at {
+        return feed;
+    }
+    let kept = keep_unread(words, at, held);
+    let f = read_words(
+        Fill {
+            held: kept,
+            carried: feed.carried,
+            ended: false,
+        },
+        bytes,
+        words,
+    );
+    Feed {
+        at: 0,
+        held: f.held,
+        carried: f.carried,
+        ended: f.ended,
+    }
 }

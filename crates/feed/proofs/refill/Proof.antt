@@ -1,12 +1,11 @@
 -- `feed::refill` meets its contract: the read leaves the bytes carried as they were, and what it brings is taken in.
-use mathlib.Core.Path.{_≡_}
-use mathlib.Core.Bool.{true, true≢false}
+use mathlib.Core.Path.{_≡_, refl, sym}
+use mathlib.Core.Bool.{true≢false}
 use denote.Ref.{now}
 use native.Mathlib.Omega.{arith}
 use lib.ListN.{length, take}
 use lib.Seq.{take-at, length-take-le}
-use Rattle.feed.specs.declared.Feed.{Feed}
-use Rattle.feed.proofs.Feeding.{fed-none, fed-some}
+use Rattle.feed.proofs.Feeding.{fed-none, fed-same, fed-some, few-carried}
 use borrow.Author.Needs.{needs}
 use Rattle.feed.proofs.refill.Statement.{statement}
 use Rattle.feed.proofs.refill.Tie as tie
@@ -42,12 +41,13 @@ returns : tie.Need-returns
 returns c =
     let s = c .before .before .before .before .before .before .before .before .before .before in
     let bytes = now (s .args .bytes) in
-    let f = s .args .feed in
-    let r : Feed = record { held = f .held; carried = f .carried; ended = true } in
+    let f = s .args .f in
     let front : length (take (f .carried) bytes) ≡ f .carried = length-take-le (f .carried) bytes (omega arith) in
     record {
-      ready = search needs;
-      fed = fed-none bytes (now (s .args .words)) _ r (s .pre .0 .carried) (take-at (take (f .carried) bytes) _ (f .carried) front);
+      holding = search needs;
+      fed =
+          fed-same _ _ _ _ _ _ _ _ refl refl refl (sym (take-at (take (f .carried) bytes) _ (f .carried) front))
+          (fed-none (take (f .held) (now (s .args .words))) (take (f .carried) bytes) (few-carried _ bytes (s .pre .0 .few)));
       more = λ e. absurd (true≢false e);
     }
 
@@ -68,10 +68,10 @@ returns-2 c =
     let t = c .before .before .before .before in
     let s = t .before .before .before .before .before .before .before .before .before .before .before .before .before in
     let bytes = now (s .args .bytes) in
-    let f = s .args .feed in
+    let f = s .args .f in
     let front : length (take (f .carried) bytes) ≡ f .carried = length-take-le (f .carried) bytes (omega arith) in
     record {
-      ready = search needs;
+      holding = search needs;
       fed =
           fed-some (f .held) (f .carried) _ bytes _ (now (s .args .words)) _ _ (t .taken .result) (search needs) (search needs)
           (take-at (take (f .carried) bytes) _ (f .carried) front) (t .taken .ensures);
