@@ -42,3 +42,11 @@ module _ (w : Width) where
   signed-other (negsuc n) f t =
       let u = rw (toZ-ofZ w (negsuc n) f) at t in
       absurd (let o : _≡_ {A = ℕ} 0 1 = cc in omega arith)
+
+-- 0 by its bits
+pub zero-size : (z : ℤ) → SFits w64 z → ofZ w64 z ≡ 0 → natAbs z ≡ 0
+zero-size z f e = ap natAbs (sym (toZ-ofZ w64 z f) ∙ ap (toZ w64) e)
+
+pub some-size : (z : ℤ) → SFits w64 z → (ofZ w64 z ≡ 0 → ⊥) → natAbs z ≡ 0 → ⊥
+some-size (pos n) f h e = h (ap (λ (m : ℕ). ofZ w64 (pos m)) e)
+some-size (negsuc n) f h e = omega arith

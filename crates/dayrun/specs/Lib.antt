@@ -1,2 +1,3 @@
 -- What a run does and prints.
 pub mod Text
+pub mod Bytes

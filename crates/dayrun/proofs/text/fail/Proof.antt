@@ -5,52 +5,37 @@ use Rattle.dayrun.specs.Text.{failText}
 use borrow.Author.Needs.{needs}
 use Rattle.dayrun.proofs.text.fail.Statement.{statement}
 use Rattle.dayrun.proofs.text.fail.Tie as tie
-use Rattle.dayrun.proofs.text.fail.Reads as reads
-use Rattle.dayrun.proofs.text.fail.Lts as lts
-use Rattle.dayrun.proofs.text.field.Reads as field-reads
-use Rattle.dayrun.proofs.text.put.Reads as put-reads
 
--- src/text.rt:99:27
 slice-aggregate-put : tie.Need-slice-aggregate-put
 slice-aggregate-put c = search needs
 
--- src/text.rt:99:9
 put-requires : tie.Need-put-requires
 put-requires c κs = search needs
 
--- src/text.rt:100:9
 field-requires : tie.Need-field-requires
 field-requires c κs = search needs
 
--- src/text.rt:101:9
 field-requires-2 : tie.Need-field-requires-2
 field-requires-2 c κs = search needs
 
--- src/text.rt:102:9
 field-requires-3 : tie.Need-field-requires-3
 field-requires-3 c κs = search needs
 
--- src/text.rt:103:9
 field-requires-4 : tie.Need-field-requires-4
 field-requires-4 c κs = search needs
 
--- src/text.rt:104:9
 field-requires-5 : tie.Need-field-requires-5
 field-requires-5 c κs = search needs
 
--- src/text.rt:105:18
 slice-aggregate-put-2 : tie.Need-slice-aggregate-put-2
 slice-aggregate-put-2 c = search needs
 
--- src/text.rt:105:5
 put-requires-2 : tie.Need-put-requires-2
 put-requires-2 c κs = search needs
 
--- src/text.rt:95:1
 same-length : tie.Need-same-length
 same-length c = search needs
 
--- src/text.rt:95:1
 returns : tie.Need-returns
 unfolding failText
 returns c =

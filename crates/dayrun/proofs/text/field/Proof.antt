@@ -4,28 +4,19 @@ use Rattle.dayrun.proofs.Texts.{added-then}
 use borrow.Author.Needs.{needs}
 use Rattle.dayrun.proofs.text.field.Statement.{statement}
 use Rattle.dayrun.proofs.text.field.Tie as tie
-use Rattle.dayrun.proofs.text.field.Reads as reads
-use Rattle.dayrun.proofs.text.field.Lts as lts
-use Rattle.dayrun.proofs.text.number.Reads as number-reads
-use Rattle.dayrun.proofs.text.put.Reads as put-reads
 
--- src/text.rt:60:28
 slice-aggregate-put : tie.Need-slice-aggregate-put
 slice-aggregate-put c = search needs
 
--- src/text.rt:60:9
 put-requires : tie.Need-put-requires
 put-requires c κs = search needs
 
--- src/text.rt:61:5
 number-requires : tie.Need-number-requires
 number-requires c κs = search needs
 
--- src/text.rt:56:1
 same-length : tie.Need-same-length
 same-length c = search needs
 
--- src/text.rt:56:1
 returns : tie.Need-returns
 returns c = added-then 1 20 21 _ _ _ _ _ _ _ _ (omega arith) (c .before .before .before .before .before .before .put .ensures) (c .before .before .number .ensures)
 

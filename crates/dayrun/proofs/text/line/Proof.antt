@@ -5,50 +5,34 @@ use Rattle.dayrun.specs.Text.{lineText}
 use borrow.Author.Needs.{needs}
 use Rattle.dayrun.proofs.text.line.Statement.{statement}
 use Rattle.dayrun.proofs.text.line.Tie as tie
-use Rattle.dayrun.proofs.text.line.Reads as reads
-use Rattle.dayrun.proofs.text.line.Lts as lts
-use Rattle.dayrun.proofs.text.field.Reads as field-reads
-use Rattle.dayrun.proofs.text.name.Reads as name-reads
-use Rattle.dayrun.proofs.text.number.Reads as number-reads
-use Rattle.dayrun.proofs.text.put.Reads as put-reads
 
--- src/text.rt:86:9
 number-requires : tie.Need-number-requires
 number-requires c κs = search needs
 
--- src/text.rt:87:26
 slice-aggregate-put : tie.Need-slice-aggregate-put
 slice-aggregate-put c = search needs
 
--- src/text.rt:87:9
 put-requires : tie.Need-put-requires
 put-requires c κs = search needs
 
--- src/text.rt:88:9
 name-requires : tie.Need-name-requires
 name-requires c κs = search needs
 
--- src/text.rt:89:9
 field-requires : tie.Need-field-requires
 field-requires c κs = search needs
 
--- src/text.rt:90:9
 field-requires-2 : tie.Need-field-requires-2
 field-requires-2 c κs = search needs
 
--- src/text.rt:91:18
 slice-aggregate-put-2 : tie.Need-slice-aggregate-put-2
 slice-aggregate-put-2 c = search needs
 
--- src/text.rt:91:5
 put-requires-2 : tie.Need-put-requires-2
 put-requires-2 c κs = search needs
 
--- src/text.rt:82:1
 same-length : tie.Need-same-length
 same-length c = search needs
 
--- src/text.rt:82:1
 returns : tie.Need-returns
 unfolding lineText
 returns c =

@@ -11,8 +11,6 @@ use Rattle.dayrun.proofs.Texts.{byte-more}
 use borrow.Author.Needs.{needs}
 use Rattle.dayrun.proofs.text.put.Statement.{statement}
 use Rattle.dayrun.proofs.text.put.Tie as tie
-use Rattle.dayrun.proofs.text.put.Reads as reads
-use Rattle.dayrun.proofs.text.put.Lts as lts
 
 abbrev Inv-loop : tie.InvT-loop
 Inv-loop text₀ at part i₀ text i =
@@ -21,33 +19,26 @@ Inv-loop text₀ at part i₀ text i =
 abbrev μ-loop : tie.MeasureT-loop
 μ-loop text₀ at part i₀ text i = length part - i
 
--- src/text.rt:18:5
 loop-holds : tie.Need-loop-holds Inv-loop μ-loop
 loop-holds c =
     let t = now (c .args .text) in
     (omega arith, refl, ap (λ (k : ℕ). take k t) (add-zero (c .args .at)) ∙ sym (append-nil (take (c .args .at) t)))
 
--- src/text.rt:19:24
 shared-slice-read-text : tie.Need-shared-slice-read-text Inv-loop μ-loop
 shared-slice-read-text c = search needs
 
--- src/text.rt:19:14
 add-text : tie.Need-add-text Inv-loop μ-loop
 add-text c = search needs
 
--- src/text.rt:19:9
 slice-write-text : tie.Need-slice-write-text Inv-loop μ-loop
 slice-write-text c = search needs
 
--- src/text.rt:20:9
 add-i : tie.Need-add-i Inv-loop μ-loop
 add-i c = search needs
 
--- src/text.rt:18:5
 loop-less : tie.Need-loop-less Inv-loop μ-loop
 loop-less c = search needs
 
--- src/text.rt:18:5
 loop-again : tie.Need-loop-again Inv-loop μ-loop
 loop-again c =
     let s = c .before .before .before in
@@ -57,15 +48,12 @@ loop-again c =
       byte-more (now (s .args .text)) (l .text) (now (s .args .part)) (s .args .at) (l .i) (omega arith) (omega arith) (l .inv .2),
     )
 
--- src/text.rt:22:5
 add-result : tie.Need-add-result Inv-loop μ-loop
 add-result c = search needs
 
--- src/text.rt:13:1
 same-length : tie.Need-same-length Inv-loop μ-loop
 same-length c = search needs
 
--- src/text.rt:13:1
 returns : tie.Need-returns Inv-loop μ-loop
 returns c =
     let s = c .before .before in

@@ -12,33 +12,22 @@ use Rattle.dayrun.proofs.Texts.{added-then, added-as}
 use borrow.Author.Needs.{needs}
 use Rattle.dayrun.proofs.text.signed.Statement.{statement}
 use Rattle.dayrun.proofs.text.signed.Tie as tie
-use Rattle.dayrun.proofs.text.signed.Reads as reads
-use Rattle.dayrun.proofs.text.signed.Lts as lts
-use Rattle.dayrun.proofs.text.number.Reads as number-reads
-use Rattle.dayrun.proofs.text.put.Reads as put-reads
-use Rattle.dayrun.proofs.text.size.Reads as size-reads
 
--- src/text.rt:47:9
 size-requires : tie.Need-size-requires
 size-requires c κs = search needs
 
--- src/text.rt:49:32
 slice-aggregate-put : tie.Need-slice-aggregate-put
 slice-aggregate-put c = search needs
 
--- src/text.rt:49:13
 put-requires : tie.Need-put-requires
 put-requires c κs = search needs
 
--- src/text.rt:50:9
 number-requires : tie.Need-number-requires
 number-requires c κs = search needs
 
--- src/text.rt:50:9
 same-length : tie.Need-same-length
 same-length c = search needs
 
--- src/text.rt:50:9
 returns : tie.Need-returns
 returns c =
     let e = c .before .before .before .before .before .before .before .before .before in
@@ -49,15 +38,12 @@ returns c =
     (added-then 1 20 21 _ _ _ _ _ _ _ _ (omega arith) (c .before .before .before .before .before .before .put .ensures)
     (c .before .before .number .ensures))
 
--- src/text.rt:52:5
 number-requires-2 : tie.Need-number-requires-2
 number-requires-2 c κs = search needs
 
--- src/text.rt:43:1
 same-length-2 : tie.Need-same-length-2
 same-length-2 c = search needs
 
--- src/text.rt:43:1
 returns-2 : tie.Need-returns-2
 returns-2 c =
     let e = c .before .before .before .before in

@@ -1,0 +1,2 @@
+-- The laws of the instructions in place.
+pub mod Turning

@@ -1,0 +1,44 @@
+-- With no 'no' the nets are traded in place.
+use mathlib.Core.Path.{sym, _∙_}
+use denote.Ref.{now}
+use Rattle.trading.specs.Trading.{SmallNets}
+use Rattle.trading.proofs.Asks.{small-nets, tradable}
+use Rattle.running.specs.Turns.{withinNets}
+use Rattle.running.proofs.Turning.{trade-no, trade-yes}
+use borrow.Author.Needs.{needs}
+use Rattle.running.proofs.trade.Statement.{statement}
+use Rattle.running.proofs.trade.Tie as tie
+
+trade-asks-requires : tie.Need-trade-asks-requires
+trade-asks-requires c κs =
+    small-nets (withinNets (c .before .args .s) (now (c .before .args .nets)) (c .before .pre .1 .rest)) (c .before .pre .1 .sound) (c .before .pre .0)
+
+same-length : tie.Need-same-length
+same-length c = search needs
+
+returns : tie.Need-returns
+returns c =
+    let a = c .before .before .before .args in
+    trade-no (a .s) (now (a .nets)) (a .i) (a .f) (a .t) (a .x) (c .before .trade-asks .result) (c .before .trade-asks .ensures) (c .if1 .taken)
+
+trade-in-requires : tie.Need-trade-in-requires
+trade-in-requires c κs =
+    let s = c .before .before .before .before in
+    let a = s .args in
+    tradable (a .s .phase) (now (a .nets)) (a .i) (a .f) (a .t) (a .x)
+    (small-nets (withinNets (a .s) (now (a .nets)) (s .pre .1 .rest)) (s .pre .1 .sound) (s .pre .0))
+    (sym (c .before .before .trade-asks .ensures) ∙ c .before .if1 .left)
+
+same-length-2 : tie.Need-same-length-2
+same-length-2 c = search needs
+
+returns-2 : tie.Need-returns-2
+returns-2 c =
+    let a = c .before .before .before .before .before .before .args in
+    trade-yes (a .s) (now (a .nets)) (a .i) (a .f) (a .t) (a .x) (c .before .before .before .before .trade-asks .result) _ (c .before .before .before .before .trade-asks .ensures) (c .before .before .before .if1 .left)
+    (c .before .trade-in .ensures)
+
+pub trade-spec : {M : Type 1} → statement M
+trade-spec =
+    tie.close
+    (tie.spec trade-asks-requires same-length returns trade-in-requires same-length-2 returns-2)
