@@ -1,3 +1,0 @@
-pub mod Streams
-pub mod Moves
-pub mod Feeding
