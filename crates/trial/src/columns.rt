@@ -32,39 +32,39 @@ pub fn book_in<'a>(
     phase: &'a u32,
     nets: &'a [i32; 1024],
     delivered: &'a [u32; 1024],
-    charges: &'a [i64; 64],
-    count: &'a usize,
-    issues: &'a [u8; 2048],
-    froms: &'a [u8; 2048],
-    tos: &'a [u8; 2048],
-    lots: &'a [u32; 2048],
-    days: &'a [u16; 2048],
+    yen: &'a [i64; 64],
+    n: &'a usize,
+    is: &'a [u8; 2048],
+    fs: &'a [u8; 2048],
+    ts: &'a [u8; 2048],
+    xs: &'a [u32; 2048],
+    ds: &'a [u16; 2048],
 ) -> Book
-    ensures { λ r. ⌜ r ≡ bookIn (now (day .entry)) (now (phase .entry)) (now (nets .entry)) (now (delivered .entry)) (now (charges .entry)) (now (count .entry)) (now (issues .entry)) (now (froms .entry)) (now (tos .entry)) (now (lots .entry)) (now (days .entry)) ⌝ }
+    ensures { λ r. ⌜ r ≡ bookIn (now (day .entry)) (now (phase .entry)) (now (nets .entry)) (now (delivered .entry)) (now (yen .entry)) (now (n .entry)) (now (is .entry)) (now (fs .entry)) (now (ts .entry)) (now (xs .entry)) (now (ds .entry)) ⌝ }
 {
     let stage = phase_of(*phase);
     let day = *day;
     let nets = *nets;
     let delivered = *delivered;
-    let charges = *charges;
-    let count = *count;
-    let issues = *issues;
-    let froms = *froms;
-    let tos = *tos;
-    let lots = *lots;
-    let days = *days;
+    let yen = *yen;
+    let n = *n;
+    let is = *is;
+    let fs = *fs;
+    let ts = *ts;
+    let xs = *xs;
+    let ds = *ds;
     Book {
         day,
         phase: stage,
         nets,
         delivered,
-        charges,
-        count,
-        issues,
-        froms,
-        tos,
-        lots,
-        days,
+        charges: yen,
+        count: n,
+        issues: is,
+        froms: fs,
+        tos: ts,
+        lots: xs,
+        days: ds,
     }
 }
 
@@ -75,34 +75,34 @@ pub fn put_book(
     phase: &mut u32,
     nets: &mut [i32; 1024],
     delivered: &mut [u32; 1024],
-    charges: &mut [i64; 64],
-    count: &mut usize,
-    issues: &mut [u8; 2048],
-    froms: &mut [u8; 2048],
-    tos: &mut [u8; 2048],
-    lots: &mut [u32; 2048],
-    days: &mut [u16; 2048],
+    yen: &mut [i64; 64],
+    n: &mut usize,
+    is: &mut [u8; 2048],
+    fs: &mut [u8; 2048],
+    ts: &mut [u8; 2048],
+    xs: &mut [u32; 2048],
+    ds: &mut [u16; 2048],
 )
-    ensures { λ _. ⌜ Written b (now (phase .exit)) (bookIn (now (day .exit)) (now (phase .exit)) (now (nets .exit)) (now (delivered .exit)) (now (charges .exit)) (now (count .exit)) (now (issues .exit)) (now (froms .exit)) (now (tos .exit)) (now (lots .exit)) (now (days .exit))) ⌝ }
+    ensures { λ _. ⌜ Written b (now (phase .exit)) (bookIn (now (day .exit)) (now (phase .exit)) (now (nets .exit)) (now (delivered .exit)) (now (yen .exit)) (now (n .exit)) (now (is .exit)) (now (fs .exit)) (now (ts .exit)) (now (xs .exit)) (now (ds .exit))) ⌝ }
 {
     *day = b.day;
     let stage = b.phase;
     *phase = number_of(stage);
-    *count = b.count;
+    *n = b.count;
     let column = b.nets;
     *nets = column;
     let column = b.delivered;
     *delivered = column;
     let column = b.charges;
-    *charges = column;
+    *yen = column;
     let column = b.issues;
-    *issues = column;
+    *is = column;
     let column = b.froms;
-    *froms = column;
+    *fs = column;
     let column = b.tos;
-    *tos = column;
+    *ts = column;
     let column = b.lots;
-    *lots = column;
+    *xs = column;
     let column = b.days;
-    *days = column;
+    *ds = column;
 }

@@ -12,20 +12,20 @@ pub extern "C" fn trial_trade_in(
     phase: &mut u32,
     nets: &mut [i32; 1024],
     delivered: &mut [u32; 1024],
-    charges: &mut [i64; 64],
-    count: &mut usize,
-    issues: &mut [u8; 2048],
-    froms: &mut [u8; 2048],
-    tos: &mut [u8; 2048],
-    lots: &mut [u32; 2048],
-    days: &mut [u16; 2048],
+    yen: &mut [i64; 64],
+    n: &mut usize,
+    is: &mut [u8; 2048],
+    fs: &mut [u8; 2048],
+    ts: &mut [u8; 2048],
+    xs: &mut [u32; 2048],
+    ds: &mut [u16; 2048],
     i: u32,
     f: u32,
     t: u32,
     x: u32,
 ) -> u32
-    requires { ⌜ SoundIn (now day) (now phase) (now nets) (now delivered) (now charges) (now count) (now issues) (now froms) (now tos) (now lots) (now days) ⌝ }
-    ensures { λ r. ⌜ Answered (tradeOf (bookIn (now (day .entry)) (now (phase .entry)) (now (nets .entry)) (now (delivered .entry)) (now (charges .entry)) (now (count .entry)) (now (issues .entry)) (now (froms .entry)) (now (tos .entry)) (now (lots .entry)) (now (days .entry))) i f t x) r (now (phase .exit)) (bookIn (now (day .exit)) (now (phase .exit)) (now (nets .exit)) (now (delivered .exit)) (now (charges .exit)) (now (count .exit)) (now (issues .exit)) (now (froms .exit)) (now (tos .exit)) (now (lots .exit)) (now (days .exit))) ⌝ }
+    requires { ⌜ SoundIn (now day) (now phase) (now nets) (now delivered) (now yen) (now n) (now is) (now fs) (now ts) (now xs) (now ds) ⌝ }
+    ensures { λ r. ⌜ Answered (tradeOf (bookIn (now (day .entry)) (now (phase .entry)) (now (nets .entry)) (now (delivered .entry)) (now (yen .entry)) (now (n .entry)) (now (is .entry)) (now (fs .entry)) (now (ts .entry)) (now (xs .entry)) (now (ds .entry))) i f t x) r (now (phase .exit)) (bookIn (now (day .exit)) (now (phase .exit)) (now (nets .exit)) (now (delivered .exit)) (now (yen .exit)) (now (n .exit)) (now (is .exit)) (now (fs .exit)) (now (ts .exit)) (now (xs .exit)) (now (ds .exit))) ⌝ }
 {
     let stage = phase_of(*phase);
     let no = trading::trade_asks(stage, nets, i, f, t, x);
@@ -43,16 +43,16 @@ pub extern "C" fn trial_close_in(
     phase: &mut u32,
     nets: &mut [i32; 1024],
     delivered: &mut [u32; 1024],
-    charges: &mut [i64; 64],
-    count: &mut usize,
-    issues: &mut [u8; 2048],
-    froms: &mut [u8; 2048],
-    tos: &mut [u8; 2048],
-    lots: &mut [u32; 2048],
-    days: &mut [u16; 2048],
+    yen: &mut [i64; 64],
+    n: &mut usize,
+    is: &mut [u8; 2048],
+    fs: &mut [u8; 2048],
+    ts: &mut [u8; 2048],
+    xs: &mut [u32; 2048],
+    ds: &mut [u16; 2048],
 ) -> u32
-    requires { ⌜ SoundIn (now day) (now phase) (now nets) (now delivered) (now charges) (now count) (now issues) (now froms) (now tos) (now lots) (now days) ⌝ }
-    ensures { λ r. ⌜ Answered (closeOf (bookIn (now (day .entry)) (now (phase .entry)) (now (nets .entry)) (now (delivered .entry)) (now (charges .entry)) (now (count .entry)) (now (issues .entry)) (now (froms .entry)) (now (tos .entry)) (now (lots .entry)) (now (days .entry)))) r (now (phase .exit)) (bookIn (now (day .exit)) (now (phase .exit)) (now (nets .exit)) (now (delivered .exit)) (now (charges .exit)) (now (count .exit)) (now (issues .exit)) (now (froms .exit)) (now (tos .exit)) (now (lots .exit)) (now (days .exit))) ⌝ }
+    requires { ⌜ SoundIn (now day) (now phase) (now nets) (now delivered) (now yen) (now n) (now is) (now fs) (now ts) (now xs) (now ds) ⌝ }
+    ensures { λ r. ⌜ Answered (closeOf (bookIn (now (day .entry)) (now (phase .entry)) (now (nets .entry)) (now (delivered .entry)) (now (yen .entry)) (now (n .entry)) (now (is .entry)) (now (fs .entry)) (now (ts .entry)) (now (xs .entry)) (now (ds .entry)))) r (now (phase .exit)) (bookIn (now (day .exit)) (now (phase .exit)) (now (nets .exit)) (now (delivered .exit)) (now (yen .exit)) (now (n .exit)) (now (is .exit)) (now (fs .exit)) (now (ts .exit)) (now (xs .exit)) (now (ds .exit))) ⌝ }
 {
     let stage = phase_of(*phase);
     let no = trading::close_asks(stage);
@@ -70,21 +70,21 @@ pub extern "C" fn trial_deliver_in(
     phase: &mut u32,
     nets: &mut [i32; 1024],
     delivered: &mut [u32; 1024],
-    charges: &mut [i64; 64],
-    count: &mut usize,
-    issues: &mut [u8; 2048],
-    froms: &mut [u8; 2048],
-    tos: &mut [u8; 2048],
-    lots: &mut [u32; 2048],
-    days: &mut [u16; 2048],
+    yen: &mut [i64; 64],
+    n: &mut usize,
+    is: &mut [u8; 2048],
+    fs: &mut [u8; 2048],
+    ts: &mut [u8; 2048],
+    xs: &mut [u32; 2048],
+    ds: &mut [u16; 2048],
     i: u32,
     a: u32,
     x: u32,
     out: &mut [u32],
     records: &mut usize,
 ) -> u32
-    requires { ⌜ SoundIn (now day) (now phase) (now nets) (now delivered) (now charges) (now count) (now issues) (now froms) (now tos) (now lots) (now days) ⌝ }
-    ensures { λ r. ⌜ Recorded (deliverOf (bookIn (now (day .entry)) (now (phase .entry)) (now (nets .entry)) (now (delivered .entry)) (now (charges .entry)) (now (count .entry)) (now (issues .entry)) (now (froms .entry)) (now (tos .entry)) (now (lots .entry)) (now (days .entry))) i a x (now (out .entry))) r (now (phase .exit)) (bookIn (now (day .exit)) (now (phase .exit)) (now (nets .exit)) (now (delivered .exit)) (now (charges .exit)) (now (count .exit)) (now (issues .exit)) (now (froms .exit)) (now (tos .exit)) (now (lots .exit)) (now (days .exit))) (now (out .exit)) (now (records .exit)) ⌝ }
+    requires { ⌜ SoundIn (now day) (now phase) (now nets) (now delivered) (now yen) (now n) (now is) (now fs) (now ts) (now xs) (now ds) ⌝ }
+    ensures { λ r. ⌜ Recorded (deliverOf (bookIn (now (day .entry)) (now (phase .entry)) (now (nets .entry)) (now (delivered .entry)) (now (yen .entry)) (now (n .entry)) (now (is .entry)) (now (fs .entry)) (now (ts .entry)) (now (xs .entry)) (now (ds .entry))) i a x (now (out .entry))) r (now (phase .exit)) (bookIn (now (day .exit)) (now (phase .exit)) (now (nets .exit)) (now (delivered .exit)) (now (yen .exit)) (now (n .exit)) (now (is .exit)) (now (fs .exit)) (now (ts .exit)) (now (xs .exit)) (now (ds .exit))) (now (out .exit)) (now (records .exit)) ⌝ }
 {
     *records = 0;
     if out.len() < 4096 {
@@ -106,43 +106,32 @@ pub extern "C" fn trial_cutoff_in(
     phase: &mut u32,
     nets: &mut [i32; 1024],
     delivered: &mut [u32; 1024],
-    charges: &mut [i64; 64],
-    count: &mut usize,
-    issues: &mut [u8; 2048],
-    froms: &mut [u8; 2048],
-    tos: &mut [u8; 2048],
-    lots: &mut [u32; 2048],
-    days: &mut [u16; 2048],
+    yen: &mut [i64; 64],
+    n: &mut usize,
+    is: &mut [u8; 2048],
+    fs: &mut [u8; 2048],
+    ts: &mut [u8; 2048],
+    xs: &mut [u32; 2048],
+    ds: &mut [u16; 2048],
     out: &mut [u32],
     records: &mut usize,
 ) -> u32
-    requires { ⌜ SoundIn (now day) (now phase) (now nets) (now delivered) (now charges) (now count) (now issues) (now froms) (now tos) (now lots) (now days) ⌝ }
-    ensures { λ r. ⌜ Recorded (cutoffOf (bookIn (now (day .entry)) (now (phase .entry)) (now (nets .entry)) (now (delivered .entry)) (now (charges .entry)) (now (count .entry)) (now (issues .entry)) (now (froms .entry)) (now (tos .entry)) (now (lots .entry)) (now (days .entry))) (now (out .entry))) r (now (phase .exit)) (bookIn (now (day .exit)) (now (phase .exit)) (now (nets .exit)) (now (delivered .exit)) (now (charges .exit)) (now (count .exit)) (now (issues .exit)) (now (froms .exit)) (now (tos .exit)) (now (lots .exit)) (now (days .exit))) (now (out .exit)) (now (records .exit)) ⌝ }
+    requires { ⌜ SoundIn (now day) (now phase) (now nets) (now delivered) (now yen) (now n) (now is) (now fs) (now ts) (now xs) (now ds) ⌝ }
+    ensures { λ r. ⌜ Recorded (cutoffOf (bookIn (now (day .entry)) (now (phase .entry)) (now (nets .entry)) (now (delivered .entry)) (now (yen .entry)) (now (n .entry)) (now (is .entry)) (now (fs .entry)) (now (ts .entry)) (now (xs .entry)) (now (ds .entry))) (now (out .entry))) r (now (phase .exit)) (bookIn (now (day .exit)) (now (phase .exit)) (now (nets .exit)) (now (delivered .exit)) (now (yen .exit)) (now (n .exit)) (now (is .exit)) (now (fs .exit)) (now (ts .exit)) (now (xs .exit)) (now (ds .exit))) (now (out .exit)) (now (records .exit)) ⌝ }
 {
     *records = 0;
     if out.len() < 4096 {
         return 1;
     }
     let stage = phase_of(*phase);
-    let old = *count;
+    let old = *n;
     let no = cutoff::cutoff_asks(stage, old, nets, delivered);
     if no != 0 {
         return no;
     }
     let today = *day;
-    let k = cutoff::cutoff_in(
-        nets,
-        delivered,
-        today,
-        old,
-        issues,
-        froms,
-        tos,
-        lots,
-        days,
-        out,
-    );
-    *count = k.entries;
+    let k = cutoff::cutoff_in(nets, delivered, today, old, is, fs, ts, xs, ds, out);
+    *n = k.entries;
     *records = k.records;
     *phase = 2;
     0
@@ -155,33 +144,33 @@ pub extern "C" fn trial_resolve_in(
     phase: &mut u32,
     nets: &mut [i32; 1024],
     delivered: &mut [u32; 1024],
-    charges: &mut [i64; 64],
-    count: &mut usize,
-    issues: &mut [u8; 2048],
-    froms: &mut [u8; 2048],
-    tos: &mut [u8; 2048],
-    lots: &mut [u32; 2048],
-    days: &mut [u16; 2048],
+    yen: &mut [i64; 64],
+    n: &mut usize,
+    is: &mut [u8; 2048],
+    fs: &mut [u8; 2048],
+    ts: &mut [u8; 2048],
+    xs: &mut [u32; 2048],
+    ds: &mut [u16; 2048],
     i: u32,
     a: u32,
     x: u32,
     out: &mut [u32],
     records: &mut usize,
 ) -> u32
-    requires { ⌜ SoundIn (now day) (now phase) (now nets) (now delivered) (now charges) (now count) (now issues) (now froms) (now tos) (now lots) (now days) ⌝ }
-    ensures { λ r. ⌜ Recorded (resolveOf (bookIn (now (day .entry)) (now (phase .entry)) (now (nets .entry)) (now (delivered .entry)) (now (charges .entry)) (now (count .entry)) (now (issues .entry)) (now (froms .entry)) (now (tos .entry)) (now (lots .entry)) (now (days .entry))) i a x (now (out .entry))) r (now (phase .exit)) (bookIn (now (day .exit)) (now (phase .exit)) (now (nets .exit)) (now (delivered .exit)) (now (charges .exit)) (now (count .exit)) (now (issues .exit)) (now (froms .exit)) (now (tos .exit)) (now (lots .exit)) (now (days .exit))) (now (out .exit)) (now (records .exit)) ⌝ }
+    requires { ⌜ SoundIn (now day) (now phase) (now nets) (now delivered) (now yen) (now n) (now is) (now fs) (now ts) (now xs) (now ds) ⌝ }
+    ensures { λ r. ⌜ Recorded (resolveOf (bookIn (now (day .entry)) (now (phase .entry)) (now (nets .entry)) (now (delivered .entry)) (now (yen .entry)) (now (n .entry)) (now (is .entry)) (now (fs .entry)) (now (ts .entry)) (now (xs .entry)) (now (ds .entry))) i a x (now (out .entry))) r (now (phase .exit)) (bookIn (now (day .exit)) (now (phase .exit)) (now (nets .exit)) (now (delivered .exit)) (now (yen .exit)) (now (n .exit)) (now (is .exit)) (now (fs .exit)) (now (ts .exit)) (now (xs .exit)) (now (ds .exit))) (now (out .exit)) (now (records .exit)) ⌝ }
 {
     *records = 0;
     if out.len() < 4096 {
         return 1;
     }
-    let old = *count;
-    let no = resolution::resolve_asks(old, issues, froms, lots, i, a, x);
+    let old = *n;
+    let no = resolution::resolve_asks(old, is, fs, xs, i, a, x);
     if no != 0 {
         return no;
     }
-    let k = resolution::resolve_in(old, issues, froms, tos, lots, days, i, a, x, out);
-    *count = k.entries;
+    let k = resolution::resolve_in(old, is, fs, ts, xs, ds, i, a, x, out);
+    *n = k.entries;
     *records = k.records;
     0
 }
@@ -193,20 +182,20 @@ pub extern "C" fn trial_pair_off_in(
     phase: &mut u32,
     nets: &mut [i32; 1024],
     delivered: &mut [u32; 1024],
-    charges: &mut [i64; 64],
-    count: &mut usize,
-    issues: &mut [u8; 2048],
-    froms: &mut [u8; 2048],
-    tos: &mut [u8; 2048],
-    lots: &mut [u32; 2048],
-    days: &mut [u16; 2048],
+    yen: &mut [i64; 64],
+    n: &mut usize,
+    is: &mut [u8; 2048],
+    fs: &mut [u8; 2048],
+    ts: &mut [u8; 2048],
+    xs: &mut [u32; 2048],
+    ds: &mut [u16; 2048],
     i: u32,
     a: u32,
     steps: &mut usize,
     cancelled: &mut u64,
 ) -> u32
-    requires { ⌜ SoundIn (now day) (now phase) (now nets) (now delivered) (now charges) (now count) (now issues) (now froms) (now tos) (now lots) (now days) ⌝ }
-    ensures { λ r. ⌜ PairedOff (pairOffOf (bookIn (now (day .entry)) (now (phase .entry)) (now (nets .entry)) (now (delivered .entry)) (now (charges .entry)) (now (count .entry)) (now (issues .entry)) (now (froms .entry)) (now (tos .entry)) (now (lots .entry)) (now (days .entry))) i a) r (now (phase .exit)) (bookIn (now (day .exit)) (now (phase .exit)) (now (nets .exit)) (now (delivered .exit)) (now (charges .exit)) (now (count .exit)) (now (issues .exit)) (now (froms .exit)) (now (tos .exit)) (now (lots .exit)) (now (days .exit))) (now (steps .exit)) (now (cancelled .exit)) ⌝ }
+    requires { ⌜ SoundIn (now day) (now phase) (now nets) (now delivered) (now yen) (now n) (now is) (now fs) (now ts) (now xs) (now ds) ⌝ }
+    ensures { λ r. ⌜ PairedOff (pairOffOf (bookIn (now (day .entry)) (now (phase .entry)) (now (nets .entry)) (now (delivered .entry)) (now (yen .entry)) (now (n .entry)) (now (is .entry)) (now (fs .entry)) (now (ts .entry)) (now (xs .entry)) (now (ds .entry))) i a) r (now (phase .exit)) (bookIn (now (day .exit)) (now (phase .exit)) (now (nets .exit)) (now (delivered .exit)) (now (yen .exit)) (now (n .exit)) (now (is .exit)) (now (fs .exit)) (now (ts .exit)) (now (xs .exit)) (now (ds .exit))) (now (steps .exit)) (now (cancelled .exit)) ⌝ }
 {
     *steps = 0;
     *cancelled = 0;
@@ -214,10 +203,10 @@ pub extern "C" fn trial_pair_off_in(
     if no != 0 {
         return no;
     }
-    let old = *count;
+    let old = *n;
     let today = *day;
-    let k = resolution::pair_off_in(old, issues, froms, tos, lots, days, today, i, a);
-    *count = k.count;
+    let k = resolution::pair_off_in(old, is, fs, ts, xs, ds, today, i, a);
+    *n = k.count;
     *steps = k.steps;
     *cancelled = k.cancelled;
     0
@@ -230,40 +219,28 @@ pub extern "C" fn trial_roll_in(
     phase: &mut u32,
     nets: &mut [i32; 1024],
     delivered: &mut [u32; 1024],
-    charges: &mut [i64; 64],
-    count: &mut usize,
-    issues: &mut [u8; 2048],
-    froms: &mut [u8; 2048],
-    tos: &mut [u8; 2048],
-    lots: &mut [u32; 2048],
-    days: &mut [u16; 2048],
-    term: u32,
+    yen: &mut [i64; 64],
+    n: &mut usize,
+    is: &mut [u8; 2048],
+    fs: &mut [u8; 2048],
+    ts: &mut [u8; 2048],
+    xs: &mut [u32; 2048],
+    ds: &mut [u16; 2048],
+    days: u32,
     rate: u32,
     prices: &[u32],
 ) -> u32
-    requires { ⌜ SoundIn (now day) (now phase) (now nets) (now delivered) (now charges) (now count) (now issues) (now froms) (now tos) (now lots) (now days) ⌝ }
-    ensures { λ r. ⌜ Answered (rollOf (bookIn (now (day .entry)) (now (phase .entry)) (now (nets .entry)) (now (delivered .entry)) (now (charges .entry)) (now (count .entry)) (now (issues .entry)) (now (froms .entry)) (now (tos .entry)) (now (lots .entry)) (now (days .entry))) term rate (now (prices .entry))) r (now (phase .exit)) (bookIn (now (day .exit)) (now (phase .exit)) (now (nets .exit)) (now (delivered .exit)) (now (charges .exit)) (now (count .exit)) (now (issues .exit)) (now (froms .exit)) (now (tos .exit)) (now (lots .exit)) (now (days .exit))) ⌝ }
+    requires { ⌜ SoundIn (now day) (now phase) (now nets) (now delivered) (now yen) (now n) (now is) (now fs) (now ts) (now xs) (now ds) ⌝ }
+    ensures { λ r. ⌜ Answered (rollOf (bookIn (now (day .entry)) (now (phase .entry)) (now (nets .entry)) (now (delivered .entry)) (now (yen .entry)) (now (n .entry)) (now (is .entry)) (now (fs .entry)) (now (ts .entry)) (now (xs .entry)) (now (ds .entry))) days rate (now (prices .entry))) r (now (phase .exit)) (bookIn (now (day .exit)) (now (phase .exit)) (now (nets .exit)) (now (delivered .exit)) (now (yen .exit)) (now (n .exit)) (now (is .exit)) (now (fs .exit)) (now (ts .exit)) (now (xs .exit)) (now (ds .exit))) ⌝ }
 {
     let stage = phase_of(*phase);
     let today = *day;
-    let no = rolling::roll_asks(stage, today, term, rate, prices);
+    let no = rolling::roll_asks(stage, today, days, rate, prices);
     if no != 0 {
         return no;
     }
-    let old = *count;
-    rolling::roll_in(
-        term,
-        rate,
-        prices,
-        old,
-        issues,
-        froms,
-        tos,
-        lots,
-        charges,
-        nets,
-        delivered,
-    );
+    let k = *n;
+    rolling::roll_in(days, rate, prices, k, is, fs, ts, xs, yen, nets, delivered);
     *day = today + 1;
     *phase = 0;
     0

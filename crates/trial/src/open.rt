@@ -16,29 +16,17 @@ pub extern "C" fn trial_sound<'a>(
     phase: &'a u32,
     nets: &'a [i32; 1024],
     delivered: &'a [u32; 1024],
-    charges: &'a [i64; 64],
-    count: &'a usize,
-    issues: &'a [u8; 2048],
-    froms: &'a [u8; 2048],
-    tos: &'a [u8; 2048],
-    lots: &'a [u32; 2048],
-    days: &'a [u16; 2048],
+    yen: &'a [i64; 64],
+    n: &'a usize,
+    is: &'a [u8; 2048],
+    fs: &'a [u8; 2048],
+    ts: &'a [u8; 2048],
+    xs: &'a [u32; 2048],
+    ds: &'a [u16; 2048],
 ) -> u32
-    ensures { λ r. ⌜ r ≡ cond (soundOf (bookIn (now (day .entry)) (now (phase .entry)) (now (nets .entry)) (now (delivered .entry)) (now (charges .entry)) (now (count .entry)) (now (issues .entry)) (now (froms .entry)) (now (tos .entry)) (now (lots .entry)) (now (days .entry)))) 1 0 ⌝ }
+    ensures { λ r. ⌜ r ≡ cond (soundOf (bookIn (now (day .entry)) (now (phase .entry)) (now (nets .entry)) (now (delivered .entry)) (now (yen .entry)) (now (n .entry)) (now (is .entry)) (now (fs .entry)) (now (ts .entry)) (now (xs .entry)) (now (ds .entry)))) 1 0 ⌝ }
 {
-    let b = book_in(
-        day,
-        phase,
-        nets,
-        delivered,
-        charges,
-        count,
-        issues,
-        froms,
-        tos,
-        lots,
-        days,
-    );
+    let b = book_in(day, phase, nets, delivered, yen, n, is, fs, ts, xs, ds);
     if book::sound(b) { 1 } else { 0 }
 }
 
@@ -69,32 +57,20 @@ pub extern "C" fn trial_unit<'a>(
     phase: &'a u32,
     nets: &'a [i32; 1024],
     delivered: &'a [u32; 1024],
-    charges: &'a [i64; 64],
-    count: &'a usize,
-    issues: &'a [u8; 2048],
-    froms: &'a [u8; 2048],
-    tos: &'a [u8; 2048],
-    lots: &'a [u32; 2048],
-    days: &'a [u16; 2048],
+    yen: &'a [i64; 64],
+    n: &'a usize,
+    is: &'a [u8; 2048],
+    fs: &'a [u8; 2048],
+    ts: &'a [u8; 2048],
+    xs: &'a [u32; 2048],
+    ds: &'a [u16; 2048],
     i: u32,
     k: u32,
     answer: &mut [u32; 3],
 ) -> u32
-    ensures { λ r. ⌜ UnitIs (unitOf (bookIn (now (day .entry)) (now (phase .entry)) (now (nets .entry)) (now (delivered .entry)) (now (charges .entry)) (now (count .entry)) (now (issues .entry)) (now (froms .entry)) (now (tos .entry)) (now (lots .entry)) (now (days .entry))) i k) r (now (answer .exit)) ⌝ }
+    ensures { λ r. ⌜ UnitIs (unitOf (bookIn (now (day .entry)) (now (phase .entry)) (now (nets .entry)) (now (delivered .entry)) (now (yen .entry)) (now (n .entry)) (now (is .entry)) (now (fs .entry)) (now (ts .entry)) (now (xs .entry)) (now (ds .entry))) i k) r (now (answer .exit)) ⌝ }
 {
-    let b = book_in(
-        day,
-        phase,
-        nets,
-        delivered,
-        charges,
-        count,
-        issues,
-        froms,
-        tos,
-        lots,
-        days,
-    );
+    let b = book_in(day, phase, nets, delivered, yen, n, is, fs, ts, xs, ds);
     told(units::unit(b, i, k), answer)
 }
 
@@ -105,49 +81,24 @@ pub extern "C" fn trial_trade(
     phase: &mut u32,
     nets: &mut [i32; 1024],
     delivered: &mut [u32; 1024],
-    charges: &mut [i64; 64],
-    count: &mut usize,
-    issues: &mut [u8; 2048],
-    froms: &mut [u8; 2048],
-    tos: &mut [u8; 2048],
-    lots: &mut [u32; 2048],
-    days: &mut [u16; 2048],
+    yen: &mut [i64; 64],
+    n: &mut usize,
+    is: &mut [u8; 2048],
+    fs: &mut [u8; 2048],
+    ts: &mut [u8; 2048],
+    xs: &mut [u32; 2048],
+    ds: &mut [u16; 2048],
     i: u32,
     f: u32,
     t: u32,
     x: u32,
 ) -> u32
-    ensures { λ r. ⌜ Answered (tradeOf (bookIn (now (day .entry)) (now (phase .entry)) (now (nets .entry)) (now (delivered .entry)) (now (charges .entry)) (now (count .entry)) (now (issues .entry)) (now (froms .entry)) (now (tos .entry)) (now (lots .entry)) (now (days .entry))) i f t x) r (now (phase .exit)) (bookIn (now (day .exit)) (now (phase .exit)) (now (nets .exit)) (now (delivered .exit)) (now (charges .exit)) (now (count .exit)) (now (issues .exit)) (now (froms .exit)) (now (tos .exit)) (now (lots .exit)) (now (days .exit))) ⌝ }
+    ensures { λ r. ⌜ Answered (tradeOf (bookIn (now (day .entry)) (now (phase .entry)) (now (nets .entry)) (now (delivered .entry)) (now (yen .entry)) (now (n .entry)) (now (is .entry)) (now (fs .entry)) (now (ts .entry)) (now (xs .entry)) (now (ds .entry))) i f t x) r (now (phase .exit)) (bookIn (now (day .exit)) (now (phase .exit)) (now (nets .exit)) (now (delivered .exit)) (now (yen .exit)) (now (n .exit)) (now (is .exit)) (now (fs .exit)) (now (ts .exit)) (now (xs .exit)) (now (ds .exit))) ⌝ }
 {
-    let b = book_in(
-        day,
-        phase,
-        nets,
-        delivered,
-        charges,
-        count,
-        issues,
-        froms,
-        tos,
-        lots,
-        days,
-    );
+    let b = book_in(day, phase, nets, delivered, yen, n, is, fs, ts, xs, ds);
     let r = trading::trade(b, i, f, t, x);
-    let next = r.book;
-    put_book(
-        next,
-        day,
-        phase,
-        nets,
-        delivered,
-        charges,
-        count,
-        issues,
-        froms,
-        tos,
-        lots,
-        days,
-    );
+    let b = r.book;
+    put_book(b, day, phase, nets, delivered, yen, n, is, fs, ts, xs, ds);
     r.refusal
 }
 
@@ -158,45 +109,20 @@ pub extern "C" fn trial_close(
     phase: &mut u32,
     nets: &mut [i32; 1024],
     delivered: &mut [u32; 1024],
-    charges: &mut [i64; 64],
-    count: &mut usize,
-    issues: &mut [u8; 2048],
-    froms: &mut [u8; 2048],
-    tos: &mut [u8; 2048],
-    lots: &mut [u32; 2048],
-    days: &mut [u16; 2048],
+    yen: &mut [i64; 64],
+    n: &mut usize,
+    is: &mut [u8; 2048],
+    fs: &mut [u8; 2048],
+    ts: &mut [u8; 2048],
+    xs: &mut [u32; 2048],
+    ds: &mut [u16; 2048],
 ) -> u32
-    ensures { λ r. ⌜ Answered (closeOf (bookIn (now (day .entry)) (now (phase .entry)) (now (nets .entry)) (now (delivered .entry)) (now (charges .entry)) (now (count .entry)) (now (issues .entry)) (now (froms .entry)) (now (tos .entry)) (now (lots .entry)) (now (days .entry)))) r (now (phase .exit)) (bookIn (now (day .exit)) (now (phase .exit)) (now (nets .exit)) (now (delivered .exit)) (now (charges .exit)) (now (count .exit)) (now (issues .exit)) (now (froms .exit)) (now (tos .exit)) (now (lots .exit)) (now (days .exit))) ⌝ }
+    ensures { λ r. ⌜ Answered (closeOf (bookIn (now (day .entry)) (now (phase .entry)) (now (nets .entry)) (now (delivered .entry)) (now (yen .entry)) (now (n .entry)) (now (is .entry)) (now (fs .entry)) (now (ts .entry)) (now (xs .entry)) (now (ds .entry)))) r (now (phase .exit)) (bookIn (now (day .exit)) (now (phase .exit)) (now (nets .exit)) (now (delivered .exit)) (now (yen .exit)) (now (n .exit)) (now (is .exit)) (now (fs .exit)) (now (ts .exit)) (now (xs .exit)) (now (ds .exit))) ⌝ }
 {
-    let b = book_in(
-        day,
-        phase,
-        nets,
-        delivered,
-        charges,
-        count,
-        issues,
-        froms,
-        tos,
-        lots,
-        days,
-    );
+    let b = book_in(day, phase, nets, delivered, yen, n, is, fs, ts, xs, ds);
     let r = trading::close(b);
-    let next = r.book;
-    put_book(
-        next,
-        day,
-        phase,
-        nets,
-        delivered,
-        charges,
-        count,
-        issues,
-        froms,
-        tos,
-        lots,
-        days,
-    );
+    let b = r.book;
+    put_book(b, day, phase, nets, delivered, yen, n, is, fs, ts, xs, ds);
     r.refusal
 }
 
@@ -207,51 +133,26 @@ pub extern "C" fn trial_deliver(
     phase: &mut u32,
     nets: &mut [i32; 1024],
     delivered: &mut [u32; 1024],
-    charges: &mut [i64; 64],
-    count: &mut usize,
-    issues: &mut [u8; 2048],
-    froms: &mut [u8; 2048],
-    tos: &mut [u8; 2048],
-    lots: &mut [u32; 2048],
-    days: &mut [u16; 2048],
+    yen: &mut [i64; 64],
+    n: &mut usize,
+    is: &mut [u8; 2048],
+    fs: &mut [u8; 2048],
+    ts: &mut [u8; 2048],
+    xs: &mut [u32; 2048],
+    ds: &mut [u16; 2048],
     i: u32,
     a: u32,
     x: u32,
     out: &mut [u32],
     records: &mut usize,
 ) -> u32
-    ensures { λ r. ⌜ Recorded (deliverOf (bookIn (now (day .entry)) (now (phase .entry)) (now (nets .entry)) (now (delivered .entry)) (now (charges .entry)) (now (count .entry)) (now (issues .entry)) (now (froms .entry)) (now (tos .entry)) (now (lots .entry)) (now (days .entry))) i a x (now (out .entry))) r (now (phase .exit)) (bookIn (now (day .exit)) (now (phase .exit)) (now (nets .exit)) (now (delivered .exit)) (now (charges .exit)) (now (count .exit)) (now (issues .exit)) (now (froms .exit)) (now (tos .exit)) (now (lots .exit)) (now (days .exit))) (now (out .exit)) (now (records .exit)) ⌝ }
+    ensures { λ r. ⌜ Recorded (deliverOf (bookIn (now (day .entry)) (now (phase .entry)) (now (nets .entry)) (now (delivered .entry)) (now (yen .entry)) (now (n .entry)) (now (is .entry)) (now (fs .entry)) (now (ts .entry)) (now (xs .entry)) (now (ds .entry))) i a x (now (out .entry))) r (now (phase .exit)) (bookIn (now (day .exit)) (now (phase .exit)) (now (nets .exit)) (now (delivered .exit)) (now (yen .exit)) (now (n .exit)) (now (is .exit)) (now (fs .exit)) (now (ts .exit)) (now (xs .exit)) (now (ds .exit))) (now (out .exit)) (now (records .exit)) ⌝ }
 {
-    let b = book_in(
-        day,
-        phase,
-        nets,
-        delivered,
-        charges,
-        count,
-        issues,
-        froms,
-        tos,
-        lots,
-        days,
-    );
+    let b = book_in(day, phase, nets, delivered, yen, n, is, fs, ts, xs, ds);
     let r = delivery::deliver(b, i, a, x, out);
     *records = r.count;
-    let next = r.book;
-    put_book(
-        next,
-        day,
-        phase,
-        nets,
-        delivered,
-        charges,
-        count,
-        issues,
-        froms,
-        tos,
-        lots,
-        days,
-    );
+    let b = r.book;
+    put_book(b, day, phase, nets, delivered, yen, n, is, fs, ts, xs, ds);
     r.refusal
 }
 
@@ -262,48 +163,23 @@ pub extern "C" fn trial_cutoff(
     phase: &mut u32,
     nets: &mut [i32; 1024],
     delivered: &mut [u32; 1024],
-    charges: &mut [i64; 64],
-    count: &mut usize,
-    issues: &mut [u8; 2048],
-    froms: &mut [u8; 2048],
-    tos: &mut [u8; 2048],
-    lots: &mut [u32; 2048],
-    days: &mut [u16; 2048],
+    yen: &mut [i64; 64],
+    n: &mut usize,
+    is: &mut [u8; 2048],
+    fs: &mut [u8; 2048],
+    ts: &mut [u8; 2048],
+    xs: &mut [u32; 2048],
+    ds: &mut [u16; 2048],
     out: &mut [u32],
     records: &mut usize,
 ) -> u32
-    ensures { λ r. ⌜ Recorded (cutoffOf (bookIn (now (day .entry)) (now (phase .entry)) (now (nets .entry)) (now (delivered .entry)) (now (charges .entry)) (now (count .entry)) (now (issues .entry)) (now (froms .entry)) (now (tos .entry)) (now (lots .entry)) (now (days .entry))) (now (out .entry))) r (now (phase .exit)) (bookIn (now (day .exit)) (now (phase .exit)) (now (nets .exit)) (now (delivered .exit)) (now (charges .exit)) (now (count .exit)) (now (issues .exit)) (now (froms .exit)) (now (tos .exit)) (now (lots .exit)) (now (days .exit))) (now (out .exit)) (now (records .exit)) ⌝ }
+    ensures { λ r. ⌜ Recorded (cutoffOf (bookIn (now (day .entry)) (now (phase .entry)) (now (nets .entry)) (now (delivered .entry)) (now (yen .entry)) (now (n .entry)) (now (is .entry)) (now (fs .entry)) (now (ts .entry)) (now (xs .entry)) (now (ds .entry))) (now (out .entry))) r (now (phase .exit)) (bookIn (now (day .exit)) (now (phase .exit)) (now (nets .exit)) (now (delivered .exit)) (now (yen .exit)) (now (n .exit)) (now (is .exit)) (now (fs .exit)) (now (ts .exit)) (now (xs .exit)) (now (ds .exit))) (now (out .exit)) (now (records .exit)) ⌝ }
 {
-    let b = book_in(
-        day,
-        phase,
-        nets,
-        delivered,
-        charges,
-        count,
-        issues,
-        froms,
-        tos,
-        lots,
-        days,
-    );
+    let b = book_in(day, phase, nets, delivered, yen, n, is, fs, ts, xs, ds);
     let r = cutoff::cutoff(b, out);
     *records = r.count;
-    let next = r.book;
-    put_book(
-        next,
-        day,
-        phase,
-        nets,
-        delivered,
-        charges,
-        count,
-        issues,
-        froms,
-        tos,
-        lots,
-        days,
-    );
+    let b = r.book;
+    put_book(b, day, phase, nets, delivered, yen, n, is, fs, ts, xs, ds);
     r.refusal
 }
 
@@ -314,51 +190,26 @@ pub extern "C" fn trial_resolve(
     phase: &mut u32,
     nets: &mut [i32; 1024],
     delivered: &mut [u32; 1024],
-    charges: &mut [i64; 64],
-    count: &mut usize,
-    issues: &mut [u8; 2048],
-    froms: &mut [u8; 2048],
-    tos: &mut [u8; 2048],
-    lots: &mut [u32; 2048],
-    days: &mut [u16; 2048],
+    yen: &mut [i64; 64],
+    n: &mut usize,
+    is: &mut [u8; 2048],
+    fs: &mut [u8; 2048],
+    ts: &mut [u8; 2048],
+    xs: &mut [u32; 2048],
+    ds: &mut [u16; 2048],
     i: u32,
     a: u32,
     x: u32,
     out: &mut [u32],
     records: &mut usize,
 ) -> u32
-    ensures { λ r. ⌜ Recorded (resolveOf (bookIn (now (day .entry)) (now (phase .entry)) (now (nets .entry)) (now (delivered .entry)) (now (charges .entry)) (now (count .entry)) (now (issues .entry)) (now (froms .entry)) (now (tos .entry)) (now (lots .entry)) (now (days .entry))) i a x (now (out .entry))) r (now (phase .exit)) (bookIn (now (day .exit)) (now (phase .exit)) (now (nets .exit)) (now (delivered .exit)) (now (charges .exit)) (now (count .exit)) (now (issues .exit)) (now (froms .exit)) (now (tos .exit)) (now (lots .exit)) (now (days .exit))) (now (out .exit)) (now (records .exit)) ⌝ }
+    ensures { λ r. ⌜ Recorded (resolveOf (bookIn (now (day .entry)) (now (phase .entry)) (now (nets .entry)) (now (delivered .entry)) (now (yen .entry)) (now (n .entry)) (now (is .entry)) (now (fs .entry)) (now (ts .entry)) (now (xs .entry)) (now (ds .entry))) i a x (now (out .entry))) r (now (phase .exit)) (bookIn (now (day .exit)) (now (phase .exit)) (now (nets .exit)) (now (delivered .exit)) (now (yen .exit)) (now (n .exit)) (now (is .exit)) (now (fs .exit)) (now (ts .exit)) (now (xs .exit)) (now (ds .exit))) (now (out .exit)) (now (records .exit)) ⌝ }
 {
-    let b = book_in(
-        day,
-        phase,
-        nets,
-        delivered,
-        charges,
-        count,
-        issues,
-        froms,
-        tos,
-        lots,
-        days,
-    );
+    let b = book_in(day, phase, nets, delivered, yen, n, is, fs, ts, xs, ds);
     let r = resolution::resolve(b, i, a, x, out);
     *records = r.count;
-    let next = r.book;
-    put_book(
-        next,
-        day,
-        phase,
-        nets,
-        delivered,
-        charges,
-        count,
-        issues,
-        froms,
-        tos,
-        lots,
-        days,
-    );
+    let b = r.book;
+    put_book(b, day, phase, nets, delivered, yen, n, is, fs, ts, xs, ds);
     r.refusal
 }
 
@@ -369,51 +220,26 @@ pub extern "C" fn trial_pair_off(
     phase: &mut u32,
     nets: &mut [i32; 1024],
     delivered: &mut [u32; 1024],
-    charges: &mut [i64; 64],
-    count: &mut usize,
-    issues: &mut [u8; 2048],
-    froms: &mut [u8; 2048],
-    tos: &mut [u8; 2048],
-    lots: &mut [u32; 2048],
-    days: &mut [u16; 2048],
+    yen: &mut [i64; 64],
+    n: &mut usize,
+    is: &mut [u8; 2048],
+    fs: &mut [u8; 2048],
+    ts: &mut [u8; 2048],
+    xs: &mut [u32; 2048],
+    ds: &mut [u16; 2048],
     i: u32,
     a: u32,
     steps: &mut usize,
     cancelled: &mut u64,
 ) -> u32
-    ensures { λ r. ⌜ PairedOff (pairOffOf (bookIn (now (day .entry)) (now (phase .entry)) (now (nets .entry)) (now (delivered .entry)) (now (charges .entry)) (now (count .entry)) (now (issues .entry)) (now (froms .entry)) (now (tos .entry)) (now (lots .entry)) (now (days .entry))) i a) r (now (phase .exit)) (bookIn (now (day .exit)) (now (phase .exit)) (now (nets .exit)) (now (delivered .exit)) (now (charges .exit)) (now (count .exit)) (now (issues .exit)) (now (froms .exit)) (now (tos .exit)) (now (lots .exit)) (now (days .exit))) (now (steps .exit)) (now (cancelled .exit)) ⌝ }
+    ensures { λ r. ⌜ PairedOff (pairOffOf (bookIn (now (day .entry)) (now (phase .entry)) (now (nets .entry)) (now (delivered .entry)) (now (yen .entry)) (now (n .entry)) (now (is .entry)) (now (fs .entry)) (now (ts .entry)) (now (xs .entry)) (now (ds .entry))) i a) r (now (phase .exit)) (bookIn (now (day .exit)) (now (phase .exit)) (now (nets .exit)) (now (delivered .exit)) (now (yen .exit)) (now (n .exit)) (now (is .exit)) (now (fs .exit)) (now (ts .exit)) (now (xs .exit)) (now (ds .exit))) (now (steps .exit)) (now (cancelled .exit)) ⌝ }
 {
-    let b = book_in(
-        day,
-        phase,
-        nets,
-        delivered,
-        charges,
-        count,
-        issues,
-        froms,
-        tos,
-        lots,
-        days,
-    );
+    let b = book_in(day, phase, nets, delivered, yen, n, is, fs, ts, xs, ds);
     let r = resolution::pair_off(b, i, a);
     *steps = r.steps;
     *cancelled = r.cancelled;
-    let next = r.book;
-    put_book(
-        next,
-        day,
-        phase,
-        nets,
-        delivered,
-        charges,
-        count,
-        issues,
-        froms,
-        tos,
-        lots,
-        days,
-    );
+    let b = r.book;
+    put_book(b, day, phase, nets, delivered, yen, n, is, fs, ts, xs, ds);
     r.refusal
 }
 
@@ -424,47 +250,22 @@ pub extern "C" fn trial_roll(
     phase: &mut u32,
     nets: &mut [i32; 1024],
     delivered: &mut [u32; 1024],
-    charges: &mut [i64; 64],
-    count: &mut usize,
-    issues: &mut [u8; 2048],
-    froms: &mut [u8; 2048],
-    tos: &mut [u8; 2048],
-    lots: &mut [u32; 2048],
-    days: &mut [u16; 2048],
-    term: u32,
+    yen: &mut [i64; 64],
+    n: &mut usize,
+    is: &mut [u8; 2048],
+    fs: &mut [u8; 2048],
+    ts: &mut [u8; 2048],
+    xs: &mut [u32; 2048],
+    ds: &mut [u16; 2048],
+    days: u32,
     rate: u32,
     prices: &[u32],
 ) -> u32
-    ensures { λ r. ⌜ Answered (rollOf (bookIn (now (day .entry)) (now (phase .entry)) (now (nets .entry)) (now (delivered .entry)) (now (charges .entry)) (now (count .entry)) (now (issues .entry)) (now (froms .entry)) (now (tos .entry)) (now (lots .entry)) (now (days .entry))) term rate (now (prices .entry))) r (now (phase .exit)) (bookIn (now (day .exit)) (now (phase .exit)) (now (nets .exit)) (now (delivered .exit)) (now (charges .exit)) (now (count .exit)) (now (issues .exit)) (now (froms .exit)) (now (tos .exit)) (now (lots .exit)) (now (days .exit))) ⌝ }
+    ensures { λ r. ⌜ Answered (rollOf (bookIn (now (day .entry)) (now (phase .entry)) (now (nets .entry)) (now (delivered .entry)) (now (yen .entry)) (now (n .entry)) (now (is .entry)) (now (fs .entry)) (now (ts .entry)) (now (xs .entry)) (now (ds .entry))) days rate (now (prices .entry))) r (now (phase .exit)) (bookIn (now (day .exit)) (now (phase .exit)) (now (nets .exit)) (now (delivered .exit)) (now (yen .exit)) (now (n .exit)) (now (is .exit)) (now (fs .exit)) (now (ts .exit)) (now (xs .exit)) (now (ds .exit))) ⌝ }
 {
-    let b = book_in(
-        day,
-        phase,
-        nets,
-        delivered,
-        charges,
-        count,
-        issues,
-        froms,
-        tos,
-        lots,
-        days,
-    );
-    let r = rolling::roll(b, term, rate, prices);
-    let next = r.book;
-    put_book(
-        next,
-        day,
-        phase,
-        nets,
-        delivered,
-        charges,
-        count,
-        issues,
-        froms,
-        tos,
-        lots,
-        days,
-    );
+    let b = book_in(day, phase, nets, delivered, yen, n, is, fs, ts, xs, ds);
+    let r = rolling::roll(b, days, rate, prices);
+    let b = r.book;
+    put_book(b, day, phase, nets, delivered, yen, n, is, fs, ts, xs, ds);
     r.refusal
 }

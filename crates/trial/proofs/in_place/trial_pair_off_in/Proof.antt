@@ -15,7 +15,7 @@ use Rattle.trial.proofs.in_place.trial_pair_off_in.Tie as tie
 abbrev book : tie.Start → Book
 book s =
     let a = s .args in
-    bookIn (now (a .day)) (now (a .phase)) (now (a .nets)) (now (a .delivered)) (now (a .charges)) (now (a .count)) (now (a .issues)) (now (a .froms)) (now (a .tos)) (now (a .lots)) (now (a .days))
+    bookIn (now (a .day)) (now (a .phase)) (now (a .nets)) (now (a .delivered)) (now (a .yen)) (now (a .n)) (now (a .is)) (now (a .fs)) (now (a .ts)) (now (a .xs)) (now (a .ds))
 
 whole : (s : tie.Start) → let b = book s in Whole (b .issues) (b .froms) (b .tos) (b .lots) (b .days)
 whole s =

@@ -16,7 +16,7 @@ use Rattle.trial.proofs.in_place.trial_resolve_in.Tie as tie
 abbrev book : tie.Start → Book
 book s =
     let a = s .args in
-    bookIn (now (a .day)) (now (a .phase)) (now (a .nets)) (now (a .delivered)) (now (a .charges)) (now (a .count)) (now (a .issues)) (now (a .froms)) (now (a .tos)) (now (a .lots)) (now (a .days))
+    bookIn (now (a .day)) (now (a .phase)) (now (a .nets)) (now (a .delivered)) (now (a .yen)) (now (a .n)) (now (a .is)) (now (a .fs)) (now (a .ts)) (now (a .xs)) (now (a .ds))
 
 whole : (s : tie.Start) → let b = book s in Whole (b .issues) (b .froms) (b .tos) (b .lots) (b .days)
 whole s =
@@ -50,7 +50,7 @@ returns-2 c =
     let a = s .args in
     recorded-in (k .resolve-asks .result) (now (a .phase)) (book s) refl (s .pre .stage) (resolve (book s) (a .i) (a .a) (a .x) (now (a .out))) 0 (now (a .out))
     (resolve-no (book s) (a .i) (a .a) (a .x) (now (a .out)) (long k .if1 .left) (s .pre .sound) (k .resolve-asks .result)
-    (k .resolve-asks .ensures (now (a .tos)) (now (a .days))) (c .if2 .taken))
+    (k .resolve-asks .ensures (now (a .ts)) (now (a .ds))) (c .if2 .taken))
 
 resolve-in-requires : tie.Need-resolve-in-requires
 resolve-in-requires c κs =
@@ -71,7 +71,7 @@ returns-3 c =
     let r = m .resolve-in in
     recorded-in 0 (now (a .phase)) _ refl (s .pre .stage) (resolve (book s) (a .i) (a .a) (a .x) (now (a .out))) (r .result .records) _
     (resolve-yes (book s) (a .i) (a .a) (a .x) (now (a .out)) (long k .if1 .left) (s .pre .sound) (k .resolve-asks .result) _ _
-    (k .resolve-asks .ensures (now (a .tos)) (now (a .days))) (e .if2 .left)
+    (k .resolve-asks .ensures (now (a .ts)) (now (a .ds))) (e .if2 .left)
     (resolved-book (book s) (a .i) (a .a) (a .x) (now (a .out)) (r .result) _ _ _ _ _ _ _ (r .ensures) refl))
 
 pub trial-resolve-in-spec : {M : Type 1} → statement M

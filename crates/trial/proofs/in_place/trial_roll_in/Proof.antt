@@ -18,7 +18,7 @@ use Rattle.trial.proofs.in_place.trial_roll_in.Tie as tie
 abbrev book : tie.Start → Book
 book s =
     let a = s .args in
-    bookIn (now (a .day)) (now (a .phase)) (now (a .nets)) (now (a .delivered)) (now (a .charges)) (now (a .count)) (now (a .issues)) (now (a .froms)) (now (a .tos)) (now (a .lots)) (now (a .days))
+    bookIn (now (a .day)) (now (a .phase)) (now (a .nets)) (now (a .delivered)) (now (a .yen)) (now (a .n)) (now (a .is)) (now (a .fs)) (now (a .ts)) (now (a .xs)) (now (a .ds))
 
 -- where the questions are answered, the start
 abbrev start : tie.After-roll-asks → tie.Start
@@ -26,13 +26,13 @@ start c = c .before .before .before .before .before
 
 -- none is answered 'no'
 yes : (e : tie.Else1) → let s = start (e .before) in
-    firstNo (rollAsks (book s .phase) (book s .day) (s .args .term) (s .args .rate) (now (s .args .prices))) ≡ 0
+    firstNo (rollAsks (book s .phase) (book s .day) (s .args .days) (s .args .rate) (now (s .args .prices))) ≡ 0
 yes e =
     let k = e .before in
     let s = start k in
     let a = s .args in
     let p = k .before .before .phase-of in
-    sym (roll-asked (book s) (s .pre .sound) (p .result) (p .ensures) (k .roll-asks .result) (a .term) (a .rate) (now (a .prices)) (k .roll-asks .ensures))
+    sym (roll-asked (book s) (s .pre .sound) (p .result) (p .ensures) (k .roll-asks .result) (a .days) (a .rate) (now (a .prices)) (k .roll-asks .ensures))
     ∙ e .if1 .left
 
 phase-of-requires : tie.Need-phase-of-requires
@@ -47,8 +47,8 @@ returns c =
     let s = start k in
     let a = s .args in
     let p = k .before .before .phase-of in
-    answered-in (k .roll-asks .result) (now (a .phase)) (book s) refl (s .pre .stage) (roll (book s) (a .term) (a .rate) (now (a .prices))) 0 []
-    (roll-no (book s) (s .pre .sound) (p .result) (p .ensures) (k .roll-asks .result) (a .term) (a .rate) (now (a .prices)) (k .roll-asks .ensures) (c .if1 .taken))
+    answered-in (k .roll-asks .result) (now (a .phase)) (book s) refl (s .pre .stage) (roll (book s) (a .days) (a .rate) (now (a .prices))) 0 []
+    (roll-no (book s) (s .pre .sound) (p .result) (p .ensures) (k .roll-asks .result) (a .days) (a .rate) (now (a .prices)) (k .roll-asks .ensures) (c .if1 .taken))
 
 roll-in-requires : tie.Need-roll-in-requires
 roll-in-requires c κs =
@@ -56,7 +56,7 @@ roll-in-requires c κs =
     let s = start (e .before) in
     let a = s .args in
     let l = s .pre .lengths in (
-      chargeable (book s) (a .term) (a .rate) (now (a .prices)) (record { sound = s .pre .sound; asks = yes e }) (l .ledger .issues) (l .ledger .froms)
+      chargeable (book s) (a .days) (a .rate) (now (a .prices)) (record { sound = s .pre .sound; asks = yes e }) (l .ledger .issues) (l .ledger .froms)
           (l .ledger .tos) (l .ledger .lots) (l .charges),
       record { nets = l .cells .nets; delivered = l .cells .delivered },
     )
@@ -66,7 +66,7 @@ add-day c =
     let e = c .before .before .before .before .before .before .before .before .before .before .before .before .before in
     let s = start (e .before) in
     let a = s .args in
-    record { fits = omega (arith, not-last (book s .phase) (now (a .day)) (a .term) (a .rate) (now (a .prices)) (yes e)) }
+    record { fits = omega (arith, not-last (book s .phase) (now (a .day)) (a .days) (a .rate) (now (a .prices)) (yes e)) }
 
 returns-2 : tie.Need-returns-2
 returns-2 c =
@@ -76,9 +76,9 @@ returns-2 c =
     let a = s .args in
     let p = k .before .before .phase-of in
     let w = c .roll-in .ensures in
-    answered-in 0 0 _ refl (omega arith) (roll (book s) (a .term) (a .rate) (now (a .prices))) 0 []
-    (roll-yes (book s) (s .pre .sound) (p .result) (p .ensures) (k .roll-asks .result) (a .term) (a .rate) (now (a .prices)) (k .roll-asks .ensures) _ _ _
-    (e .if1 .left) (w .0 .charges (now (a .days))) (w .1 .nets) (w .1 .delivered))
+    answered-in 0 0 _ refl (omega arith) (roll (book s) (a .days) (a .rate) (now (a .prices))) 0 []
+    (roll-yes (book s) (s .pre .sound) (p .result) (p .ensures) (k .roll-asks .result) (a .days) (a .rate) (now (a .prices)) (k .roll-asks .ensures) _ _ _
+    (e .if1 .left) (w .0 .charges (now (a .ds))) (w .1 .nets) (w .1 .delivered))
 
 pub trial-roll-in-spec : {M : Type 1} → statement M
 trial-roll-in-spec =

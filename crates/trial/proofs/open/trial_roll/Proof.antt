@@ -27,7 +27,7 @@ returns c =
     let k = answer c in
     let m = k .before .book-in in
     let a = start k .args in
-    answered (m .result) _ (m .ensures) _ _ (λ b. roll b (a .term) (a .rate) (now (a .prices))) (k .roll .result) _ (k .roll .ensures) (c .put-book .ensures)
+    answered (m .result) _ (m .ensures) _ _ (λ b. roll b (a .days) (a .rate) (now (a .prices))) (k .roll .result) _ (k .roll .ensures) (c .put-book .ensures)
 
 pub trial-roll-spec : {M : Type 1} → statement M
 trial-roll-spec = tie.close (tie.spec book-in-requires roll-requires put-book-requires returns)
