@@ -1,4 +1,0 @@
--- Laws of the text, of signs and of the words.
-pub mod Texts
-pub mod Signed
-pub mod Bytes
