@@ -51,14 +51,34 @@ pub fed-is-after : (s : State) (x : Instruction) (prices lent : List ℕ) (r : R
 fed-is-after s x prices lent r out a =
     rw (a .reply .refusal, a .reply .count, a .reply .book, words-lent (s .book) x prices lent r out a)
 
--- so demand 3 holds after one more call made through it, from any state that a list of calls reaches
+-- the states that calls made through it lead to, from the fresh book and the fresh tally
+pub data Made : State → Type 0 where
+  none : Made start
+  more : {s : State} → Made s → (x : Instruction) (prices lent : List ℕ) (r : Reply) (out : List ℕ) →
+      Answers (s .book) x prices lent r out →
+      Made (fed (callOf x prices lent) (r .refusal) (recordsIn (r .count) (wordsLent x out)) (r .book) s)
+
 after-last : (s : State) (cs : List Call) (c : Call) → afterAll s (cs ++ (c ∷ [])) ≡ after (afterAll s cs) c
 after-last s [] c = refl
 after-last s (d ∷ cs) c = after-last (after s d) cs c
 
-pub demand3-of-code : (cs : List Call) (x : Instruction) (prices lent : List ℕ) (r : Reply) (out : List ℕ) →
-    Answers (afterAll start cs .book) x prices lent r out →
-    Demand3 (fed (callOf x prices lent) (r .refusal) (recordsIn (r .count) (wordsLent x out)) (r .book) (afterAll start cs))
-demand3-of-code cs x prices lent r out a =
-    rw (fed-is-after (afterAll start cs) x prices lent r out a, ← after-last start cs (callOf x prices lent))
-    (demand3 (cs ++ (callOf x prices lent ∷ [])))
+-- each is the state of a list of calls
+pub record OfList (s : State) : Type 0 where
+  pub calls : List Call
+  pub same : s ≡ afterAll start calls
+
+pub made-of-list : {s : State} → Made s → OfList s
+made-of-list none = record { calls = []; same = refl }
+made-of-list (more {s} m x prices lent r out a) =
+    let o = made-of-list m in
+    record {
+      calls = o .calls ++ (callOf x prices lent ∷ []);
+      same =
+          fed-is-after s x prices lent r out a
+          ∙ ap (λ t. after t (callOf x prices lent)) (o .same)
+          ∙ sym (after-last start (o .calls) (callOf x prices lent));
+    }
+
+-- so demand 3 holds after every list of calls made through it
+pub demand3-of-code : {s : State} → Made s → Demand3 s
+demand3-of-code m = let o = made-of-list m in rw (o .same) (demand3 (o .calls))
