@@ -43,23 +43,21 @@ pub fn book_in<'a>(
     ensures { λ r. ⌜ r ≡ bookIn (now (day .entry)) (now (phase .entry)) (now (nets .entry)) (now (delivered .entry)) (now (yen .entry)) (now (n .entry)) (now (is .entry)) (now (fs .entry)) (now (ts .entry)) (now (xs .entry)) (now (ds .entry)) ⌝ }
 {
     let stage = phase_of(*phase);
-    let day = *day;
     let nets = *nets;
     let delivered = *delivered;
     let yen = *yen;
-    let n = *n;
     let is = *is;
     let fs = *fs;
     let ts = *ts;
     let xs = *xs;
     let ds = *ds;
     Book {
-        day,
+        day: *day,
         phase: stage,
         nets,
         delivered,
         charges: yen,
-        count: n,
+        count: *n,
         issues: is,
         froms: fs,
         tos: ts,
