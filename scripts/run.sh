@@ -6,7 +6,7 @@ scripts/tools.sh rt gcc cargo
 
 echo 'Proving and building what is not built yet. The first time this takes some minutes.' >&2
 mkdir -p build
-scripts/libraries.sh >build/libraries.log || { tail -n 20 build/libraries.log >&2; exit 1; }
+make --no-print-directory libraries >build/libraries.log 2>&1 || { tail -n 20 build/libraries.log >&2; exit 1; }
 cargo build --quiet --release --offline -p tape
 
 day=tapes/p5-to-p9.txt

@@ -19,7 +19,7 @@ rt ci 2>&1 | tee build/proofs.log
 verdict=$(tail -n 1 build/proofs.log)
 [[ $verdict =~ ^[0-9]+\ passed,\ 0\ failed$ ]] || { echo 'tests failed: no verdict on the proofs'; exit 1; }
 
-step 'the libraries' scripts/libraries.sh
+step 'the libraries' make --no-print-directory libraries
 step 'the host in C' make --no-print-directory host
 step 'what the host prints' scripts/test-host.sh build/measures
 step 'the tests in Rust' cargo test --release --offline
