@@ -1,0 +1,309 @@
+-- Invariant: the book in its columns is sound; the text so far, and the run from here, are the run of the words.
+use mathlib.Core.Path.{_≡_, refl, sym, ap, _∙_}
+use mathlib.Core.Bool.{true}
+use mathlib.Core.List.{List}
+use Rattle.rules.specs.declared.Read.the-variants.{Instr, Refused}
+use Rattle.rules.specs.Tape.{readOf}
+use Rattle.printing.specs.Going.{enough, refusalOf}
+use Prim.Native.Nat.{ℕ, _+_, _-_, _≤_}
+use native.Mathlib.Omega.{arith}
+use denote.Ref.{now}
+use Rattle.tape.proofs.Sized.{read-sized}
+use Rattle.running.specs.Turns.{bookIn, Ready}
+use Rattle.printing.proofs.Goings.{Going, going-starts, going-again, going-refused, going-ends, rest-part, rest-enough}
+use lib.ListN as list
+use borrow.Author.Needs.{needs}
+use Rattle.printing.proofs.run.run.Statement.{statement}
+use Rattle.printing.proofs.run.run.Tie as tie
+
+abbrev Inv-loop : tie.InvT-loop
+Inv-loop words last stray index nets₀ delivered₀ charges₀ issues₀ froms₀ tos₀ lots₀ days₀ out₀ text₀ at₀ end₀ state₀ nets delivered charges issues froms tos lots days out text at end state =
+    Ready state nets delivered charges issues froms tos lots days out
+    × (list.length out ≡ list.length out₀)
+    × (list.length text ≡ list.length text₀)
+    × Going words last stray index (bookIn state₀ nets₀ delivered₀ charges₀ issues₀ froms₀ tos₀ lots₀ days₀)
+    (bookIn state nets delivered charges issues froms tos lots days) text at end
+
+abbrev μ-loop : tie.MeasureT-loop
+μ-loop words last stray index nets₀ delivered₀ charges₀ issues₀ froms₀ tos₀ lots₀ days₀ out₀ text₀ at₀ end₀ state₀ nets delivered charges issues froms tos lots days out text at end state =
+    list.length words - at
+
+abbrev start : tie.At-loop Inv-loop μ-loop → tie.Start Inv-loop μ-loop
+start c = c .before .before .before .before .before .before .before .before .before .before
+
+-- the words from here on
+abbrev rest : tie.At-loop Inv-loop μ-loop → List ℕ
+rest c = list.drop (c .loop .at) (now (start c .args .words))
+
+-- they are sure to hold a whole instruction
+sure : (c : tie.Then1 Inv-loop μ-loop) → let l = c .before .before in enough (list.length (rest l)) (start l .args .last) ≡ true
+sure c =
+    let l = c .before .before in
+    rest-enough (now (start l .args .words)) (l .loop .at) (start l .args .last) (c .before .is-enough .result) (c .before .is-enough .ensures)
+    ∙ c .if1 .taken
+
+-- which one they begin with
+begins : (c : tie.After-found Inv-loop μ-loop) → let l = c .before .before .before .before .before .before in readOf (rest l) ≡ Instr (c .found .given .0 .0) (c .found .given .0 .1 .0)
+begins c =
+    let l = c .before .before .before .before .before .before in
+    ap readOf (sym (rest-part (now (start l .args .words)) (l .loop .at))) ∙ sym (c .before .before .read .ensures) ∙ c .found .given .1
+
+sized : (c : tie.After-found Inv-loop μ-loop) → let l = c .before .before .before .before .before .before in let n = c .found .given .0 .1 .0 in (1 ≤ n) × (l .loop .at + n ≤ list.length (now (start l .args .words)))
+sized c =
+    let l = c .before .before .before .before .before .before in
+    let z = read-sized (rest l) (c .found .given .0 .0) (c .found .given .0 .1 .0) (begins c) in
+    let w = l .loop .inv .3 .within in
+    (z .0, omega (arith, z .1, list.length-drop (l .loop .at) (now (start l .args .words))))
+
+loop-holds : tie.Need-loop-holds Inv-loop μ-loop
+loop-holds c =
+    let s = c .before .before .before .before .before .before .before .before .before in
+    let a = s .args in
+    (s .pre .0, refl, refl, going-starts (now (a .words)) (a .last) (a .stray) (a .index) _ (now (a .text)))
+
+sub-is-enough : tie.Need-sub-is-enough Inv-loop μ-loop
+sub-is-enough c = search needs
+
+is-enough-requires : tie.Need-is-enough-requires Inv-loop μ-loop
+is-enough-requires c κs = search needs
+
+mul-read : tie.Need-mul-read Inv-loop μ-loop
+mul-read c = search needs
+
+sub-read : tie.Need-sub-read Inv-loop μ-loop
+sub-read c = search needs
+
+part-read-start : tie.Need-part-read-start Inv-loop μ-loop
+part-read-start c = search needs
+
+part-read-end : tie.Need-part-read-end Inv-loop μ-loop
+part-read-end c = search needs
+
+read-requires : tie.Need-read-requires Inv-loop μ-loop
+read-requires c κs = search needs
+
+enum-known-found : tie.Need-enum-known-found Inv-loop μ-loop
+enum-known-found c = search needs
+
+enum-told : tie.Need-enum-told Inv-loop μ-loop
+enum-told c = search needs
+
+refusal-of-requires : tie.Need-refusal-of-requires Inv-loop μ-loop
+refusal-of-requires c κs = search needs
+
+add-line : tie.Need-add-line Inv-loop μ-loop
+add-line c = search needs
+
+line-requires : tie.Need-line-requires Inv-loop μ-loop
+line-requires c κs =
+    let l = c .before .before .before .before .before .before .before .before .loop .inv .3 in
+    let t = c .before .before .before .before .before .before .before .before .loop .inv .2 in
+    omega (arith, l .short, l .within, t, c .before .before .before .before .before .before .before .before .before .before .before .before .before .before .before .before .before .before .pre .1)
+
+same-length : tie.Need-same-length Inv-loop μ-loop
+same-length c = search needs
+
+same-length-2 : tie.Need-same-length-2 Inv-loop μ-loop
+same-length-2 c = search needs
+
+same-length-3 : tie.Need-same-length-3 Inv-loop μ-loop
+same-length-3 c = search needs
+
+same-length-4 : tie.Need-same-length-4 Inv-loop μ-loop
+same-length-4 c = search needs
+
+same-length-5 : tie.Need-same-length-5 Inv-loop μ-loop
+same-length-5 c = search needs
+
+same-length-6 : tie.Need-same-length-6 Inv-loop μ-loop
+same-length-6 c = search needs
+
+same-length-7 : tie.Need-same-length-7 Inv-loop μ-loop
+same-length-7 c = search needs
+
+same-length-8 : tie.Need-same-length-8 Inv-loop μ-loop
+same-length-8 c = search needs
+
+same-length-9 : tie.Need-same-length-9 Inv-loop μ-loop
+same-length-9 c = search needs
+
+same-length-10 : tie.Need-same-length-10 Inv-loop μ-loop
+same-length-10 c = search needs
+
+returns : tie.Need-returns Inv-loop μ-loop
+returns c =
+    let l = c .before .before .before .before .before .before .before .before .before .before .before in
+    let s = start l in
+    let a = s .args in
+    let f = c .before .before .before .before in
+    let r = c .before .before .before .before .before .before .before in
+    going-refused (now (a .words)) (a .last) (a .stray) (a .index) _ _ (l .loop .text) _ (l .loop .at) (l .loop .end) (l .loop .inv .3) (l .loop .state)
+    (f .refusal-of .result) (c .before .before .line .result) (sure (c .before .before .before .before .before .before .before .before .before))
+    (ap readOf (sym (rest-part (now (a .words)) (l .loop .at))) ∙ sym (r .read .ensures) ∙ f .before .enum-told .given .1
+    ∙ ap Refused (sym (f .refusal-of .ensures ∙ ap refusalOf (f .before .enum-told .given .1))))
+    (c .before .before .line .ensures) (l .loop .inv .0 .sound)
+
+mul-turn : tie.Need-mul-turn Inv-loop μ-loop
+mul-turn c = search needs
+
+sub-turn : tie.Need-sub-turn Inv-loop μ-loop
+sub-turn c = search needs
+
+part-turn-start : tie.Need-part-turn-start Inv-loop μ-loop
+part-turn-start c = search needs
+
+part-turn-end : tie.Need-part-turn-end Inv-loop μ-loop
+part-turn-end c = search needs
+
+add-turn : tie.Need-add-turn Inv-loop μ-loop
+add-turn c = search needs
+
+turn-requires : tie.Need-turn-requires Inv-loop μ-loop
+turn-requires c κs =
+    let f = c .before .before .before .before .before .before .before .before .before .before .before .before in
+    let l = c .before .before .before .before .before .before .before .before .before .before .before .before .before .before .before .before .before .before .loop in
+    let s = c .before .before .before .before .before .before .before .before .before .before .before .before .before .before .before .before .before .before .before .before .before .before .before .before .before .before .before .before in (
+      record { count = f .found .given .0 .1 .0; read = sym (f .before .before .read .ensures) ∙ f .found .given .1 },
+      l .inv .0,
+      omega (arith, l .inv .3 .short, l .inv .3 .within, l .inv .2, s .pre .1),
+    )
+
+add-at : tie.Need-add-at Inv-loop μ-loop
+add-at c =
+    let z = sized (c .before .before .before .before .before .before .before .before .before .before .before .before .before .before .before .before .before .before .before .before .before .before .before .before .before .before .before .before .before .before .before .before) in
+    record { fits = omega (arith, z .1, c .before .before .before .before .before .before .before .before .before .before .before .before .before .before .before .before .before .before .before .before .before .before .before .before .before .before .before .before .before .before .before .before .before .before .before .before .before .before .before .before .before .before .before .before .before .before .before .before .pre .2) }
+
+loop-less : tie.Need-loop-less Inv-loop μ-loop
+loop-less c =
+    let z = sized (c .before .before .before .before .before .before .before .before .before .before .before .before .before .before .before .before .before .before .before .before .before .before .before .before .before .before .before .before .before .before .before .before) in
+    omega (arith, z .0, z .1)
+
+loop-again : tie.Need-loop-again Inv-loop μ-loop
+loop-again c =
+    let f = c .before .before .before .before .before .before .before .before .before .before .before .before .before .before .before .before .before .before .before .before .before .before .before .before .before .before .before .before .before .before .before .before in
+    let l = c .before .before .before .before .before .before .before .before .before .before .before .before .before .before .before .before .before .before .before .before .before .before .before .before .before .before .before .before .before .before .before .before .before .before .before .before .before .before in
+    let a = start l .args in
+    let t = c .before .before .before .before .before .before .before .before .before .before .before .before .before .before .before .before .before .before .before .turn in
+    let q = l .loop .inv .0 .lengths in (
+      record {
+        lengths = record {
+          cells = record { nets = search needs; delivered = search needs };
+          charges = search needs;
+          ledger = record {
+            issues = omega (arith, c .before .before .before .before .before .before .before .before .before .before .before .before .before .before .issues .given, q .ledger .issues);
+            froms = omega (arith, c .before .before .before .before .before .before .before .before .before .before .before .before .froms .given, q .ledger .froms);
+            tos = omega (arith, c .before .before .before .before .before .before .before .before .before .before .tos .given, q .ledger .tos);
+            lots = omega (arith, c .before .before .before .before .before .before .before .before .lots .given, q .ledger .lots);
+            days = omega (arith, c .before .before .before .before .before .before .days .given, q .ledger .days);
+          };
+        };
+        sound = t .ensures .sound;
+        room = omega (arith, c .before .before .before .before .out .given, l .loop .inv .0 .room);
+      },
+      omega (arith, c .before .before .before .before .out .given, l .loop .inv .1),
+      omega (arith, c .before .before .text2 .given, l .loop .inv .2),
+      going-again (now (a .words)) (a .last) (a .stray) (a .index) _ _ (l .loop .text) _ (l .loop .at) (l .loop .end) (l .loop .inv .3)
+          (f .found .given .0 .0) (f .found .given .0 .1 .0) (t .result) _ (sure (c .before .before .before .before .before .before .before .before .before .before .before .before .before .before .before .before .before .before .before .before .before .before .before .before .before .before .before .before .before .before .before .before .before .before .before .before)) (begins f)
+          (rw (rest-part (now (a .words)) (l .loop .at)) at (t .ensures)),
+    )
+
+add-stray-line : tie.Need-add-stray-line Inv-loop μ-loop
+add-stray-line c = search needs
+
+stray-line-requires : tie.Need-stray-line-requires Inv-loop μ-loop
+stray-line-requires c κs =
+    let l = c .before .before .before .loop .inv in
+    omega (arith, l .3 .short, l .3 .within, l .2, c .before .before .before .before .before .before .before .before .before .before .before .before .before .pre .1)
+
+same-length-11 : tie.Need-same-length-11 Inv-loop μ-loop
+same-length-11 c = search needs
+
+same-length-12 : tie.Need-same-length-12 Inv-loop μ-loop
+same-length-12 c = search needs
+
+same-length-13 : tie.Need-same-length-13 Inv-loop μ-loop
+same-length-13 c = search needs
+
+same-length-14 : tie.Need-same-length-14 Inv-loop μ-loop
+same-length-14 c = search needs
+
+same-length-15 : tie.Need-same-length-15 Inv-loop μ-loop
+same-length-15 c = search needs
+
+same-length-16 : tie.Need-same-length-16 Inv-loop μ-loop
+same-length-16 c = search needs
+
+same-length-17 : tie.Need-same-length-17 Inv-loop μ-loop
+same-length-17 c = search needs
+
+same-length-18 : tie.Need-same-length-18 Inv-loop μ-loop
+same-length-18 c = search needs
+
+same-length-19 : tie.Need-same-length-19 Inv-loop μ-loop
+same-length-19 c = search needs
+
+same-length-20 : tie.Need-same-length-20 Inv-loop μ-loop
+same-length-20 c = search needs
+
+returns-2 : tie.Need-returns-2 Inv-loop μ-loop
+returns-2 c =
+    let l = c .before .before .before .before .before .before in
+    let s = start l in
+    let a = s .args in
+    going-ends (now (a .words)) (a .last) (a .stray) (a .index) _ _ (l .loop .text) _ (l .loop .at) (l .loop .end) (l .loop .inv .3) (l .loop .state)
+    (c .before .before .stray-line .result)
+    (rest-enough (now (a .words)) (l .loop .at) (a .last) (c .before .before .before .before .before .is-enough .result) (c .before .before .before .before .before .is-enough .ensures) ∙ c .before .before .before .before .if1 .left)
+    (c .before .before .stray-line .ensures) (l .loop .inv .0 .sound)
+
+pub run-spec : {M : Type 1} → statement M
+run-spec =
+    tie.close
+    (tie.spec
+    Inv-loop
+    μ-loop
+    loop-holds
+    sub-is-enough
+    is-enough-requires
+    mul-read
+    sub-read
+    part-read-start
+    part-read-end
+    read-requires
+    enum-known-found
+    enum-told
+    refusal-of-requires
+    add-line
+    line-requires
+    same-length
+    same-length-2
+    same-length-3
+    same-length-4
+    same-length-5
+    same-length-6
+    same-length-7
+    same-length-8
+    same-length-9
+    same-length-10
+    returns
+    mul-turn
+    sub-turn
+    part-turn-start
+    part-turn-end
+    add-turn
+    turn-requires
+    add-at
+    loop-less
+    loop-again
+    add-stray-line
+    stray-line-requires
+    same-length-11
+    same-length-12
+    same-length-13
+    same-length-14
+    same-length-15
+    same-length-16
+    same-length-17
+    same-length-18
+    same-length-19
+    same-length-20
+    returns-2)
