@@ -1,0 +1,101 @@
+-- Invariant: the text so far, and that of the entries left, are the text of all.
+use mathlib.Core.Path.{_≡_, refl, sym, ap, _∙_}
+use mathlib.Core.List.{List, []}
+use Prim.Native.Nat.{ℕ, _≤_, _-_, _+_, _*_}
+use native.Mathlib.Omega.{arith}
+use denote.Ref.{now}
+use lib.ListN.{length}
+use Rattle.rules.specs.Book.{entries}
+use Rattle.ledger.proofs.Left.{left, left-next}
+use Rattle.dayrun.specs.Text.{failsText}
+use Rattle.dayrun.proofs.Texts.{Left, left-all, left-on, left-none}
+use borrow.Author.Needs.{needs}
+use Rattle.dayrun.proofs.report.fails.Statement.{statement}
+use Rattle.dayrun.proofs.report.fails.Tie as tie
+
+abbrev Inv-loop : tie.InvT-loop
+Inv-loop text₀ count issues froms tos lots days at₀ k₀ text at k =
+    (k ≤ count)
+    × (length text ≡ length text₀)
+    × (at ≤ 107 * k)
+    × Left text₀ text 0 at (failsText (left k count issues froms tos lots days)) (failsText (entries count issues froms tos lots days))
+
+abbrev μ-loop : tie.MeasureT-loop
+μ-loop text₀ count issues froms tos lots days at₀ k₀ text at k = count - k
+
+loop-holds : tie.Need-loop-holds Inv-loop μ-loop
+loop-holds c =
+    let a = c .before .before .before .before .before .before .args in
+    let z : a .count - 0 ≡ a .count = omega arith in
+    (omega arith, refl, omega arith, rw z (left-all _ _ _))
+
+shared-slice-read-fail : tie.Need-shared-slice-read-fail Inv-loop μ-loop
+shared-slice-read-fail c = search needs
+
+shared-slice-read-fail-2 : tie.Need-shared-slice-read-fail-2 Inv-loop μ-loop
+shared-slice-read-fail-2 c = search needs
+
+shared-slice-read-fail-3 : tie.Need-shared-slice-read-fail-3 Inv-loop μ-loop
+shared-slice-read-fail-3 c = search needs
+
+mul-fail : tie.Need-mul-fail Inv-loop μ-loop
+mul-fail c = search needs
+
+shared-slice-read-fail-4 : tie.Need-shared-slice-read-fail-4 Inv-loop μ-loop
+shared-slice-read-fail-4 c = search needs
+
+mul-fail-2 : tie.Need-mul-fail-2 Inv-loop μ-loop
+mul-fail-2 c = search needs
+
+shared-slice-read-fail-5 : tie.Need-shared-slice-read-fail-5 Inv-loop μ-loop
+shared-slice-read-fail-5 c = search needs
+
+fail-requires : tie.Need-fail-requires Inv-loop μ-loop
+fail-requires c κs = search needs
+
+add-k : tie.Need-add-k Inv-loop μ-loop
+add-k c = search needs
+
+loop-less : tie.Need-loop-less Inv-loop μ-loop
+loop-less c = search needs
+
+loop-again : tie.Need-loop-again Inv-loop μ-loop
+loop-again c =
+    let s = c .before .before .before .before .before .before .before .before .before .before .before .before .before .before .before .before .before in
+    let l = c .before .before .before .before .before .before .before .before .before .before .loop in
+    let a = s .args in
+    let k = c .before .before .fail in
+    let e = ap failsText (left-next (l .k) (a .count) (now (a .issues)) (now (a .froms)) (now (a .tos)) (now (a .lots)) (now (a .days)) (omega arith)) in
+    (omega arith, search needs, omega (arith, k .ensures .few), left-on 107 _ _ _ _ _ _ _ _ _ (rw e at (l .inv .3)) (k .ensures))
+
+same-length : tie.Need-same-length Inv-loop μ-loop
+same-length c = search needs
+
+returns : tie.Need-returns Inv-loop μ-loop
+returns c =
+    let a = c .before .before .before .before .before .before .before .before .args in
+    let l = c .before .loop in
+    let z : a .count - l .k ≡ 0 = omega arith in
+    left-none _ _ _ _ _ (failsText (left (l .k) (a .count) (now (a .issues)) (now (a .froms)) (now (a .tos)) (now (a .lots)) (now (a .days)))) _ (omega arith)
+    (rw z refl) (l .inv .3)
+
+pub fails-spec : {M : Type 1} → statement M
+fails-spec =
+    tie.close
+    (tie.spec
+    Inv-loop
+    μ-loop
+    loop-holds
+    shared-slice-read-fail
+    shared-slice-read-fail-2
+    shared-slice-read-fail-3
+    mul-fail
+    shared-slice-read-fail-4
+    mul-fail-2
+    shared-slice-read-fail-5
+    fail-requires
+    add-k
+    loop-less
+    loop-again
+    same-length
+    returns)

@@ -1,0 +1,84 @@
+-- Invariant: the first i bytes of the part stand behind the first `at` of the text.
+use mathlib.Core.Path.{_≡_, refl, sym, ap, _∙_}
+use mathlib.Core.List.{List, _++_, append-nil}
+use Prim.Native.Nat.{ℕ, _≤_, _-_, _+_}
+use denote.Ref.{now}
+use lib.Seq.{take-length}
+use native.Mathlib.Omega.{arith}
+use native.Mathlib.Nat.{add-zero}
+use lib.ListN.{length, take, length-set}
+use Rattle.dayrun.proofs.Texts.{byte-more}
+use borrow.Author.Needs.{needs}
+use Rattle.dayrun.proofs.text.put.Statement.{statement}
+use Rattle.dayrun.proofs.text.put.Tie as tie
+
+abbrev Inv-loop : tie.InvT-loop
+Inv-loop text₀ at part i₀ text i =
+    (i ≤ length part) × (length text ≡ length text₀) × (take (at + i) text ≡ take at text₀ ++ take i part)
+
+abbrev μ-loop : tie.MeasureT-loop
+μ-loop text₀ at part i₀ text i = length part - i
+
+loop-holds : tie.Need-loop-holds Inv-loop μ-loop
+loop-holds c =
+    let t = now (c .args .text) in
+    (omega arith, refl, ap (λ (k : ℕ). take k t) (add-zero (c .args .at)) ∙ sym (append-nil (take (c .args .at) t)))
+
+shared-slice-read-text : tie.Need-shared-slice-read-text Inv-loop μ-loop
+shared-slice-read-text c = search needs
+
+add-text : tie.Need-add-text Inv-loop μ-loop
+add-text c = search needs
+
+slice-write-text : tie.Need-slice-write-text Inv-loop μ-loop
+slice-write-text c = search needs
+
+add-i : tie.Need-add-i Inv-loop μ-loop
+add-i c = search needs
+
+loop-less : tie.Need-loop-less Inv-loop μ-loop
+loop-less c = search needs
+
+loop-again : tie.Need-loop-again Inv-loop μ-loop
+loop-again c =
+    let s = c .before .before .before in
+    let l = c .before .before .loop in (
+      omega arith,
+      simp length-set (l .inv .1),
+      byte-more (now (s .args .text)) (l .text) (now (s .args .part)) (s .args .at) (l .i) (omega arith) (omega arith) (l .inv .2),
+    )
+
+add-result : tie.Need-add-result Inv-loop μ-loop
+add-result c = search needs
+
+same-length : tie.Need-same-length Inv-loop μ-loop
+same-length c = search needs
+
+returns : tie.Need-returns Inv-loop μ-loop
+returns c =
+    let s = c .before .before in
+    let l = c .before .loop in
+    let p = now (s .args .part) in
+    let e : l .i ≡ length p = omega arith in
+    record {
+      few = omega arith;
+      ends = omega arith;
+      front = l .inv .2 ∙ ap (λ (k : List ℕ). take (s .args .at) (now (s .args .text)) ++ k) (ap (λ (k : ℕ). take k p) e ∙ take-length p);
+    }
+
+pub put-spec : {M : Type 1} → statement M
+put-spec =
+    tie.close
+    (tie.spec
+    Inv-loop
+    μ-loop
+    loop-holds
+    shared-slice-read-text
+    add-text
+    slice-write-text
+    add-i
+    loop-less
+    loop-again
+    add-result
+    same-length
+    returns)

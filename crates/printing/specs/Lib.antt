@@ -1,4 +1,0 @@
--- What a run does and prints.
-pub mod Text
-pub mod Bytes
-pub mod Going
