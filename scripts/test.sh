@@ -27,5 +27,6 @@ step 'the test programs' cargo build --release --offline
 step 'value and charge beside the second engine' build/release/measures
 step 'entries beside the second engine' build/release/entries
 step 'the calls beside the second engine' build/release/calls
+step 'the program beside the second engine' build/release/tapes
 
 printf '%s\n' "$verdict"
