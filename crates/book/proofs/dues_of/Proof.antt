@@ -21,30 +21,6 @@ Inv-loop net dues₀ i₀ dues i = (i ≤ length net) × (length dues ≡ length
 abbrev μ-loop : tie.MeasureT-loop
 μ-loop net dues₀ i₀ dues i = length net - i
 
-loop-holds : tie.Need-loop-holds Inv-loop μ-loop
-loop-holds c = search needs
-
-mul-n : tie.Need-mul-n Inv-loop μ-loop
-mul-n c = search needs
-
-shared-slice-copy-out-n : tie.Need-shared-slice-copy-out-n Inv-loop μ-loop
-shared-slice-copy-out-n c = search needs
-
-due-requires : tie.Need-due-requires Inv-loop μ-loop
-due-requires c κs = search needs
-
-mul-dues : tie.Need-mul-dues Inv-loop μ-loop
-mul-dues c = search needs
-
-slice-write-dues : tie.Need-slice-write-dues Inv-loop μ-loop
-slice-write-dues c = search needs
-
-add-i : tie.Need-add-i Inv-loop μ-loop
-add-i c = search needs
-
-loop-less : tie.Need-loop-less Inv-loop μ-loop
-loop-less c = search needs
-
 loop-again : tie.Need-loop-again Inv-loop μ-loop
 loop-again c =
     let a = c .before .before .before .before .before .args in
@@ -52,9 +28,6 @@ loop-again c =
     let n = getD (now (a .net)) (l .i) (pos 0) in
     let d : c .due .result ≡ dueOf n = c .due .ensures ∙ ap dueOf (toZ-ofZ w32 n (search needs)) in
     (search needs, simp length-set (l .inv .1), rw d (fill-more dueOf (pos 0) (now (a .net)) (l .dues) (l .i) (omega arith) (omega arith) (l .inv .2)))
-
-same-length : tie.Need-same-length Inv-loop μ-loop
-same-length c = search needs
 
 returns : tie.Need-returns Inv-loop μ-loop
 returns c =
@@ -70,14 +43,14 @@ dues-of-spec =
     (tie.spec
     Inv-loop
     μ-loop
-    loop-holds
-    mul-n
-    shared-slice-copy-out-n
-    due-requires
-    mul-dues
-    slice-write-dues
-    add-i
-    loop-less
+    (λ c. search needs)
+    (λ c. search needs)
+    (λ c. search needs)
+    (λ c κs. search needs)
+    (λ c. search needs)
+    (λ c. search needs)
+    (λ c. search needs)
+    (λ c. search needs)
     loop-again
-    same-length
+    (λ c. search needs)
     returns)

@@ -19,9 +19,6 @@ lots c = toZ-pos w32 (c .args .x) (omega arith)
 fits : (c : tie.Start) → SFits w32 (c .args .n -ℤ pos (c .args .x))
 fits c = sum-fits w32 (c .args .n) (negℤ (pos (c .args .x))) (omega (arith, abs-neg (c .args .x)))
 
-cast-result : tie.Need-cast-result
-cast-result c = search needs
-
 sub-result : tie.Need-sub-result
 sub-result c = rw (same c, lots c) (fits c)
 
@@ -31,4 +28,4 @@ returns c =
     rw (same c, lots c, e) (record { value = refl; parts = lowered-parts (c .args .n) (c .args .x) })
 
 pub lowered-spec : {M : Type 1} → statement M
-lowered-spec = tie.close (tie.spec cast-result sub-result returns)
+lowered-spec = tie.close (tie.spec (λ c. search needs) sub-result returns)

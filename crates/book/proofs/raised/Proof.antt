@@ -19,9 +19,6 @@ lots c = toZ-pos w32 (c .args .x) (omega arith)
 fits : (c : tie.Start) → SFits w32 (c .args .n +ℤ pos (c .args .x))
 fits c = sum-fits w32 (c .args .n) (pos (c .args .x)) (omega arith)
 
-cast-result : tie.Need-cast-result
-cast-result c = search needs
-
 add-result : tie.Need-add-result
 add-result c = rw (same c, lots c) (fits c)
 
@@ -31,4 +28,4 @@ returns c =
     rw (same c, lots c, e) (record { value = refl; parts = raised-parts (c .args .n) (c .args .x) })
 
 pub raised-spec : {M : Type 1} → statement M
-raised-spec = tie.close (tie.spec cast-result add-result returns)
+raised-spec = tie.close (tie.spec (λ c. search needs) add-result returns)

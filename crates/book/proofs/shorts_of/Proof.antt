@@ -33,40 +33,10 @@ owes c =
     let ns = now (c .before .before .before .before .before .before .args .net) in
     c .owed .ensures ∙ ap owedOf (toZ-ofZ w32 (getD ns (c .before .before .before .loop .i) (pos 0)) (search needs))
 
-loop-holds : tie.Need-loop-holds Inv-loop μ-loop
-loop-holds c = search needs
-
-mul-n : tie.Need-mul-n Inv-loop μ-loop
-mul-n c = search needs
-
-shared-slice-copy-out-n : tie.Need-shared-slice-copy-out-n Inv-loop μ-loop
-shared-slice-copy-out-n c = search needs
-
-owed-requires : tie.Need-owed-requires Inv-loop μ-loop
-owed-requires c κs = search needs
-
-mul-short : tie.Need-mul-short Inv-loop μ-loop
-mul-short c = search needs
-
-shared-slice-read-short : tie.Need-shared-slice-read-short Inv-loop μ-loop
-shared-slice-read-short c = search needs
-
 sub-short : tie.Need-sub-short Inv-loop μ-loop
 sub-short c =
     let s = c .before .before .before .before .before .before .before in
     omega (arith, owes (c .before), s .pre .most (c .before .before .before .before .loop .i))
-
-mul-short-2 : tie.Need-mul-short-2 Inv-loop μ-loop
-mul-short-2 c = search needs
-
-slice-write-short : tie.Need-slice-write-short Inv-loop μ-loop
-slice-write-short c = search needs
-
-add-i : tie.Need-add-i Inv-loop μ-loop
-add-i c = search needs
-
-loop-less : tie.Need-loop-less Inv-loop μ-loop
-loop-less c = search needs
 
 loop-again : tie.Need-loop-again Inv-loop μ-loop
 loop-again c =
@@ -76,9 +46,6 @@ loop-again c =
       shorts-more (now (s .args .net)) (now (s .args .delivered)) (l .i) _ (l .short) _ (omega arith) (omega arith)
           (ap (λ z. z - getD (now (s .args .delivered)) (l .i) 0) (owes (c .before))) (l .inv .1),
     )
-
-same-length : tie.Need-same-length Inv-loop μ-loop
-same-length c = search needs
 
 returns : tie.Need-returns Inv-loop μ-loop
 returns c =
@@ -98,17 +65,17 @@ shorts-of-spec =
     (tie.spec
     Inv-loop
     μ-loop
-    loop-holds
-    mul-n
-    shared-slice-copy-out-n
-    owed-requires
-    mul-short
-    shared-slice-read-short
+    (λ c. search needs)
+    (λ c. search needs)
+    (λ c. search needs)
+    (λ c κs. search needs)
+    (λ c. search needs)
+    (λ c. search needs)
     sub-short
-    mul-short-2
-    slice-write-short
-    add-i
-    loop-less
+    (λ c. search needs)
+    (λ c. search needs)
+    (λ c. search needs)
+    (λ c. search needs)
     loop-again
-    same-length
+    (λ c. search needs)
     returns)

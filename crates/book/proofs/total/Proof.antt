@@ -16,26 +16,11 @@ Inv-loop d t₀ i₀ t i = t + sum (drop i d) ≡ sum d
 abbrev μ-loop : tie.MeasureT-loop
 μ-loop d t₀ i₀ t i = length d - i
 
-loop-holds : tie.Need-loop-holds Inv-loop μ-loop
-loop-holds c = search needs
-
-mul-t : tie.Need-mul-t Inv-loop μ-loop
-mul-t c = search needs
-
-shared-slice-read-t : tie.Need-shared-slice-read-t Inv-loop μ-loop
-shared-slice-read-t c = search needs
-
 add-t : tie.Need-add-t Inv-loop μ-loop
 add-t c =
     let d = now (c .before .before .before .args .d) in
     let l = c .before .before .loop in
     omega (arith, l .inv, sum-at d (l .i) (omega arith), c .before .before .before .pre)
-
-add-i : tie.Need-add-i Inv-loop μ-loop
-add-i c = search needs
-
-loop-less : tie.Need-loop-less Inv-loop μ-loop
-loop-less c = search needs
 
 loop-again : tie.Need-loop-again Inv-loop μ-loop
 loop-again c =
@@ -55,11 +40,11 @@ total-spec =
     (tie.spec
     Inv-loop
     μ-loop
-    loop-holds
-    mul-t
-    shared-slice-read-t
+    (λ c. search needs)
+    (λ c. search needs)
+    (λ c. search needs)
     add-t
-    add-i
-    loop-less
+    (λ c. search needs)
+    (λ c. search needs)
     loop-again
     returns)

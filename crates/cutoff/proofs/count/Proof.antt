@@ -22,9 +22,6 @@ abbrev μ-loop : tie.MeasureT-loop
 loop-holds : tie.Need-loop-holds Inv-loop μ-loop
 loop-holds c = (search needs, search needs, (λ today. omega arith))
 
-count-issue-requires : tie.Need-count-issue-requires Inv-loop μ-loop
-count-issue-requires c κs = search needs
-
 -- an issue's fails are few
 one : (c : tie.After-count-issue Inv-loop μ-loop) → c .count-issue .result ≤ 126
 one c =
@@ -38,12 +35,6 @@ one c =
 
 add-n : tie.Need-add-n Inv-loop μ-loop
 add-n c = omega (arith, one c)
-
-add-i : tie.Need-add-i Inv-loop μ-loop
-add-i c = search needs
-
-loop-less : tie.Need-loop-less Inv-loop μ-loop
-loop-less c = search needs
 
 loop-again : tie.Need-loop-again Inv-loop μ-loop
 loop-again c =
@@ -79,9 +70,9 @@ count-spec =
     Inv-loop
     μ-loop
     loop-holds
-    count-issue-requires
+    (λ c κs. search needs)
     add-n
-    add-i
-    loop-less
+    (λ c. search needs)
+    (λ c. search needs)
     loop-again
     returns)

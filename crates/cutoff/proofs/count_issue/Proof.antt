@@ -8,21 +8,6 @@ use Rattle.cutoff.proofs.Issues.{few}
 use Rattle.cutoff.proofs.count_issue.Statement.{statement}
 use Rattle.cutoff.proofs.count_issue.Tie as tie
 
-slice-aggregate-prepare : tie.Need-slice-aggregate-prepare
-slice-aggregate-prepare c = search needs
-
-slice-aggregate-prepare-2 : tie.Need-slice-aggregate-prepare-2
-slice-aggregate-prepare-2 c = search needs
-
-prepare-requires : tie.Need-prepare-requires
-prepare-requires c κs = search needs
-
-slice-aggregate-count : tie.Need-slice-aggregate-count
-slice-aggregate-count c = search needs
-
-slice-aggregate-count-2 : tie.Need-slice-aggregate-count-2
-slice-aggregate-count-2 c = search needs
-
 count-requires : tie.Need-count-requires
 count-requires c κs =
     let s = c .before .before .before .before .before .before .before .before .before in
@@ -39,10 +24,10 @@ pub count-issue-spec : {M : Type 1} → statement M
 count-issue-spec =
     tie.close
     (tie.spec
-    slice-aggregate-prepare
-    slice-aggregate-prepare-2
-    prepare-requires
-    slice-aggregate-count
-    slice-aggregate-count-2
+    (λ c. search needs)
+    (λ c. search needs)
+    (λ c κs. search needs)
+    (λ c. search needs)
+    (λ c. search needs)
     count-requires
     returns)

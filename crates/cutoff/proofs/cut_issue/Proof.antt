@@ -9,18 +9,6 @@ use Rattle.cutoff.proofs.Cutting.{can-hand, can-lay, was-cut}
 use Rattle.cutoff.proofs.cut_issue.Statement.{statement}
 use Rattle.cutoff.proofs.cut_issue.Tie as tie
 
-slice-aggregate-prepare : tie.Need-slice-aggregate-prepare
-slice-aggregate-prepare c = search needs
-
-slice-aggregate-prepare-2 : tie.Need-slice-aggregate-prepare-2
-slice-aggregate-prepare-2 c = search needs
-
-prepare-requires : tie.Need-prepare-requires
-prepare-requires c κs = search needs
-
-cast-hand-stock : tie.Need-cast-hand-stock
-cast-hand-stock c = search needs
-
 hand-stock-requires : tie.Need-hand-stock-requires
 hand-stock-requires c κs =
     let s = c .before .before .before .before .before .before .before .before .before .before .before .before .before .before in
@@ -29,15 +17,6 @@ hand-stock-requires c κs =
     can-hand (now (a .nets)) (now (a .delivered)) (a .day) (a .i) (a .n) (a .w)
     (lent (now (a .issues)) (now (a .froms)) (now (a .tos)) (now (a .lots)) (now (a .days)) (now (a .out)))
     (s .pre) (p .last .1 .1 .1 .0) (p .last .1 .1 .1 .1 .0) (p .result) (p .ensures)
-
-slice-aggregate-lay : tie.Need-slice-aggregate-lay
-slice-aggregate-lay c = search needs
-
-slice-aggregate-lay-2 : tie.Need-slice-aggregate-lay-2
-slice-aggregate-lay-2 c = search needs
-
-cast-lay : tie.Need-cast-lay
-cast-lay c = search needs
 
 lay-requires : tie.Need-lay-requires
 lay-requires c κs =
@@ -49,9 +28,6 @@ lay-requires c κs =
     (lent (now (a .issues)) (now (a .froms)) (now (a .tos)) (now (a .lots)) (now (a .days)) (now (a .out)))
     (s .pre) (p .last .1 .1 .1 .0) (p .last .1 .1 .1 .1 .0) (p .result) (p .ensures)
     (h .result) (h .last .0) (h .ensures) (h .kept .0)
-
-add-t44 : tie.Need-add-t44
-add-t44 c = search needs
 
 -- the issue's entries and records were written
 written : (c : tie.After-slice-known13) →
@@ -78,24 +54,6 @@ written c =
 add-t45 : tie.Need-add-t45
 add-t45 c = omega (arith, written c .records, c .before .before .before .before .before .before .before .before .before .before .before .before .before .before .before .before .before .before .before .before .before .before .before .before .before .before .before .before .before .before .before .before .before .before .before .before .before .before .pre .write .room)
 
-same-length : tie.Need-same-length
-same-length c = search needs
-
-same-length-2 : tie.Need-same-length-2
-same-length-2 c = search needs
-
-same-length-3 : tie.Need-same-length-3
-same-length-3 c = search needs
-
-same-length-4 : tie.Need-same-length-4
-same-length-4 c = search needs
-
-same-length-5 : tie.Need-same-length-5
-same-length-5 c = search needs
-
-same-length-6 : tie.Need-same-length-6
-same-length-6 c = search needs
-
 returns : tie.Need-returns
 returns c = written c
 
@@ -103,21 +61,21 @@ pub cut-issue-spec : {M : Type 1} → statement M
 cut-issue-spec =
     tie.close
     (tie.spec
-    slice-aggregate-prepare
-    slice-aggregate-prepare-2
-    prepare-requires
-    cast-hand-stock
+    (λ c. search needs)
+    (λ c. search needs)
+    (λ c κs. search needs)
+    (λ c. search needs)
     hand-stock-requires
-    slice-aggregate-lay
-    slice-aggregate-lay-2
-    cast-lay
+    (λ c. search needs)
+    (λ c. search needs)
+    (λ c. search needs)
     lay-requires
-    add-t44
+    (λ c. search needs)
     add-t45
-    same-length
-    same-length-2
-    same-length-3
-    same-length-4
-    same-length-5
-    same-length-6
+    (λ c. search needs)
+    (λ c. search needs)
+    (λ c. search needs)
+    (λ c. search needs)
+    (λ c. search needs)
+    (λ c. search needs)
     returns)

@@ -66,9 +66,6 @@ returns c =
     let b = c .before .before .args .t1 in
     too-short b (new b) (now (c .before .before .args .out)) (recs b) (asks b) (c .if1 .taken)
 
-sound-requires : tie.Need-sound-requires
-sound-requires c κs = search needs
-
 returns-2 : tie.Need-returns-2
 unfolding cutoff
 returns-2 c =
@@ -91,18 +88,6 @@ returns-3 c =
     own-no b (new b) (now (a .out)) (recs b) (asks b) (e .before .before .if1 .left) (c .before .cutoff-asks .result) (is-sound e)
     (c .before .cutoff-asks .ensures (b .day)) (c .if3 .taken)
 
-slice-aggregate-cutoff-in : tie.Need-slice-aggregate-cutoff-in
-slice-aggregate-cutoff-in c = search needs
-
-slice-aggregate-cutoff-in-2 : tie.Need-slice-aggregate-cutoff-in-2
-slice-aggregate-cutoff-in-2 c = search needs
-
-slice-aggregate-cutoff-in-3 : tie.Need-slice-aggregate-cutoff-in-3
-slice-aggregate-cutoff-in-3 c = search needs
-
-slice-aggregate-cutoff-in-4 : tie.Need-slice-aggregate-cutoff-in-4
-slice-aggregate-cutoff-in-4 c = search needs
-
 slice-aggregate-cutoff-in-5 : tie.Need-slice-aggregate-cutoff-in-5
 slice-aggregate-cutoff-in-5 c = sym (full (c .before .before .before .before .before .before .before .before .before .before .before .before .before .before .before .before .before .before .before .before .before .before .before .before .before .before) .days)
 
@@ -112,15 +97,6 @@ cutoff-in-requires c κs =
     let e = asked (k .before) in
     let a = start e .args in
     can-cut-all (a .t1) (parts e) (now (a .out)) (sound-of e) (full (start e)) (e .before .before .if1 .left) (answered k)
-
-with-columns-requires : tie.Need-with-columns-requires
-with-columns-requires c κs = search needs
-
-with-day-requires : tie.Need-with-day-requires
-with-day-requires c κs = search needs
-
-same-length : tie.Need-same-length
-same-length c = search needs
 
 returns-4 : tie.Need-returns-4
 unfolding cutoff
@@ -142,17 +118,17 @@ cutoff-spec =
     tie.close
     (tie.spec
     returns
-    sound-requires
+    (λ c κs. search needs)
     returns-2
     cutoff-asks-requires
     returns-3
-    slice-aggregate-cutoff-in
-    slice-aggregate-cutoff-in-2
-    slice-aggregate-cutoff-in-3
-    slice-aggregate-cutoff-in-4
+    (λ c. search needs)
+    (λ c. search needs)
+    (λ c. search needs)
+    (λ c. search needs)
     slice-aggregate-cutoff-in-5
     cutoff-in-requires
-    with-columns-requires
-    with-day-requires
-    same-length
+    (λ c κs. search needs)
+    (λ c κs. search needs)
+    (λ c. search needs)
     returns-4)

@@ -9,9 +9,6 @@ use Rattle.cutoff.proofs.Going.{no-phase, no-room, all-yes}
 use Rattle.cutoff.proofs.cutoff_asks.Statement.{statement}
 use Rattle.cutoff.proofs.cutoff_asks.Tie as tie
 
-settling-requires : tie.Need-settling-requires
-settling-requires c κs = search needs
-
 right : (c : tie.Else1) → isSettling (c .before .before .before .args .phase) ≡ true
 right c = sym (c .before .settling .ensures) ∙ not-false _ (c .if1 .left)
 
@@ -19,12 +16,6 @@ returns : tie.Need-returns
 returns c =
     let a = c .before .before .before .args in
     no-phase (a .phase) (a .old) (now (a .nets)) (now (a .delivered)) (sym (c .before .settling .ensures) ∙ not-true _ (c .if1 .taken))
-
-count-requires : tie.Need-count-requires
-count-requires c κs = search needs
-
-add-if2 : tie.Need-add-if2
-add-if2 c = search needs
 
 returns-2 : tie.Need-returns-2
 returns-2 c =
@@ -40,4 +31,4 @@ returns-3 c =
 
 pub cutoff-asks-spec : {M : Type 1} → statement M
 cutoff-asks-spec =
-    tie.close (tie.spec settling-requires returns count-requires add-if2 returns-2 returns-3)
+    tie.close (tie.spec (λ c κs. search needs) returns (λ c κs. search needs) (λ c. search needs) returns-2 returns-3)

@@ -10,15 +10,6 @@ returns c =
     let a = c .before .before .args in
     handed-none (a .i) (a .to) (a .lots) (a .w) (now (a .out)) (c .if1 .taken)
 
-record-at-requires : tie.Need-record-at-requires
-record-at-requires c κs = search needs
-
-add-result : tie.Need-add-result
-add-result c = search needs
-
-same-length : tie.Need-same-length
-same-length c = search needs
-
 returns-2 : tie.Need-returns-2
 returns-2 c =
     let a = c .before .before .before .before .before .before .args in
@@ -26,4 +17,4 @@ returns-2 c =
     handed-one (a .i) (a .to) (a .lots) (a .w) (now (a .out)) (o .last .0) (c .before .before .before .before .if1 .left) (o .ensures)
 
 pub hand-stock-spec : {M : Type 1} → statement M
-hand-stock-spec = tie.close (tie.spec returns record-at-requires add-result same-length returns-2)
+hand-stock-spec = tie.close (tie.spec returns (λ c κs. search needs) (λ c. search needs) (λ c. search needs) returns-2)

@@ -7,42 +7,12 @@ use Rattle.cutoff.proofs.Issues.{can-order, total-small, owing, ready}
 use Rattle.cutoff.proofs.prepare.Statement.{statement}
 use Rattle.cutoff.proofs.prepare.Tie as tie
 
-mul-s : tie.Need-mul-s
-mul-s c = search needs
-
-add-e : tie.Need-add-e
-add-e c = search needs
-
-mul-prepare : tie.Need-mul-prepare
-mul-prepare c = search needs
-
-sub-prepare : tie.Need-sub-prepare
-sub-prepare c = search needs
-
-part-prepare-start : tie.Need-part-prepare-start
-part-prepare-start c = search needs
-
-part-prepare-end : tie.Need-part-prepare-end
-part-prepare-end c = search needs
-
 prepare-requires : tie.Need-prepare-requires
 prepare-requires c κs =
     let s = c .before .before .before .before .before in
     let a = s .args in
     row-can (now (a .nets)) (a .i) _ _ (row-part (now (a .nets)) (a .i))
     (can-order (now (a .nets)) (now (a .delivered)) (a .i) (s .pre .issue) (s .pre .sound)) (s .pre .held)
-
-mul-total : tie.Need-mul-total
-mul-total c = search needs
-
-sub-total : tie.Need-sub-total
-sub-total c = search needs
-
-part-total-start : tie.Need-part-total-start
-part-total-start c = search needs
-
-part-total-end : tie.Need-part-total-end
-part-total-end c = search needs
 
 total-requires : tie.Need-total-requires
 total-requires c κs =
@@ -51,45 +21,12 @@ total-requires c κs =
     total-small (now (a .nets)) (now (a .delivered)) (a .i) (s .pre .issue) (s .pre .sound) _ _
     (row-part (now (a .nets)) (a .i)) (row-part (now (a .delivered)) (a .i))
 
-mul-shorts-of : tie.Need-mul-shorts-of
-mul-shorts-of c = search needs
-
-sub-shorts-of : tie.Need-sub-shorts-of
-sub-shorts-of c = search needs
-
-part-shorts-of-start : tie.Need-part-shorts-of-start
-part-shorts-of-start c = search needs
-
-part-shorts-of-end : tie.Need-part-shorts-of-end
-part-shorts-of-end c = search needs
-
-mul-shorts-of-2 : tie.Need-mul-shorts-of-2
-mul-shorts-of-2 c = search needs
-
-sub-shorts-of-2 : tie.Need-sub-shorts-of-2
-sub-shorts-of-2 c = search needs
-
-part-shorts-of-start-2 : tie.Need-part-shorts-of-start-2
-part-shorts-of-start-2 c = search needs
-
-part-shorts-of-end-2 : tie.Need-part-shorts-of-end-2
-part-shorts-of-end-2 c = search needs
-
 shorts-of-requires : tie.Need-shorts-of-requires
 shorts-of-requires c κs =
     let s = c .before .before .before .before .before .before .before .before .before .before .before .before .before in
     let a = s .args in
     owing (now (a .nets)) (now (a .delivered)) (a .i) (s .pre .issue) (s .pre .sound) _ _
     (row-part (now (a .nets)) (a .i)) (row-part (now (a .delivered)) (a .i)) _ (s .pre .accounts)
-
-start-requires : tie.Need-start-requires
-start-requires c κs = search needs
-
-same-length : tie.Need-same-length
-same-length c = search needs
-
-same-length-2 : tie.Need-same-length-2
-same-length-2 c = search needs
 
 returns : tie.Need-returns
 returns c =
@@ -108,28 +45,28 @@ pub prepare-spec : {M : Type 1} → statement M
 prepare-spec =
     tie.close
     (tie.spec
-    mul-s
-    add-e
-    mul-prepare
-    sub-prepare
-    part-prepare-start
-    part-prepare-end
+    (λ c. search needs)
+    (λ c. search needs)
+    (λ c. search needs)
+    (λ c. search needs)
+    (λ c. search needs)
+    (λ c. search needs)
     prepare-requires
-    mul-total
-    sub-total
-    part-total-start
-    part-total-end
+    (λ c. search needs)
+    (λ c. search needs)
+    (λ c. search needs)
+    (λ c. search needs)
     total-requires
-    mul-shorts-of
-    sub-shorts-of
-    part-shorts-of-start
-    part-shorts-of-end
-    mul-shorts-of-2
-    sub-shorts-of-2
-    part-shorts-of-start-2
-    part-shorts-of-end-2
+    (λ c. search needs)
+    (λ c. search needs)
+    (λ c. search needs)
+    (λ c. search needs)
+    (λ c. search needs)
+    (λ c. search needs)
+    (λ c. search needs)
+    (λ c. search needs)
     shorts-of-requires
-    start-requires
-    same-length
-    same-length-2
+    (λ c κs. search needs)
+    (λ c. search needs)
+    (λ c. search needs)
     returns)

@@ -36,14 +36,6 @@ there c =
       within = omega (arith, r .fits, c .before .before .bytes .given, s .pre .0 .input);
     }
 
--- src/main.rt:51:9
-next-requires : tie.Need-next-requires
-next-requires c κs = search needs
-
--- src/main.rt:56:9
-slice-reshare-prefix-run : tie.Need-slice-reshare-prefix-run
-slice-reshare-prefix-run c = search needs
-
 -- src/main.rt:56:9
 slice-aggregate-run : tie.Need-slice-aggregate-run
 slice-aggregate-run c =
@@ -77,46 +69,6 @@ same-length c =
 same-length-2 : tie.Need-same-length-2
 same-length-2 c =
     omega (arith, c .before .before .before .before .before .before .before .before .before .before .before .before .before .before .before .before .before .before .before .before .before .before .before .before .before .before .before .before .before .before .before .before .before .before .before .before .words .given)
-
--- src/main.rt:32:1
-same-length-3 : tie.Need-same-length-3
-same-length-3 c = search needs
-
--- src/main.rt:32:1
-same-length-4 : tie.Need-same-length-4
-same-length-4 c = search needs
-
--- src/main.rt:32:1
-same-length-5 : tie.Need-same-length-5
-same-length-5 c = search needs
-
--- src/main.rt:32:1
-same-length-6 : tie.Need-same-length-6
-same-length-6 c = search needs
-
--- src/main.rt:32:1
-same-length-7 : tie.Need-same-length-7
-same-length-7 c = search needs
-
--- src/main.rt:32:1
-same-length-8 : tie.Need-same-length-8
-same-length-8 c = search needs
-
--- src/main.rt:32:1
-same-length-9 : tie.Need-same-length-9
-same-length-9 c = search needs
-
--- src/main.rt:32:1
-same-length-10 : tie.Need-same-length-10
-same-length-10 c = search needs
-
--- src/main.rt:32:1
-same-length-11 : tie.Need-same-length-11
-same-length-11 c = search needs
-
--- src/main.rt:32:1
-same-length-12 : tie.Need-same-length-12
-same-length-12 c = search needs
 
 -- src/main.rt:32:1
 returns : tie.Need-returns
@@ -162,22 +114,22 @@ pub part-spec : {M : Type 1} → statement M
 part-spec =
     tie.close
     (tie.spec
-    next-requires
-    slice-reshare-prefix-run
+    (λ c κs. search needs)
+    (λ c. search needs)
     slice-aggregate-run
     run-requires
     mul-t25
     add-t49
     same-length
     same-length-2
-    same-length-3
-    same-length-4
-    same-length-5
-    same-length-6
-    same-length-7
-    same-length-8
-    same-length-9
-    same-length-10
-    same-length-11
-    same-length-12
+    (λ c. search needs)
+    (λ c. search needs)
+    (λ c. search needs)
+    (λ c. search needs)
+    (λ c. search needs)
+    (λ c. search needs)
+    (λ c. search needs)
+    (λ c. search needs)
+    (λ c. search needs)
+    (λ c. search needs)
     returns)

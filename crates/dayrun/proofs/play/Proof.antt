@@ -33,10 +33,6 @@ loop-holds c =
     let s = c .before .before .before .before .before .before .before .before .before .before in
     (s .pre .0, record { order = omega arith; within = omega arith }, s .pre .1, refl, omega arith, omega arith)
 
--- src/main.rt:124:9
-sub-turns : tie.Need-sub-turns Inv-loop μ-loop
-sub-turns c = search needs
-
 -- src/main.rt:125:9
 part-requires : tie.Need-part-requires Inv-loop μ-loop
 part-requires c κs =
@@ -54,10 +50,6 @@ slice-aggregate-write-all : tie.Need-slice-aggregate-write-all Inv-loop μ-loop
 slice-aggregate-write-all c =
     let t = c .before .before .before .before .before .before .before .before .before .before .before .before .before .before .before .before .before .before .before .before .before .before .before .part in
     sym (length-take-le (t .result .length) (t .last .1 .1 .1 .0) (omega (arith, t .ensures .0 .length, t .ensures .1 .lines)))
-
--- src/main.rt:129:9
-write-all-requires : tie.Need-write-all-requires Inv-loop μ-loop
-write-all-requires c κs = search needs
 
 -- src/main.rt:123:5
 loop-less : tie.Need-loop-less Inv-loop μ-loop
@@ -96,54 +88,6 @@ loop-again-2 c =
     )
 
 -- src/main.rt:91:1
-same-length : tie.Need-same-length Inv-loop μ-loop
-same-length c = search needs
-
--- src/main.rt:91:1
-same-length-2 : tie.Need-same-length-2 Inv-loop μ-loop
-same-length-2 c = search needs
-
--- src/main.rt:91:1
-same-length-3 : tie.Need-same-length-3 Inv-loop μ-loop
-same-length-3 c = search needs
-
--- src/main.rt:91:1
-same-length-4 : tie.Need-same-length-4 Inv-loop μ-loop
-same-length-4 c = search needs
-
--- src/main.rt:91:1
-same-length-5 : tie.Need-same-length-5 Inv-loop μ-loop
-same-length-5 c = search needs
-
--- src/main.rt:91:1
-same-length-6 : tie.Need-same-length-6 Inv-loop μ-loop
-same-length-6 c = search needs
-
--- src/main.rt:91:1
-same-length-7 : tie.Need-same-length-7 Inv-loop μ-loop
-same-length-7 c = search needs
-
--- src/main.rt:91:1
-same-length-8 : tie.Need-same-length-8 Inv-loop μ-loop
-same-length-8 c = search needs
-
--- src/main.rt:91:1
-same-length-9 : tie.Need-same-length-9 Inv-loop μ-loop
-same-length-9 c = search needs
-
--- src/main.rt:91:1
-same-length-10 : tie.Need-same-length-10 Inv-loop μ-loop
-same-length-10 c = search needs
-
--- src/main.rt:91:1
-same-length-11 : tie.Need-same-length-11 Inv-loop μ-loop
-same-length-11 c = search needs
-
--- src/main.rt:91:1
-same-length-12 : tie.Need-same-length-12 Inv-loop μ-loop
-same-length-12 c = search needs
-
--- src/main.rt:91:1
 returns : tie.Need-returns Inv-loop μ-loop
 returns c =
     c .before .before .loop .inv .5
@@ -155,25 +99,25 @@ play-spec =
     Inv-loop
     μ-loop
     loop-holds
-    sub-turns
+    (λ c. search needs)
     part-requires
     slice-reshare-prefix-write-all
     slice-aggregate-write-all
-    write-all-requires
+    (λ c κs. search needs)
     loop-less
     loop-again
     loop-less-2
     loop-again-2
-    same-length
-    same-length-2
-    same-length-3
-    same-length-4
-    same-length-5
-    same-length-6
-    same-length-7
-    same-length-8
-    same-length-9
-    same-length-10
-    same-length-11
-    same-length-12
+    (λ c. search needs)
+    (λ c. search needs)
+    (λ c. search needs)
+    (λ c. search needs)
+    (λ c. search needs)
+    (λ c. search needs)
+    (λ c. search needs)
+    (λ c. search needs)
+    (λ c. search needs)
+    (λ c. search needs)
+    (λ c. search needs)
+    (λ c. search needs)
     returns)

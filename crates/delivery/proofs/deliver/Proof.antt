@@ -56,9 +56,6 @@ returns c =
     too-short b (new b (a .i) (a .a) (a .x)) (now (a .out)) (deliverRecords (b .nets) (b .delivered) (a .i) (a .x)) (asks b (a .i) (a .a) (a .x))
     (c .if1 .taken)
 
-sound-requires : tie.Need-sound-requires
-sound-requires c κs = search needs
-
 returns-2 : tie.Need-returns-2
 unfolding deliver
 returns-2 c =
@@ -82,21 +79,12 @@ returns-3 c =
     own-no b (new b (a .i) (a .a) (a .x)) (now (a .out)) (deliverRecords (b .nets) (b .delivered) (a .i) (a .x)) (asks b (a .i) (a .a) (a .x))
     (e .before .before .if1 .left) (c .before .deliver-asks .result) (is-sound e) (c .before .deliver-asks .ensures) (c .if3 .taken)
 
-slice-aggregate-deliver-in : tie.Need-slice-aggregate-deliver-in
-slice-aggregate-deliver-in c = search needs
-
 deliver-in-requires : tie.Need-deliver-in-requires
 deliver-in-requires c κs =
     let k = c .before .before .before .before .before .before in
     let e = asked (k .before) in
     let a = start e .args in
     can-deliver (a .t1) (parts e) (search needs) (search needs) (a .i) (a .a) (a .x) (now (a .out)) (answered k) (e .before .before .if1 .left)
-
-with-delivered-requires : tie.Need-with-delivered-requires
-with-delivered-requires c κs = search needs
-
-same-length : tie.Need-same-length
-same-length c = search needs
 
 returns-4 : tie.Need-returns-4
 unfolding deliver
@@ -115,12 +103,12 @@ deliver-spec =
     tie.close
     (tie.spec
     returns
-    sound-requires
+    (λ c κs. search needs)
     returns-2
     deliver-asks-requires
     returns-3
-    slice-aggregate-deliver-in
+    (λ c. search needs)
     deliver-in-requires
-    with-delivered-requires
-    same-length
+    (λ c κs. search needs)
+    (λ c. search needs)
     returns-4)

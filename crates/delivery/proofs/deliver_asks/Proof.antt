@@ -37,9 +37,6 @@ owes c =
     let s = c .before .before .before .before .before .before .before .before .before in
     c .owed .ensures ∙ ap owedOf (toZ-ofZ w32 (netAt (now (s .args .nets)) (s .args .i) (s .args .a)) (search needs))
 
-settling-requires : tie.Need-settling-requires
-settling-requires c κs = search needs
-
 -- src/lib.rt:60:9
 returns : tie.Need-returns
 returns c = simp (sym (c .before .settling .ensures) ∙ not-true _ (c .if1 .taken))
@@ -52,10 +49,6 @@ returns-2 c = simp (yes3 (c .before), lt-leb _ 15 (c .if2 .taken))
 returns-3 : tie.Need-returns-3
 returns-3 c = simp (yes3 (c .before .before), le-leb _ 15 (c .before .if2 .left), lt-leb _ 63 (c .if3 .taken))
 
--- src/lib.rt:68:9
-lots-right-requires : tie.Need-lots-right-requires
-lots-right-requires c κs = search needs
-
 -- src/lib.rt:69:9
 returns-4 : tie.Need-returns-4
 returns-4 c =
@@ -66,34 +59,6 @@ returns-4 c =
       le-leb _ 63 (k .if3 .left),
       sym (c .before .lots-right .ensures) ∙ not-true _ (c .if4 .taken),
     )
-
--- src/lib.rt:71:14
-mul-at : tie.Need-mul-at
-mul-at c = search needs
-
--- src/lib.rt:71:14
-add-at : tie.Need-add-at
-add-at c = search needs
-
--- src/lib.rt:72:13
-mul-n : tie.Need-mul-n
-mul-n c = search needs
-
--- src/lib.rt:72:13
-shared-slice-copy-out-n : tie.Need-shared-slice-copy-out-n
-shared-slice-copy-out-n c = search needs
-
--- src/lib.rt:73:8
-owed-requires : tie.Need-owed-requires
-owed-requires c κs = search needs
-
--- src/lib.rt:73:24
-mul-if5 : tie.Need-mul-if5
-mul-if5 c = search needs
-
--- src/lib.rt:73:24
-shared-slice-read-if5 : tie.Need-shared-slice-read-if5
-shared-slice-read-if5 c = search needs
 
 -- src/lib.rt:73:24
 add-if5 : tie.Need-add-if5
@@ -121,19 +86,19 @@ pub deliver-asks-spec : {M : Type 1} → statement M
 deliver-asks-spec =
     tie.close
     (tie.spec
-    settling-requires
+    (λ c κs. search needs)
     returns
     returns-2
     returns-3
-    lots-right-requires
+    (λ c κs. search needs)
     returns-4
-    mul-at
-    add-at
-    mul-n
-    shared-slice-copy-out-n
-    owed-requires
-    mul-if5
-    shared-slice-read-if5
+    (λ c. search needs)
+    (λ c. search needs)
+    (λ c. search needs)
+    (λ c. search needs)
+    (λ c κs. search needs)
+    (λ c. search needs)
+    (λ c. search needs)
     add-if5
     returns-5
     returns-6)

@@ -35,29 +35,6 @@ found : (c : tie.After-known-told Inv-loop μ-loop) →
     ≡ foundOf (drop (s .args .c + c .before .before .before .before .before .loop .m) (unitsIn (now (s .args .runs)) (s .args .n)))
 found c = sym (c .before .to .given .1) ∙ c .before .before .before .unit-at .ensures
 
-loop-holds : tie.Need-loop-holds Inv-loop μ-loop
-loop-holds c = search needs
-
--- src/lib.rt:15:65
-cast-unit-at : tie.Need-cast-unit-at Inv-loop μ-loop
-cast-unit-at c = search needs
-
--- src/lib.rt:15:61
-add-unit-at : tie.Need-add-unit-at Inv-loop μ-loop
-add-unit-at c = search needs
-
--- src/lib.rt:15:37
-unit-at-requires : tie.Need-unit-at-requires Inv-loop μ-loop
-unit-at-requires c κs = search needs
-
--- src/lib.rt:15:25
-enum-known-to : tie.Need-enum-known-to Inv-loop μ-loop
-enum-known-to c = search needs
-
--- src/lib.rt:16:13
-same-length : tie.Need-same-length Inv-loop μ-loop
-same-length c = search needs
-
 -- src/lib.rt:16:13
 returns : tie.Need-returns Inv-loop μ-loop
 returns c =
@@ -78,14 +55,6 @@ record-at-requires c κs =
       lots = omega (arith, f .1);
     }
 
--- src/lib.rt:19:9
-add-m : tie.Need-add-m Inv-loop μ-loop
-add-m c = search needs
-
--- src/lib.rt:14:5
-loop-less : tie.Need-loop-less Inv-loop μ-loop
-loop-less c = search needs
-
 -- src/lib.rt:14:5
 loop-again : tie.Need-loop-again Inv-loop μ-loop
 loop-again c =
@@ -98,10 +67,6 @@ loop-again c =
     let n = hand-length us (s .args .i) (s .args .c) (l .m) (omega (arith, s .pre .there)) in
     let e = record-more rs r (l .m) (now (s .args .out)) (l .out) _ (sym n) (omega (arith, s .pre .room)) (l .inv .2) (c .before .before .record-at .ensures) in
     (omega arith, ap length e ∙ records-length (rs ++ (r ∷ [])) (now (s .args .out)) (omega (arith, length-append rs (r ∷ []), s .pre .room)), rw (hand-more us (s .args .i) (s .args .c) (l .m) _ _ (found k)) e)
-
--- src/lib.rt:9:1
-same-length-2 : tie.Need-same-length-2 Inv-loop μ-loop
-same-length-2 c = search needs
 
 -- src/lib.rt:9:1
 returns-2 : tie.Need-returns-2 Inv-loop μ-loop
@@ -117,16 +82,16 @@ hand-spec =
     (tie.spec
     Inv-loop
     μ-loop
-    loop-holds
-    cast-unit-at
-    add-unit-at
-    unit-at-requires
-    enum-known-to
-    same-length
+    (λ c. search needs)
+    (λ c. search needs)
+    (λ c. search needs)
+    (λ c κs. search needs)
+    (λ c. search needs)
+    (λ c. search needs)
     returns
     record-at-requires
-    add-m
-    loop-less
+    (λ c. search needs)
+    (λ c. search needs)
     loop-again
-    same-length-2
+    (λ c. search needs)
     returns-2)

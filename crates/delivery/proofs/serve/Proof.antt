@@ -29,30 +29,15 @@ counts c =
     counted _ _ (s .args .d) (s .args .x) _ _ (c .before .before .before .before .before .prepare .ensures .units)
     (c .before .before .handover .ensures .covers) (c .handover2 .ensures .covers)
 
-slice-aggregate-prepare : tie.Need-slice-aggregate-prepare
-slice-aggregate-prepare c = search needs
-
 -- src/lib.rt:29:9
 prepare-requires : tie.Need-prepare-requires
 prepare-requires c κs =
     let s = c .before .before in
     record { accounts = s .pre .accounts; held = omega arith; small = s .pre .size }
 
--- src/lib.rt:30:34
-slice-aggregate-handover : tie.Need-slice-aggregate-handover
-slice-aggregate-handover c = search needs
-
 -- src/lib.rt:30:9
 handover-requires : tie.Need-handover-requires
 handover-requires c κs = let p = c .before .before .prepare .ensures in (p .held, p .few)
-
--- src/lib.rt:31:33
-slice-aggregate-handover-2 : tie.Need-slice-aggregate-handover-2
-slice-aggregate-handover-2 c = search needs
-
--- src/lib.rt:31:43
-add-handover : tie.Need-add-handover
-add-handover c = search needs
 
 -- src/lib.rt:31:9
 handover-requires-2 : tie.Need-handover-requires-2
@@ -61,14 +46,6 @@ handover-requires-2 c κs = let p = c .before .before .before .before .prepare .
 -- src/lib.rt:33:16
 sub-new : tie.Need-sub-new
 sub-new c = counts (c .before) .up
-
--- src/lib.rt:33:15
-cast-new : tie.Need-cast-new
-cast-new c = search needs
-
--- src/lib.rt:34:10
-slice-aggregate-hand : tie.Need-slice-aggregate-hand
-slice-aggregate-hand c = search needs
 
 -- src/lib.rt:34:5
 hand-requires : tie.Need-hand-requires
@@ -83,10 +60,6 @@ hand-requires c κs =
       small = omega (arith, k .up, c .before .before .before .handover2 .ok);
       room = omega (arith, k .number, s .pre .room);
     }
-
--- src/lib.rt:24:1
-same-length : tie.Need-same-length
-same-length c = search needs
 
 -- src/lib.rt:24:1
 returns : tie.Need-returns
@@ -104,16 +77,16 @@ pub serve-spec : {M : Type 1} → statement M
 serve-spec =
     tie.close
     (tie.spec
-    slice-aggregate-prepare
+    (λ c. search needs)
     prepare-requires
-    slice-aggregate-handover
+    (λ c. search needs)
     handover-requires
-    slice-aggregate-handover-2
-    add-handover
+    (λ c. search needs)
+    (λ c. search needs)
     handover-requires-2
     sub-new
-    cast-new
-    slice-aggregate-hand
+    (λ c. search needs)
+    (λ c. search needs)
     hand-requires
-    same-length
+    (λ c. search needs)
     returns)

@@ -3,14 +3,8 @@ use borrow.Author.Needs.{needs}
 use Rattle.desk.proofs.day_charge.Statement.{statement}
 use Rattle.desk.proofs.day_charge.Tie as tie
 
-charge-requires : tie.Need-charge-requires
-charge-requires c κs = search needs
-
-plain-requires : tie.Need-plain-requires
-plain-requires c κs = search needs
-
 returns : tie.Need-returns
 returns c = rw (← c .before .before .charge .ensures) (c .plain .ensures)
 
 pub day-charge-spec : {M : Type 1} → statement M
-day-charge-spec = tie.close (tie.spec charge-requires plain-requires returns)
+day-charge-spec = tie.close (tie.spec (λ c κs. search needs) (λ c κs. search needs) returns)

@@ -3,14 +3,8 @@ use borrow.Author.Needs.{needs}
 use Rattle.desk.proofs.day_value.Statement.{statement}
 use Rattle.desk.proofs.day_value.Tie as tie
 
-value-requires : tie.Need-value-requires
-value-requires c κs = search needs
-
-plain-requires : tie.Need-plain-requires
-plain-requires c κs = search needs
-
 returns : tie.Need-returns
 returns c = rw (← c .before .before .value .ensures) (c .plain .ensures)
 
 pub day-value-spec : {M : Type 1} → statement M
-day-value-spec = tie.close (tie.spec value-requires plain-requires returns)
+day-value-spec = tie.close (tie.spec (λ c κs. search needs) (λ c κs. search needs) returns)

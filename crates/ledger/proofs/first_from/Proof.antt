@@ -5,11 +5,8 @@ use borrow.Author.Needs.{needs}
 use Rattle.ledger.proofs.first_from.Statement.{statement}
 use Rattle.ledger.proofs.first_from.Tie as tie
 
-first-of-requires : tie.Need-first-of-requires
-first-of-requires c κs = search needs
-
 returns : tie.Need-returns
 returns c = λ ts xs ds. let a = c .before .before .before .args in place-from (a .count) (now (a .issues)) (now (a .froms)) ts xs ds (a .i) (a .a) _ (c .first-of .ensures)
 
 pub first-from-spec : {M : Type 1} → statement M
-first-from-spec = tie.close (tie.spec first-of-requires returns)
+first-from-spec = tie.close (tie.spec (λ c κs. search needs) returns)

@@ -15,23 +15,8 @@ abbrev μ-loop : tie.MeasureT-loop
 loop-holds : tie.Need-loop-holds Inv-loop μ-loop
 loop-holds c = seek-starts _ _ _ _ _
 
-shared-slice-read-is-of : tie.Need-shared-slice-read-is-of Inv-loop μ-loop
-shared-slice-read-is-of c = search needs
-
-shared-slice-read-is-of-2 : tie.Need-shared-slice-read-is-of-2 Inv-loop μ-loop
-shared-slice-read-is-of-2 c = search needs
-
-is-of-requires : tie.Need-is-of-requires Inv-loop μ-loop
-is-of-requires c κs = search needs
-
 returns : tie.Need-returns Inv-loop μ-loop
 returns c = seek-found _ _ _ _ _ _ (c .before .before .before .before .before .loop .inv) (c .before .before .before .before .loop-test .taken) (sym (c .before .is-of .ensures) ∙ c .if1 .taken)
-
-add-k : tie.Need-add-k Inv-loop μ-loop
-add-k c = search needs
-
-loop-less : tie.Need-loop-less Inv-loop μ-loop
-loop-less c = search needs
 
 loop-again : tie.Need-loop-again Inv-loop μ-loop
 loop-again c = seek-more _ _ _ _ _ _ (c .before .before .before .before .before .loop .inv) (c .before .before .before .before .loop-test .taken) (sym (c .before .is-of .ensures) ∙ c .if1 .left)
@@ -46,11 +31,11 @@ first-of-spec =
     Inv-loop
     μ-loop
     loop-holds
-    shared-slice-read-is-of
-    shared-slice-read-is-of-2
-    is-of-requires
+    (λ c. search needs)
+    (λ c. search needs)
+    (λ c κs. search needs)
     returns
-    add-k
-    loop-less
+    (λ c. search needs)
+    (λ c. search needs)
     loop-again
     returns-2)

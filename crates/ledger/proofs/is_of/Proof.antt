@@ -5,12 +5,6 @@ use borrow.Author.Needs.{needs}
 use Rattle.ledger.proofs.is_of.Statement.{statement}
 use Rattle.ledger.proofs.is_of.Tie as tie
 
-wide-requires : tie.Need-wide-requires
-wide-requires c κs = search needs
-
-wide-requires-2 : tie.Need-wide-requires-2
-wide-requires-2 c κs = search needs
-
 returns : tie.Need-returns
 returns c =
     let w : c .wide2 .result ≡ c .before .before .before .args .account = c .wide2 .ensures in
@@ -20,4 +14,4 @@ returns-2 : tie.Need-returns-2
 returns-2 c = simp (ne-eqb (c .before .before .args .issue) (c .before .before .args .i) (λ e. c .if1 .left (c .before .wide .ensures ∙ e)))
 
 pub is-of-spec : {M : Type 1} → statement M
-is-of-spec = tie.close (tie.spec wide-requires wide-requires-2 returns returns-2)
+is-of-spec = tie.close (tie.spec (λ c κs. search needs) (λ c κs. search needs) returns returns-2)

@@ -8,11 +8,8 @@ use Rattle.ledger.proofs.left_of.Reads as reads
 use Rattle.ledger.proofs.left_of.Lts as lts
 use Rattle.entries.proofs.met.Reads as met-reads
 
-met-requires : tie.Need-met-requires
-met-requires c κs = search needs
-
 returns : tie.Need-returns
 returns c = ap (λ (e : Entry). e .lots) (c .met .ensures)
 
 pub left-of-spec : {M : Type 1} → statement M
-left-of-spec = tie.close (tie.spec met-requires returns)
+left-of-spec = tie.close (tie.spec (λ c κs. search needs) returns)

@@ -4,9 +4,6 @@ use borrow.Author.Needs.{needs}
 use Rattle.ledger.proofs.lots_from.Statement.{statement}
 use Rattle.ledger.proofs.lots_from.Tie as tie
 
-is-of-requires : tie.Need-is-of-requires
-is-of-requires c κs = search needs
-
 returns : tie.Need-returns
 returns c = simp (sym (c .before .is-of .ensures) ∙ c .if1 .taken)
 
@@ -14,4 +11,4 @@ returns-2 : tie.Need-returns-2
 returns-2 c = simp (sym (c .before .is-of .ensures) ∙ c .if1 .left)
 
 pub lots-from-spec : {M : Type 1} → statement M
-lots-from-spec = tie.close (tie.spec is-of-requires returns returns-2)
+lots-from-spec = tie.close (tie.spec (λ c κs. search needs) returns returns-2)

@@ -13,15 +13,6 @@ asked : (c : tie.After-refusal) → let s = c .before .before .before in
     c .refusal .result ≡ number (between 1 mostLots (s .args .lots .0)) (priceRight (s .args .price) && termRight (s .args .days) (s .args .rate))
 asked c = c .refusal .ensures ∙ same-number (c .before .before .lots-right .ensures) (c .before .charge-right .ensures)
 
-lots-right-requires : tie.Need-lots-right-requires
-lots-right-requires c κs = search needs
-
-charge-right-requires : tie.Need-charge-right-requires
-charge-right-requires c κs = search needs
-
-refusal-requires : tie.Need-refusal-requires
-refusal-requires c κs = search needs
-
 returns : tie.Need-returns
 returns c = charge-refused _ _ _ _ _ (asked (c .before)) (c .if1 .taken)
 
@@ -35,9 +26,9 @@ pub charge-spec : {M : Type 1} → statement M
 charge-spec =
     tie.close
     (tie.spec
-    lots-right-requires
-    charge-right-requires
-    refusal-requires
+    (λ c κs. search needs)
+    (λ c κs. search needs)
+    (λ c κs. search needs)
     returns
     charge-of-requires
     returns-2)

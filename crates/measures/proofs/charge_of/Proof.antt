@@ -7,9 +7,6 @@ use Rattle.rules.specs.Measures.{chargeOf}
 use Rattle.measures.proofs.charge_of.Statement.{statement}
 use Rattle.measures.proofs.charge_of.Tie as tie
 
-value-of-requires : tie.Need-value-of-requires
-value-of-requires c κs = search needs
-
 mul-result : tie.Need-mul-result
 mul-result c = omega (arith, mul-le-mul (c .value-of .ensures .most) (c .before .pre .1 .rate))
 
@@ -26,4 +23,4 @@ returns c =
     }
 
 pub charge-of-spec : {M : Type 1} → statement M
-charge-of-spec = tie.close (tie.spec value-of-requires mul-result mul-result-2 returns)
+charge-of-spec = tie.close (tie.spec (λ c κs. search needs) mul-result mul-result-2 returns)

@@ -4,12 +4,6 @@ use borrow.Author.Needs.{needs}
 use Rattle.measures.proofs.charge_right.Statement.{statement}
 use Rattle.measures.proofs.charge_right.Tie as tie
 
-price-right-requires : tie.Need-price-right-requires
-price-right-requires c κs = search needs
-
-term-right-requires : tie.Need-term-right-requires
-term-right-requires c κs = search needs
-
 returns : tie.Need-returns
 returns c = rw (sym (c .before .before .price-right .ensures) ∙ c .before .if1 .taken) (c .term-right .ensures)
 
@@ -17,4 +11,4 @@ returns-2 : tie.Need-returns-2
 returns-2 c = rw (sym (c .before .price-right .ensures) ∙ c .if1 .left) (c .if1 .left)
 
 pub charge-right-spec : {M : Type 1} → statement M
-charge-right-spec = tie.close (tie.spec price-right-requires term-right-requires returns returns-2)
+charge-right-spec = tie.close (tie.spec (λ c κs. search needs) (λ c κs. search needs) returns returns-2)

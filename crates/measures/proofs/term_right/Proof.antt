@@ -4,9 +4,6 @@ use borrow.Author.Needs.{needs}
 use Rattle.measures.proofs.term_right.Statement.{statement}
 use Rattle.measures.proofs.term_right.Tie as tie
 
-within-requires : tie.Need-within-requires
-within-requires c κs = search needs
-
 returns : tie.Need-returns
 returns c = rw (sym (c .before .within .ensures) ∙ c .if1 .taken)
 
@@ -14,4 +11,4 @@ returns-2 : tie.Need-returns-2
 returns-2 c = rw (sym (c .before .within .ensures) ∙ c .if1 .left) (c .if1 .left)
 
 pub term-right-spec : {M : Type 1} → statement M
-term-right-spec = tie.close (tie.spec within-requires returns returns-2)
+term-right-spec = tie.close (tie.spec (λ c κs. search needs) returns returns-2)

@@ -12,15 +12,6 @@ asked : (c : tie.After-refusal) → let s = c .before .before .before in
     c .refusal .result ≡ number (between 1 mostLots (s .args .lots .0)) (priceRight (s .args .price))
 asked c = c .refusal .ensures ∙ same-number (c .before .before .lots-right .ensures) (c .before .price-right .ensures)
 
-lots-right-requires : tie.Need-lots-right-requires
-lots-right-requires c κs = search needs
-
-price-right-requires : tie.Need-price-right-requires
-price-right-requires c κs = search needs
-
-refusal-requires : tie.Need-refusal-requires
-refusal-requires c κs = search needs
-
 returns : tie.Need-returns
 returns c = value-refused _ _ _ (asked (c .before)) (c .if1 .taken)
 
@@ -34,9 +25,9 @@ pub value-spec : {M : Type 1} → statement M
 value-spec =
     tie.close
     (tie.spec
-    lots-right-requires
-    price-right-requires
-    refusal-requires
+    (λ c κs. search needs)
+    (λ c κs. search needs)
+    (λ c κs. search needs)
     returns
     value-of-requires
     returns-2)

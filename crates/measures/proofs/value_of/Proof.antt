@@ -9,9 +9,6 @@ use Rattle.measures.proofs.value_of.Tie as tie
 mul-halved : tie.Need-mul-halved
 mul-halved c = omega (arith, mul-le-mul (c .pre .lots) (c .pre .price))
 
-halved-requires : tie.Need-halved-requires
-halved-requires c κs = search needs
-
 returns : tie.Need-returns
 unfolding valueOf
 returns c =
@@ -21,4 +18,4 @@ returns c =
     }
 
 pub value-of-spec : {M : Type 1} → statement M
-value-of-spec = tie.close (tie.spec mul-halved halved-requires returns)
+value-of-spec = tie.close (tie.spec mul-halved (λ c κs. search needs) returns)

@@ -7,29 +7,11 @@ use borrow.Author.Needs.{needs}
 use Rattle.resolution.proofs.fall_to.Statement.{statement}
 use Rattle.resolution.proofs.fall_to.Tie as tie
 
-first-to-requires : tie.Need-first-to-requires
-first-to-requires c κs = search needs
-
 lower-at-requires : tie.Need-lower-at-requires
 lower-at-requires c κs =
     let s = c .before .before .before .before .before .before .before .before .before .before .before .before .before in
     let a = s .args in
     fall-place _ _ (a .i) (a .a) _ _ _ _ _ _ (s .pre) (c .before .before .before .before .before .first-to .ensures (now (a .froms)) (now (a .lots)) (now (a .days)))
-
-same-length : tie.Need-same-length
-same-length c = search needs
-
-same-length-2 : tie.Need-same-length-2
-same-length-2 c = search needs
-
-same-length-3 : tie.Need-same-length-3
-same-length-3 c = search needs
-
-same-length-4 : tie.Need-same-length-4
-same-length-4 c = search needs
-
-same-length-5 : tie.Need-same-length-5
-same-length-5 c = search needs
 
 returns : tie.Need-returns
 returns c =
@@ -41,11 +23,11 @@ pub fall-to-spec : {M : Type 1} → statement M
 fall-to-spec =
     tie.close
     (tie.spec
-    first-to-requires
+    (λ c κs. search needs)
     lower-at-requires
-    same-length
-    same-length-2
-    same-length-3
-    same-length-4
-    same-length-5
+    (λ c. search needs)
+    (λ c. search needs)
+    (λ c. search needs)
+    (λ c. search needs)
+    (λ c. search needs)
     returns)

@@ -7,17 +7,8 @@ use Rattle.resolution.proofs.hand.Tie as tie
 returns : tie.Need-returns
 returns c = λ y d. recorded-none _ _ _ _ (c .if1 .taken)
 
-record-at-requires : tie.Need-record-at-requires
-record-at-requires c κs = search needs
-
-add-result : tie.Need-add-result
-add-result c = search needs
-
-same-length : tie.Need-same-length
-same-length c = search needs
-
 returns-2 : tie.Need-returns-2
 returns-2 c = λ y d. recorded-some _ _ _ _ d y _ _ _ (c .before .before .before .before .if1 .left) (c .before .before .record-at .ensures)
 
 pub hand-spec : {M : Type 1} → statement M
-hand-spec = tie.close (tie.spec returns record-at-requires add-result same-length returns-2)
+hand-spec = tie.close (tie.spec returns (λ c κs. search needs) (λ c. search needs) (λ c. search needs) returns-2)

@@ -12,30 +12,6 @@ use borrow.Author.Needs.{needs}
 use Rattle.resolution.proofs.meet_at.Statement.{statement}
 use Rattle.resolution.proofs.meet_at.Tie as tie
 
-slice-read-issue : tie.Need-slice-read-issue
-slice-read-issue c = search needs
-
-slice-read-f : tie.Need-slice-read-f
-slice-read-f c = search needs
-
-slice-read-t : tie.Need-slice-read-t
-slice-read-t c = search needs
-
-mul-y : tie.Need-mul-y
-mul-y c = search needs
-
-slice-read-y : tie.Need-slice-read-y
-slice-read-y c = search needs
-
-mul-d : tie.Need-mul-d
-mul-d c = search needs
-
-slice-read-d : tie.Need-slice-read-d
-slice-read-d c = search needs
-
-met-by-requires : tie.Need-met-by-requires
-met-by-requires c κs = search needs
-
 hand-requires : tie.Need-hand-requires
 hand-requires c κs =
     let s = c .before .before .before .before .before .before .before .before .before .before .before .before .before in
@@ -50,32 +26,11 @@ sub-keep c =
     let e = entryAt (s .args .k) (now (s .args .issues)) (now (s .args .froms)) (now (s .args .tos)) (now (s .args .lots)) (now (s .args .days)) in
     omega (arith, c .before .before .before .before .before .before .before .before .before .met-by .ensures, metBy-le (isFrom (s .args .i) (s .args .a)) (s .args .x) e)
 
-keep-requires : tie.Need-keep-requires
-keep-requires c κs = search needs
-
 sub-t27 : tie.Need-sub-t27
 sub-t27 c =
     let s = c .before .before .before .before .before .before .before .before .before .before .before .before .before .before .before .before .before .before .before .before .before .before .before .before .before .before .before .before .before .before .before .before in
     let e = entryAt (s .args .k) (now (s .args .issues)) (now (s .args .froms)) (now (s .args .tos)) (now (s .args .lots)) (now (s .args .days)) in
     omega (arith, c .before .before .before .before .before .before .before .before .before .before .before .before .before .before .before .before .before .before .before .before .met-by .ensures, metBy-le (isFrom (s .args .i) (s .args .a)) (s .args .x) e)
-
-same-length : tie.Need-same-length
-same-length c = search needs
-
-same-length-2 : tie.Need-same-length-2
-same-length-2 c = search needs
-
-same-length-3 : tie.Need-same-length-3
-same-length-3 c = search needs
-
-same-length-4 : tie.Need-same-length-4
-same-length-4 c = search needs
-
-same-length-5 : tie.Need-same-length-5
-same-length-5 c = search needs
-
-same-length-6 : tie.Need-same-length-6
-same-length-6 c = search needs
 
 returns : tie.Need-returns
 returns c =
@@ -87,22 +42,22 @@ pub meet-at-spec : {M : Type 1} → statement M
 meet-at-spec =
     tie.close
     (tie.spec
-    slice-read-issue
-    slice-read-f
-    slice-read-t
-    mul-y
-    slice-read-y
-    mul-d
-    slice-read-d
-    met-by-requires
+    (λ c. search needs)
+    (λ c. search needs)
+    (λ c. search needs)
+    (λ c. search needs)
+    (λ c. search needs)
+    (λ c. search needs)
+    (λ c. search needs)
+    (λ c κs. search needs)
     hand-requires
     sub-keep
-    keep-requires
+    (λ c κs. search needs)
     sub-t27
-    same-length
-    same-length-2
-    same-length-3
-    same-length-4
-    same-length-5
-    same-length-6
+    (λ c. search needs)
+    (λ c. search needs)
+    (λ c. search needs)
+    (λ c. search needs)
+    (λ c. search needs)
+    (λ c. search needs)
     returns)

@@ -6,12 +6,6 @@ use borrow.Author.Needs.{needs}
 use Rattle.resolution.proofs.met_by.Statement.{statement}
 use Rattle.resolution.proofs.met_by.Tie as tie
 
-is-of-requires : tie.Need-is-of-requires
-is-of-requires c κs = search needs
-
-left-of-requires : tie.Need-left-of-requires
-left-of-requires c κs = search needs
-
 sub-result : tie.Need-sub-result
 sub-result c = omega (arith, c .left-of .ensures)
 
@@ -22,4 +16,4 @@ returns-2 : tie.Need-returns-2
 returns-2 c = simp (sym (c .before .is-of .ensures) ∙ c .if1 .left)
 
 pub met-by-spec : {M : Type 1} → statement M
-met-by-spec = tie.close (tie.spec is-of-requires left-of-requires sub-result returns returns-2)
+met-by-spec = tie.close (tie.spec (λ c κs. search needs) (λ c κs. search needs) sub-result returns returns-2)

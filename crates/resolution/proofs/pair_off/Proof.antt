@@ -8,9 +8,6 @@ use borrow.Author.Needs.{needs}
 use Rattle.resolution.proofs.pair_off.Statement.{statement}
 use Rattle.resolution.proofs.pair_off.Tie as tie
 
-sound-requires : tie.Need-sound-requires
-sound-requires c κs = search needs
-
 -- past question 2 the book is sound
 is-sound : (c : tie.Else1) → sound (c .before .before .args .b) ≡ true
 is-sound c = sym (c .before .sound .ensures) ∙ not-false _ (c .if1 .left)
@@ -19,9 +16,6 @@ returns : tie.Need-returns
 returns c =
     let a = c .before .before .args in
     (pair-unsound (a .b) (a .i) (a .a) (sym (c .before .sound .ensures) ∙ not-true _ (c .if1 .taken)), none-few (a .b) (a .i) (a .a))
-
-pair-off-asks-requires : tie.Need-pair-off-asks-requires
-pair-off-asks-requires c κs = search needs
 
 returns-2 : tie.Need-returns-2
 returns-2 c =
@@ -45,9 +39,9 @@ pub pair-off-spec : {M : Type 1} → statement M
 pair-off-spec =
     tie.close
     (tie.spec
-    sound-requires
+    (λ c κs. search needs)
     returns
-    pair-off-asks-requires
+    (λ c κs. search needs)
     returns-2
     pair-off-book-requires
     returns-3)

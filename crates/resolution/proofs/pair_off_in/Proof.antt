@@ -20,47 +20,11 @@ abbrev μ-loop : tie.MeasureT-loop
 loop-holds : tie.Need-loop-holds Inv-loop μ-loop
 loop-holds c = pairs-start _ _ _ _ _ _ _ _ _ (c .before .before .before .before .before .pre)
 
-first-to-requires : tie.Need-first-to-requires Inv-loop μ-loop
-first-to-requires c κs = search needs
-
-same-length : tie.Need-same-length Inv-loop μ-loop
-same-length c = search needs
-
-same-length-2 : tie.Need-same-length-2 Inv-loop μ-loop
-same-length-2 c = search needs
-
-same-length-3 : tie.Need-same-length-3 Inv-loop μ-loop
-same-length-3 c = search needs
-
-same-length-4 : tie.Need-same-length-4 Inv-loop μ-loop
-same-length-4 c = search needs
-
-same-length-5 : tie.Need-same-length-5 Inv-loop μ-loop
-same-length-5 c = search needs
-
 returns : tie.Need-returns Inv-loop μ-loop
 returns c =
     let l = c .before .before .before .before .loop in
     pairs-end _ _ _ _ _ _ _ _ _ _ _ _ (l .inv)
     (none-in _ _ _ _ _ _ _ _ _ _ _ _ (l .inv) _ (c .before .first-to .ensures (l .froms) (l .lots) (l .days)) (c .if1 .taken))
-
-first-from-requires : tie.Need-first-from-requires Inv-loop μ-loop
-first-from-requires c κs = search needs
-
-same-length-6 : tie.Need-same-length-6 Inv-loop μ-loop
-same-length-6 c = search needs
-
-same-length-7 : tie.Need-same-length-7 Inv-loop μ-loop
-same-length-7 c = search needs
-
-same-length-8 : tie.Need-same-length-8 Inv-loop μ-loop
-same-length-8 c = search needs
-
-same-length-9 : tie.Need-same-length-9 Inv-loop μ-loop
-same-length-9 c = search needs
-
-same-length-10 : tie.Need-same-length-10 Inv-loop μ-loop
-same-length-10 c = search needs
 
 returns-2 : tie.Need-returns-2 Inv-loop μ-loop
 returns-2 c =
@@ -86,9 +50,6 @@ add-steps c =
     let h = pairs-lots _ _ _ _ _ _ _ _ _ _ _ _ (c .before .before .before .before .before .before .before .before .before .before .before .before .before .before .before .before .before .before .before .before .before .before .before .before .loop .inv) _ _ (can (c .before .before .before .before .before .before .before .before .before .before .before .before .before .before .before .before)) _ _ _ _ _ _ (c .before .before .before .before .before .before .before .before .before .before .step-in .ensures) in
     omega (arith, h .0)
 
-cast-cancelled : tie.Need-cast-cancelled Inv-loop μ-loop
-cast-cancelled c = search needs
-
 add-cancelled : tie.Need-add-cancelled Inv-loop μ-loop
 add-cancelled c =
     let h = pairs-lots _ _ _ _ _ _ _ _ _ _ _ _ (c .before .before .before .before .before .before .before .before .before .before .before .before .before .before .before .before .before .before .before .before .before .before .before .before .before .loop .inv) _ _ (can (c .before .before .before .before .before .before .before .before .before .before .before .before .before .before .before .before .before)) _ _ _ _ _ _ (c .before .before .before .before .before .before .before .before .before .before .before .step-in .ensures) in
@@ -110,23 +71,23 @@ pair-off-in-spec =
     Inv-loop
     μ-loop
     loop-holds
-    first-to-requires
-    same-length
-    same-length-2
-    same-length-3
-    same-length-4
-    same-length-5
+    (λ c κs. search needs)
+    (λ c. search needs)
+    (λ c. search needs)
+    (λ c. search needs)
+    (λ c. search needs)
+    (λ c. search needs)
     returns
-    first-from-requires
-    same-length-6
-    same-length-7
-    same-length-8
-    same-length-9
-    same-length-10
+    (λ c κs. search needs)
+    (λ c. search needs)
+    (λ c. search needs)
+    (λ c. search needs)
+    (λ c. search needs)
+    (λ c. search needs)
     returns-2
     step-in-requires
     add-steps
-    cast-cancelled
+    (λ c. search needs)
     add-cancelled
     loop-less
     loop-again)

@@ -10,27 +10,6 @@ returns c =
     let a = c .before .before .before .before .before .before .args in
     kept-none (a .today) (a .i) (a .p) (a .q) (a .m) _ _ _ _ _ _ (c .if1 .taken) (c .before .before .before .before .before .before .pre .2)
 
-append-requires : tie.Need-append-requires
-append-requires c κs = search needs
-
-add-result : tie.Need-add-result
-add-result c = search needs
-
-same-length : tie.Need-same-length
-same-length c = search needs
-
-same-length-2 : tie.Need-same-length-2
-same-length-2 c = search needs
-
-same-length-3 : tie.Need-same-length-3
-same-length-3 c = search needs
-
-same-length-4 : tie.Need-same-length-4
-same-length-4 c = search needs
-
-same-length-5 : tie.Need-same-length-5
-same-length-5 c = search needs
-
 returns-2 : tie.Need-returns-2
 returns-2 c =
     let a = c .before .before .before .before .before .before .before .before .before .before .before .before .before .before .before .before .before .before .before .before .before .before .args in
@@ -41,11 +20,11 @@ pass-on-spec =
     tie.close
     (tie.spec
     returns
-    append-requires
-    add-result
-    same-length
-    same-length-2
-    same-length-3
-    same-length-4
-    same-length-5
+    (λ c κs. search needs)
+    (λ c. search needs)
+    (λ c. search needs)
+    (λ c. search needs)
+    (λ c. search needs)
+    (λ c. search needs)
+    (λ c. search needs)
     returns-2)

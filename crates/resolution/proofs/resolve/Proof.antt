@@ -19,9 +19,6 @@ returns c =
     let a = c .before .before .args in
     resolve-short (a .t1) (a .i) (a .a) (a .x) (now (a .out)) (c .if1 .taken)
 
-sound-requires : tie.Need-sound-requires
-sound-requires c κs = search needs
-
 returns-2 : tie.Need-returns-2
 returns-2 c =
     let a = c .before .before .before .before .args in
@@ -41,9 +38,6 @@ returns-3 c =
 resolve-book-requires : tie.Need-resolve-book-requires
 resolve-book-requires c κs = (c .before .before .before .before .before .before .before .before .before .before .before .before .if1 .left, is-sound (c .before .before .before .before .before .before .before .before .before .before))
 
-same-length : tie.Need-same-length
-same-length c = search needs
-
 returns-4 : tie.Need-returns-4
 returns-4 c =
     let a = c .before .before .before .before .before .before .before .before .before .before .before .before .before .before .before .before .before .args in
@@ -55,10 +49,10 @@ resolve-spec =
     tie.close
     (tie.spec
     returns
-    sound-requires
+    (λ c κs. search needs)
     returns-2
     resolve-asks-requires
     returns-3
     resolve-book-requires
-    same-length
+    (λ c. search needs)
     returns-4)

@@ -19,9 +19,6 @@ returns-4 c =
     simp
     (le-leb _ _ (c .before .before .before .if1 .left), le-leb _ _ (c .before .before .if2 .left), le-leb _ _ (c .before .if3 .left), lt-leb _ _ (c .if4 .taken))
 
-owed-lots-requires : tie.Need-owed-lots-requires
-owed-lots-requires c κs = search needs
-
 returns-5 : tie.Need-returns-5
 returns-5 c =
     λ ts ds.
@@ -47,4 +44,4 @@ returns-6 c =
 pub resolve-asks-spec : {M : Type 1} → statement M
 resolve-asks-spec =
     tie.close
-    (tie.spec returns returns-2 returns-3 returns-4 owed-lots-requires returns-5 returns-6)
+    (tie.spec returns returns-2 returns-3 returns-4 (λ c κs. search needs) returns-5 returns-6)

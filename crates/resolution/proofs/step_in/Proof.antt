@@ -6,30 +6,6 @@ use borrow.Author.Needs.{needs}
 use Rattle.resolution.proofs.step_in.Statement.{statement}
 use Rattle.resolution.proofs.step_in.Tie as tie
 
-slice-read-p : tie.Need-slice-read-p
-slice-read-p c = search needs
-
-slice-read-q : tie.Need-slice-read-q
-slice-read-q c = search needs
-
-mul-smaller : tie.Need-mul-smaller
-mul-smaller c = search needs
-
-slice-read-smaller : tie.Need-slice-read-smaller
-slice-read-smaller c = search needs
-
-mul-smaller-2 : tie.Need-mul-smaller-2
-mul-smaller-2 c = search needs
-
-slice-read-smaller-2 : tie.Need-slice-read-smaller-2
-slice-read-smaller-2 c = search needs
-
-smaller-requires : tie.Need-smaller-requires
-smaller-requires c κs = search needs
-
-lower-at-requires : tie.Need-lower-at-requires
-lower-at-requires c κs = search needs
-
 fall-to-requires : tie.Need-fall-to-requires
 fall-to-requires c κs =
     let s = c .before .before .before .before .before .before .before .before .before .before .before .before .before .before .before .before .before .before .before .before .before .before .before .before .before .before .before .before .before .before .before in
@@ -76,14 +52,14 @@ pub step-in-spec : {M : Type 1} → statement M
 step-in-spec =
     tie.close
     (tie.spec
-    slice-read-p
-    slice-read-q
-    mul-smaller
-    slice-read-smaller
-    mul-smaller-2
-    slice-read-smaller-2
-    smaller-requires
-    lower-at-requires
+    (λ c. search needs)
+    (λ c. search needs)
+    (λ c. search needs)
+    (λ c. search needs)
+    (λ c. search needs)
+    (λ c. search needs)
+    (λ c κs. search needs)
+    (λ c κs. search needs)
     fall-to-requires
     cast-pass-on
     pass-on-requires

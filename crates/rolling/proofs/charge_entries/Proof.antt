@@ -25,24 +25,12 @@ Inv-loop days rate prices count issues froms tos lots charges₀ k₀ charges k 
 abbrev μ-loop : tie.MeasureT-loop
 μ-loop days rate prices count issues froms tos lots charges₀ k₀ charges k = count - k
 
-loop-holds : tie.Need-loop-holds Inv-loop μ-loop
-loop-holds c = search needs
-
-shared-slice-read-i : tie.Need-shared-slice-read-i Inv-loop μ-loop
-shared-slice-read-i c = search needs
-
 cast-i : tie.Need-cast-i Inv-loop μ-loop
 cast-i c =
     let l = c .before .before .loop in
     let s = c .before .before .before .before .before .before .before .before in
     let h : l .k < s .args .count = omega arith in
     record { fits = omega (arith, s .pre .issue (l .k) h) }
-
-mul-charge-of : tie.Need-mul-charge-of Inv-loop μ-loop
-mul-charge-of c = search needs
-
-shared-slice-read-charge-of : tie.Need-shared-slice-read-charge-of Inv-loop μ-loop
-shared-slice-read-charge-of c = search needs
 
 mul-charge-of-2 : tie.Need-mul-charge-of-2 Inv-loop μ-loop
 mul-charge-of-2 c =
@@ -65,18 +53,12 @@ charge-of-requires c κs =
     let h : l .k < s .args .count = omega arith in
     (record { lots = s .pre .most (l .k) h; price = s .pre .price (getD (now (s .args .issues)) (l .k) 0) }, s .pre .term)
 
-shared-slice-read-f : tie.Need-shared-slice-read-f Inv-loop μ-loop
-shared-slice-read-f c = search needs
-
 cast-f : tie.Need-cast-f Inv-loop μ-loop
 cast-f c =
     let l = c .before .before .before .before .before .before .loop in
     let s = c .before .before .before .before .before .before .before .before .before .before .before .before in
     let h : l .k < s .args .count = omega arith in
     record { fits = omega (arith, s .pre .from (l .k) h) }
-
-shared-slice-read-t : tie.Need-shared-slice-read-t Inv-loop μ-loop
-shared-slice-read-t c = search needs
 
 cast-t : tie.Need-cast-t Inv-loop μ-loop
 cast-t c =
@@ -97,12 +79,6 @@ pay-requires c κs =
       room = λ a. let b = l .inv .2 a in omega (arith, c .before .before .before .charge-of .ensures .most, s .pre .count);
     }
 
-add-k : tie.Need-add-k Inv-loop μ-loop
-add-k c = search needs
-
-loop-less : tie.Need-loop-less Inv-loop μ-loop
-loop-less c = search needs
-
 loop-again : tie.Need-loop-again Inv-loop μ-loop
 loop-again c =
     let l = c .before .before .before .before .before .before .before .before .before .before .loop in
@@ -122,9 +98,6 @@ loop-again c =
           (now (a .lots)) (l .k) _ (l .charges) (y .result) h (y .ensures .exact) (l .inv .3)),
     )
 
-same-length : tie.Need-same-length Inv-loop μ-loop
-same-length c = search needs
-
 returns : tie.Need-returns Inv-loop μ-loop
 returns c =
     let l = c .before .loop in
@@ -143,21 +116,21 @@ charge-entries-spec =
     (tie.spec
     Inv-loop
     μ-loop
-    loop-holds
-    shared-slice-read-i
+    (λ c. search needs)
+    (λ c. search needs)
     cast-i
-    mul-charge-of
-    shared-slice-read-charge-of
+    (λ c. search needs)
+    (λ c. search needs)
     mul-charge-of-2
     shared-slice-read-charge-of-2
     charge-of-requires
-    shared-slice-read-f
+    (λ c. search needs)
     cast-f
-    shared-slice-read-t
+    (λ c. search needs)
     cast-t
     pay-requires
-    add-k
-    loop-less
+    (λ c. search needs)
+    (λ c. search needs)
     loop-again
-    same-length
+    (λ c. search needs)
     returns)

@@ -15,28 +15,10 @@ Inv-loop delivered₀ i₀ delivered i =
 abbrev μ-loop : tie.MeasureT-loop
 μ-loop delivered₀ i₀ delivered i = length delivered₀ - i
 
-loop-holds : tie.Need-loop-holds Inv-loop μ-loop
-loop-holds c = search needs
-
-mul-delivered : tie.Need-mul-delivered Inv-loop μ-loop
-mul-delivered c = search needs
-
-slice-write-delivered : tie.Need-slice-write-delivered Inv-loop μ-loop
-slice-write-delivered c = search needs
-
-add-i : tie.Need-add-i Inv-loop μ-loop
-add-i c = search needs
-
-loop-less : tie.Need-loop-less Inv-loop μ-loop
-loop-less c = search needs
-
 loop-again : tie.Need-loop-again Inv-loop μ-loop
 loop-again c =
     let l = c .before .loop in
     (search needs, simp length-set (l .inv .1), clear-more 0 (l .delivered) (l .i) (omega arith) (l .inv .2))
-
-same-length : tie.Need-same-length Inv-loop μ-loop
-same-length c = search needs
 
 returns : tie.Need-returns Inv-loop μ-loop
 returns c =
@@ -49,11 +31,11 @@ clear-delivered-spec =
     (tie.spec
     Inv-loop
     μ-loop
-    loop-holds
-    mul-delivered
-    slice-write-delivered
-    add-i
-    loop-less
+    (λ c. search needs)
+    (λ c. search needs)
+    (λ c. search needs)
+    (λ c. search needs)
+    (λ c. search needs)
     loop-again
-    same-length
+    (λ c. search needs)
     returns)

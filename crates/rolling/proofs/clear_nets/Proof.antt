@@ -16,28 +16,10 @@ Inv-loop nets₀ i₀ nets i =
 abbrev μ-loop : tie.MeasureT-loop
 μ-loop nets₀ i₀ nets i = length nets₀ - i
 
-loop-holds : tie.Need-loop-holds Inv-loop μ-loop
-loop-holds c = search needs
-
-mul-nets : tie.Need-mul-nets Inv-loop μ-loop
-mul-nets c = search needs
-
-slice-set-of-nets : tie.Need-slice-set-of-nets Inv-loop μ-loop
-slice-set-of-nets c = search needs
-
-add-i : tie.Need-add-i Inv-loop μ-loop
-add-i c = search needs
-
-loop-less : tie.Need-loop-less Inv-loop μ-loop
-loop-less c = search needs
-
 loop-again : tie.Need-loop-again Inv-loop μ-loop
 loop-again c =
     let l = c .before .loop in
     (search needs, simp length-set (l .inv .1), clear-more (pos 0) (l .nets) (l .i) (omega arith) (l .inv .2))
-
-same-length : tie.Need-same-length Inv-loop μ-loop
-same-length c = search needs
 
 returns : tie.Need-returns Inv-loop μ-loop
 returns c =
@@ -50,11 +32,11 @@ clear-nets-spec =
     (tie.spec
     Inv-loop
     μ-loop
-    loop-holds
-    mul-nets
-    slice-set-of-nets
-    add-i
-    loop-less
+    (λ c. search needs)
+    (λ c. search needs)
+    (λ c. search needs)
+    (λ c. search needs)
+    (λ c. search needs)
     loop-again
-    same-length
+    (λ c. search needs)
     returns)

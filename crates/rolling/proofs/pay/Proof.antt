@@ -32,43 +32,16 @@ read-to c =
     let l = set (now (a .charges)) (a .f) (back w64 (c .before .lowered .result)) in
     toZ-ofZ w64 (getD l (a .t) (pos 0)) (search needs)
 
-mul-falls : tie.Need-mul-falls
-mul-falls c = search needs
-
-slice-copy-out-falls : tie.Need-slice-copy-out-falls
-slice-copy-out-falls c = search needs
-
 lowered-requires : tie.Need-lowered-requires
 lowered-requires c κs =
     let s = c .before in
     let h = s .pre .room (s .args .f) in
     record { room = rw (read c) (omega arith) }
 
-mul-rises : tie.Need-mul-rises
-mul-rises c = search needs
-
-slice-set-from-rises : tie.Need-slice-set-from-rises
-slice-set-from-rises c = search needs
-
-mul-rises-2 : tie.Need-mul-rises-2
-mul-rises-2 c = search needs
-
-slice-copy-out-rises : tie.Need-slice-copy-out-rises
-slice-copy-out-rises c = search needs
-
 raised-requires : tie.Need-raised-requires
 raised-requires c κs =
     let s = c .before .before .before in
     record { room = rw (read-to c, fallen (c .before)) (room-taken (now (s .args .charges)) (s .args .f) (s .args .t) (s .args .y) (s .pre .room)) }
-
-mul-t7 : tie.Need-mul-t7
-mul-t7 c = search needs
-
-slice-set-from-charges : tie.Need-slice-set-from-charges
-slice-set-from-charges c = search needs
-
-same-length : tie.Need-same-length
-same-length c = search needs
 
 returns : tie.Need-returns
 returns c =
@@ -80,15 +53,15 @@ pub pay-spec : {M : Type 1} → statement M
 pay-spec =
     tie.close
     (tie.spec
-    mul-falls
-    slice-copy-out-falls
+    (λ c. search needs)
+    (λ c. search needs)
     lowered-requires
-    mul-rises
-    slice-set-from-rises
-    mul-rises-2
-    slice-copy-out-rises
+    (λ c. search needs)
+    (λ c. search needs)
+    (λ c. search needs)
+    (λ c. search needs)
     raised-requires
-    mul-t7
-    slice-set-from-charges
-    same-length
+    (λ c. search needs)
+    (λ c. search needs)
+    (λ c. search needs)
     returns)

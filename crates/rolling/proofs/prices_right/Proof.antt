@@ -19,24 +19,6 @@ Inv-loop prices good₀ i₀ good i =
 abbrev μ-loop : tie.MeasureT-loop
 μ-loop prices good₀ i₀ good i = length prices - i
 
-loop-holds : tie.Need-loop-holds Inv-loop μ-loop
-loop-holds c = search needs
-
-mul-price-right : tie.Need-mul-price-right Inv-loop μ-loop
-mul-price-right c = search needs
-
-shared-slice-read-price-right : tie.Need-shared-slice-read-price-right Inv-loop μ-loop
-shared-slice-read-price-right c = search needs
-
-price-right-requires : tie.Need-price-right-requires Inv-loop μ-loop
-price-right-requires c κs = search needs
-
-add-i : tie.Need-add-i Inv-loop μ-loop
-add-i c = search needs
-
-loop-less : tie.Need-loop-less Inv-loop μ-loop
-loop-less c = search needs
-
 loop-again : tie.Need-loop-again Inv-loop μ-loop
 loop-again c =
     let s = c .before .before .before .before .before in
@@ -57,11 +39,11 @@ prices-right-spec =
     (tie.spec
     Inv-loop
     μ-loop
-    loop-holds
-    mul-price-right
-    shared-slice-read-price-right
-    price-right-requires
-    add-i
-    loop-less
+    (λ c. search needs)
+    (λ c. search needs)
+    (λ c. search needs)
+    (λ c κs. search needs)
+    (λ c. search needs)
+    (λ c. search needs)
     loop-again
     returns)

@@ -20,9 +20,6 @@ yen c = toZ-pos w64 (c .args .y) (omega (arith, c .pre .room))
 fits : (c : tie.Start) → SFits w64 (c .args .c +ℤ pos (c .args .y))
 fits c = sum-fits w64 (c .args .c) (pos (c .args .y)) (omega (arith, abs-neg (c .args .y), c .pre .room))
 
-cast-result : tie.Need-cast-result
-cast-result c = search needs
-
 add-result : tie.Need-add-result
 add-result c = rw (same c, yen c) (fits c)
 
@@ -30,4 +27,4 @@ returns : tie.Need-returns
 returns c = rw (same c, yen c) (toZ-ofZ w64 (c .args .c +ℤ pos (c .args .y)) (fits c))
 
 pub raised-spec : {M : Type 1} → statement M
-raised-spec = tie.close (tie.spec cast-result add-result returns)
+raised-spec = tie.close (tie.spec (λ c. search needs) add-result returns)

@@ -21,9 +21,6 @@ answered : (c : tie.Else2) → let a = c .before .before .before .before .before
     firstNo (rollAsks (a .b .phase) (a .b .day) (a .days) (a .rate) (now (a .prices))) ≡ 0
 answered c = sym (c .before .roll-asks .ensures) ∙ c .if2 .left
 
-sound-requires : tie.Need-sound-requires
-sound-requires c κs = search needs
-
 returns : tie.Need-returns
 unfolding roll
 returns c =
@@ -32,9 +29,6 @@ returns c =
     unsound b (rolled b (a .days) (a .rate) (now (a .prices))) [] []
     (rollAsks (b .phase) (b .day) (a .days) (a .rate) (now (a .prices)))
     (sym (c .before .sound .ensures) ∙ not-true (c .before .sound .result) (c .if1 .taken))
-
-roll-asks-requires : tie.Need-roll-asks-requires
-roll-asks-requires c κs = search needs
 
 returns-2 : tie.Need-returns-2
 unfolding roll
@@ -62,4 +56,4 @@ returns-3 c =
 pub roll-spec : {M : Type 1} → statement M
 roll-spec =
     tie.close
-    (tie.spec sound-requires returns roll-asks-requires returns-2 rolled-requires returns-3)
+    (tie.spec (λ c κs. search needs) returns (λ c κs. search needs) returns-2 rolled-requires returns-3)

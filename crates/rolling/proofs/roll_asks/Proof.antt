@@ -30,17 +30,11 @@ terms c =
       price = sym (c .before .prices-right .ensures) ∙ not-false (c .before .prices-right .result) (c .if4 .left);
     }
 
-cut-requires : tie.Need-cut-requires
-cut-requires c κs = search needs
-
 returns : tie.Need-returns
 returns c =
     let a = c .before .before .before .args in
     no3 (a .phase) (a .today) (a .days) (a .rate) (now (a .prices))
     (sym (c .before .cut .ensures) ∙ not-true (c .before .cut .result) (c .if1 .taken))
-
-term-right-requires : tie.Need-term-right-requires
-term-right-requires c κs = search needs
 
 returns-2 : tie.Need-returns-2
 returns-2 c =
@@ -52,9 +46,6 @@ returns-3 : tie.Need-returns-3
 returns-3 c =
     let a = at2 (c .before) .args in
     no11-count (a .phase) (a .today) (a .days) (a .rate) (now (a .prices)) (cut (c .before .before .before)) (c .if3 .taken)
-
-prices-right-requires : tie.Need-prices-right-requires
-prices-right-requires c κs = search needs
 
 returns-4 : tie.Need-returns-4
 returns-4 c =
@@ -79,12 +70,12 @@ pub roll-asks-spec : {M : Type 1} → statement M
 roll-asks-spec =
     tie.close
     (tie.spec
-    cut-requires
+    (λ c κs. search needs)
     returns
-    term-right-requires
+    (λ c κs. search needs)
     returns-2
     returns-3
-    prices-right-requires
+    (λ c κs. search needs)
     returns-4
     returns-5
     returns-6)

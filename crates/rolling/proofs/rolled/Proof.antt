@@ -6,15 +6,6 @@ use borrow.Author.Needs.{needs}
 use Rattle.rolling.proofs.rolled.Statement.{statement}
 use Rattle.rolling.proofs.rolled.Tie as tie
 
-slice-aggregate-roll-in : tie.Need-slice-aggregate-roll-in
-slice-aggregate-roll-in c = search needs
-
-slice-aggregate-roll-in-2 : tie.Need-slice-aggregate-roll-in-2
-slice-aggregate-roll-in-2 c = search needs
-
-slice-aggregate-roll-in-3 : tie.Need-slice-aggregate-roll-in-3
-slice-aggregate-roll-in-3 c = search needs
-
 roll-in-requires : tie.Need-roll-in-requires
 roll-in-requires c κs =
     let s = c .before .before .before .before .before .before .before .before .before .before .before .before .before .before .before .before in
@@ -28,18 +19,6 @@ add-tomorrow c =
     let s = c .before .before .before .before .before .before .before .before .before .before .before .before .before .before .before .before .before .before .before .before in
     let a = s .args in
     record { fits = omega (arith, not-last (a .t1 .phase) (a .t1 .day) (a .days) (a .rate) (now (a .prices)) (s .pre .asks)) }
-
-with-charges-requires : tie.Need-with-charges-requires
-with-charges-requires c κs = search needs
-
-with-nets-requires : tie.Need-with-nets-requires
-with-nets-requires c κs = search needs
-
-with-delivered-requires : tie.Need-with-delivered-requires
-with-delivered-requires c κs = search needs
-
-with-day-requires : tie.Need-with-day-requires
-with-day-requires c κs = search needs
 
 returns : tie.Need-returns
 returns c =
@@ -55,13 +34,13 @@ pub rolled-spec : {M : Type 1} → statement M
 rolled-spec =
     tie.close
     (tie.spec
-    slice-aggregate-roll-in
-    slice-aggregate-roll-in-2
-    slice-aggregate-roll-in-3
+    (λ c. search needs)
+    (λ c. search needs)
+    (λ c. search needs)
     roll-in-requires
     add-tomorrow
-    with-charges-requires
-    with-nets-requires
-    with-delivered-requires
-    with-day-requires
+    (λ c κs. search needs)
+    (λ c κs. search needs)
+    (λ c κs. search needs)
+    (λ c κs. search needs)
     returns)

@@ -4,9 +4,6 @@ use borrow.Author.Needs.{needs}
 use Rattle.running.proofs.close.Statement.{statement}
 use Rattle.running.proofs.close.Tie as tie
 
-close-asks-requires : tie.Need-close-asks-requires
-close-asks-requires c κs = search needs
-
 returns : tie.Need-returns
 returns c =
     close-no (c .before .before .args .s) (c .before .close-asks .result) (c .before .close-asks .ensures) (c .if1 .taken)
@@ -16,4 +13,4 @@ returns-2 c =
     close-yes (c .before .before .args .s) (c .before .close-asks .result) (c .before .close-asks .ensures) (c .if1 .left)
 
 pub close-spec : {M : Type 1} → statement M
-close-spec = tie.close (tie.spec close-asks-requires returns returns-2)
+close-spec = tie.close (tie.spec (λ c κs. search needs) returns returns-2)

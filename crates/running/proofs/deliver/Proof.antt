@@ -15,9 +15,6 @@ deliver-asks-requires c κs =
     let b = withinCells (s .args .s) (now (s .args .nets)) (now (s .args .delivered)) (s .pre .1 .rest) in
     can-ask b (sound-parts b (s .pre .1 .sound)) (s .pre .0 .nets) (s .pre .0 .delivered)
 
-same-length : tie.Need-same-length
-same-length c = search needs
-
 returns : tie.Need-returns
 returns c =
     let s = c .before .before .before .before .before in
@@ -33,12 +30,6 @@ deliver-in-requires c κs =
     can-deliver b (sound-parts b (s .pre .1 .sound)) (s .pre .0 .nets) (s .pre .0 .delivered) (a .i) (a .a) (a .x) (now (a .out))
     (sym (c .before .before .before .deliver-asks .ensures) ∙ c .before .before .if1 .left) (s .pre .2)
 
-same-length-2 : tie.Need-same-length-2
-same-length-2 c = search needs
-
-same-length-3 : tie.Need-same-length-3
-same-length-3 c = search needs
-
 returns-2 : tie.Need-returns-2
 returns-2 c =
     let s = c .before .before .before .before .before .before .before .before .before .before .before .before in
@@ -52,9 +43,9 @@ deliver-spec =
     tie.close
     (tie.spec
     deliver-asks-requires
-    same-length
+    (λ c. search needs)
     returns
     deliver-in-requires
-    same-length-2
-    same-length-3
+    (λ c. search needs)
+    (λ c. search needs)
     returns-2)

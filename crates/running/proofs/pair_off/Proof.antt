@@ -14,9 +14,6 @@ book s =
     let a = s .args in
     withinLedger (a .s) (now (a .issues)) (now (a .froms)) (now (a .tos)) (now (a .lots)) (now (a .days)) (s .pre .1 .rest)
 
-pair-off-asks-requires : tie.Need-pair-off-asks-requires
-pair-off-asks-requires c κs = search needs
-
 returns : tie.Need-returns
 returns c =
     let a = c .before .before .before .before .before .before .before .args in
@@ -31,21 +28,6 @@ pair-off-in-requires c κs =
     book-pairable (book s) (a .i) (a .a) (pair-issue (book s) (a .i) (a .a) (s .pre .1 .sound) (q .result) (q .ensures) (c .before .before .before .before .before .if1 .left)) (s .pre .1 .sound)
     (whole (now (a .issues)) (now (a .froms)) (now (a .tos)) (now (a .lots)) (now (a .days)) (s .pre .0))
 
-same-length : tie.Need-same-length
-same-length c = search needs
-
-same-length-2 : tie.Need-same-length-2
-same-length-2 c = search needs
-
-same-length-3 : tie.Need-same-length-3
-same-length-3 c = search needs
-
-same-length-4 : tie.Need-same-length-4
-same-length-4 c = search needs
-
-same-length-5 : tie.Need-same-length-5
-same-length-5 c = search needs
-
 returns-2 : tie.Need-returns-2
 returns-2 c =
     let a = c .before .before .before .before .before .before .before .before .before .before .before .before .before .before .before .before .before .before .before .before .before .before .before .args in
@@ -57,12 +39,12 @@ pub pair-off-spec : {M : Type 1} → statement M
 pair-off-spec =
     tie.close
     (tie.spec
-    pair-off-asks-requires
+    (λ c κs. search needs)
     returns
     pair-off-in-requires
-    same-length
-    same-length-2
-    same-length-3
-    same-length-4
-    same-length-5
+    (λ c. search needs)
+    (λ c. search needs)
+    (λ c. search needs)
+    (λ c. search needs)
+    (λ c. search needs)
     returns-2)

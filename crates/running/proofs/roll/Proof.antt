@@ -22,9 +22,6 @@ book s =
 answered : (c : tie.Else1) → let a = c .before .before .before .before .before .before .before .before .args in firstNo (rollAsks (a .s .phase) (a .s .day) (a .days) (a .rate) (now (a .prices))) ≡ 0
 answered c = sym (c .before .roll-asks .ensures) ∙ c .if1 .left
 
-roll-asks-requires : tie.Need-roll-asks-requires
-roll-asks-requires c κs = search needs
-
 returns : tie.Need-returns
 returns c =
     let a = c .before .before .before .before .before .before .before .before .args in
@@ -46,15 +43,6 @@ add-t24 c =
     let a = c .before .before .before .before .before .before .before .before .before .before .before .before .before .before .before .before .args in
     record { fits = omega (arith, not-last (a .s .phase) (a .s .day) (a .days) (a .rate) (now (a .prices)) (answered (c .before .before .before .before .before .before .before .before))) }
 
-same-length : tie.Need-same-length
-same-length c = search needs
-
-same-length-2 : tie.Need-same-length-2
-same-length-2 c = search needs
-
-same-length-3 : tie.Need-same-length-3
-same-length-3 c = search needs
-
 returns-2 : tie.Need-returns-2
 returns-2 c =
     let a = c .before .before .before .before .before .before .before .before .before .before .before .before .before .before .before .before .args in
@@ -67,11 +55,11 @@ pub roll-spec : {M : Type 1} → statement M
 roll-spec =
     tie.close
     (tie.spec
-    roll-asks-requires
+    (λ c κs. search needs)
     returns
     roll-in-requires
     add-t24
-    same-length
-    same-length-2
-    same-length-3
+    (λ c. search needs)
+    (λ c. search needs)
+    (λ c. search needs)
     returns-2)

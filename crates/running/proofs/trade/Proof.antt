@@ -13,9 +13,6 @@ trade-asks-requires : tie.Need-trade-asks-requires
 trade-asks-requires c κs =
     small-nets (withinNets (c .before .args .s) (now (c .before .args .nets)) (c .before .pre .1 .rest)) (c .before .pre .1 .sound) (c .before .pre .0)
 
-same-length : tie.Need-same-length
-same-length c = search needs
-
 returns : tie.Need-returns
 returns c =
     let a = c .before .before .before .args in
@@ -29,9 +26,6 @@ trade-in-requires c κs =
     (small-nets (withinNets (a .s) (now (a .nets)) (s .pre .1 .rest)) (s .pre .1 .sound) (s .pre .0))
     (sym (c .before .before .trade-asks .ensures) ∙ c .before .if1 .left)
 
-same-length-2 : tie.Need-same-length-2
-same-length-2 c = search needs
-
 returns-2 : tie.Need-returns-2
 returns-2 c =
     let a = c .before .before .before .before .before .before .args in
@@ -41,4 +35,4 @@ returns-2 c =
 pub trade-spec : {M : Type 1} → statement M
 trade-spec =
     tie.close
-    (tie.spec trade-asks-requires same-length returns trade-in-requires same-length-2 returns-2)
+    (tie.spec trade-asks-requires (λ c. search needs) returns trade-in-requires (λ c. search needs) returns-2)

@@ -7,24 +7,6 @@ use Rattle.rules.specs.Tape.{kindOf}
 use Rattle.tape.proofs.instruction.Statement.{statement}
 use Rattle.tape.proofs.instruction.Tie as tie
 
-kind-of-requires : tie.Need-kind-of-requires
-kind-of-requires c κs = search needs
-
-issue-of-requires : tie.Need-issue-of-requires
-issue-of-requires c κs = search needs
-
-from-of-requires : tie.Need-from-of-requires
-from-of-requires c κs = search needs
-
-to-of-requires : tie.Need-to-of-requires
-to-of-requires c κs = search needs
-
-days-of-requires : tie.Need-days-of-requires
-days-of-requires c κs = search needs
-
-rate-of-requires : tie.Need-rate-of-requires
-rate-of-requires c κs = search needs
-
 returns : tie.Need-returns
 returns c =
     let a = c .before .before in
@@ -78,4 +60,4 @@ returns-7 c =
 pub instruction-spec : {M : Type 1} → statement M
 instruction-spec =
     tie.close
-    (tie.spec kind-of-requires issue-of-requires from-of-requires to-of-requires days-of-requires rate-of-requires returns returns-2 returns-3 returns-4 returns-5 returns-6 returns-7)
+    (tie.spec (λ c κs. search needs) (λ c κs. search needs) (λ c κs. search needs) (λ c κs. search needs) (λ c κs. search needs) (λ c κs. search needs) returns returns-2 returns-3 returns-4 returns-5 returns-6 returns-7)

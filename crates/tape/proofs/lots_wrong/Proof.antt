@@ -14,12 +14,6 @@ use Rattle.tape.proofs.lots_wrong.Tie as tie
 returns : tie.Need-returns
 returns c = missing lotsRight [] (now (c .before .before .args .tape)) 1 (c .if1 .taken)
 
-shared-slice-read-kind-of : tie.Need-shared-slice-read-kind-of
-shared-slice-read-kind-of c = search needs
-
-kind-of-requires : tie.Need-kind-of-requires
-kind-of-requires c κs = search needs
-
 returns-2 : tie.Need-returns-2
 returns-2 c =
     let ws = now (c .before .before .before .before .before .args .tape) in
@@ -34,4 +28,4 @@ returns-3 c =
 
 pub lots-wrong-spec : {M : Type 1} → statement M
 lots-wrong-spec =
-    tie.close (tie.spec returns shared-slice-read-kind-of kind-of-requires returns-2 returns-3)
+    tie.close (tie.spec returns (λ c. search needs) (λ c κs. search needs) returns-2 returns-3)

@@ -18,12 +18,6 @@ Inv-loop tape prices₀ at₀ prices at =
 abbrev μ-loop : tie.MeasureT-loop
 μ-loop tape prices₀ at₀ prices at = 16 - at
 
-loop-holds : tie.Need-loop-holds Inv-loop μ-loop
-loop-holds c = search needs
-
-same-length : tie.Need-same-length Inv-loop μ-loop
-same-length c = search needs
-
 returns : tie.Need-returns Inv-loop μ-loop
 unfolding pricesOf
 returns c =
@@ -31,42 +25,12 @@ returns c =
     let ws = now (c .before .before .before .before .before .args .tape) in
     sym (sets-out (l .prices) (l .at) (pricesFrom (l .at) ws) (c .if1 .taken)) ∙ l .inv .2
 
-add-if2 : tie.Need-add-if2 Inv-loop μ-loop
-add-if2 c = search needs
-
-same-length-2 : tie.Need-same-length-2 Inv-loop μ-loop
-same-length-2 c = search needs
-
 returns-2 : tie.Need-returns-2 Inv-loop μ-loop
 unfolding pricesOf
 returns-2 c =
     let l = c .before .before .before .loop in
     let ws = now (c .before .before .before .before .before .before .args .tape) in
     sym (ap (sets (l .prices) (l .at)) (price-none ws (l .at) (c .if2 .taken))) ∙ l .inv .2
-
-add-price-of : tie.Need-add-price-of Inv-loop μ-loop
-add-price-of c = search needs
-
-mul-price-of : tie.Need-mul-price-of Inv-loop μ-loop
-mul-price-of c = search needs
-
-shared-slice-read-price-of : tie.Need-shared-slice-read-price-of Inv-loop μ-loop
-shared-slice-read-price-of c = search needs
-
-price-of-requires : tie.Need-price-of-requires Inv-loop μ-loop
-price-of-requires c κs = search needs
-
-mul-prices : tie.Need-mul-prices Inv-loop μ-loop
-mul-prices c = search needs
-
-slice-write-prices : tie.Need-slice-write-prices Inv-loop μ-loop
-slice-write-prices c = search needs
-
-add-at : tie.Need-add-at Inv-loop μ-loop
-add-at c = search needs
-
-loop-less : tie.Need-loop-less Inv-loop μ-loop
-loop-less c = search needs
 
 loop-again : tie.Need-loop-again Inv-loop μ-loop
 loop-again c =
@@ -78,9 +42,6 @@ loop-again c =
       prices-next ws (l .prices) (l .at) _ (a .before .loop-test .taken) (c .before .before .if2 .left) (c .price-of .ensures)
           ∙ l .inv .2,
     )
-
-same-length-3 : tie.Need-same-length-3 Inv-loop μ-loop
-same-length-3 c = search needs
 
 returns-3 : tie.Need-returns-3 Inv-loop μ-loop
 unfolding pricesOf
@@ -96,20 +57,20 @@ prices-spec =
     (tie.spec
     Inv-loop
     μ-loop
-    loop-holds
-    same-length
+    (λ c. search needs)
+    (λ c. search needs)
     returns
-    add-if2
-    same-length-2
+    (λ c. search needs)
+    (λ c. search needs)
     returns-2
-    add-price-of
-    mul-price-of
-    shared-slice-read-price-of
-    price-of-requires
-    mul-prices
-    slice-write-prices
-    add-at
-    loop-less
+    (λ c. search needs)
+    (λ c. search needs)
+    (λ c. search needs)
+    (λ c κs. search needs)
+    (λ c. search needs)
+    (λ c. search needs)
+    (λ c. search needs)
+    (λ c. search needs)
     loop-again
-    same-length-3
+    (λ c. search needs)
     returns-3)

@@ -17,26 +17,11 @@ Inv-loop tape at₀ at = (at ≤ 17) × (pricesWrong at tape ≡ pricesWrong 1 t
 abbrev μ-loop : tie.MeasureT-loop
 μ-loop tape at₀ at = 17 - at
 
-loop-holds : tie.Need-loop-holds Inv-loop μ-loop
-loop-holds c = search needs
-
 returns : tie.Need-returns Inv-loop μ-loop
 returns c =
     let l = c .before .before .loop in
     price-missing (now (c .before .before .before .before .args .tape)) (l .at) (c .before .loop-test .taken) (c .if1 .taken)
     ∙ l .inv .1
-
-mul-w : tie.Need-mul-w Inv-loop μ-loop
-mul-w c = search needs
-
-shared-slice-read-w : tie.Need-shared-slice-read-w Inv-loop μ-loop
-shared-slice-read-w c = search needs
-
-kind-of-requires : tie.Need-kind-of-requires Inv-loop μ-loop
-kind-of-requires c κs = search needs
-
-price-of-requires : tie.Need-price-of-requires Inv-loop μ-loop
-price-of-requires c κs = search needs
 
 -- a present word that is wrong
 wrong-here : (a : tie.Else1 Inv-loop μ-loop) →
@@ -58,12 +43,6 @@ returns-3 c =
     let k = p .before in
     wrong-here (k .before .before)
     (price-unused _ (sym (k .kind-of .ensures) ∙ c .before .if2 .left) (λ e. c .if3 .taken (e ∙ sym (p .price-of .ensures))))
-
-add-at : tie.Need-add-at Inv-loop μ-loop
-add-at c = search needs
-
-loop-less : tie.Need-loop-less Inv-loop μ-loop
-loop-less c = search needs
 
 loop-again : tie.Need-loop-again Inv-loop μ-loop
 loop-again c =
@@ -89,15 +68,15 @@ prices-wrong-spec =
     (tie.spec
     Inv-loop
     μ-loop
-    loop-holds
+    (λ c. search needs)
     returns
-    mul-w
-    shared-slice-read-w
-    kind-of-requires
-    price-of-requires
+    (λ c. search needs)
+    (λ c. search needs)
+    (λ c κs. search needs)
+    (λ c κs. search needs)
     returns-2
     returns-3
-    add-at
-    loop-less
+    (λ c. search needs)
+    (λ c. search needs)
     loop-again
     returns-4)

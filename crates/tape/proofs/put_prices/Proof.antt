@@ -24,36 +24,12 @@ Inv-loop prices out₀ at₀ out at =
 abbrev μ-loop : tie.MeasureT-loop
 μ-loop prices out₀ at₀ out at = 16 - at
 
-loop-holds : tie.Need-loop-holds Inv-loop μ-loop
-loop-holds c = search needs
-
-mul-price-word : tie.Need-mul-price-word Inv-loop μ-loop
-mul-price-word c = search needs
-
-shared-slice-read-price-word : tie.Need-shared-slice-read-price-word Inv-loop μ-loop
-shared-slice-read-price-word c = search needs
-
 price-word-requires : tie.Need-price-word-requires Inv-loop μ-loop
 price-word-requires c κs =
     let a = c .before .before .before .before .before in
     let l = c .before .before .loop in
     let ps = now (a .args .prices) in
     ltb-true (getD ps (l .at) 0) 262144 (all-at (fits priceBits) ps 0 (l .at) (a .pre .each) (omega arith))
-
-add-out : tie.Need-add-out Inv-loop μ-loop
-add-out c = search needs
-
-mul-out : tie.Need-mul-out Inv-loop μ-loop
-mul-out c = search needs
-
-slice-write-out : tie.Need-slice-write-out Inv-loop μ-loop
-slice-write-out c = search needs
-
-add-at : tie.Need-add-at Inv-loop μ-loop
-add-at c = search needs
-
-loop-less : tie.Need-loop-less Inv-loop μ-loop
-loop-less c = search needs
 
 loop-again : tie.Need-loop-again Inv-loop μ-loop
 loop-again c =
@@ -64,9 +40,6 @@ loop-again c =
       price-stored ps (l .out) (l .at) (c .price-word .result) (omega arith) (c .price-word .ensures)
           ∙ l .inv .2,
     )
-
-same-length : tie.Need-same-length Inv-loop μ-loop
-same-length c = search needs
 
 returns : tie.Need-returns Inv-loop μ-loop
 returns c =
@@ -81,15 +54,15 @@ put-prices-spec =
     (tie.spec
     Inv-loop
     μ-loop
-    loop-holds
-    mul-price-word
-    shared-slice-read-price-word
+    (λ c. search needs)
+    (λ c. search needs)
+    (λ c. search needs)
     price-word-requires
-    add-out
-    mul-out
-    slice-write-out
-    add-at
-    loop-less
+    (λ c. search needs)
+    (λ c. search needs)
+    (λ c. search needs)
+    (λ c. search needs)
+    (λ c. search needs)
     loop-again
-    same-length
+    (λ c. search needs)
     returns)

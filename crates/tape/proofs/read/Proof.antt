@@ -9,9 +9,6 @@ use Rattle.tape.proofs.Reading.{wrongOf, read-wrong, read-right, right-
 use Rattle.tape.proofs.read.Statement.{statement}
 use Rattle.tape.proofs.read.Tie as tie
 
-wrong-requires : tie.Need-wrong-requires
-wrong-requires c κs = search needs
-
 returns : tie.Need-returns
 returns c = read-wrong (now (c .before .before .before .args .tape)) _ (c .before .wrong .ensures) (c .if1 .taken)
 
@@ -21,18 +18,6 @@ right c = sym (c .before .if1 .left) ∙ c .before .before .wrong .ensures
 
 shared-slice-read-w : tie.Need-shared-slice-read-w
 shared-slice-read-w c = right-some (now (c .before .before .before .before .args .tape)) (right c)
-
-kind-of-requires : tie.Need-kind-of-requires
-kind-of-requires c κs = search needs
-
-word-count-requires : tie.Need-word-count-requires
-word-count-requires c κs = search needs
-
-lots-in-requires : tie.Need-lots-in-requires
-lots-in-requires c κs = search needs
-
-instruction-requires : tie.Need-instruction-requires
-instruction-requires c κs = search needs
 
 returns-2 : tie.Need-returns-2
 returns-2 c =
@@ -45,4 +30,4 @@ returns-2 c =
 pub read-spec : {M : Type 1} → statement M
 read-spec =
     tie.close
-    (tie.spec wrong-requires returns shared-slice-read-w kind-of-requires word-count-requires lots-in-requires instruction-requires returns-2)
+    (tie.spec (λ c κs. search needs) returns shared-slice-read-w (λ c κs. search needs) (λ c κs. search needs) (λ c κs. search needs) (λ c κs. search needs) returns-2)

@@ -16,15 +16,6 @@ returns-2 c =
     let a = c .before .before .before .args in
     one-account (a .kind) (a .issue) (a .account) (now (a .out)) (c .before .if1 .left) (c .if2 .taken)
 
-head-requires : tie.Need-head-requires
-head-requires c κs = search needs
-
-slice-write-out : tie.Need-slice-write-out
-slice-write-out c = search needs
-
-same-length : tie.Need-same-length
-same-length c = search needs
-
 returns-3 : tie.Need-returns-3
 returns-3 c =
     let a = c .before .before .before .before .args in
@@ -32,4 +23,4 @@ returns-3 c =
 
 pub write-one-spec : {M : Type 1} → statement M
 write-one-spec =
-    tie.close (tie.spec returns returns-2 head-requires slice-write-out same-length returns-3)
+    tie.close (tie.spec returns returns-2 (λ c κs. search needs) (λ c. search needs) (λ c. search needs) returns-3)

@@ -25,20 +25,11 @@ returns-3 c =
     let a = c .before .before .before .before .before .args in
     roll-count (a .days) (a .rate) (now (a .prices)) (now (a .out)) (omega arith) (omega arith) (c .if3 .taken)
 
-prices-fit-requires : tie.Need-prices-fit-requires
-prices-fit-requires c κs = search needs
-
 returns-4 : tie.Need-returns-4
 returns-4 c =
     let a = c .before .before .before .before .before .before .before .args in
     roll-prices (a .days) (a .rate) (now (a .prices)) (now (a .out)) (omega arith) (omega arith) (c .before .before .if3 .left)
     (sym (c .before .prices-fit .ensures) ∙ not-true _ (c .if4 .taken))
-
-roll-head-requires : tie.Need-roll-head-requires
-roll-head-requires c κs = search needs
-
-slice-write-out : tie.Need-slice-write-out
-slice-write-out c = search needs
 
 put-prices-requires : tie.Need-put-prices-requires
 put-prices-requires c κs =
@@ -64,4 +55,4 @@ returns-5 c =
 pub write-roll-spec : {M : Type 1} → statement M
 write-roll-spec =
     tie.close
-    (tie.spec returns returns-2 returns-3 prices-fit-requires returns-4 roll-head-requires slice-write-out put-prices-requires same-length returns-5)
+    (tie.spec returns returns-2 returns-3 (λ c κs. search needs) returns-4 (λ c κs. search needs) (λ c. search needs) put-prices-requires same-length returns-5)

@@ -27,15 +27,6 @@ returns-4 c =
     let a = c .before .before .before .before .before .args in
     two-lots (a .kind) (a .issue) (a .from) (a .to) (a .lots) (now (a .out)) (omega arith) (omega arith) (omega arith) (c .if4 .taken)
 
-head-requires : tie.Need-head-requires
-head-requires c κs = search needs
-
-slice-write-out : tie.Need-slice-write-out
-slice-write-out c = search needs
-
-lots-word-requires : tie.Need-lots-word-requires
-lots-word-requires c κs = search needs
-
 slice-write-out-2 : tie.Need-slice-write-out-2
 slice-write-out-2 c = simp length-set (omega arith)
 
@@ -51,4 +42,4 @@ returns-5 c =
 pub write-two-spec : {M : Type 1} → statement M
 write-two-spec =
     tie.close
-    (tie.spec returns returns-2 returns-3 returns-4 head-requires slice-write-out lots-word-requires slice-write-out-2 same-length returns-5)
+    (tie.spec returns returns-2 returns-3 returns-4 (λ c κs. search needs) (λ c. search needs) (λ c κs. search needs) slice-write-out-2 same-length returns-5)

@@ -16,21 +16,6 @@ returns : tie.Need-returns
 returns c =
     missing headRight (followers (kindOf (getD (now (c .before .before .args .tape)) 0 0))) (now (c .before .before .args .tape)) 0 (omega arith)
 
-shared-slice-read-w : tie.Need-shared-slice-read-w
-shared-slice-read-w c = search needs
-
-kind-of-requires : tie.Need-kind-of-requires
-kind-of-requires c κs = search needs
-
-lots-wrong-requires : tie.Need-lots-wrong-requires
-lots-wrong-requires c κs = search needs
-
-prices-wrong-requires : tie.Need-prices-wrong-requires
-prices-wrong-requires c κs = search needs
-
-lots-wrong-requires-2 : tie.Need-lots-wrong-requires-2
-lots-wrong-requires-2 c κs = search needs
-
 -- there is a head
 some : (a : tie.After-kind-of) → 0 < length (now (a .before .before .before .before .args .tape))
 some a = omega arith
@@ -116,4 +101,4 @@ returns-13 c =
 pub wrong-spec : {M : Type 1} → statement M
 wrong-spec =
     tie.close
-    (tie.spec returns shared-slice-read-w kind-of-requires lots-wrong-requires prices-wrong-requires lots-wrong-requires-2 returns-2 returns-3 returns-4 returns-5 returns-6 returns-7 returns-8 returns-9 returns-10 returns-11 returns-12 returns-13)
+    (tie.spec returns (λ c. search needs) (λ c κs. search needs) (λ c κs. search needs) (λ c κs. search needs) (λ c κs. search needs) returns-2 returns-3 returns-4 returns-5 returns-6 returns-7 returns-8 returns-9 returns-10 returns-11 returns-12 returns-13)

@@ -15,18 +15,12 @@ use Rattle.trading.proofs.close.Tie as tie
 at1 : (c : tie.Else1) → sound (c .before .before .args .b) ≡ true
 at1 c = sym (c .before .sound .ensures) ∙ not-false (c .before .sound .result) (c .if1 .left)
 
-sound-requires : tie.Need-sound-requires
-sound-requires c κs = search needs
-
 returns : tie.Need-returns
 unfolding close
 returns c =
     let b = c .before .before .args .b in
     unsound b (withPhase b Settling) [] [] (closeAsks (b .phase))
     (sym (c .before .sound .ensures) ∙ not-true (c .before .sound .result) (c .if1 .taken))
-
-close-asks-requires : tie.Need-close-asks-requires
-close-asks-requires c κs = search needs
 
 returns-2 : tie.Need-returns-2
 unfolding close
@@ -35,9 +29,6 @@ returns-2 c =
     let b = e .before .before .args .b in
     asked-no b (withPhase b Settling) [] [] (closeAsks (b .phase)) (c .before .close-asks .result) (at1 e)
     (c .before .close-asks .ensures) (c .if2 .taken)
-
-with-day-requires : tie.Need-with-day-requires
-with-day-requires c κs = search needs
 
 returns-3 : tie.Need-returns-3
 unfolding close
@@ -51,4 +42,4 @@ returns-3 c =
 pub close-spec : {M : Type 1} → statement M
 close-spec =
     tie.close
-    (tie.spec sound-requires returns close-asks-requires returns-2 with-day-requires returns-3)
+    (tie.spec (λ c κs. search needs) returns (λ c κs. search needs) returns-2 (λ c κs. search needs) returns-3)

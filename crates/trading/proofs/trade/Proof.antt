@@ -29,9 +29,6 @@ answered : (c : tie.Else2) → let a = at2 (c .before) .before .before .args in
     firstNo (tradeAsks (a .t1 .phase) (a .t1 .nets) (a .i) (a .f) (a .t) (a .x)) ≡ 0
 answered c = sym (c .before .trade-asks .ensures) ∙ c .if2 .left
 
-sound-requires : tie.Need-sound-requires
-sound-requires c κs = search needs
-
 returns : tie.Need-returns
 unfolding trade
 returns c =
@@ -54,17 +51,11 @@ returns-2 c =
     (tradeAsks (b .phase) (b .nets) (a .i) (a .f) (a .t) (a .x))
     (c .before .trade-asks .result) (at1 e) (c .before .trade-asks .ensures) (c .if2 .taken)
 
-slice-aggregate-trade-in : tie.Need-slice-aggregate-trade-in
-slice-aggregate-trade-in c = search needs
-
 trade-in-requires : tie.Need-trade-in-requires
 trade-in-requires c κs =
     let e = c .before .before in
     let a = at2 (e .before) .before .before .args in
     tradable (a .t1 .phase) (a .t1 .nets) (a .i) (a .f) (a .t) (a .x) (column (at2 (e .before))) (answered e)
-
-with-nets-requires : tie.Need-with-nets-requires
-with-nets-requires c κs = search needs
 
 returns-3 : tie.Need-returns-3
 unfolding trade
@@ -82,11 +73,11 @@ pub trade-spec : {M : Type 1} → statement M
 trade-spec =
     tie.close
     (tie.spec
-    sound-requires
+    (λ c κs. search needs)
     returns
     trade-asks-requires
     returns-2
-    slice-aggregate-trade-in
+    (λ c. search needs)
     trade-in-requires
-    with-nets-requires
+    (λ c κs. search needs)
     returns-3)

@@ -77,9 +77,6 @@ rises c =
     ∙ ap (withinSize mostLots)
     (toZ-ofZ w32 (r .result) (search needs) ∙ r .ensures .value ∙ ap (λ n. n +ℤ pos (a .x)) (to-net (c .before .before)))
 
-taking-requires : tie.Need-taking-requires
-taking-requires c κs = search needs
-
 returns : tie.Need-returns
 returns c =
     let a = c .before .before .args in
@@ -123,49 +120,16 @@ returns-7 c =
     (c .before .before .before .before .if3 .left) (c .before .before .before .if4 .left)
     (c .before .before .if5 .left) (c .if7 .taken)
 
-mul-from : tie.Need-mul-from
-mul-from c = search needs
-
-add-from : tie.Need-add-from
-add-from c = search needs
-
-cast-from : tie.Need-cast-from
-cast-from c = search needs
-
-mul-from-2 : tie.Need-mul-from-2
-mul-from-2 c = search needs
-
-shared-slice-copy-out-from : tie.Need-shared-slice-copy-out-from
-shared-slice-copy-out-from c = search needs
-
 lowered-requires : tie.Need-lowered-requires
 lowered-requires c κs =
     let s = at7 (c .before) in
     record { net = rw (from-net c) (s .pre .small (s .args .i * 64 + s .args .f)); lots = c .before .if7 .left }
-
-within-requires : tie.Need-within-requires
-within-requires c κs = search needs
 
 returns-8 : tie.Need-returns-8
 returns-8 c =
     let a = at7 (c .before .before .before .before) .args in
     no8 (a .phase) (now (a .nets)) (a .i) (a .f) (a .t) (a .x) (named (c .before .before .before .before))
     (sym (falls (c .before)) ∙ not-true (c .before .within .result) (c .if8 .taken))
-
-mul-to : tie.Need-mul-to
-mul-to c = search needs
-
-add-to : tie.Need-add-to
-add-to c = search needs
-
-cast-to : tie.Need-cast-to
-cast-to c = search needs
-
-mul-to-2 : tie.Need-mul-to-2
-mul-to-2 c = search needs
-
-shared-slice-copy-out-to : tie.Need-shared-slice-copy-out-to
-shared-slice-copy-out-to c = search needs
 
 raised-requires : tie.Need-raised-requires
 raised-requires c κs =
@@ -174,9 +138,6 @@ raised-requires c κs =
       net = rw (to-net c) (s .pre .small (s .args .i * 64 + s .args .t));
       lots = c .before .before .before .before .before .if7 .left;
     }
-
-within-requires-2 : tie.Need-within-requires-2
-within-requires-2 c κs = search needs
 
 returns-9 : tie.Need-returns-9
 returns-9 c =
@@ -197,7 +158,7 @@ pub trade-asks-spec : {M : Type 1} → statement M
 trade-asks-spec =
     tie.close
     (tie.spec
-    taking-requires
+    (λ c κs. search needs)
     returns
     returns-2
     returns-3
@@ -205,20 +166,20 @@ trade-asks-spec =
     returns-5
     returns-6
     returns-7
-    mul-from
-    add-from
-    cast-from
-    mul-from-2
-    shared-slice-copy-out-from
+    (λ c. search needs)
+    (λ c. search needs)
+    (λ c. search needs)
+    (λ c. search needs)
+    (λ c. search needs)
     lowered-requires
-    within-requires
+    (λ c κs. search needs)
     returns-8
-    mul-to
-    add-to
-    cast-to
-    mul-to-2
-    shared-slice-copy-out-to
+    (λ c. search needs)
+    (λ c. search needs)
+    (λ c. search needs)
+    (λ c. search needs)
+    (λ c. search needs)
     raised-requires
-    within-requires-2
+    (λ c κs. search needs)
     returns-9
     returns-10)

@@ -7,18 +7,12 @@ use Rattle.units.proofs.Steps.{none-short, none-run, hand-short, hand-l
 use Rattle.units.proofs.advance.Statement.{statement}
 use Rattle.units.proofs.advance.Tie as tie
 
-next-short-requires : tie.Need-next-short-requires
-next-short-requires c κs = search needs
-
 returns : tie.Need-returns
 returns c =
     let s = c .before .before .next-short in
     let a = c .before .before .before .before .before .args in
     let us = runsIn (now (a .runs)) (a .n) in
     none-short us (now (a .shorts)) (a .c) (s .result) (s .ensures) (c .if1 .taken)
-
-next-run-requires : tie.Need-next-run-requires
-next-run-requires c κs = search needs
 
 returns-2 : tie.Need-returns-2
 returns-2 c =
@@ -27,9 +21,6 @@ returns-2 c =
     let us = runsIn (now (a .runs)) (a .n) in
     let r = c .before .before .next-run in
     none-run us (now (a .shorts)) (a .c) (s .result) (s .ensures) (r .result) (r .ensures) (c .if2 .taken)
-
-sub-t8 : tie.Need-sub-t8
-sub-t8 c = search needs
 
 returns-3 : tie.Need-returns-3
 returns-3 c =
@@ -52,4 +43,4 @@ returns-4 c =
 pub advance-spec : {M : Type 1} → statement M
 advance-spec =
     tie.close
-    (tie.spec next-short-requires returns next-run-requires returns-2 sub-t8 returns-3 returns-4)
+    (tie.spec (λ c κs. search needs) returns (λ c κs. search needs) returns-2 (λ c. search needs) returns-3 returns-4)

@@ -38,9 +38,6 @@ shorter c =
       step-range us (now (a .shorts)) (l .cur) (v .result) (v .ensures) (g .1 .1 .1 .0) (g .0) (g .1 .0) (g .1 .1 .0) e .cursor,
     )
 
-loop-holds : tie.Need-loop-holds Inv-loop μ-loop
-loop-holds c = search needs
-
 advance-requires : tie.Need-advance-requires Inv-loop μ-loop
 advance-requires c κs =
     let s = c .before .before .before in
@@ -49,9 +46,6 @@ advance-requires c κs =
       held = p .held;
       shortfalls = record { accounts = p .shortfalls .accounts; small = p .shortfalls .small; range = c .loop .inv .0 };
     }
-
-enum-known-rest : tie.Need-enum-known-rest Inv-loop μ-loop
-enum-known-rest c = search needs
 
 enum-told : tie.Need-enum-told Inv-loop μ-loop
 enum-told c = search needs
@@ -85,9 +79,9 @@ count-spec =
     (tie.spec
     Inv-loop
     μ-loop
-    loop-holds
+    (λ c. search needs)
     advance-requires
-    enum-known-rest
+    (λ c. search needs)
     enum-told
     returns
     add-k

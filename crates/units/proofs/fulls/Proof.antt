@@ -24,30 +24,6 @@ abbrev μ-loop : tie.MeasureT-loop
 loop-holds : tie.Need-loop-holds Inv-loop μ-loop
 loop-holds c = (search needs, refl, (λ j h. refl), refl)
 
-mul-k : tie.Need-mul-k Inv-loop μ-loop
-mul-k c = search needs
-
-slice-read-k : tie.Need-slice-read-k Inv-loop μ-loop
-slice-read-k c = search needs
-
-mul-keys : tie.Need-mul-keys Inv-loop μ-loop
-mul-keys c = search needs
-
-sub-keys : tie.Need-sub-keys Inv-loop μ-loop
-sub-keys c = search needs
-
-mul-keys-2 : tie.Need-mul-keys-2 Inv-loop μ-loop
-mul-keys-2 c = search needs
-
-slice-write-keys : tie.Need-slice-write-keys Inv-loop μ-loop
-slice-write-keys c = search needs
-
-add-i : tie.Need-add-i Inv-loop μ-loop
-add-i c = search needs
-
-loop-less : tie.Need-loop-less Inv-loop μ-loop
-loop-less c = search needs
-
 loop-again : tie.Need-loop-again Inv-loop μ-loop
 loop-again c =
     let a = c .before .before .before .args in
@@ -59,9 +35,6 @@ loop-again c =
       turn-more partOf (λ k. fullOf (partOf k)) (now (a .keys)) (l .keys) (l .i) (k - k / 64 % 100000 * 64) (omega arith) (omega arith)
           (full-key k ∙ ap (λ k. fullOf (partOf k)) (l .inv .2 (l .i) (omega arith))) (l .inv .3),
     )
-
-same-length : tie.Need-same-length Inv-loop μ-loop
-same-length c = search needs
 
 returns : tie.Need-returns Inv-loop μ-loop
 returns c =
@@ -77,14 +50,14 @@ fulls-spec =
     Inv-loop
     μ-loop
     loop-holds
-    mul-k
-    slice-read-k
-    mul-keys
-    sub-keys
-    mul-keys-2
-    slice-write-keys
-    add-i
-    loop-less
+    (λ c. search needs)
+    (λ c. search needs)
+    (λ c. search needs)
+    (λ c. search needs)
+    (λ c. search needs)
+    (λ c. search needs)
+    (λ c. search needs)
+    (λ c. search needs)
     loop-again
-    same-length
+    (λ c. search needs)
     returns)

@@ -21,18 +21,6 @@ Inv-loop runs n d left₀ count₀ j₀ left count j =
 abbrev μ-loop : tie.MeasureT-loop
 μ-loop runs n d left₀ count₀ j₀ left count j = n - j
 
-loop-holds : tie.Need-loop-holds Inv-loop μ-loop
-loop-holds c = search needs
-
-mul-lots : tie.Need-mul-lots Inv-loop μ-loop
-mul-lots c = search needs
-
-shared-slice-read-lots : tie.Need-shared-slice-read-lots Inv-loop μ-loop
-shared-slice-read-lots c = search needs
-
-add-t13 : tie.Need-add-t13 Inv-loop μ-loop
-add-t13 c = search needs
-
 returns : tie.Need-returns Inv-loop μ-loop
 returns c =
     let a = c .before .before .before .before .args in
@@ -44,15 +32,6 @@ returns c =
 
 add-count : tie.Need-add-count Inv-loop μ-loop
 add-count c = omega (arith, c .before .shared-slice-known .given (c .before .before .before .loop .j))
-
-add-count-2 : tie.Need-add-count-2 Inv-loop μ-loop
-add-count-2 c = search needs
-
-add-j : tie.Need-add-j Inv-loop μ-loop
-add-j c = search needs
-
-loop-less : tie.Need-loop-less Inv-loop μ-loop
-loop-less c = search needs
 
 loop-again : tie.Need-loop-again Inv-loop μ-loop
 loop-again c =
@@ -81,14 +60,14 @@ handover-spec =
     (tie.spec
     Inv-loop
     μ-loop
-    loop-holds
-    mul-lots
-    shared-slice-read-lots
-    add-t13
+    (λ c. search needs)
+    (λ c. search needs)
+    (λ c. search needs)
+    (λ c. search needs)
     returns
     add-count
-    add-count-2
-    add-j
-    loop-less
+    (λ c. search needs)
+    (λ c. search needs)
+    (λ c. search needs)
     loop-again
     returns-2)

@@ -37,21 +37,6 @@ returns c =
       range = record { from = l .inv .0; to = s .pre .range .to; short = omega arith };
     }
 
-cast-f : tie.Need-cast-f Inv-loop μ-loop
-cast-f c = search needs
-
-mul-x : tie.Need-mul-x Inv-loop μ-loop
-mul-x c = search needs
-
-shared-slice-read-x : tie.Need-shared-slice-read-x Inv-loop μ-loop
-shared-slice-read-x c = search needs
-
-add-a : tie.Need-add-a Inv-loop μ-loop
-add-a c = search needs
-
-loop-less : tie.Need-loop-less Inv-loop μ-loop
-loop-less c = search needs
-
 loop-again : tie.Need-loop-again Inv-loop μ-loop
 loop-again c =
     let s = c .before .before .before .before in
@@ -81,10 +66,10 @@ next-short-spec =
     μ-loop
     loop-holds
     returns
-    cast-f
-    mul-x
-    shared-slice-read-x
-    add-a
-    loop-less
+    (λ c. search needs)
+    (λ c. search needs)
+    (λ c. search needs)
+    (λ c. search needs)
+    (λ c. search needs)
     loop-again
     returns-2)

@@ -18,26 +18,11 @@ Inv-loop runs n count₀ j₀ count j =
 abbrev μ-loop : tie.MeasureT-loop
 μ-loop runs n count₀ j₀ count j = n - j
 
-loop-holds : tie.Need-loop-holds Inv-loop μ-loop
-loop-holds c = search needs
-
-mul-count : tie.Need-mul-count Inv-loop μ-loop
-mul-count c = search needs
-
-shared-slice-read-count : tie.Need-shared-slice-read-count Inv-loop μ-loop
-shared-slice-read-count c = search needs
-
 add-count : tie.Need-add-count Inv-loop μ-loop
 add-count c = omega (arith, c .shared-slice-known .given (c .before .before .loop .j))
 
 add-count-2 : tie.Need-add-count-2 Inv-loop μ-loop
 add-count-2 c = omega (arith, c .shared-slice-known .given (c .before .before .loop .j))
-
-add-j : tie.Need-add-j Inv-loop μ-loop
-add-j c = search needs
-
-loop-less : tie.Need-loop-less Inv-loop μ-loop
-loop-less c = search needs
 
 loop-again : tie.Need-loop-again Inv-loop μ-loop
 loop-again c =
@@ -60,12 +45,12 @@ number-spec =
     (tie.spec
     Inv-loop
     μ-loop
-    loop-holds
-    mul-count
-    shared-slice-read-count
+    (λ c. search needs)
+    (λ c. search needs)
+    (λ c. search needs)
     add-count
     add-count-2
-    add-j
-    loop-less
+    (λ c. search needs)
+    (λ c. search needs)
     loop-again
     returns)

@@ -11,33 +11,6 @@ use Rattle.units.proofs.Loops.{rest-small, ordered}
 use Rattle.units.proofs.order.Statement.{statement}
 use Rattle.units.proofs.order.Tie as tie
 
-rank-requires : tie.Need-rank-requires
-rank-requires c κs = search needs
-
-fulls-requires : tie.Need-fulls-requires
-fulls-requires c κs = search needs
-
-slice-aggregate-rests : tie.Need-slice-aggregate-rests
-slice-aggregate-rests c = search needs
-
-rests-requires : tie.Need-rests-requires
-rests-requires c κs = search needs
-
-slice-aggregate-rank : tie.Need-slice-aggregate-rank
-slice-aggregate-rank c = search needs
-
-mul-rank : tie.Need-mul-rank
-mul-rank c = search needs
-
-sub-rank : tie.Need-sub-rank
-sub-rank c = search needs
-
-part-rank-start : tie.Need-part-rank-start
-part-rank-start c = search needs
-
-part-rank-end : tie.Need-part-rank-end
-part-rank-end c = search needs
-
 rank-requires-2 : tie.Need-rank-requires-2
 rank-requires-2 c κs =
     let b = c .before .before .before in
@@ -51,12 +24,6 @@ rank-requires-2 c κs =
       held = simp (length-take, length-drop) (omega arith);
       small = rest-small (now (s .args .dues)) rs (b .rests .ensures);
     }
-
-add-result : tie.Need-add-result
-add-result c = search needs
-
-same-length : tie.Need-same-length
-same-length c = search needs
 
 returns : tie.Need-returns
 returns c =
@@ -75,16 +42,16 @@ pub order-spec : {M : Type 1} → statement M
 order-spec =
     tie.close
     (tie.spec
-    rank-requires
-    fulls-requires
-    slice-aggregate-rests
-    rests-requires
-    slice-aggregate-rank
-    mul-rank
-    sub-rank
-    part-rank-start
-    part-rank-end
+    (λ c κs. search needs)
+    (λ c κs. search needs)
+    (λ c. search needs)
+    (λ c κs. search needs)
+    (λ c. search needs)
+    (λ c. search needs)
+    (λ c. search needs)
+    (λ c. search needs)
+    (λ c. search needs)
     rank-requires-2
-    add-result
-    same-length
+    (λ c. search needs)
+    (λ c. search needs)
     returns)

@@ -6,15 +6,6 @@ use Rattle.units.proofs.Loops.{dues-small, dues-length, prepared}
 use Rattle.units.proofs.prepare.Statement.{statement}
 use Rattle.units.proofs.prepare.Tie as tie
 
-slice-aggregate-dues-of : tie.Need-slice-aggregate-dues-of
-slice-aggregate-dues-of c = search needs
-
-dues-of-requires : tie.Need-dues-of-requires
-dues-of-requires c κs = search needs
-
-slice-aggregate-order : tie.Need-slice-aggregate-order
-slice-aggregate-order c = search needs
-
 order-requires : tie.Need-order-requires
 order-requires c κs =
     let s = c .before .before .before .before .before .before in
@@ -24,9 +15,6 @@ order-requires c κs =
       held = s .pre .held;
       small = dues-small (now (s .args .nets)) (d .last .1 .0) (d .ensures) (s .pre .small);
     }
-
-same-length : tie.Need-same-length
-same-length c = search needs
 
 returns : tie.Need-returns
 returns c =
@@ -40,9 +28,9 @@ pub prepare-spec : {M : Type 1} → statement M
 prepare-spec =
     tie.close
     (tie.spec
-    slice-aggregate-dues-of
-    dues-of-requires
-    slice-aggregate-order
+    (λ c. search needs)
+    (λ c κs. search needs)
+    (λ c. search needs)
     order-requires
-    same-length
+    (λ c. search needs)
     returns)

@@ -20,18 +20,6 @@ abbrev μ-loop : tie.MeasureT-loop
 loop-holds : tie.Need-loop-holds Inv-loop μ-loop
 loop-holds c = (search needs, seeking-starts _ _)
 
-mul-key : tie.Need-mul-key Inv-loop μ-loop
-mul-key c = search needs
-
-shared-slice-read-key : tie.Need-shared-slice-read-key Inv-loop μ-loop
-shared-slice-read-key c = search needs
-
-add-j : tie.Need-add-j Inv-loop μ-loop
-add-j c = search needs
-
-sub-t15 : tie.Need-sub-t15 Inv-loop μ-loop
-sub-t15 c = search needs
-
 returns : tie.Need-returns Inv-loop μ-loop
 returns c =
     let a = c .before .before .before .before .args in
@@ -41,9 +29,6 @@ returns c =
     rw add-one
     (seeking-stands us (partOf (getD (now (a .runs)) (l .j) 0)) (a .d) (l .left) (suc (l .j)) (omega arith) (omega arith)
     (rw e at (l .inv .1)))
-
-loop-less : tie.Need-loop-less Inv-loop μ-loop
-loop-less c = search needs
 
 loop-again : tie.Need-loop-again Inv-loop μ-loop
 loop-again c =
@@ -71,11 +56,11 @@ start-spec =
     Inv-loop
     μ-loop
     loop-holds
-    mul-key
-    shared-slice-read-key
-    add-j
-    sub-t15
+    (λ c. search needs)
+    (λ c. search needs)
+    (λ c. search needs)
+    (λ c. search needs)
     returns
-    loop-less
+    (λ c. search needs)
     loop-again
     returns-2)

@@ -10,9 +10,6 @@ use Rattle.units.proofs.Questions.{refused-sound, refused-issue, answer
 use Rattle.units.proofs.unit.Statement.{statement}
 use Rattle.units.proofs.unit.Tie as tie
 
-sound-requires : tie.Need-sound-requires
-sound-requires c κs = search needs
-
 -- the book is sound where it was not refused
 yes : (c : tie.Else1) → sound (c .before .before .args .t1) ≡ true
 yes c = sym (c .before .sound .ensures) ∙ not-false _ (c .if1 .left)
@@ -40,4 +37,4 @@ returns-3 c =
     answered (s .args .t1) (s .args .i) (s .args .k) (c .unit-of .result) (yes (e .before)) (omega arith) (c .unit-of .ensures)
 
 pub unit-spec : {M : Type 1} → statement M
-unit-spec = tie.close (tie.spec sound-requires returns returns-2 unit-of-requires returns-3)
+unit-spec = tie.close (tie.spec (λ c κs. search needs) returns returns-2 unit-of-requires returns-3)

@@ -20,23 +20,11 @@ Inv-loop runs n k k₀ j₀ k' j =
 abbrev μ-loop : tie.MeasureT-loop
 μ-loop runs n k k₀ j₀ k' j = n - j
 
-loop-holds : tie.Need-loop-holds Inv-loop μ-loop
-loop-holds c = search needs
-
-mul-key : tie.Need-mul-key Inv-loop μ-loop
-mul-key c = search needs
-
-shared-slice-read-key : tie.Need-shared-slice-read-key Inv-loop μ-loop
-shared-slice-read-key c = search needs
-
 add-c : tie.Need-add-c Inv-loop μ-loop
 add-c c = omega (arith, c .shared-slice-known .given (c .before .before .loop .j))
 
 mul-left : tie.Need-mul-left Inv-loop μ-loop
 mul-left c = omega (arith, c .before .shared-slice-known .given (c .before .before .before .loop .j))
-
-sub-left : tie.Need-sub-left Inv-loop μ-loop
-sub-left c = search needs
 
 returns : tie.Need-returns Inv-loop μ-loop
 returns c =
@@ -49,12 +37,6 @@ returns-2 c =
     let a = c .before .before .before .before .before .args in
     let l = c .before .before .before .before .loop in
     unit-is-full (now (a .runs)) (a .n) (l .j) (search needs) (l .k) (omega arith) (omega arith) ∙ sym (l .inv .2)
-
-add-j : tie.Need-add-j Inv-loop μ-loop
-add-j c = search needs
-
-loop-less : tie.Need-loop-less Inv-loop μ-loop
-loop-less c = search needs
 
 loop-again : tie.Need-loop-again Inv-loop μ-loop
 loop-again c =
@@ -74,15 +56,15 @@ unit-at-spec =
     (tie.spec
     Inv-loop
     μ-loop
-    loop-holds
-    mul-key
-    shared-slice-read-key
+    (λ c. search needs)
+    (λ c. search needs)
+    (λ c. search needs)
     add-c
     mul-left
-    sub-left
+    (λ c. search needs)
     returns
     returns-2
-    add-j
-    loop-less
+    (λ c. search needs)
+    (λ c. search needs)
     loop-again
     returns-3)

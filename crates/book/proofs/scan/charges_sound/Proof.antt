@@ -29,42 +29,6 @@ Inv-loop today charges most good₀ got-high₀ got-low₀ paid-high₀ paid-low
 abbrev μ-loop : tie.MeasureT-loop
 μ-loop today charges most good₀ got-high₀ got-low₀ paid-high₀ paid-low₀ i₀ good got-high got-low paid-high paid-low i = 64 - i
 
-mul-most : tie.Need-mul-most Inv-loop μ-loop
-mul-most c = search needs
-
-loop-holds : tie.Need-loop-holds Inv-loop μ-loop
-loop-holds c = search needs
-
-mul-c : tie.Need-mul-c Inv-loop μ-loop
-mul-c c = search needs
-
-shared-slice-copy-out-c : tie.Need-shared-slice-copy-out-c Inv-loop μ-loop
-shared-slice-copy-out-c c = search needs
-
-credit-requires : tie.Need-credit-requires Inv-loop μ-loop
-credit-requires c κs = search needs
-
-debit-requires : tie.Need-debit-requires Inv-loop μ-loop
-debit-requires c κs = search needs
-
-add-got-high : tie.Need-add-got-high Inv-loop μ-loop
-add-got-high c = search needs
-
-add-got-low : tie.Need-add-got-low Inv-loop μ-loop
-add-got-low c = search needs
-
-add-paid-high : tie.Need-add-paid-high Inv-loop μ-loop
-add-paid-high c = search needs
-
-add-paid-low : tie.Need-add-paid-low Inv-loop μ-loop
-add-paid-low c = search needs
-
-add-i : tie.Need-add-i Inv-loop μ-loop
-add-i c = search needs
-
-loop-less : tie.Need-loop-less Inv-loop μ-loop
-loop-less c = search needs
-
 loop-again : tie.Need-loop-again Inv-loop μ-loop
 loop-again c =
     let s = c .before .before .before .before .before in
@@ -81,12 +45,6 @@ loop-again c =
       search needs,
       search needs,
     )
-
-add-high : tie.Need-add-high Inv-loop μ-loop
-add-high c = search needs
-
-add-high-2 : tie.Need-add-high-2 Inv-loop μ-loop
-add-high-2 c = search needs
 
 returns : tie.Need-returns Inv-loop μ-loop
 returns c =
@@ -105,19 +63,19 @@ charges-sound-spec =
     (tie.spec
     Inv-loop
     μ-loop
-    mul-most
-    loop-holds
-    mul-c
-    shared-slice-copy-out-c
-    credit-requires
-    debit-requires
-    add-got-high
-    add-got-low
-    add-paid-high
-    add-paid-low
-    add-i
-    loop-less
+    (λ c. search needs)
+    (λ c. search needs)
+    (λ c. search needs)
+    (λ c. search needs)
+    (λ c κs. search needs)
+    (λ c κs. search needs)
+    (λ c. search needs)
+    (λ c. search needs)
+    (λ c. search needs)
+    (λ c. search needs)
+    (λ c. search needs)
+    (λ c. search needs)
     loop-again
-    add-high
-    add-high-2
+    (λ c. search needs)
+    (λ c. search needs)
     returns)

@@ -20,39 +20,6 @@ Inv-loop today count issues froms tos lots days good₀ last₀ k₀ good last k
 abbrev μ-loop : tie.MeasureT-loop
 μ-loop today count issues froms tos lots days good₀ last₀ k₀ good last k = count - k
 
-loop-holds : tie.Need-loop-holds Inv-loop μ-loop
-loop-holds c = search needs
-
-mul-d : tie.Need-mul-d Inv-loop μ-loop
-mul-d c = search needs
-
-shared-slice-read-d : tie.Need-shared-slice-read-d Inv-loop μ-loop
-shared-slice-read-d c = search needs
-
-shared-slice-read-entry-sound : tie.Need-shared-slice-read-entry-sound Inv-loop μ-loop
-shared-slice-read-entry-sound c = search needs
-
-shared-slice-read-entry-sound-2 : tie.Need-shared-slice-read-entry-sound-2 Inv-loop μ-loop
-shared-slice-read-entry-sound-2 c = search needs
-
-shared-slice-read-entry-sound-3 : tie.Need-shared-slice-read-entry-sound-3 Inv-loop μ-loop
-shared-slice-read-entry-sound-3 c = search needs
-
-mul-entry-sound : tie.Need-mul-entry-sound Inv-loop μ-loop
-mul-entry-sound c = search needs
-
-shared-slice-read-entry-sound-4 : tie.Need-shared-slice-read-entry-sound-4 Inv-loop μ-loop
-shared-slice-read-entry-sound-4 c = search needs
-
-entry-sound-requires : tie.Need-entry-sound-requires Inv-loop μ-loop
-entry-sound-requires c κs = search needs
-
-add-k : tie.Need-add-k Inv-loop μ-loop
-add-k c = search needs
-
-loop-less : tie.Need-loop-less Inv-loop μ-loop
-loop-less c = search needs
-
 loop-again : tie.Need-loop-again Inv-loop μ-loop
 loop-again c =
     let s = c .before .before .before .before .before .before .before .before .before .before .before .before .before in
@@ -76,16 +43,16 @@ entries-sound-spec =
     (tie.spec
     Inv-loop
     μ-loop
-    loop-holds
-    mul-d
-    shared-slice-read-d
-    shared-slice-read-entry-sound
-    shared-slice-read-entry-sound-2
-    shared-slice-read-entry-sound-3
-    mul-entry-sound
-    shared-slice-read-entry-sound-4
-    entry-sound-requires
-    add-k
-    loop-less
+    (λ c. search needs)
+    (λ c. search needs)
+    (λ c. search needs)
+    (λ c. search needs)
+    (λ c. search needs)
+    (λ c. search needs)
+    (λ c. search needs)
+    (λ c. search needs)
+    (λ c κs. search needs)
+    (λ c. search needs)
+    (λ c. search needs)
     loop-again
     returns)

@@ -10,12 +10,6 @@ returns : tie.Need-returns
 unfolding ledgerSound
 returns c = rw (lt-leb (c .before .before .before .before .before .before .args .count) mostEntries (c .if1 .taken))
 
-entries-sound-requires : tie.Need-entries-sound-requires
-entries-sound-requires c κs = search needs
-
-unused-zero-requires : tie.Need-unused-zero-requires
-unused-zero-requires c κs = search needs
-
 returns-2 : tie.Need-returns-2
 unfolding ledgerSound
 returns-2 c =
@@ -23,4 +17,4 @@ returns-2 c =
 
 pub ledger-sound-spec : {M : Type 1} → statement M
 ledger-sound-spec =
-    tie.close (tie.spec returns entries-sound-requires unused-zero-requires returns-2)
+    tie.close (tie.spec returns (λ c κs. search needs) (λ c κs. search needs) returns-2)

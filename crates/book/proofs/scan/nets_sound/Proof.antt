@@ -20,45 +20,6 @@ abbrev μ-loop : tie.MeasureT-loop
 loop-holds : tie.Need-loop-holds Inv-loop μ-loop
 loop-holds c = (search needs, nets-start _ _)
 
-mul-s : tie.Need-mul-s Inv-loop μ-loop
-mul-s c = search needs
-
-add-e : tie.Need-add-e Inv-loop μ-loop
-add-e c = search needs
-
-mul-row-sound : tie.Need-mul-row-sound Inv-loop μ-loop
-mul-row-sound c = search needs
-
-sub-row-sound : tie.Need-sub-row-sound Inv-loop μ-loop
-sub-row-sound c = search needs
-
-part-row-sound-start : tie.Need-part-row-sound-start Inv-loop μ-loop
-part-row-sound-start c = search needs
-
-part-row-sound-end : tie.Need-part-row-sound-end Inv-loop μ-loop
-part-row-sound-end c = search needs
-
-mul-row-sound-2 : tie.Need-mul-row-sound-2 Inv-loop μ-loop
-mul-row-sound-2 c = search needs
-
-sub-row-sound-2 : tie.Need-sub-row-sound-2 Inv-loop μ-loop
-sub-row-sound-2 c = search needs
-
-part-row-sound-start-2 : tie.Need-part-row-sound-start-2 Inv-loop μ-loop
-part-row-sound-start-2 c = search needs
-
-part-row-sound-end-2 : tie.Need-part-row-sound-end-2 Inv-loop μ-loop
-part-row-sound-end-2 c = search needs
-
-row-sound-requires : tie.Need-row-sound-requires Inv-loop μ-loop
-row-sound-requires c κs = search needs
-
-add-i : tie.Need-add-i Inv-loop μ-loop
-add-i c = search needs
-
-loop-less : tie.Need-loop-less Inv-loop μ-loop
-loop-less c = search needs
-
 loop-again : tie.Need-loop-again Inv-loop μ-loop
 loop-again c =
     let s = c .before .before .before .before .before .before in
@@ -83,18 +44,18 @@ nets-sound-spec =
     Inv-loop
     μ-loop
     loop-holds
-    mul-s
-    add-e
-    mul-row-sound
-    sub-row-sound
-    part-row-sound-start
-    part-row-sound-end
-    mul-row-sound-2
-    sub-row-sound-2
-    part-row-sound-start-2
-    part-row-sound-end-2
-    row-sound-requires
-    add-i
-    loop-less
+    (λ c. search needs)
+    (λ c. search needs)
+    (λ c. search needs)
+    (λ c. search needs)
+    (λ c. search needs)
+    (λ c. search needs)
+    (λ c. search needs)
+    (λ c. search needs)
+    (λ c. search needs)
+    (λ c. search needs)
+    (λ c κs. search needs)
+    (λ c. search needs)
+    (λ c. search needs)
     loop-again
     returns)

@@ -28,48 +28,6 @@ Inv-loop net delivered good₀ dues₀ oweds₀ i₀ good dues oweds i =
 abbrev μ-loop : tie.MeasureT-loop
 μ-loop net delivered good₀ dues₀ oweds₀ i₀ good dues oweds i = 64 - i
 
-loop-holds : tie.Need-loop-holds Inv-loop μ-loop
-loop-holds c = search needs
-
-mul-n : tie.Need-mul-n Inv-loop μ-loop
-mul-n c = search needs
-
-shared-slice-copy-out-n : tie.Need-shared-slice-copy-out-n Inv-loop μ-loop
-shared-slice-copy-out-n c = search needs
-
-due-requires : tie.Need-due-requires Inv-loop μ-loop
-due-requires c κs = search needs
-
-owed-requires : tie.Need-owed-requires Inv-loop μ-loop
-owed-requires c κs = search needs
-
-cast-dues : tie.Need-cast-dues Inv-loop μ-loop
-cast-dues c = search needs
-
-add-dues : tie.Need-add-dues Inv-loop μ-loop
-add-dues c = search needs
-
-cast-oweds : tie.Need-cast-oweds Inv-loop μ-loop
-cast-oweds c = search needs
-
-add-oweds : tie.Need-add-oweds Inv-loop μ-loop
-add-oweds c = search needs
-
-within-requires : tie.Need-within-requires Inv-loop μ-loop
-within-requires c κs = search needs
-
-mul-good : tie.Need-mul-good Inv-loop μ-loop
-mul-good c = search needs
-
-shared-slice-read-good : tie.Need-shared-slice-read-good Inv-loop μ-loop
-shared-slice-read-good c = search needs
-
-add-i : tie.Need-add-i Inv-loop μ-loop
-add-i c = search needs
-
-loop-less : tie.Need-loop-less Inv-loop μ-loop
-loop-less c = search needs
-
 loop-again : tie.Need-loop-again Inv-loop μ-loop
 loop-again c =
     let s = c .before .before .before .before .before .before .before .before in
@@ -108,19 +66,19 @@ row-sound-spec =
     (tie.spec
     Inv-loop
     μ-loop
-    loop-holds
-    mul-n
-    shared-slice-copy-out-n
-    due-requires
-    owed-requires
-    cast-dues
-    add-dues
-    cast-oweds
-    add-oweds
-    within-requires
-    mul-good
-    shared-slice-read-good
-    add-i
-    loop-less
+    (λ c. search needs)
+    (λ c. search needs)
+    (λ c. search needs)
+    (λ c κs. search needs)
+    (λ c κs. search needs)
+    (λ c. search needs)
+    (λ c. search needs)
+    (λ c. search needs)
+    (λ c. search needs)
+    (λ c κs. search needs)
+    (λ c. search needs)
+    (λ c. search needs)
+    (λ c. search needs)
+    (λ c. search needs)
     loop-again
     returns)

@@ -6,18 +6,6 @@ use borrow.Author.Needs.{needs}
 use Rattle.book.proofs.scan.sound_columns.Statement.{statement}
 use Rattle.book.proofs.scan.sound_columns.Tie as tie
 
-nets-sound-requires : tie.Need-nets-sound-requires
-nets-sound-requires c κs = search needs
-
-delivered-sound-requires : tie.Need-delivered-sound-requires
-delivered-sound-requires c κs = search needs
-
-ledger-sound-requires : tie.Need-ledger-sound-requires
-ledger-sound-requires c κs = search needs
-
-charges-sound-requires : tie.Need-charges-sound-requires
-charges-sound-requires c κs = search needs
-
 returns : tie.Need-returns
 returns c =
     let a = c .before .before .before .before .before .before .before .before .before .before .args in
@@ -30,8 +18,8 @@ pub sound-columns-spec : {M : Type 1} → statement M
 sound-columns-spec =
     tie.close
     (tie.spec
-    nets-sound-requires
-    delivered-sound-requires
-    ledger-sound-requires
-    charges-sound-requires
+    (λ c κs. search needs)
+    (λ c κs. search needs)
+    (λ c κs. search needs)
+    (λ c κs. search needs)
     returns)

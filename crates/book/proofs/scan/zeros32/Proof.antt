@@ -17,21 +17,6 @@ Inv-loop xs good₀ i₀ good i = (i ≤ length xs) × (good && all isZero (drop
 abbrev μ-loop : tie.MeasureT-loop
 μ-loop xs good₀ i₀ good i = length xs - i
 
-loop-holds : tie.Need-loop-holds Inv-loop μ-loop
-loop-holds c = search needs
-
-mul-good : tie.Need-mul-good Inv-loop μ-loop
-mul-good c = search needs
-
-shared-slice-read-good : tie.Need-shared-slice-read-good Inv-loop μ-loop
-shared-slice-read-good c = search needs
-
-add-i : tie.Need-add-i Inv-loop μ-loop
-add-i c = search needs
-
-loop-less : tie.Need-loop-less Inv-loop μ-loop
-loop-less c = search needs
-
 loop-again : tie.Need-loop-again Inv-loop μ-loop
 loop-again c =
     let s = c .before .before .before in
@@ -50,10 +35,10 @@ zeros32-spec =
     (tie.spec
     Inv-loop
     μ-loop
-    loop-holds
-    mul-good
-    shared-slice-read-good
-    add-i
-    loop-less
+    (λ c. search needs)
+    (λ c. search needs)
+    (λ c. search needs)
+    (λ c. search needs)
+    (λ c. search needs)
     loop-again
     returns)

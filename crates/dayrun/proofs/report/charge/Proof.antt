@@ -15,12 +15,6 @@ returns c =
     added-as 0 45 _ _ _ _ _ _ (omega arith) (sym (charge-none (a .args .account) (a .args .yen) (zero-size (a .args .yen) (a .fits .yen) (c .if1 .taken))))
     (added-none _ _)
 
-charge-requires : tie.Need-charge-requires
-charge-requires c κs = search needs
-
-same-length : tie.Need-same-length
-same-length c = search needs
-
 returns-2 : tie.Need-returns-2
 returns-2 c =
     let a = c .before .before .before .before .before .before in
@@ -30,4 +24,4 @@ returns-2 c =
     (rw (toZ-ofZ w64 y (a .fits .yen)) at (c .before .before .charge .ensures))
 
 pub charge-spec : {M : Type 1} → statement M
-charge-spec = tie.close (tie.spec returns charge-requires same-length returns-2)
+charge-spec = tie.close (tie.spec returns (λ c κs. search needs) (λ c. search needs) returns-2)

@@ -28,21 +28,6 @@ abbrev μ-loop : tie.MeasureT-loop
 loop-holds : tie.Need-loop-holds Inv-loop μ-loop
 loop-holds c = (omega arith, refl, omega arith, left-all _ _ _)
 
-mul-yen : tie.Need-mul-yen Inv-loop μ-loop
-mul-yen c = search needs
-
-shared-slice-copy-out-yen : tie.Need-shared-slice-copy-out-yen Inv-loop μ-loop
-shared-slice-copy-out-yen c = search needs
-
-charge-requires : tie.Need-charge-requires Inv-loop μ-loop
-charge-requires c κs = search needs
-
-add-a : tie.Need-add-a Inv-loop μ-loop
-add-a c = search needs
-
-loop-less : tie.Need-loop-less Inv-loop μ-loop
-loop-less c = search needs
-
 loop-again : tie.Need-loop-again Inv-loop μ-loop
 loop-again c =
     let s = c .before .before .before .before .before .before .before .before in
@@ -56,9 +41,6 @@ loop-again c =
       left-on 45 _ _ _ _ _ _ _ _ _ (rw (charges-at cs (l .a) (omega arith)) at (l .inv .3))
           (rw z at (k .ensures)),
     )
-
-same-length : tie.Need-same-length Inv-loop μ-loop
-same-length c = search needs
 
 returns : tie.Need-returns Inv-loop μ-loop
 returns c =
@@ -75,11 +57,11 @@ charges-spec =
     Inv-loop
     μ-loop
     loop-holds
-    mul-yen
-    shared-slice-copy-out-yen
-    charge-requires
-    add-a
-    loop-less
+    (λ c. search needs)
+    (λ c. search needs)
+    (λ c κs. search needs)
+    (λ c. search needs)
+    (λ c. search needs)
     loop-again
-    same-length
+    (λ c. search needs)
     returns)

@@ -29,36 +29,6 @@ loop-holds c =
     let z : a .count - 0 ≡ a .count = omega arith in
     (omega arith, refl, omega arith, rw z (left-all _ _ _))
 
-shared-slice-read-fail : tie.Need-shared-slice-read-fail Inv-loop μ-loop
-shared-slice-read-fail c = search needs
-
-shared-slice-read-fail-2 : tie.Need-shared-slice-read-fail-2 Inv-loop μ-loop
-shared-slice-read-fail-2 c = search needs
-
-shared-slice-read-fail-3 : tie.Need-shared-slice-read-fail-3 Inv-loop μ-loop
-shared-slice-read-fail-3 c = search needs
-
-mul-fail : tie.Need-mul-fail Inv-loop μ-loop
-mul-fail c = search needs
-
-shared-slice-read-fail-4 : tie.Need-shared-slice-read-fail-4 Inv-loop μ-loop
-shared-slice-read-fail-4 c = search needs
-
-mul-fail-2 : tie.Need-mul-fail-2 Inv-loop μ-loop
-mul-fail-2 c = search needs
-
-shared-slice-read-fail-5 : tie.Need-shared-slice-read-fail-5 Inv-loop μ-loop
-shared-slice-read-fail-5 c = search needs
-
-fail-requires : tie.Need-fail-requires Inv-loop μ-loop
-fail-requires c κs = search needs
-
-add-k : tie.Need-add-k Inv-loop μ-loop
-add-k c = search needs
-
-loop-less : tie.Need-loop-less Inv-loop μ-loop
-loop-less c = search needs
-
 loop-again : tie.Need-loop-again Inv-loop μ-loop
 loop-again c =
     let s = c .before .before .before .before .before .before .before .before .before .before .before .before .before .before .before .before .before in
@@ -67,9 +37,6 @@ loop-again c =
     let k = c .before .before .fail in
     let e = ap failsText (left-next (l .k) (a .count) (now (a .issues)) (now (a .froms)) (now (a .tos)) (now (a .lots)) (now (a .days)) (omega arith)) in
     (omega arith, search needs, omega (arith, k .ensures .few), left-on 107 _ _ _ _ _ _ _ _ _ (rw e at (l .inv .3)) (k .ensures))
-
-same-length : tie.Need-same-length Inv-loop μ-loop
-same-length c = search needs
 
 returns : tie.Need-returns Inv-loop μ-loop
 returns c =
@@ -86,16 +53,16 @@ fails-spec =
     Inv-loop
     μ-loop
     loop-holds
-    shared-slice-read-fail
-    shared-slice-read-fail-2
-    shared-slice-read-fail-3
-    mul-fail
-    shared-slice-read-fail-4
-    mul-fail-2
-    shared-slice-read-fail-5
-    fail-requires
-    add-k
-    loop-less
+    (λ c. search needs)
+    (λ c. search needs)
+    (λ c. search needs)
+    (λ c. search needs)
+    (λ c. search needs)
+    (λ c. search needs)
+    (λ c. search needs)
+    (λ c κs. search needs)
+    (λ c. search needs)
+    (λ c. search needs)
     loop-again
-    same-length
+    (λ c. search needs)
     returns)

@@ -22,14 +22,10 @@ charges-requires c κs =
     omega (arith, s .pre .0, s .pre .2, s .pre .3, c .before .before .before .fails .ensures .few)
 
 -- src/report.rt:61:1
-same-length : tie.Need-same-length
-same-length c = search needs
-
--- src/report.rt:61:1
 returns : tie.Need-returns
 returns c =
     let s = c .before .before .before .before .before .before .before .before .before .before .before .before .before .before in
     added-then _ _ 222016 _ _ _ _ _ _ _ _ (omega (arith, s .pre .0, s .pre .2)) (c .before .before .before .before .before .before .fails .ensures) (c .before .before .charges .ensures)
 
 pub lines-spec : {M : Type 1} → statement M
-lines-spec = tie.close (tie.spec fails-requires charges-requires same-length returns)
+lines-spec = tie.close (tie.spec fails-requires charges-requires (λ c. search needs) returns)

@@ -5,21 +5,9 @@ use borrow.Author.Needs.{needs}
 use Rattle.dayrun.proofs.text.field.Statement.{statement}
 use Rattle.dayrun.proofs.text.field.Tie as tie
 
-slice-aggregate-put : tie.Need-slice-aggregate-put
-slice-aggregate-put c = search needs
-
-put-requires : tie.Need-put-requires
-put-requires c κs = search needs
-
-number-requires : tie.Need-number-requires
-number-requires c κs = search needs
-
-same-length : tie.Need-same-length
-same-length c = search needs
-
 returns : tie.Need-returns
 returns c = added-then 1 20 21 _ _ _ _ _ _ _ _ (omega arith) (c .before .before .before .before .before .before .put .ensures) (c .before .before .number .ensures)
 
 pub field-spec : {M : Type 1} → statement M
 field-spec =
-    tie.close (tie.spec slice-aggregate-put put-requires number-requires same-length returns)
+    tie.close (tie.spec (λ c. search needs) (λ c κs. search needs) (λ c κs. search needs) (λ c. search needs) returns)

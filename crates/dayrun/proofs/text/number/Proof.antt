@@ -14,23 +14,11 @@ use Rattle.dayrun.proofs.text.number.Tie as tie
 held : (c : tie.After-decimal) → take (c .decimal .result) (c .decimal .last .1 .0) ≡ decimal (c .before .before .before .args .n)
 held c = c .decimal .ensures .1 .1 ∙ decimal-digits (c .decimal .result) (c .before .before .before .args .n) (c .before .before .before .fits .n .fits) (c .decimal .ensures .1 .0)
 
-decimal-requires : tie.Need-decimal-requires
-decimal-requires c κs = search needs
-
-array-share-prefix-digits : tie.Need-array-share-prefix-digits
-array-share-prefix-digits c = search needs
-
-slice-aggregate-put : tie.Need-slice-aggregate-put
-slice-aggregate-put c = search needs
-
 put-requires : tie.Need-put-requires
 put-requires c κs =
     let d = c .before .before in
     let e = ap length (held d) in
     omega (arith, decimal-length (d .before .before .before .args .n))
-
-same-length : tie.Need-same-length
-same-length c = search needs
 
 returns : tie.Need-returns
 returns c =
@@ -42,9 +30,9 @@ pub number-spec : {M : Type 1} → statement M
 number-spec =
     tie.close
     (tie.spec
-    decimal-requires
-    array-share-prefix-digits
-    slice-aggregate-put
+    (λ c κs. search needs)
+    (λ c. search needs)
+    (λ c. search needs)
     put-requires
-    same-length
+    (λ c. search needs)
     returns)

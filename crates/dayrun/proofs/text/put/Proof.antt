@@ -24,21 +24,6 @@ loop-holds c =
     let t = now (c .args .text) in
     (omega arith, refl, ap (λ (k : ℕ). take k t) (add-zero (c .args .at)) ∙ sym (append-nil (take (c .args .at) t)))
 
-shared-slice-read-text : tie.Need-shared-slice-read-text Inv-loop μ-loop
-shared-slice-read-text c = search needs
-
-add-text : tie.Need-add-text Inv-loop μ-loop
-add-text c = search needs
-
-slice-write-text : tie.Need-slice-write-text Inv-loop μ-loop
-slice-write-text c = search needs
-
-add-i : tie.Need-add-i Inv-loop μ-loop
-add-i c = search needs
-
-loop-less : tie.Need-loop-less Inv-loop μ-loop
-loop-less c = search needs
-
 loop-again : tie.Need-loop-again Inv-loop μ-loop
 loop-again c =
     let s = c .before .before .before in
@@ -47,12 +32,6 @@ loop-again c =
       simp length-set (l .inv .1),
       byte-more (now (s .args .text)) (l .text) (now (s .args .part)) (s .args .at) (l .i) (omega arith) (omega arith) (l .inv .2),
     )
-
-add-result : tie.Need-add-result Inv-loop μ-loop
-add-result c = search needs
-
-same-length : tie.Need-same-length Inv-loop μ-loop
-same-length c = search needs
 
 returns : tie.Need-returns Inv-loop μ-loop
 returns c =
@@ -73,12 +52,12 @@ put-spec =
     Inv-loop
     μ-loop
     loop-holds
-    shared-slice-read-text
-    add-text
-    slice-write-text
-    add-i
-    loop-less
+    (λ c. search needs)
+    (λ c. search needs)
+    (λ c. search needs)
+    (λ c. search needs)
+    (λ c. search needs)
     loop-again
-    add-result
-    same-length
+    (λ c. search needs)
+    (λ c. search needs)
     returns)

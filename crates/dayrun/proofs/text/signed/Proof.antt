@@ -13,21 +13,6 @@ use borrow.Author.Needs.{needs}
 use Rattle.dayrun.proofs.text.signed.Statement.{statement}
 use Rattle.dayrun.proofs.text.signed.Tie as tie
 
-size-requires : tie.Need-size-requires
-size-requires c κs = search needs
-
-slice-aggregate-put : tie.Need-slice-aggregate-put
-slice-aggregate-put c = search needs
-
-put-requires : tie.Need-put-requires
-put-requires c κs = search needs
-
-number-requires : tie.Need-number-requires
-number-requires c κs = search needs
-
-same-length : tie.Need-same-length
-same-length c = search needs
-
 returns : tie.Need-returns
 returns c =
     let e = c .before .before .before .before .before .before .before .before .before in
@@ -37,12 +22,6 @@ returns c =
     (ap (λ (n : ℕ). 45 ∷ decimal n) (e .before .size .ensures ∙ ap natAbs (toZ-ofZ w64 z (a .fits .z))) ∙ sym (signed-negative w64 z (a .fits .z) (e .if1 .taken)))
     (added-then 1 20 21 _ _ _ _ _ _ _ _ (omega arith) (c .before .before .before .before .before .before .put .ensures)
     (c .before .before .number .ensures))
-
-number-requires-2 : tie.Need-number-requires-2
-number-requires-2 c κs = search needs
-
-same-length-2 : tie.Need-same-length-2
-same-length-2 c = search needs
 
 returns-2 : tie.Need-returns-2
 returns-2 c =
@@ -56,12 +35,12 @@ pub signed-spec : {M : Type 1} → statement M
 signed-spec =
     tie.close
     (tie.spec
-    size-requires
-    slice-aggregate-put
-    put-requires
-    number-requires
-    same-length
+    (λ c κs. search needs)
+    (λ c. search needs)
+    (λ c κs. search needs)
+    (λ c κs. search needs)
+    (λ c. search needs)
     returns
-    number-requires-2
-    same-length-2
+    (λ c κs. search needs)
+    (λ c. search needs)
     returns-2)

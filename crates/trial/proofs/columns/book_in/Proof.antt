@@ -3,11 +3,8 @@ use borrow.Author.Needs.{needs}
 use Rattle.trial.proofs.columns.book_in.Statement.{statement}
 use Rattle.trial.proofs.columns.book_in.Tie as tie
 
-phase-of-requires : tie.Need-phase-of-requires
-phase-of-requires c κs = search needs
-
 returns : tie.Need-returns
 returns c = rw (c .before .before .before .before .before .before .before .before .before .before .phase-of .ensures)
 
 pub book-in-spec : {M : Type 1} → statement M
-book-in-spec = tie.close (tie.spec phase-of-requires returns)
+book-in-spec = tie.close (tie.spec (λ c κs. search needs) returns)

@@ -4,14 +4,8 @@ use borrow.Author.Needs.{needs}
 use Rattle.trial.proofs.columns.phase_of.Statement.{statement}
 use Rattle.trial.proofs.columns.phase_of.Tie as tie
 
-returns : tie.Need-returns
-returns c = search needs
-
-returns-2 : tie.Need-returns-2
-returns-2 c = search needs
-
 returns-3 : tie.Need-returns-3
 returns-3 c = others (c .before .args .n) (c .match .rest .0 .1) (c .match .rest .1)
 
 pub phase-of-spec : {M : Type 1} → statement M
-phase-of-spec = tie.close (tie.spec returns returns-2 returns-3)
+phase-of-spec = tie.close (tie.spec (λ c. search needs) (λ c. search needs) returns-3)

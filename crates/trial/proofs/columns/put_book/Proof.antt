@@ -4,9 +4,6 @@ use borrow.Author.Needs.{needs}
 use Rattle.trial.proofs.columns.put_book.Statement.{statement}
 use Rattle.trial.proofs.columns.put_book.Tie as tie
 
-number-of-requires : tie.Need-number-of-requires
-number-of-requires c κs = search needs
-
 returns : tie.Need-returns
 returns c =
     let n = c .before .before .before .before .before .before .before .before in
@@ -14,4 +11,4 @@ returns c =
     record { book = rw (n .number-of .ensures, back (b .phase)); stage = n .number-of .ensures }
 
 pub put-book-spec : {M : Type 1} → statement M
-put-book-spec = tie.close (tie.spec number-of-requires returns)
+put-book-spec = tie.close (tie.spec (λ c κs. search needs) returns)

@@ -18,12 +18,6 @@ book s =
     let a = s .args in
     bookIn (now (a .day)) (now (a .phase)) (now (a .nets)) (now (a .delivered)) (now (a .yen)) (now (a .n)) (now (a .is)) (now (a .fs)) (now (a .ts)) (now (a .xs)) (now (a .ds))
 
-phase-of-requires : tie.Need-phase-of-requires
-phase-of-requires c κs = search needs
-
-close-asks-requires : tie.Need-close-asks-requires
-close-asks-requires c κs = search needs
-
 returns : tie.Need-returns
 returns c =
     let k = c .before in
@@ -41,4 +35,4 @@ returns-2 c =
     (close-yes (book s) (s .pre .sound) (p .result) (p .ensures) (k .close-asks .result) (k .close-asks .ensures) (c .if1 .left))
 
 pub trial-close-in-spec : {M : Type 1} → statement M
-trial-close-in-spec = tie.close (tie.spec phase-of-requires close-asks-requires returns returns-2)
+trial-close-in-spec = tie.close (tie.spec (λ c κs. search needs) (λ c κs. search needs) returns returns-2)

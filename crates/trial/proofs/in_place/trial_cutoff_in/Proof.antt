@@ -47,9 +47,6 @@ returns c =
     recorded-in 1 (now (a .phase)) (book s) refl (s .pre .stage) (cutoff (book s) (now (a .out))) 0 (now (a .out))
     (cutoff-short (book s) (now (a .out)) (c .if1 .taken))
 
-phase-of-requires : tie.Need-phase-of-requires
-phase-of-requires c κs = search needs
-
 cutoff-asks-requires : tie.Need-cutoff-asks-requires
 cutoff-asks-requires c κs = let s = c .before .before .before .before .before .before .before .before .before in (cells s, parts s .ledger .count)
 
@@ -74,9 +71,6 @@ cutoff-in-requires c κs =
     (sym (cutoff-asked (book s) (s .pre .sound) (p .result) (p .ensures) (k .cutoff-asks .result) (now (a .out)) (long k .if1 .left)
     (k .cutoff-asks .ensures)) ∙ e .if2 .left)
 
-same-length : tie.Need-same-length
-same-length c = search needs
-
 returns-3 : tie.Need-returns-3
 returns-3 c =
     let m = c .before .before in
@@ -93,4 +87,4 @@ returns-3 c =
 
 pub trial-cutoff-in-spec : {M : Type 1} → statement M
 trial-cutoff-in-spec =
-    tie.close (tie.spec returns phase-of-requires cutoff-asks-requires returns-2 cutoff-in-requires same-length returns-3)
+    tie.close (tie.spec returns (λ c κs. search needs) cutoff-asks-requires returns-2 cutoff-in-requires (λ c. search needs) returns-3)

@@ -35,9 +35,6 @@ returns c =
     recorded-in 1 (now (a .phase)) (book s) refl (s .pre .stage) (deliver (book s) (a .i) (a .a) (a .x) (now (a .out))) 0 (now (a .out))
     (deliver-short (book s) (a .i) (a .a) (a .x) (now (a .out)) (c .if1 .taken))
 
-phase-of-requires : tie.Need-phase-of-requires
-phase-of-requires c κs = search needs
-
 deliver-asks-requires : tie.Need-deliver-asks-requires
 deliver-asks-requires c κs =
     let s = c .before .before .before .before .before .before .before .before in
@@ -65,9 +62,6 @@ deliver-in-requires c κs =
     (long k .if1 .left) (k .deliver-asks .ensures)) ∙ e .if2 .left)
     (long k .if1 .left)
 
-same-length : tie.Need-same-length
-same-length c = search needs
-
 returns-3 : tie.Need-returns-3
 returns-3 c =
     let m = c .before .before in
@@ -83,4 +77,4 @@ returns-3 c =
 
 pub trial-deliver-in-spec : {M : Type 1} → statement M
 trial-deliver-in-spec =
-    tie.close (tie.spec returns phase-of-requires deliver-asks-requires returns-2 deliver-in-requires same-length returns-3)
+    tie.close (tie.spec returns (λ c κs. search needs) deliver-asks-requires returns-2 deliver-in-requires (λ c. search needs) returns-3)

@@ -22,9 +22,6 @@ whole s =
     let l = s .pre .lengths .ledger in
     record { issues = l .issues; froms = l .froms; tos = l .tos; lotss = l .lots; dayss = l .days }
 
-pair-off-asks-requires : tie.Need-pair-off-asks-requires
-pair-off-asks-requires c κs = search needs
-
 returns : tie.Need-returns
 returns c =
     let k = c .before in
@@ -55,4 +52,4 @@ returns-2 c =
     (paired-book (book s) (a .i) (a .a) (r .result) _ _ _ _ _ _ (r .ensures) refl))
 
 pub trial-pair-off-in-spec : {M : Type 1} → statement M
-trial-pair-off-in-spec = tie.close (tie.spec pair-off-asks-requires returns pair-off-in-requires returns-2)
+trial-pair-off-in-spec = tie.close (tie.spec (λ c κs. search needs) returns pair-off-in-requires returns-2)

@@ -58,9 +58,6 @@ resolve-in-requires c κs =
     let s = start k in
     book-resolvable (book s) (s .pre .sound) (whole s) (now (s .args .out)) (long k .if1 .left)
 
-same-length : tie.Need-same-length
-same-length c = search needs
-
 returns-3 : tie.Need-returns-3
 returns-3 c =
     let m = c .before .before in
@@ -76,4 +73,4 @@ returns-3 c =
 
 pub trial-resolve-in-spec : {M : Type 1} → statement M
 trial-resolve-in-spec =
-    tie.close (tie.spec returns resolve-asks-requires returns-2 resolve-in-requires same-length returns-3)
+    tie.close (tie.spec returns resolve-asks-requires returns-2 resolve-in-requires (λ c. search needs) returns-3)

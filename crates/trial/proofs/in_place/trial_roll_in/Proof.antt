@@ -35,12 +35,6 @@ yes e =
     sym (roll-asked (book s) (s .pre .sound) (p .result) (p .ensures) (k .roll-asks .result) (a .days) (a .rate) (now (a .prices)) (k .roll-asks .ensures))
     ∙ e .if1 .left
 
-phase-of-requires : tie.Need-phase-of-requires
-phase-of-requires c κs = search needs
-
-roll-asks-requires : tie.Need-roll-asks-requires
-roll-asks-requires c κs = search needs
-
 returns : tie.Need-returns
 returns c =
     let k = c .before in
@@ -82,4 +76,4 @@ returns-2 c =
 
 pub trial-roll-in-spec : {M : Type 1} → statement M
 trial-roll-in-spec =
-    tie.close (tie.spec phase-of-requires roll-asks-requires returns roll-in-requires add-day returns-2)
+    tie.close (tie.spec (λ c κs. search needs) (λ c κs. search needs) returns roll-in-requires add-day returns-2)

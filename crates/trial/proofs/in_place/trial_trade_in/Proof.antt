@@ -26,9 +26,6 @@ column s = small-nets (book s) (s .pre .sound) (s .pre .lengths .cells .nets)
 abbrev start : tie.After-trade-asks → tie.Start
 start c = c .before .before .before .before .before
 
-phase-of-requires : tie.Need-phase-of-requires
-phase-of-requires c κs = search needs
-
 trade-asks-requires : tie.Need-trade-asks-requires
 trade-asks-requires c κs = column (c .before .before .before .before)
 
@@ -62,4 +59,4 @@ returns-2 c =
 
 pub trial-trade-in-spec : {M : Type 1} → statement M
 trial-trade-in-spec =
-    tie.close (tie.spec phase-of-requires trade-asks-requires returns trade-in-requires returns-2)
+    tie.close (tie.spec (λ c κs. search needs) trade-asks-requires returns trade-in-requires returns-2)

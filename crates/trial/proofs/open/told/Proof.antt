@@ -4,14 +4,8 @@ use borrow.Author.Needs.{needs}
 use Rattle.trial.proofs.open.told.Statement.{statement}
 use Rattle.trial.proofs.open.told.Tie as tie
 
-enum-known-found : tie.Need-enum-known-found
-enum-known-found c = search needs
-
 enum-told : tie.Need-enum-told
 enum-told c = search needs
-
-enum-known-found-2 : tie.Need-enum-known-found-2
-enum-known-found-2 c = search needs
 
 returns : tie.Need-returns
 returns c = rw (c .before .before .found .given .1) (record { refusal = refl; words = refl })
@@ -24,4 +18,4 @@ returns-3 c = rw (c .before .before .found2 .given .1) (record { refusal = refl;
 
 pub told-spec : {M : Type 1} → statement M
 told-spec =
-    tie.close (tie.spec enum-known-found enum-told enum-known-found-2 returns returns-2 returns-3)
+    tie.close (tie.spec (λ c. search needs) enum-told (λ c. search needs) returns returns-2 returns-3)

@@ -5,15 +5,6 @@ use borrow.Author.Needs.{needs}
 use Rattle.trial.proofs.open.trial_close.Statement.{statement}
 use Rattle.trial.proofs.open.trial_close.Tie as tie
 
-book-in-requires : tie.Need-book-in-requires
-book-in-requires c κs = search needs
-
-close-requires : tie.Need-close-requires
-close-requires c κs = search needs
-
-put-book-requires : tie.Need-put-book-requires
-put-book-requires c κs = search needs
-
 -- where the call has answered, and the start
 abbrev answer : tie.After-put-book → tie.After-close
 answer c = c .before .before .before .before .before .before .before .before .before .before .before .before .before
@@ -28,4 +19,4 @@ returns c =
     answered (m .result) _ (m .ensures) _ _ close (k .close .result) _ (k .close .ensures) (c .put-book .ensures)
 
 pub trial-close-spec : {M : Type 1} → statement M
-trial-close-spec = tie.close (tie.spec book-in-requires close-requires put-book-requires returns)
+trial-close-spec = tie.close (tie.spec (λ c κs. search needs) (λ c κs. search needs) (λ c κs. search needs) returns)

@@ -6,18 +6,6 @@ use borrow.Author.Needs.{needs}
 use Rattle.trial.proofs.open.trial_cutoff.Statement.{statement}
 use Rattle.trial.proofs.open.trial_cutoff.Tie as tie
 
-book-in-requires : tie.Need-book-in-requires
-book-in-requires c κs = search needs
-
-cutoff-requires : tie.Need-cutoff-requires
-cutoff-requires c κs = search needs
-
-put-book-requires : tie.Need-put-book-requires
-put-book-requires c κs = search needs
-
-same-length : tie.Need-same-length
-same-length c = search needs
-
 -- where the call has answered, and the start
 abbrev answer : tie.After-put-book → tie.After-cutoff
 answer c = c .before .before .before .before .before .before .before .before .before .before .before .before .before .before .before
@@ -33,4 +21,4 @@ returns c =
     recorded (m .result) _ (m .ensures) _ _ (λ b. cutoff b (now (a .out))) (k .cutoff .result) _ (k .cutoff .ensures) (c .put-book .ensures)
 
 pub trial-cutoff-spec : {M : Type 1} → statement M
-trial-cutoff-spec = tie.close (tie.spec book-in-requires cutoff-requires put-book-requires same-length returns)
+trial-cutoff-spec = tie.close (tie.spec (λ c κs. search needs) (λ c κs. search needs) (λ c κs. search needs) (λ c. search needs) returns)

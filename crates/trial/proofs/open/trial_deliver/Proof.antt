@@ -6,18 +6,6 @@ use borrow.Author.Needs.{needs}
 use Rattle.trial.proofs.open.trial_deliver.Statement.{statement}
 use Rattle.trial.proofs.open.trial_deliver.Tie as tie
 
-book-in-requires : tie.Need-book-in-requires
-book-in-requires c κs = search needs
-
-deliver-requires : tie.Need-deliver-requires
-deliver-requires c κs = search needs
-
-put-book-requires : tie.Need-put-book-requires
-put-book-requires c κs = search needs
-
-same-length : tie.Need-same-length
-same-length c = search needs
-
 -- where the call has answered, and the start
 abbrev answer : tie.After-put-book → tie.After-deliver
 answer c = c .before .before .before .before .before .before .before .before .before .before .before .before .before .before .before
@@ -33,4 +21,4 @@ returns c =
     recorded (m .result) _ (m .ensures) _ _ (λ b. deliver b (a .i) (a .a) (a .x) (now (a .out))) (k .deliver .result) _ (k .deliver .ensures) (c .put-book .ensures)
 
 pub trial-deliver-spec : {M : Type 1} → statement M
-trial-deliver-spec = tie.close (tie.spec book-in-requires deliver-requires put-book-requires same-length returns)
+trial-deliver-spec = tie.close (tie.spec (λ c κs. search needs) (λ c κs. search needs) (λ c κs. search needs) (λ c. search needs) returns)

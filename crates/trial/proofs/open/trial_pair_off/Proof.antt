@@ -5,15 +5,6 @@ use borrow.Author.Needs.{needs}
 use Rattle.trial.proofs.open.trial_pair_off.Statement.{statement}
 use Rattle.trial.proofs.open.trial_pair_off.Tie as tie
 
-book-in-requires : tie.Need-book-in-requires
-book-in-requires c κs = search needs
-
-pair-off-requires : tie.Need-pair-off-requires
-pair-off-requires c κs = search needs
-
-put-book-requires : tie.Need-put-book-requires
-put-book-requires c κs = search needs
-
 -- where the call has answered, and the start
 abbrev answer : tie.After-put-book → tie.After-pair-off
 answer c = c .before .before .before .before .before .before .before .before .before .before .before .before .before
@@ -29,4 +20,4 @@ returns c =
     paired-off (m .result) _ (m .ensures) _ _ (λ b. pairOff b (a .i) (a .a)) (k .pair-off .result) (k .pair-off .ensures .0) (c .put-book .ensures)
 
 pub trial-pair-off-spec : {M : Type 1} → statement M
-trial-pair-off-spec = tie.close (tie.spec book-in-requires pair-off-requires put-book-requires returns)
+trial-pair-off-spec = tie.close (tie.spec (λ c κs. search needs) (λ c κs. search needs) (λ c κs. search needs) returns)

@@ -6,18 +6,6 @@ use borrow.Author.Needs.{needs}
 use Rattle.trial.proofs.open.trial_resolve.Statement.{statement}
 use Rattle.trial.proofs.open.trial_resolve.Tie as tie
 
-book-in-requires : tie.Need-book-in-requires
-book-in-requires c κs = search needs
-
-resolve-requires : tie.Need-resolve-requires
-resolve-requires c κs = search needs
-
-put-book-requires : tie.Need-put-book-requires
-put-book-requires c κs = search needs
-
-same-length : tie.Need-same-length
-same-length c = search needs
-
 -- where the call has answered, and the start
 abbrev answer : tie.After-put-book → tie.After-resolve
 answer c = c .before .before .before .before .before .before .before .before .before .before .before .before .before .before .before
@@ -33,4 +21,4 @@ returns c =
     recorded (m .result) _ (m .ensures) _ _ (λ b. resolve b (a .i) (a .a) (a .x) (now (a .out))) (k .resolve .result) _ (k .resolve .ensures) (c .put-book .ensures)
 
 pub trial-resolve-spec : {M : Type 1} → statement M
-trial-resolve-spec = tie.close (tie.spec book-in-requires resolve-requires put-book-requires same-length returns)
+trial-resolve-spec = tie.close (tie.spec (λ c κs. search needs) (λ c κs. search needs) (λ c κs. search needs) (λ c. search needs) returns)

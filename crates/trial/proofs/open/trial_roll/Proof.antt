@@ -6,15 +6,6 @@ use borrow.Author.Needs.{needs}
 use Rattle.trial.proofs.open.trial_roll.Statement.{statement}
 use Rattle.trial.proofs.open.trial_roll.Tie as tie
 
-book-in-requires : tie.Need-book-in-requires
-book-in-requires c κs = search needs
-
-roll-requires : tie.Need-roll-requires
-roll-requires c κs = search needs
-
-put-book-requires : tie.Need-put-book-requires
-put-book-requires c κs = search needs
-
 -- where the call has answered, and the start
 abbrev answer : tie.After-put-book → tie.After-roll
 answer c = c .before .before .before .before .before .before .before .before .before .before .before .before .before
@@ -30,4 +21,4 @@ returns c =
     answered (m .result) _ (m .ensures) _ _ (λ b. roll b (a .days) (a .rate) (now (a .prices))) (k .roll .result) _ (k .roll .ensures) (c .put-book .ensures)
 
 pub trial-roll-spec : {M : Type 1} → statement M
-trial-roll-spec = tie.close (tie.spec book-in-requires roll-requires put-book-requires returns)
+trial-roll-spec = tie.close (tie.spec (λ c κs. search needs) (λ c κs. search needs) (λ c κs. search needs) returns)

@@ -6,12 +6,6 @@ use borrow.Author.Needs.{needs}
 use Rattle.trial.proofs.open.trial_sound.Statement.{statement}
 use Rattle.trial.proofs.open.trial_sound.Tie as tie
 
-book-in-requires : tie.Need-book-in-requires
-book-in-requires c κs = search needs
-
-sound-requires : tie.Need-sound-requires
-sound-requires c κs = search needs
-
 returns : tie.Need-returns
 returns c =
     let k = c .before in
@@ -23,4 +17,4 @@ returns-2 c =
     sym (ap (λ t. cond t 1 0) (ap sound (sym (k .before .book-in .ensures)) ∙ sym (k .sound .ensures) ∙ c .if1 .left))
 
 pub trial-sound-spec : {M : Type 1} → statement M
-trial-sound-spec = tie.close (tie.spec book-in-requires sound-requires returns returns-2)
+trial-sound-spec = tie.close (tie.spec (λ c κs. search needs) (λ c κs. search needs) returns returns-2)

@@ -5,15 +5,6 @@ use borrow.Author.Needs.{needs}
 use Rattle.trial.proofs.open.trial_trade.Statement.{statement}
 use Rattle.trial.proofs.open.trial_trade.Tie as tie
 
-book-in-requires : tie.Need-book-in-requires
-book-in-requires c κs = search needs
-
-trade-requires : tie.Need-trade-requires
-trade-requires c κs = search needs
-
-put-book-requires : tie.Need-put-book-requires
-put-book-requires c κs = search needs
-
 -- where the call has answered, and the start
 abbrev answer : tie.After-put-book → tie.After-trade
 answer c = c .before .before .before .before .before .before .before .before .before .before .before .before .before
@@ -29,4 +20,4 @@ returns c =
     answered (m .result) _ (m .ensures) _ _ (λ b. trade b (a .i) (a .f) (a .t) (a .x)) (k .trade .result) _ (k .trade .ensures) (c .put-book .ensures)
 
 pub trial-trade-spec : {M : Type 1} → statement M
-trial-trade-spec = tie.close (tie.spec book-in-requires trade-requires put-book-requires returns)
+trial-trade-spec = tie.close (tie.spec (λ c κs. search needs) (λ c κs. search needs) (λ c κs. search needs) returns)

@@ -6,15 +6,6 @@ use borrow.Author.Needs.{needs}
 use Rattle.trial.proofs.open.trial_unit.Statement.{statement}
 use Rattle.trial.proofs.open.trial_unit.Tie as tie
 
-book-in-requires : tie.Need-book-in-requires
-book-in-requires c κs = search needs
-
-unit-requires : tie.Need-unit-requires
-unit-requires c κs = search needs
-
-told-requires : tie.Need-told-requires
-told-requires c κs = search needs
-
 returns : tie.Need-returns
 returns c =
     let k = c .before .before in
@@ -23,4 +14,4 @@ returns c =
     (k .unit .ensures ∙ ap (λ b. unit b (a .i) (a .k)) (k .before .book-in .ensures)) (c .told .ensures)
 
 pub trial-unit-spec : {M : Type 1} → statement M
-trial-unit-spec = tie.close (tie.spec book-in-requires unit-requires told-requires returns)
+trial-unit-spec = tie.close (tie.spec (λ c κs. search needs) (λ c κs. search needs) (λ c κs. search needs) returns)

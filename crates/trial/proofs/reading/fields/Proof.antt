@@ -3,27 +3,6 @@ use borrow.Author.Needs.{needs}
 use Rattle.trial.proofs.reading.fields.Statement.{statement}
 use Rattle.trial.proofs.reading.fields.Tie as tie
 
-enum-known-x : tie.Need-enum-known-x
-enum-known-x c = search needs
-
-enum-known-x-2 : tie.Need-enum-known-x-2
-enum-known-x-2 c = search needs
-
-enum-known-x-3 : tie.Need-enum-known-x-3
-enum-known-x-3 c = search needs
-
-enum-known-x-4 : tie.Need-enum-known-x-4
-enum-known-x-4 c = search needs
-
-enum-told : tie.Need-enum-told
-enum-told c = search needs
-
-enum-told-2 : tie.Need-enum-told-2
-enum-told-2 c = search needs
-
-enum-known-x-5 : tie.Need-enum-known-x-5
-enum-known-x-5 c = search needs
-
 returns : tie.Need-returns
 returns c = rw (c .before .x .given .1)
 
@@ -36,12 +15,6 @@ returns-3 c = rw (c .before .x3 .given .1)
 returns-4 : tie.Need-returns-4
 returns-4 c = rw (c .before .x4 .given .1)
 
-returns-5 : tie.Need-returns-5
-returns-5 c = search needs
-
-returns-6 : tie.Need-returns-6
-returns-6 c = search needs
-
 returns-7 : tie.Need-returns-7
 returns-7 c = rw (c .before .x5 .given .1)
 
@@ -49,17 +22,17 @@ pub fields-spec : {M : Type 1} → statement M
 fields-spec =
     tie.close
     (tie.spec
-    enum-known-x
-    enum-known-x-2
-    enum-known-x-3
-    enum-known-x-4
-    enum-told
-    enum-told-2
-    enum-known-x-5
+    (λ c. search needs)
+    (λ c. search needs)
+    (λ c. search needs)
+    (λ c. search needs)
+    (λ c. search needs)
+    (λ c. search needs)
+    (λ c. search needs)
     returns
     returns-2
     returns-3
     returns-4
-    returns-5
-    returns-6
+    (λ c. search needs)
+    (λ c. search needs)
     returns-7)

@@ -9,21 +9,6 @@ use borrow.Author.Needs.{needs}
 use Rattle.trial.proofs.reading.instruction_in.Statement.{statement}
 use Rattle.trial.proofs.reading.instruction_in.Tie as tie
 
-element-copy-out-kind : tie.Need-element-copy-out-kind
-element-copy-out-kind c = search needs
-
-element-copy-out-a : tie.Need-element-copy-out-a
-element-copy-out-a c = search needs
-
-element-copy-out-b : tie.Need-element-copy-out-b
-element-copy-out-b c = search needs
-
-element-copy-out-c : tie.Need-element-copy-out-c
-element-copy-out-c c = search needs
-
-element-copy-out-d : tie.Need-element-copy-out-d
-element-copy-out-d c = search needs
-
 -- the kind, where an arm is chosen
 abbrev kind : tie.After-d → ℕ
 kind c = getD (now (c .before .before .before .before .before .args .words)) 0 0
@@ -57,11 +42,11 @@ pub instruction-in-spec : {M : Type 1} → statement M
 instruction-in-spec =
     tie.close
     (tie.spec
-    element-copy-out-kind
-    element-copy-out-a
-    element-copy-out-b
-    element-copy-out-c
-    element-copy-out-d
+    (λ c. search needs)
+    (λ c. search needs)
+    (λ c. search needs)
+    (λ c. search needs)
+    (λ c. search needs)
     returns
     returns-2
     returns-3

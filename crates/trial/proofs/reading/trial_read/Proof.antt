@@ -3,14 +3,8 @@ use borrow.Author.Needs.{needs}
 use Rattle.trial.proofs.reading.trial_read.Statement.{statement}
 use Rattle.trial.proofs.reading.trial_read.Tie as tie
 
-read-requires : tie.Need-read-requires
-read-requires c κs = search needs
-
-read-out-requires : tie.Need-read-out-requires
-read-out-requires c κs = search needs
-
 returns : tie.Need-returns
 returns c = rw (← c .before .before .before .read .ensures) (c .read-out .ensures)
 
 pub trial-read-spec : {M : Type 1} → statement M
-trial-read-spec = tie.close (tie.spec read-requires read-out-requires returns)
+trial-read-spec = tie.close (tie.spec (λ c κs. search needs) (λ c κs. search needs) returns)

@@ -3,15 +3,6 @@ use borrow.Author.Needs.{needs}
 use Rattle.trial.proofs.reading.trial_write.Statement.{statement}
 use Rattle.trial.proofs.reading.trial_write.Tie as tie
 
-instruction-in-requires : tie.Need-instruction-in-requires
-instruction-in-requires c κs = search needs
-
-write-requires : tie.Need-write-requires
-write-requires c κs = search needs
-
-same-length : tie.Need-same-length
-same-length c = search needs
-
 returns : tie.Need-returns
 returns c =
     let k = c .before .before in
@@ -19,4 +10,4 @@ returns c =
     (record { refusal = k .write .ensures .refusal; count = k .write .ensures .count; out = k .write .ensures .out })
 
 pub trial-write-spec : {M : Type 1} → statement M
-trial-write-spec = tie.close (tie.spec instruction-in-requires write-requires same-length returns)
+trial-write-spec = tie.close (tie.spec (λ c κs. search needs) (λ c κs. search needs) (λ c. search needs) returns)
