@@ -2,3 +2,4 @@ pub mod Nets
 pub mod Rows
 pub mod Columns
 pub mod Scan
+pub mod States

@@ -7,11 +7,12 @@ ghost use mathlib.Core.Path.{_≡_};
 ghost use mathlib.Core.List.{map};
 ghost use Prim.Native.Nat.{_<_};
 ghost use lib.ListN.{length};
-ghost use Rattle.rules.specs.Measures.{mostLots, sum, dueOf, owedOf};
+ghost use Rattle.rules.specs.Measures.{mostLots, lastDay, sum, dueOf, owedOf};
 ghost use Rattle.rules.specs.Fails.{shorts};
 ghost use Rattle.rules.specs.Book.{isTaking, isSettling, isCut, withinSize, sound as soundOf, fresh as freshOf, withDay, withNets, withDelivered, withCharges};
 ghost use Rattle.book.specs.Nets.{Small, Lowered, Raised};
 ghost use Rattle.book.specs.Columns.{withColumns};
+ghost use Rattle.book.specs.States.{freshState, withPhase, withEntries, nextDay};
 ghost use Rattle.book.specs.Rows.{Owing};
 
 // The lots due to an account with this net, 0 where it is not positive.
@@ -121,6 +122,57 @@ pub fn cut(p: Phase) -> bool
         Phase::Taking => false,
         Phase::Settling => false,
         Phase::Cut => true,
+    }
+}
+
+// What of a book stands beside its columns: day, phase, number of entries. It is written by the setters
+// below and nowhere else field by field.
+pub struct State {
+    pub day: u16,
+    pub phase: Phase,
+    pub entries: usize,
+}
+
+// Day 0, Taking, no entry.
+pub fn first_state() -> State
+    ensures { λ r. ⌜ r ≡ freshState ⌝ }
+{
+    State {
+        day: 0,
+        phase: Phase::Taking,
+        entries: 0,
+    }
+}
+
+// The state in another phase.
+pub fn with_phase(s: State, phase: Phase) -> State
+    ensures { λ r. ⌜ r ≡ withPhase s phase ⌝ }
+{
+    State {
+        day: s.day,
+        phase,
+        entries: s.entries,
+    }
+}
+
+// The state with another number of entries.
+pub fn with_entries(s: State, entries: usize) -> State
+    ensures { λ r. ⌜ r ≡ withEntries s entries ⌝ }
+{
+    let mut next = s;
+    next.entries = entries;
+    next
+}
+
+// The state of the next day, in Taking.
+pub fn next_day(s: State) -> State
+    requires { ⌜ s .day < lastDay ⌝ }
+    ensures { λ r. ⌜ r ≡ nextDay s ⌝ }
+{
+    State {
+        day: s.day + 1,
+        phase: Phase::Taking,
+        entries: s.entries,
     }
 }
 

@@ -5,15 +5,10 @@ use mathlib.Core.List.{List}
 use Prim.Native.Nat.{ℕ, _+_, _≤_}
 use lib.ListN.{length, take}
 use Rattle.rules.specs.declared.Book.{Book}
-use Rattle.rules.specs.declared.Phase.the-variants.{Taking}
-use Rattle.running.specs.declared.State.{State}
 use Rattle.dayrun.specs.declared.Place.{Place}
 use Rattle.dayrun.specs.declared.run.Part.{Part}
 use Rattle.dayrun.specs.Bytes.{wordsIn}
 use Rattle.dayrun.specs.Going.{Went}
-
-abbrev pub fresh : State
-fresh = record { day = 0; phase = Taking; entries = 0 }
 
 -- 4,096 words and their bytes, and room for the text of as many lines
 pub record Buffers (bytes words text : List ℕ) : Type 0 where

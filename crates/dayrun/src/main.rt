@@ -6,15 +6,15 @@ mod report;
 mod run;
 mod text;
 
+use book::State;
 use libc::STDOUT_FILENO;
 use rules::Phase;
-use running::State;
 ghost use mathlib.Core.Path.{_≡_};
 ghost use Prim.Native.Nat.{_+_, _≤_, _<_, _^_};
 ghost use lib.ListN.{length};
 ghost use Rattle.book.specs.Scan.{LedgerLengths};
-ghost use Rattle.running.specs.Turns.{bookIn, Ready};
-ghost use Rattle.dayrun.specs.Day.{Buffers, Standing, Parted, fresh};
+ghost use Rattle.book.specs.States.{freshState, columns, ready, readyAfter};
+ghost use Rattle.dayrun.specs.Day.{Buffers, Standing, Parted};
 
 // Where a run stands between two parts: the bytes from `start` to `end` are not used yet, the next word
 // has this index; the length of the text to be written, whether the run is over, and the state.
@@ -44,8 +44,8 @@ fn part(
     days: &mut [u16],
     out: &mut [u32],
 ) -> Place
-    requires { ⌜ Buffers (now bytes) (now words) (now text) × Standing p × Ready (p .state) (now nets) (now delivered) (now charges) (now issues) (now froms) (now tos) (now lots) (now days) (now out) × (p .index + 4096 < 2 ^ 64) ⌝ }
-    ensures { λ r. ⌜ Parted p (bookIn (p .state) (now (nets .entry)) (now (delivered .entry)) (now (charges .entry)) (now (issues .entry)) (now (froms .entry)) (now (tos .entry)) (now (lots .entry)) (now (days .entry))) (now (bytes .exit)) (now (text .exit)) r (bookIn (r .state) (now (nets .exit)) (now (delivered .exit)) (now (charges .exit)) (now (issues .exit)) (now (froms .exit)) (now (tos .exit)) (now (lots .exit)) (now (days .exit))) × Buffers (now (bytes .exit)) (now (words .exit)) (now (text .exit)) × Ready (r .state) (now (nets .exit)) (now (delivered .exit)) (now (charges .exit)) (now (issues .exit)) (now (froms .exit)) (now (tos .exit)) (now (lots .exit)) (now (days .exit)) (now (out .exit)) ⌝ }
+    requires { ⌜ Buffers (now bytes) (now words) (now text) × Standing p × ready (p .state) nets delivered charges issues froms tos lots days out × (p .index + 4096 < 2 ^ 64) ⌝ }
+    ensures { λ r. ⌜ (let c = columns nets delivered charges issues froms tos lots days in Parted p (c .before (p .state)) (now (bytes .exit)) (now (text .exit)) r (c .after (r .state)) × Buffers (now (bytes .exit)) (now (words .exit)) (now (text .exit)) × readyAfter (r .state) nets delivered charges issues froms tos lots days out) ⌝ }
 {
     let start = p.start;
     let w = input::next(bytes, words, start, p.end);
@@ -102,7 +102,7 @@ fn play(
     days: &mut [u16],
     out: &mut [u32],
 ) -> End
-    requires { ⌜ Buffers (now bytes) (now words) (now text) × Ready fresh (now nets) (now delivered) (now charges) (now issues) (now froms) (now tos) (now lots) (now days) (now out) ⌝ }
+    requires { ⌜ Buffers (now bytes) (now words) (now text) × ready freshState nets delivered charges issues froms tos lots days out ⌝ }
     ensures { λ r. ⌜ r .entries ≤ 2048 ⌝ }
 {
     let state = State {
@@ -165,7 +165,7 @@ fn day(
     days: &mut [u16],
     out: &mut [u32],
 )
-    requires { ⌜ Buffers (now bytes) (now words) (now text) × Ready fresh (now nets) (now delivered) (now charges) (now issues) (now froms) (now tos) (now lots) (now days) (now out) ⌝ }
+    requires { ⌜ Buffers (now bytes) (now words) (now text) × ready freshState nets delivered charges issues froms tos lots days out ⌝ }
 {
     let e = play(
         bytes,

@@ -31,12 +31,10 @@ use Rattle.resolution.specs.Resolving.{Resolved}
 use Rattle.resolution.specs.Pairs.{WasPaired}
 use Rattle.resolution.proofs.Opening.{resolve-no, resolve-yes, resolved-book, pair-no, pair-yes, paired-book}
 use Rattle.rolling.proofs.Asks.{together}
-use Rattle.running.specs.declared.State.{State}
+use Rattle.book.specs.declared.State.{State}
+use Rattle.book.specs.States.{stateOf}
 use Rattle.running.specs.declared.Turn.{Turn}
 use Rattle.running.specs.Turns.{inState, withinNets, withinCells, withinLedger, butCharges, butDays, TurnIs, Turns}
-
-abbrev pub stateOf : ℕ → Phase → ℕ → State
-stateOf d p n = record { day = d; phase = p; entries = n }
 
 abbrev pub turnOf : ℕ → ℕ → State → Turn
 turnOf n k s = record { refusal = n; count = k; state = s }

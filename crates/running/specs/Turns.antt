@@ -3,15 +3,19 @@
 use mathlib.Core.Path.{_≡_}
 use mathlib.Core.Bool.{true}
 use mathlib.Core.List.{List}
-use Prim.Native.Nat.{ℕ, _≤_}
+use Prim.Native.Nat.{ℕ}
 use lib.ListN.{length}
 use lib.IntN.{ℤ}
+use denote.Ref.{now}
 use Rattle.rules.specs.declared.Book.{Book}
-use Rattle.rules.specs.Measures.{outputWords}
+use Rattle.rules.specs.declared.Instruction.{Instruction}
 use Rattle.rules.specs.Book.{bookOf, sound, withNets, withDelivered}
 use Rattle.rules.specs.Calls.{Answer}
-use Rattle.book.specs.Scan.{CellLengths, Lengths}
-use Rattle.running.specs.declared.State.{State}
+use Rattle.rules.specs.Tally.{called}
+use Rattle.rules.specs.Run.{callOf}
+use Rattle.book.specs.Scan.{CellLengths}
+use Rattle.book.specs.declared.State.{State}
+use Rattle.book.specs.States.{Column, Columns}
 use Rattle.running.specs.declared.Turn.{Turn}
 
 -- any book with this state
@@ -42,11 +46,6 @@ abbrev pub butDays : State → List ℤ → List ℕ → List ℤ → List ℕ �
 butDays s nets delivered charges issues froms tos lots b =
     bookOf (s .day) (s .phase) nets delivered charges (s .entries) issues froms tos lots (b .days)
 
--- the book of a state and all columns
-abbrev pub bookIn : State → List ℤ → List ℕ → List ℤ → List ℕ → List ℕ → List ℕ → List ℕ → List ℕ → Book
-bookIn s nets delivered charges issues froms tos lots days =
-    bookOf (s .day) (s .phase) nets delivered charges (s .entries) issues froms tos lots days
-
 -- some book with these columns is sound
 pub record SomeSound (within : Book → Book) : Type 0 where
   pub rest : Book
@@ -71,8 +70,7 @@ pub record TurnIs (d : Answer) (r : Turn) (b : Book) : Type 0 where
 abbrev pub Turns : (Book → Book) → (Book → Answer) → Turn → (Book → Book) → Type 0
 Turns before call r after = (b : Book) → sound (before b) ≡ true → TurnIs (call (before b)) r (after b)
 
--- a sound book in its columns, and an output that is long enough
-pub record Ready (s : State) (nets : List ℤ) (delivered : List ℕ) (charges : List ℤ) (issues froms tos lots days out : List ℕ) : Type 0 where
-  pub lengths : Lengths nets delivered charges issues froms tos lots days
-  pub sound : sound (bookIn s nets delivered charges issues froms tos lots days) ≡ true
-  pub room : outputWords ≤ length out
+-- number, count and book are those of an instruction's call
+abbrev pub Answered : Instruction → Column ℕ → Column ℕ → State → Turn → Columns → Type 0
+Answered x prices out s r c =
+    TurnIs (called (c .before s) (callOf x (now (prices .entry)) (now (out .entry)))) r (c .after (r .state))

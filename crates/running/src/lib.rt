@@ -1,4 +1,5 @@
 // A run's instructions, answered in place on the book's columns.
+use book::State;
 use rules::Instruction;
 use rules::Phase;
 ghost use mathlib.Core.Path.{_≡_};
@@ -6,17 +7,10 @@ ghost use Prim.Native.Nat.{_≤_};
 ghost use lib.ListN.{length};
 ghost use Rattle.rules.specs.Measures.{outputWords};
 ghost use Rattle.rules.specs.Calls.{trade as tradeOf, close as closeOf, deliver as deliverOf, cutoff as cutoffOf, resolve as resolveOf, pairOff as pairOffOf, roll as rollOf};
-ghost use Rattle.rules.specs.Tally.{called, ofPair};
-ghost use Rattle.rules.specs.Run.{callOf};
+ghost use Rattle.rules.specs.Tally.{ofPair};
 ghost use Rattle.book.specs.Scan.{CellLengths, LedgerLengths};
-ghost use Rattle.running.specs.Turns.{inState, withinNets, withinCells, withinLedger, butCharges, butDays, bookIn, SomeSound, RollLengths, Ready, TurnIs, Turns};
-
-// What of a book stands beside its columns: day, phase, number of entries.
-pub struct State {
-    pub day: u16,
-    pub phase: Phase,
-    pub entries: usize,
-}
+ghost use Rattle.book.specs.States.{ready, columns};
+ghost use Rattle.running.specs.Turns.{inState, withinNets, withinCells, withinLedger, butCharges, butDays, SomeSound, RollLengths, Turns, Answered};
 
 // What an instruction answers: the refusal's number (0: done), the count of records (for pair-off,
 // steps), and the state after it.
@@ -295,8 +289,8 @@ pub fn answer(
     days: &mut [u16],
     out: &mut [u32],
 ) -> Turn
-    requires { ⌜ Ready s (now nets) (now delivered) (now charges) (now issues) (now froms) (now tos) (now lots) (now days) (now out) ⌝ }
-    ensures { λ r. ⌜ TurnIs (called (bookIn s (now (nets .entry)) (now (delivered .entry)) (now (charges .entry)) (now (issues .entry)) (now (froms .entry)) (now (tos .entry)) (now (lots .entry)) (now (days .entry))) (callOf x (now (prices .entry)) (now (out .entry)))) r (bookIn (r .state) (now (nets .exit)) (now (delivered .exit)) (now (charges .exit)) (now (issues .exit)) (now (froms .exit)) (now (tos .exit)) (now (lots .exit)) (now (days .exit))) ⌝ }
+    requires { ⌜ ready s nets delivered charges issues froms tos lots days out ⌝ }
+    ensures { λ r. ⌜ Answered x prices out s r (columns nets delivered charges issues froms tos lots days) ⌝ }
 {
     match x {
         Instruction::Trade(i, f, t, x) => trade(s, nets, i, f, t, x),

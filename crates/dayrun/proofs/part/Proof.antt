@@ -5,7 +5,7 @@ use native.Mathlib.Omega.{arith}
 use lib.ListN.{length, take}
 use lib.Seq.{length-take-le}
 use Rattle.laws.proofs.Sound.{sound-parts}
-use Rattle.running.specs.Turns.{bookIn, Ready}
+use Rattle.book.specs.States.{bookIn, Ready}
 use Rattle.dayrun.specs.Day.{Standing, Parted}
 use borrow.Author.Needs.{needs}
 use Rattle.dayrun.proofs.part.Statement.{statement}

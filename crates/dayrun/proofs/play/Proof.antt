@@ -4,7 +4,7 @@ use Prim.Native.Nat.{_+_, _*_, _≤_}
 use native.Mathlib.Omega.{arith}
 use lib.ListN as list
 use lib.Seq.{length-take-le}
-use Rattle.running.specs.Turns.{Ready}
+use Rattle.book.specs.States.{Ready}
 use Rattle.dayrun.specs.Day.{Buffers, Standing}
 use borrow.Author.Needs.{needs}
 use Rattle.dayrun.proofs.play.Statement.{statement}

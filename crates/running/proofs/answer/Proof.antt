@@ -1,7 +1,7 @@
 -- Each instruction is answered as its call is, of the book that the state and the columns are.
 use denote.Ref.{now}
 use Rattle.rules.specs.declared.Book.{Book}
-use Rattle.running.specs.Turns.{bookIn}
+use Rattle.book.specs.States.{bookIn}
 use borrow.Author.Needs.{needs}
 use Rattle.running.proofs.answer.Statement.{statement}
 use Rattle.running.proofs.answer.Tie as tie

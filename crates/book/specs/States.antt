@@ -1,0 +1,72 @@
+-- A book is a small state (day, phase, number of entries) and its columns. A contract takes lent columns by name.
+use mathlib.Core.Path.{_≡_}
+use mathlib.Core.Bool.{true}
+use mathlib.Core.List.{List}
+use Prim.Native.Nat.{ℕ, _+_, _≤_}
+use lib.ListN.{length}
+use lib.IntN.{ℤ}
+use denote.Ref.{RefT, now}
+use denote.Triple.Both.{Both}
+use Rattle.rules.specs.declared.Book.{Book}
+use Rattle.rules.specs.declared.Phase.{Phase}
+use Rattle.rules.specs.declared.Phase.the-variants.{Taking}
+use Rattle.rules.specs.Measures.{outputWords}
+use Rattle.rules.specs.Book.{bookOf, sound}
+use Rattle.book.specs.declared.State.{State}
+use Rattle.book.specs.Scan.{Lengths}
+
+-- Setters: nobody else writes a state out field by field
+
+abbrev pub stateOf : ℕ → Phase → ℕ → State
+stateOf day phase n = record { day = day; phase = phase; entries = n }
+
+abbrev pub freshState : State
+freshState = stateOf 0 Taking 0
+
+abbrev pub withPhase : State → Phase → State
+withPhase s p = stateOf (s .day) p (s .entries)
+
+abbrev pub withEntries : State → ℕ → State
+withEntries s n = stateOf (s .day) (s .phase) n
+
+abbrev pub nextDay : State → State
+nextDay s = stateOf (s .day + 1) Taking (s .entries)
+
+-- the book of a state and all columns
+abbrev pub bookIn : State → List ℤ → List ℕ → List ℤ → List ℕ → List ℕ → List ℕ → List ℕ → List ℕ → Book
+bookIn s nets delivered charges issues froms tos lots days =
+    bookOf (s .day) (s .phase) nets delivered charges (s .entries) issues froms tos lots days
+
+-- a sound book in its columns, and an output that is long enough
+pub record Ready (s : State) (nets : List ℤ) (delivered : List ℕ) (charges : List ℤ) (issues froms tos lots days out : List ℕ) : Type 0 where
+  pub lengths : Lengths nets delivered charges issues froms tos lots days
+  pub sound : sound (bookIn s nets delivered charges issues froms tos lots days) ≡ true
+  pub room : outputWords ≤ length out
+
+-- a column as a contract has it: lent, and before and after
+abbrev pub Lent : Type 0 → Type 0
+Lent X = RefT (List X)
+
+abbrev pub Column : Type 0 → Type 0
+Column X = Both (Lent X) (Lent X)
+
+-- the book of a state and the columns, before and after
+pub record Columns : Type 0 where
+  pub before : State → Book
+  pub after : State → Book
+
+abbrev pub columns :
+    Column ℤ → Column ℕ → Column ℤ → Column ℕ → Column ℕ → Column ℕ → Column ℕ → Column ℕ → Columns
+columns nets delivered charges issues froms tos lots days =
+    record {
+      before = λ s. bookIn s (now (nets .entry)) (now (delivered .entry)) (now (charges .entry)) (now (issues .entry)) (now (froms .entry)) (now (tos .entry)) (now (lots .entry)) (now (days .entry));
+      after = λ s. bookIn s (now (nets .exit)) (now (delivered .exit)) (now (charges .exit)) (now (issues .exit)) (now (froms .exit)) (now (tos .exit)) (now (lots .exit)) (now (days .exit));
+    }
+
+abbrev pub ready : State → Lent ℤ → Lent ℕ → Lent ℤ → Lent ℕ → Lent ℕ → Lent ℕ → Lent ℕ → Lent ℕ → Lent ℕ → Type 0
+ready s nets delivered charges issues froms tos lots days out =
+    Ready s (now nets) (now delivered) (now charges) (now issues) (now froms) (now tos) (now lots) (now days) (now out)
+
+abbrev pub readyAfter : State → Column ℤ → Column ℕ → Column ℤ → Column ℕ → Column ℕ → Column ℕ → Column ℕ → Column ℕ → Column ℕ → Type 0
+readyAfter s nets delivered charges issues froms tos lots days out =
+    ready s (nets .exit) (delivered .exit) (charges .exit) (issues .exit) (froms .exit) (tos .exit) (lots .exit) (days .exit) (out .exit)
