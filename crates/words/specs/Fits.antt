@@ -14,3 +14,9 @@ pub record RecordFits (out : List ℕ) (n kind i f t x : ℕ) : Type 0 where
   pub room : 2 * n + 2 ≤ length out
   pub head : HeadFits kind i f t
   pub lots : x < 2 ^ 28
+
+-- the fields fit, and there is room for a record in this part of the output
+pub record PartFits (part : List ℕ) (kind i f t x : ℕ) : Type 0 where
+  pub room : 2 ≤ length part
+  pub head : HeadFits kind i f t
+  pub lots : x < 2 ^ 28

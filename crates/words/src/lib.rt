@@ -4,7 +4,7 @@ ghost use mathlib.Core.List.{_∷_};
 ghost use Prim.Native.Nat.{_+_, _*_, _≤_, _<_, _^_};
 ghost use lib.ListN.{length, drop, set};
 ghost use Rattle.rules.specs.Records.{kindBits, issueBits, fromBits, toBits, lotsBits, daysBits, rateBits, priceBits, ofField, headWord, lotsWord};
-ghost use Rattle.words.specs.Fits.{HeadFits, RecordFits};
+ghost use Rattle.words.specs.Fits.{HeadFits, PartFits, RecordFits};
 
 // The head of a record or an instruction: kind in bits 31..28, issue in 27..24, from (or the only
 // account) in 23..18, to in 17..12, the rest 0.
@@ -79,6 +79,17 @@ fn put(part: &mut [u32], head: u32, lots: u32)
 {
     part[0] = head;
     part[1] = lots;
+}
+
+// A record at the front of a lent part of the output: its head, then its lots; words after them keep
+// their content.
+pub fn record(part: &mut [u32], kind: u32, issue: u32, from: u32, to: u32, lots: u32)
+    requires { ⌜ PartFits (now part) kind issue from to lots ⌝ }
+    ensures { λ _. ⌜ now (part .exit) ≡ headWord kind issue from to ∷ lotsWord lots ∷ drop 2 (now (part .entry)) ⌝ }
+{
+    let first = head(kind, issue, from, to);
+    let second = lots_word(lots);
+    put(part, first, second);
 }
 
 // One record behind n others: its head and its lots at words 2n and 2n + 1 of the output.

@@ -44,6 +44,114 @@ slice-aggregate-write-all c =
     let t = c .before .before .before .lines in
     sym (length-take-le (t .result) (t .last .0) (omega (arith, t .ensures .few, c .before .before .text2 .given, c .before .before .before .before .before .before .before .before .before .before .before .before .before .before .before .before .before .before .before .before .before .before .before .before .before .before .before .before .before .text .given, c .before .before .before .before .before .before .before .before .before .before .before .before .before .before .before .before .before .before .before .before .before .before .before .before .before .before .before .before .before .before .before .before .before .before .before .before .before .before .before .before .before .before .before .before .before .before .before .before .before .before .before .before .before .before .before .before .before .pre .0 .lines)))
 
+-- src/main.rt:174:9
+write-all-requires : tie.Need-write-all-requires
+write-all-requires c κs = search needs
+
+-- src/main.rt:142:1
+same-length : tie.Need-same-length
+same-length c = search needs
+
+-- src/main.rt:142:1
+same-length-2 : tie.Need-same-length-2
+same-length-2 c = search needs
+
+-- src/main.rt:142:1
+same-length-3 : tie.Need-same-length-3
+same-length-3 c = search needs
+
+-- src/main.rt:142:1
+same-length-4 : tie.Need-same-length-4
+same-length-4 c = search needs
+
+-- src/main.rt:142:1
+same-length-5 : tie.Need-same-length-5
+same-length-5 c = search needs
+
+-- src/main.rt:142:1
+same-length-6 : tie.Need-same-length-6
+same-length-6 c = search needs
+
+-- src/main.rt:142:1
+same-length-7 : tie.Need-same-length-7
+same-length-7 c = search needs
+
+-- src/main.rt:142:1
+same-length-8 : tie.Need-same-length-8
+same-length-8 c = search needs
+
+-- src/main.rt:142:1
+same-length-9 : tie.Need-same-length-9
+same-length-9 c = search needs
+
+-- src/main.rt:142:1
+same-length-10 : tie.Need-same-length-10
+same-length-10 c = search needs
+
+-- src/main.rt:142:1
+same-length-11 : tie.Need-same-length-11
+same-length-11 c = search needs
+
+-- src/main.rt:142:1
+same-length-12 : tie.Need-same-length-12
+same-length-12 c = search needs
+
+-- src/main.rt:142:1
+returns : tie.Need-returns
+returns c = search needs
+
+-- src/main.rt:142:1
+same-length-13 : tie.Need-same-length-13
+same-length-13 c = search needs
+
+-- src/main.rt:142:1
+same-length-14 : tie.Need-same-length-14
+same-length-14 c = search needs
+
+-- src/main.rt:142:1
+same-length-15 : tie.Need-same-length-15
+same-length-15 c = search needs
+
+-- src/main.rt:142:1
+same-length-16 : tie.Need-same-length-16
+same-length-16 c = search needs
+
+-- src/main.rt:142:1
+same-length-17 : tie.Need-same-length-17
+same-length-17 c = search needs
+
+-- src/main.rt:142:1
+same-length-18 : tie.Need-same-length-18
+same-length-18 c = search needs
+
+-- src/main.rt:142:1
+same-length-19 : tie.Need-same-length-19
+same-length-19 c = search needs
+
+-- src/main.rt:142:1
+same-length-20 : tie.Need-same-length-20
+same-length-20 c = search needs
+
+-- src/main.rt:142:1
+same-length-21 : tie.Need-same-length-21
+same-length-21 c = search needs
+
+-- src/main.rt:142:1
+same-length-22 : tie.Need-same-length-22
+same-length-22 c = search needs
+
+-- src/main.rt:142:1
+same-length-23 : tie.Need-same-length-23
+same-length-23 c = search needs
+
+-- src/main.rt:142:1
+same-length-24 : tie.Need-same-length-24
+same-length-24 c = search needs
+
+-- src/main.rt:142:1
+returns-2 : tie.Need-returns-2
+returns-2 c = search needs
+
 pub day-spec : {M : Type 1} → statement M
 day-spec =
     tie.close
@@ -52,30 +160,30 @@ day-spec =
     lines-requires
     slice-reshare-prefix-write-all
     slice-aggregate-write-all
-    (λ c κs. search needs)
-    (λ c. search needs)
-    (λ c. search needs)
-    (λ c. search needs)
-    (λ c. search needs)
-    (λ c. search needs)
-    (λ c. search needs)
-    (λ c. search needs)
-    (λ c. search needs)
-    (λ c. search needs)
-    (λ c. search needs)
-    (λ c. search needs)
-    (λ c. search needs)
-    (λ c. search needs)
-    (λ c. search needs)
-    (λ c. search needs)
-    (λ c. search needs)
-    (λ c. search needs)
-    (λ c. search needs)
-    (λ c. search needs)
-    (λ c. search needs)
-    (λ c. search needs)
-    (λ c. search needs)
-    (λ c. search needs)
-    (λ c. search needs)
-    (λ c. search needs)
-    (λ c. search needs))
+    write-all-requires
+    same-length
+    same-length-2
+    same-length-3
+    same-length-4
+    same-length-5
+    same-length-6
+    same-length-7
+    same-length-8
+    same-length-9
+    same-length-10
+    same-length-11
+    same-length-12
+    returns
+    same-length-13
+    same-length-14
+    same-length-15
+    same-length-16
+    same-length-17
+    same-length-18
+    same-length-19
+    same-length-20
+    same-length-21
+    same-length-22
+    same-length-23
+    same-length-24
+    returns-2)
