@@ -1,15 +1,40 @@
--- One way to reason about every answer: either all questions were answered 'yes', or the call was
+-- One way to reason about every call: either all questions were answered 'yes' and it does what it does, or it was
 -- refused and nothing changed.
-use mathlib.Core.Path.{_≡_, refl}
-use mathlib.Core.Bool.{true, false}
+use mathlib.Core.Path.{_≡_, refl, sym, ap, _∙_}
+use mathlib.Core.Bool.{Bool, true, false}
 use mathlib.Core.List.{List, [], _∷_}
-use Prim.Native.Nat.{ℕ, zero, suc, _<_}
+use Prim.Native.Nat.{ℕ, zero, suc, _≤_, _<_}
 use native.Mathlib.Omega.{arith}
+use lib.Dec.{leb}
+use lib.ListN.{length}
+use borrow.Author.Tests.{le-leb, lt-leb}
 use Rattle.rules.specs.declared.Book.{Book}
-use Rattle.rules.specs.Ledger.{Pairing}
-use Rattle.rules.specs.Records.{Rec}
-use Rattle.rules.specs.Questions.{Question, ask, firstNo}
-use Rattle.rules.specs.Calls.{Answer, answer, PairAnswer, pairAnswer}
+use Rattle.rules.specs.Measures.{outputWords}
+use Rattle.rules.specs.Book.{sound}
+use Rattle.rules.specs.Questions.{Question, ask, firstNo, askSound}
+use Rattle.rules.specs.Calls.{Call, Trade, Close, Deliver, Cutoff, Resolve, PairOff, Roll, Answer, Effect, answer, lentTo, outputAsks, ownAsks, asks, effect, called}
+
+-- The first 'no' of a list
+
+-- no question is answered 'no': the first is answered 'yes', and so are the others
+pub record Yes (b : Bool) (qs : List Question) : Type 0 where
+  pub first : b ≡ true
+  pub others : firstNo qs ≡ 0
+
+pub yes : (n : ℕ) (b : Bool) (qs : List Question) → firstNo (ask (suc n) b ∷ qs) ≡ 0 → Yes b qs
+yes n true qs h = record { first = refl; others = h }
+yes n false qs h = absurd (omega arith)
+
+-- the first question answered
+pub said-yes : (n : ℕ) (b : Bool) (qs : List Question) → b ≡ true → firstNo (ask n b ∷ qs) ≡ firstNo qs
+said-yes n true qs e = refl
+said-yes n false qs e = absurd (let o : _≡_ {A = ℕ} 0 1 = cc in omega arith)
+
+pub said-no : (n : ℕ) (b : Bool) (qs : List Question) → b ≡ false → firstNo (ask n b ∷ qs) ≡ n
+said-no n true qs e = absurd (let o : _≡_ {A = ℕ} 0 1 = cc in omega arith)
+said-no n false qs e = refl
+
+-- Either way
 
 -- every question answered 'yes'
 abbrev pub AllYes : List Question → Type 0
@@ -17,20 +42,69 @@ AllYes [] = Unit {0}
 AllYes (ask n c ∷ qs) = (c ≡ true) × AllYes qs
 
 -- every question has a number
-abbrev pub Numbered : List Question → Type 0
+abbrev Numbered : List Question → Type 0
 Numbered [] = Unit {0}
 Numbered (ask n c ∷ qs) = (0 < n) × Numbered qs
 
-pub answered : (P : Answer → Type 0) (qs : List Question) (b : Book) (out : List ℕ) (new : Book) (rs : List Rec) → Numbered qs →
-    (AllYes qs → P (answer 0 b out new rs)) → ((r : ℕ) → P (answer (suc r) b out new rs)) → P (answer (firstNo qs) b out new rs)
-answered P [] b out new rs ks y n = y tt
-answered P (ask k true ∷ qs) b out new rs ks y n = answered P qs b out new rs (ks .1) (λ ys. y (refl, ys)) n
-answered P (ask zero false ∷ qs) b out new rs ks y n = absurd (omega arith)
-answered P (ask (suc k) false ∷ qs) b out new rs ks y n = n k
+either-way : (P : Answer → Type 0) (qs : List Question) (b : Book) (out : List ℕ) (e : Effect) → Numbered qs →
+    (AllYes qs → P (answer 0 b out e)) → ((r : ℕ) → P (answer (suc r) b out e)) → P (answer (firstNo qs) b out e)
+either-way P [] b out e ks y n = y tt
+either-way P (ask k true ∷ qs) b out e ks y n = either-way P qs b out e (ks .1) (λ ys. y (refl, ys)) n
+either-way P (ask zero false ∷ qs) b out e ks y n = absurd (omega arith)
+either-way P (ask (suc k) false ∷ qs) b out e ks y n = n k
 
-pub pair-answered : (P : PairAnswer → Type 0) (qs : List Question) (b : Book) (r : Pairing) → Numbered qs →
-    (AllYes qs → P (pairAnswer 0 b r)) → ((n : ℕ) → P (pairAnswer (suc n) b r)) → P (pairAnswer (firstNo qs) b r)
-pair-answered P [] b r ks y n = y tt
-pair-answered P (ask k true ∷ qs) b r ks y n = pair-answered P qs b r (ks .1) (λ ys. y (refl, ys)) n
-pair-answered P (ask zero false ∷ qs) b r ks y n = absurd (omega arith)
-pair-answered P (ask (suc k) false ∷ qs) b r ks y n = n k
+numbered : (b : Book) (c : Call) → Numbered (asks b c)
+numbered b (Trade i f t x) = omega arith
+numbered b Close = omega arith
+numbered b (Deliver i a x out) = omega arith
+numbered b (Cutoff out) = omega arith
+numbered b (Resolve i a x out) = omega arith
+numbered b (PairOff i a) = omega arith
+numbered b (Roll days rate prices) = omega arith
+
+-- a property of a call's answer: of what it does where all is answered 'yes', and of every refusal
+pub by-answer : (P : Answer → Type 0) (b : Book) (c : Call) → (AllYes (asks b c) → P (answer 0 b (lentTo c) (effect b c))) →
+    ((r : ℕ) → P (answer (suc r) b (lentTo c) (effect b c))) → P (called b c)
+unfolding called
+by-answer P b c y n = either-way P (asks b c) b (lentTo c) (effect b c) (numbered b c) y n
+
+-- By its number
+
+-- what is lent to a call that asks for an output is long enough
+abbrev pub RoomIn : Call → Type 0
+RoomIn (Trade i f t x) = Unit {0}
+RoomIn Close = Unit {0}
+RoomIn (Deliver i a x out) = outputWords ≤ length out
+RoomIn (Cutoff out) = outputWords ≤ length out
+RoomIn (Resolve i a x out) = outputWords ≤ length out
+RoomIn (PairOff i a) = Unit {0}
+RoomIn (Roll days rate prices) = Unit {0}
+
+room : (b : Book) (c : Call) → RoomIn c → firstNo (asks b c) ≡ firstNo (askSound b ∷ ownAsks b c)
+room b (Trade i f t x) h = refl
+room b Close h = refl
+room b (Deliver i a x out) h = said-yes 1 (leb outputWords (length out)) (askSound b ∷ ownAsks b (Deliver i a x out)) (le-leb outputWords (length out) h)
+room b (Cutoff out) h = said-yes 1 (leb outputWords (length out)) (askSound b ∷ ownAsks b (Cutoff out)) (le-leb outputWords (length out) h)
+room b (Resolve i a x out) h = said-yes 1 (leb outputWords (length out)) (askSound b ∷ ownAsks b (Resolve i a x out)) (le-leb outputWords (length out) h)
+room b (PairOff i a) h = refl
+room b (Roll days rate prices) h = refl
+
+-- a sound book and enough room leave the call's own questions
+pub own-first : (b : Book) (c : Call) → RoomIn c → sound b ≡ true → firstNo (asks b c) ≡ firstNo (ownAsks b c)
+own-first b c h s = room b c h ∙ said-yes 2 (sound b) (ownAsks b c) s
+
+pub unsound-first : (b : Book) (c : Call) → RoomIn c → sound b ≡ false → firstNo (asks b c) ≡ 2
+unsound-first b c h s = room b c h ∙ said-no 2 (sound b) (ownAsks b c) s
+
+pub short-first : (b : Book) (qs : List Question) (out : List ℕ) → length out < outputWords →
+    firstNo (ask 1 (leb outputWords (length out)) ∷ qs) ≡ 1
+short-first b qs out h = said-no 1 (leb outputWords (length out)) qs (lt-leb outputWords (length out) h)
+
+-- a call that is refused, by its number, and one that is not
+pub refused-as : (b : Book) (c : Call) (n : ℕ) → firstNo (asks b c) ≡ suc n → called b c ≡ answer (suc n) b (lentTo c) (effect b c)
+unfolding called
+refused-as b c n h = ap (λ k. answer k b (lentTo c) (effect b c)) h
+
+pub accepted-as : (b : Book) (c : Call) → firstNo (asks b c) ≡ 0 → called b c ≡ answer 0 b (lentTo c) (effect b c)
+unfolding called
+accepted-as b c h = ap (λ k. answer k b (lentTo c) (effect b c)) h

@@ -1,5 +1,4 @@
--- The calls: each from book, arguments and lent output to number, count, book and output words.
-use mathlib.Core.Path.{_≡_}
+-- The calls: of each its questions and its effect; then one answer for all of them.
 use mathlib.Core.Bool.{Bool, true, false}
 use mathlib.Core.List.{List, [], _∷_, _++_, map}
 use Prim.Native.Nat.{ℕ, zero, suc, _+_}
@@ -11,10 +10,8 @@ use Rattle.rules.specs.declared.Book.{Book}
 use Rattle.rules.specs.declared.Entry.{Entry}
 use Rattle.rules.specs.declared.Found.{Found}
 use Rattle.rules.specs.declared.Found.the-variants as found
-use Rattle.rules.specs.declared.Paired.{Paired}
 use Rattle.rules.specs.declared.Phase.{Phase}
 use Rattle.rules.specs.declared.Phase.the-variants.{Taking, Settling, Cut}
-use Rattle.rules.specs.declared.Reply.{Reply}
 use Rattle.rules.specs.Measures.{issueCount, unitLots, outputWords, valueOf, chargeOf}
 use Rattle.rules.specs.Units.{Part}
 use Rattle.rules.specs.Handover.{handovers, partials}
@@ -24,24 +21,43 @@ use Rattle.rules.specs.Book.{tab, row, cell, netAt, deliveredAt, owedsOf
 use Rattle.rules.specs.Records.{Rec, handover, recordOf, words, over}
 use Rattle.rules.specs.Questions.{Question, firstNo, askOutput, askSound, askTaking, askSettling, askCut, askIssue, askAccount, askAccounts, askDiffer, askLots, askNets, askOwedToday, askOwedInLedger, askEntries, askRoll, askPrice, askTerm, askDay}
 
--- what a call answers: number, count, book, output words
+-- a call with its arguments and the output lent to it
+pub data Call : Type 0 where
+  Trade : ℕ → ℕ → ℕ → ℕ → Call
+  Close : Call
+  Deliver : ℕ → ℕ → ℕ → List ℕ → Call
+  Cutoff : List ℕ → Call
+  Resolve : ℕ → ℕ → ℕ → List ℕ → Call
+  PairOff : ℕ → ℕ → Call
+  Roll : ℕ → ℕ → List ℕ → Call
+
+-- what a call answers: number, count (for pair-off, steps), lots cancelled, book, output words
 pub record Answer : Type 0 where
   pub refusal : ℕ
   pub count : ℕ
+  pub cancelled : ℕ
   pub book : Book
   pub out : List ℕ
 
--- a refusal gives its number, with 0 for the count, and changes nothing; else a new book, and records written
-abbrev pub answer : ℕ → Book → List ℕ → Book → List Rec → Answer
-answer zero b out new rs = record { refusal = 0; count = length rs; book = new; out = over (words rs) out }
-answer (suc r) b out new rs = record { refusal = suc r; count = 0; book = b; out = out }
+-- what a call does that is not refused: the new book, the records written, count and lots cancelled
+pub record Effect : Type 0 where
+  pub book : Book
+  pub records : List Rec
+  pub count : ℕ
+  pub cancelled : ℕ
 
--- a reply and the lent output are an answer
-pub record AnswerIs (d : Answer) (r : Reply) (lent : List ℕ) : Type 0 where
-  pub refusal : r .refusal ≡ d .refusal
-  pub count : r .count ≡ d .count
-  pub book : r .book ≡ d .book
-  pub out : lent ≡ d .out
+-- only the book changes; or records are written too, and counted
+abbrev pub changes : Book → Effect
+changes new = record { book = new; records = []; count = 0; cancelled = 0 }
+
+abbrev pub writes : Book → List Rec → Effect
+writes new rs = record { book = new; records = rs; count = length rs; cancelled = 0 }
+
+-- a refusal gives its number, with 0 for every other number, and changes nothing
+abbrev pub answer : ℕ → Book → List ℕ → Effect → Answer
+answer zero b out e =
+    record { refusal = 0; count = e .count; cancelled = e .cancelled; book = e .book; out = over (words (e .records)) out }
+answer (suc r) b out e = record { refusal = suc r; count = 0; cancelled = 0; book = b; out = out }
 
 -- trade issue, from, to, lots (Taking): from's net falls, to's rises
 abbrev pub tradeAsks : Phase → List ℤ → ℕ → ℕ → ℕ → ℕ → List Question
@@ -51,16 +67,9 @@ tradeAsks phase nets i f t x =
 abbrev pub tradedNets : List ℤ → ℕ → ℕ → ℕ → ℕ → List ℤ
 tradedNets nets i f t x = set (set nets (cell i f) (netAt nets i f -ℤ pos x)) (cell i t) (netAt nets i t +ℤ pos x)
 
-unfoldable pub trade : Book → ℕ → ℕ → ℕ → ℕ → Answer
-trade b i f t x =
-    answer (firstNo (askSound b ∷ tradeAsks (b .phase) (b .nets) i f t x)) b [] (withNets b (tradedNets (b .nets) i f t x)) []
-
 -- close (Taking): to Settling
 abbrev pub closeAsks : Phase → List Question
 closeAsks phase = askTaking phase ∷ []
-
-unfoldable pub close : Book → Answer
-close b = answer (firstNo (askSound b ∷ closeAsks (b .phase))) b [] (withPhase b Settling) []
 
 -- deliver issue, account, lots (Settling): delivered rises; one record a unit handed over
 abbrev pub deliverAsks : Phase → List ℤ → List ℕ → ℕ → ℕ → ℕ → List Question
@@ -72,12 +81,6 @@ raisedDelivered delivered i a x = set delivered (cell i a) (deliveredAt delivere
 
 abbrev pub deliverRecords : List ℤ → List ℕ → ℕ → ℕ → List Rec
 deliverRecords nets delivered i x = map (handover i) (handovers (orderIn nets i) (deliveredTotal delivered i) x)
-
-unfoldable pub deliver : Book → ℕ → ℕ → ℕ → List ℕ → Answer
-deliver b i a x out =
-    answer (firstNo (askOutput outputWords out ∷ askSound b ∷ deliverAsks (b .phase) (b .nets) (b .delivered) i a x)) b out
-    (withDelivered b (raisedDelivered (b .delivered) i a x))
-    (deliverRecords (b .nets) (b .delivered) i x)
 
 -- cutoff (Settling): for issues ascending, the stock to the next unit, then the fails. To Cut
 unfoldable pub issuePartials : List ℤ → List ℕ → ℕ → List Part
@@ -111,13 +114,6 @@ cutoffRecords today nets delivered = joined (tab (issueRecords today nets delive
 abbrev pub cutoffAsks : Phase → ℕ → ℕ → List Question
 cutoffAsks phase old new = askSettling phase ∷ askEntries old new ∷ []
 
-unfoldable pub cutoff : Book → List ℕ → Answer
-cutoff b out =
-    let new = newEntries (b .day) (b .nets) (b .delivered) in
-    answer (firstNo (askOutput outputWords out ∷ askSound b ∷ cutoffAsks (b .phase) (b .count) (length new))) b out
-    (withPhase (withLedger b (ledgerOf b ++ new)) Cut)
-    (cutoffRecords (b .day) (b .nets) (b .delivered))
-
 -- resolve issue, account, lots (any phase): entries from that account are met; one record an entry
 abbrev pub resolveAsks : List Entry → ℕ → ℕ → ℕ → List Question
 resolveAsks es i a x = askIssue i ∷ askAccount a ∷ askLots x ∷ askOwedInLedger es i a x ∷ []
@@ -125,34 +121,9 @@ resolveAsks es i a x = askIssue i ∷ askAccount a ∷ askLots x ∷ askOwedInLe
 abbrev pub resolveRecords : List Entry → ℕ → ℕ → ℕ → List Rec
 resolveRecords es i a x = map (recordOf 11) (met (isFrom i a) x es)
 
-unfoldable pub resolve : Book → ℕ → ℕ → ℕ → List ℕ → Answer
-resolve b i a x out =
-    answer (firstNo (askOutput outputWords out ∷ askSound b ∷ resolveAsks (ledgerOf b) i a x)) b out
-    (withLedger b (meet (isFrom i a) x (ledgerOf b)))
-    (resolveRecords (ledgerOf b) i a x)
-
--- pair-off issue, account (any phase; house): the answer carries the steps made and lots cancelled
+-- pair-off issue, account (any phase; house)
 abbrev pub pairOffAsks : ℕ → ℕ → List Question
 pairOffAsks i a = askIssue i ∷ askAccount a ∷ []
-
-pub record PairAnswer : Type 0 where
-  pub refusal : ℕ
-  pub steps : ℕ
-  pub cancelled : ℕ
-  pub book : Book
-
-abbrev pub pairAnswer : ℕ → Book → Pairing → PairAnswer
-pairAnswer zero b p = record { refusal = 0; steps = p .steps; cancelled = p .cancelled; book = withLedger b (p .ledger) }
-pairAnswer (suc r) b p = record { refusal = suc r; steps = 0; cancelled = 0; book = b }
-
-unfoldable pub pairOff : Book → ℕ → ℕ → PairAnswer
-pairOff b i a = pairAnswer (firstNo (askSound b ∷ pairOffAsks i a)) b (pairing (b .day) i a (ledgerOf b))
-
-pub record PairAnswerIs (d : PairAnswer) (r : Paired) : Type 0 where
-  pub refusal : r .refusal ≡ d .refusal
-  pub steps : r .steps ≡ d .steps
-  pub cancelled : r .cancelled ≡ d .cancelled
-  pub book : r .book ≡ d .book
 
 -- roll days, rate, sixteen prices (Cut): charges; then nets and delivered lots are 0, day rises by 1, to Taking
 abbrev pub rollAsks : Phase → ℕ → ℕ → ℕ → List ℕ → List Question
@@ -167,9 +138,61 @@ rolled b days rate prices =
     (b .day + 1)
     Taking
 
-unfoldable pub roll : Book → ℕ → ℕ → List ℕ → Answer
-roll b days rate prices =
-    answer (firstNo (askSound b ∷ rollAsks (b .phase) (b .day) days rate prices)) b [] (rolled b days rate prices) []
+-- The calls
+
+-- the output lent to a call
+abbrev pub lentTo : Call → List ℕ
+lentTo (Trade i f t x) = []
+lentTo Close = []
+lentTo (Deliver i a x out) = out
+lentTo (Cutoff out) = out
+lentTo (Resolve i a x out) = out
+lentTo (PairOff i a) = []
+lentTo (Roll days rate prices) = []
+
+-- question 1 is asked of deliver, cutoff and resolve
+abbrev pub outputAsks : Call → List Question
+outputAsks (Trade i f t x) = []
+outputAsks Close = []
+outputAsks (Deliver i a x out) = askOutput outputWords out ∷ []
+outputAsks (Cutoff out) = askOutput outputWords out ∷ []
+outputAsks (Resolve i a x out) = askOutput outputWords out ∷ []
+outputAsks (PairOff i a) = []
+outputAsks (Roll days rate prices) = []
+
+-- the questions after soundness
+abbrev pub ownAsks : Book → Call → List Question
+ownAsks b (Trade i f t x) = tradeAsks (b .phase) (b .nets) i f t x
+ownAsks b Close = closeAsks (b .phase)
+ownAsks b (Deliver i a x out) = deliverAsks (b .phase) (b .nets) (b .delivered) i a x
+ownAsks b (Cutoff out) = cutoffAsks (b .phase) (b .count) (length (newEntries (b .day) (b .nets) (b .delivered)))
+ownAsks b (Resolve i a x out) = resolveAsks (ledgerOf b) i a x
+ownAsks b (PairOff i a) = pairOffAsks i a
+ownAsks b (Roll days rate prices) = rollAsks (b .phase) (b .day) days rate prices
+
+abbrev pub asks : Book → Call → List Question
+asks b c = outputAsks c ++ (askSound b ∷ ownAsks b c)
+
+-- pair-off: the answer carries the steps made and lots cancelled
+abbrev pub pairedOff : Book → Pairing → Effect
+pairedOff b p = record { book = withLedger b (p .ledger); records = []; count = p .steps; cancelled = p .cancelled }
+
+-- and what it does where none is answered 'no'
+abbrev pub effect : Book → Call → Effect
+effect b (Trade i f t x) = changes (withNets b (tradedNets (b .nets) i f t x))
+effect b Close = changes (withPhase b Settling)
+effect b (Deliver i a x out) =
+    writes (withDelivered b (raisedDelivered (b .delivered) i a x)) (deliverRecords (b .nets) (b .delivered) i x)
+effect b (Cutoff out) =
+    writes (withPhase (withLedger b (ledgerOf b ++ newEntries (b .day) (b .nets) (b .delivered))) Cut)
+    (cutoffRecords (b .day) (b .nets) (b .delivered))
+effect b (Resolve i a x out) = writes (withLedger b (meet (isFrom i a) x (ledgerOf b))) (resolveRecords (ledgerOf b) i a x)
+effect b (PairOff i a) = pairedOff b (pairing (b .day) i a (ledgerOf b))
+effect b (Roll days rate prices) = changes (rolled b days rate prices)
+
+-- a call's answer, on any book and any output
+unfoldable pub called : Book → Call → Answer
+called b c = answer (firstNo (asks b c)) b (lentTo c) (effect b c)
 
 -- the k-th unit of an issue, k from 0: account and lots, or 'none' exactly when k is not below the number of units
 pub record UnitAnswer : Type 0 where

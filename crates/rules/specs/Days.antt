@@ -16,10 +16,10 @@ use Rattle.rules.specs.Fails.{lacks, fails}
 use Rattle.rules.specs.Ledger.{entry, pairing}
 use Rattle.rules.specs.Book.{conditions, sound, orderIn, orderOf, stockOf, ledgerOf, withLedger, fresh}
 use Rattle.rules.specs.Records.{Rec, recordsIn}
-use Rattle.rules.specs.Calls.{Answer, PairAnswer, UnitAnswer, noUnit, AmountAnswer, trade, close, deliver, cutoff, resolve, pairOff, roll, unit, value, charge, issuePartials, issueFails}
+use Rattle.rules.specs.Calls.{Call, Trade, Close, Deliver, Cutoff, Resolve, PairOff, Roll, Answer, UnitAnswer, noUnit, AmountAnswer, called, unit, value, charge, issuePartials, issueFails}
 use Rattle.rules.specs.Tape.{readOf, pricesOf, wordsOf, writeOf}
 use Rattle.rules.specs.Run.{Ran, ChargeLine, runOf, answerOf, failLines, chargeLines, line}
-use Rattle.rules.specs.Tally.{State, Trade, Close, Deliver, Cutoff, Resolve, PairOff, Roll, afterAll, start, inIssue}
+use Rattle.rules.specs.Tally.{State, afterAll, start, inIssue}
 
 -- a lent output: the words after the last record show that they are kept
 abbrev pub lent : List ℕ
@@ -27,44 +27,44 @@ lent = replicate 4096 7
 
 -- P5: nets 1: 230,000; 2: 250,000; 3: 150,000; 4: −230,000; 5: −400,000
 unfoldable pub traded1 : Answer
-traded1 = trade fresh 0 4 1 230000
+traded1 = called fresh (Trade 0 4 1 230000)
 
 unfoldable pub traded2 : Answer
-traded2 = trade (traded1 .book) 0 5 2 250000
+traded2 = called (traded1 .book) (Trade 0 5 2 250000)
 
 unfoldable pub traded3 : Answer
-traded3 = trade (traded2 .book) 0 5 3 150000
+traded3 = called (traded2 .book) (Trade 0 5 3 150000)
 
 unfoldable pub closed : Answer
-closed = close (traded3 .book)
+closed = called (traded3 .book) Close
 
 -- P6: then 5 delivers 345,000
 unfoldable pub delivered1 : Answer
-delivered1 = deliver (closed .book) 0 5 345000 lent
+delivered1 = called (closed .book) (Deliver 0 5 345000 lent)
 
 -- P7: 4 delivers 200,000
 unfoldable pub delivered2 : Answer
-delivered2 = deliver (delivered1 .book) 0 4 200000 lent
+delivered2 = called (delivered1 .book) (Deliver 0 4 200000 lent)
 
 -- P8: cutoff
 unfoldable pub cut : Answer
-cut = cutoff (delivered2 .book) lent
+cut = called (delivered2 .book) (Cutoff lent)
 
 -- P9: roll, 1 day, 300, price 100,000
 unfoldable pub rolled1 : Answer
-rolled1 = roll (cut .book) 1 300 (replicate 16 100000)
+rolled1 = called (cut .book) (Roll 1 300 (replicate 16 100000))
 
 -- an entry of issue 0, day 0
 abbrev pub fail : ℕ → ℕ → ℕ → Entry
 fail f t x = entry 0 f t x 0
 
 -- P10: ledger 1→2 30, 2→3 20, 2→1 5; pair-off of 2
-unfoldable pub pairedOff : PairAnswer
-pairedOff = pairOff (withLedger fresh (fail 1 2 30 ∷ fail 2 3 20 ∷ fail 2 1 5 ∷ [])) 0 2
+unfoldable pub pairedOff : Answer
+pairedOff = called (withLedger fresh (fail 1 2 30 ∷ fail 2 3 20 ∷ fail 2 1 5 ∷ [])) (PairOff 0 2)
 
 -- after P8, 4 delivers 6,000 of what it failed: its first entry is met and removed, its second falls
 unfoldable pub resolved : Answer
-resolved = resolve (cut .book) 0 4 6000 lent
+resolved = called (cut .book) (Resolve 0 4 6000 lent)
 
 -- the example of 'The program'
 abbrev pub exampleTape : List ℕ
@@ -135,11 +135,11 @@ abbrev pub ledgerDays : List Case
 ledgerDays =
     -- P10: 1→2 5, 1→3 20; 2 steps, 25 lots
     case (ledgerOf (pairedOff .book)) (fail 1 2 5 ∷ fail 1 3 20 ∷ [])
-    ∷ case (pairedOff .refusal ∷ pairedOff .steps ∷ pairedOff .cancelled ∷ []) (0 ∷ 2 ∷ 25 ∷ [])
+    ∷ case (pairedOff .refusal ∷ pairedOff .count ∷ pairedOff .cancelled ∷ []) (0 ∷ 2 ∷ 25 ∷ [])
     -- P11: 1 lot at 99,999: value 49,999; 12 days at 10,000: 1,643
     ∷ case (value 1 99999) (record { refusal = 0; yen = 49999 })
     ∷ case (charge 1 99999 12 10000) (record { refusal = 0; yen = 1643 })
-    ∷ case (trade fresh 0 1 2 0 .refusal ∷ trade fresh 0 1 2 20000001 .refusal ∷ []) (7 ∷ 7 ∷ [])
+    ∷ case (called fresh (Trade 0 1 2 0) .refusal ∷ called fresh (Trade 0 1 2 20000001) .refusal ∷ []) (7 ∷ 7 ∷ [])
     ∷ case (value 0 1) (record { refusal = 7; yen = 0 })
     ∷ case (value 20000001 1) (record { refusal = 7; yen = 0 })
     ∷ []
@@ -182,6 +182,6 @@ settledDays = unitDays ++ bookDays ++ ledgerDays ++ programDays ++ ownDays
 
 -- each by computing what the definitions give
 pub settled : Holds settledDays
-unfolding settledDays units handovers partials lacks fails pairing valueOf chargeOf conditions sound orderIn issuePartials issueFails trade close deliver cutoff resolve pairOff roll unit value charge readOf pricesOf answerOf runOf inIssue traded1 traded2 traded3 closed delivered1 delivered2 cut rolled1 pairedOff resolved exampleRun tallied talliedCut
+unfolding settledDays units handovers partials lacks fails pairing valueOf chargeOf conditions sound orderIn issuePartials issueFails called unit value charge readOf pricesOf answerOf runOf inIssue traded1 traded2 traded3 closed delivered1 delivered2 cut rolled1 pairedOff resolved exampleRun tallied talliedCut
 settled =
     (refl, (refl, (refl, (refl, (refl, (refl, (refl, (refl, (refl, (refl, (refl, (refl, (refl, (refl, (refl, (refl, (refl, (refl, (refl, (refl, (refl, (refl, (refl, (refl, (refl, (refl, (refl, (refl, (refl, (refl, (refl, (refl, (refl, (refl, tt))))))))))))))))))))))))))))))))))

@@ -16,9 +16,8 @@ use Rattle.rules.specs.declared.Read.{Read}
 use Rattle.rules.specs.declared.Read.the-variants.{Instr, Refused}
 use Rattle.rules.specs.Measures.{outputWords}
 use Rattle.rules.specs.Book.{ledgerOf, fresh}
-use Rattle.rules.specs.Calls.{Answer}
+use Rattle.rules.specs.Calls.{Call, Trade, Close, Deliver, Cutoff, Resolve, PairOff, Roll, Answer, called}
 use Rattle.rules.specs.Tape.{readOf, pricesOf}
-use Rattle.rules.specs.Tally.{Call, Trade, Close, Deliver, Cutoff, Resolve, PairOff, Roll, called}
 
 -- an instruction, with roll's prices and a lent output, as a call
 abbrev pub callOf : Instruction → List ℕ → List ℕ → Call

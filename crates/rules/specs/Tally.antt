@@ -12,30 +12,7 @@ use Rattle.rules.specs.Units.{Part, part, sumLots, ofAccount, unitsOfNet
 use Rattle.rules.specs.Ledger.{isFrom, isTo, lotsOf}
 use Rattle.rules.specs.Book.{tab, ledgerOf, fresh}
 use Rattle.rules.specs.Records.{Rec, recordsIn}
-use Rattle.rules.specs.Calls.{Answer, PairAnswer, trade, close, deliver, cutoff, resolve, pairOff, roll}
-
--- a call with its arguments and the output lent to it
-pub data Call : Type 0 where
-  Trade : ℕ → ℕ → ℕ → ℕ → Call
-  Close : Call
-  Deliver : ℕ → ℕ → ℕ → List ℕ → Call
-  Cutoff : List ℕ → Call
-  Resolve : ℕ → ℕ → ℕ → List ℕ → Call
-  PairOff : ℕ → ℕ → Call
-  Roll : ℕ → ℕ → List ℕ → Call
-
--- pair-off counts its steps, and writes no record
-abbrev pub ofPair : PairAnswer → Answer
-ofPair r = record { refusal = r .refusal; count = r .steps; book = r .book; out = [] }
-
-abbrev pub called : Book → Call → Answer
-called b (Trade i f t x) = trade b i f t x
-called b Close = close b
-called b (Deliver i a x out) = deliver b i a x out
-called b (Cutoff out) = cutoff b out
-called b (Resolve i a x out) = resolve b i a x out
-called b (PairOff i a) = ofPair (pairOff b i a)
-called b (Roll days rate prices) = roll b days rate prices
+use Rattle.rules.specs.Calls.{Call, Trade, Close, Deliver, Cutoff, Resolve, PairOff, Roll, Answer, called}
 
 -- the records of a kind in an issue: to whom, and how many lots
 abbrev pub recordsOf : ℕ → ℕ → List Rec → List Part
@@ -135,21 +112,37 @@ settlingAfter (Resolve i a x out) s = s
 settlingAfter (PairOff i a) s = s
 settlingAfter (Roll days rate prices) s = s
 
--- what a list of calls has led to
+-- whether a call was accepted, from its number
+abbrev pub accepted : ℕ → Bool
+accepted zero = true
+accepted (suc r) = false
+
+-- the tally is fed the call, whether it was accepted, and the records that it wrote; nothing comes from a book
+abbrev pub fed : Call → Bool → List Rec → Tally → Tally
+fed c true rs t = counted c rs t
+fed c false rs t = t
+
+abbrev pub settlingWith : Call → Bool → Bool → Bool
+settlingWith c true s = settlingAfter c s
+settlingWith c false s = s
+
+-- what a list of calls has led to: the book that the last one returned, and beside it the tally
 pub record State : Type 0 where
   pub book : Book
   pub tally : Tally
   pub settling : Bool
 
--- fed the call, its number (0: accepted), the records in the words it returned, and the book
-abbrev pub fed : Call → ℕ → List Rec → Book → State → State
-fed c zero rs b s = record { book = b; tally = counted c rs (s .tally); settling = settlingAfter c (s .settling) }
-fed c (suc r) rs b s = record { book = b; tally = s .tally; settling = s .settling }
+-- after an answer, with the records as they stand in the words returned
+abbrev pub answered : Call → Answer → State → State
+answered c r s =
+    record {
+      book = r .book;
+      tally = fed c (accepted (r .refusal)) (recordsIn (r .count) (r .out)) (s .tally);
+      settling = settlingWith c (accepted (r .refusal)) (s .settling);
+    }
 
 abbrev pub after : State → Call → State
-after s c =
-    let r = called (s .book) c in
-    fed c (r .refusal) (recordsIn (r .count) (r .out)) (r .book) s
+after s c = answered c (called (s .book) c) s
 
 -- each call gets the book that the last one returned
 abbrev pub afterAll : State → List Call → State

@@ -13,7 +13,8 @@ use Rattle.rules.specs.Measures.{unitLots, total, dueOf, owedOf}
 use Rattle.rules.specs.Units.{Part, ofAccount}
 use Rattle.rules.specs.Handover.{handed, partials}
 use Rattle.rules.specs.Book.{cell, netAt, deliveredTotal, orderOf, sound}
-use Rattle.rules.specs.Tally.{State, Call, Cutoff, called, after, afterAll, start, nobody, unitsToday}
+use Rattle.rules.specs.Calls.{Call, Cutoff, called}
+use Rattle.rules.specs.Tally.{State, after, afterAll, start, nobody, unitsToday}
 use Rattle.laws.proofs.Basics.{byTest, total-append}
 use Rattle.laws.proofs.Fails.{additive-account}
 use Rattle.laws.proofs.Cutoff.{settled}

@@ -19,16 +19,16 @@ use Rattle.rules.specs.Ledger.{isFrom, isTo, lotsOf}
 use Rattle.rules.specs.Book.{isSettling, tab, netAt, deliveredTotal, orderOf, ledgerOf, withPhase, withLedger}
 use Rattle.rules.specs.Records.{Rec, handover, recordOf}
 use Rattle.rules.specs.Questions.{askOutput, askSound}
-use Rattle.rules.specs.Calls.{issuePartials, issueFails, failEntry, issueEntries, issueRecords, joined, newEntries, cutoffRecords, cutoffAsks, cutoff}
-use Rattle.rules.specs.Tally.{State, Cutoff, fed, recordsOf}
+use Rattle.rules.specs.Calls.{writes, Cutoff, issuePartials, issueFails, failEntry, issueEntries, issueRecords, joined, newEntries, cutoffRecords, called}
+use Rattle.rules.specs.Tally.{State, recordsOf}
 use Rattle.laws.proofs.Basics.{byTest, total-append, Every}
 use Rattle.laws.proofs.Fails.{lotsTo, lotsFrom}
 use Rattle.laws.proofs.Sound.{SoundBook, sound-parts}
 use Rattle.laws.proofs.Ledger.{ledger-written}
 use Rattle.laws.proofs.Records.{Fits, records-read, recordsOf-append, tens-same, tens-other, tens-fails, each-joined}
 use Rattle.laws.proofs.Issue.{delivered-units, owed-out, due-in, records-fit}
-use Rattle.laws.proofs.Answers.{answered}
-use Rattle.tally.proofs.Invariant.{cutRow, Inv, Keeps}
+use Rattle.laws.proofs.Answers.{by-answer}
+use Rattle.tally.proofs.Invariant.{cutRow, Inv, Keeps, did}
 use Rattle.tally.proofs.Delivering.{to-settling}
 
 -- One issue of sixteen
@@ -157,7 +157,7 @@ module _ (s : State) (v : Inv s) (g : SoundBook (s .book)) (p : isSettling (s .b
         new-to b j a hj,
       )
 
-  pub cut-inv : Inv (fed (Cutoff []) 0 rs (withPhase (withLedger b (ledgerOf b ++ new)) Cut) s)
+  pub cut-inv : Inv (did (Cutoff []) (writes (withPhase (withLedger b (ledgerOf b ++ new)) Cut) rs) s)
   cut-inv = record {
     sizeNets = v .sizeNets;
     sizeDelivered = v .sizeDelivered;
@@ -185,14 +185,11 @@ module _ (s : State) (v : Inv s) (g : SoundBook (s .book)) (p : isSettling (s .b
     charges = v .charges;
   }
 
-pub keeps-cutoff : (s : State) → Inv s → (out : List ℕ) → Keeps (Cutoff out) s (cutoff (s .book) out)
-unfolding cutoff
+pub keeps-cutoff : (s : State) → Inv s → (out : List ℕ) → Keeps (Cutoff out) s (called (s .book) (Cutoff out))
 keeps-cutoff s v out =
     let b = s .book in
-    let new = newEntries (b .day) (b .nets) (b .delivered) in
     let rs = cutoffRecords (b .day) (b .nets) (b .delivered) in
-    answered (Keeps (Cutoff out) s) (askOutput outputWords out ∷ askSound b ∷ cutoffAsks (b .phase) (b .count) (length new)) b out
-    (withPhase (withLedger b (ledgerOf b ++ new)) Cut) rs (omega arith)
+    by-answer (Keeps (Cutoff out) s) b (Cutoff out)
     (λ y.
     let g = sound-parts b (y .1 .0) in
     let p = y .1 .1 .0 in

@@ -16,8 +16,8 @@ use Rattle.rules.specs.Handover.{handed, handovers}
 use Rattle.rules.specs.Book.{isSettling, cell, netAt, deliveredAt, deliveredTotal, orderOf, withDelivered}
 use Rattle.rules.specs.Records.{Rec, handover}
 use Rattle.rules.specs.Questions.{askOutput, askSound}
-use Rattle.rules.specs.Calls.{deliverAsks, raisedDelivered, deliverRecords, deliver}
-use Rattle.rules.specs.Tally.{State, Deliver, fed, recordsOf}
+use Rattle.rules.specs.Calls.{writes, Deliver, raisedDelivered, deliverRecords, called}
+use Rattle.rules.specs.Tally.{State, recordsOf}
 use Rattle.laws.proofs.Basics.{byTest, total-append, Every}
 use Rattle.laws.proofs.Handover.{handed-extends, each-handovers}
 use Rattle.laws.proofs.Fails.{each-of-map}
@@ -25,8 +25,8 @@ use Rattle.laws.proofs.Cells.{here, here-eq, cell-set, row-other, delivered-ris
 use Rattle.laws.proofs.Sound.{SoundBook, sound-parts}
 use Rattle.laws.proofs.Records.{Fits, records-read, tens-same, tens-other}
 use Rattle.laws.proofs.Issue.{within-units, units-fit}
-use Rattle.laws.proofs.Answers.{answered}
-use Rattle.tally.proofs.Invariant.{RowIs, Inv, Keeps}
+use Rattle.laws.proofs.Answers.{by-answer}
+use Rattle.tally.proofs.Invariant.{RowIs, Inv, Keeps, did}
 
 pub to-settling : (p : Phase) (us : List Part) (d : ℕ) (l : List Part) → isSettling p ≡ true → RowIs p us d l → RowIs Settling us d l
 to-settling Taking us d l h x = absurd (false≢true h)
@@ -85,7 +85,7 @@ module _ (s : State) (v : Inv s) (i a x : ℕ) (hi : i < 16) (ha : a < 64) (g : 
         append-nil (s .tally .rows j),
       ) (v .rows j hj))
 
-  delivered-inv : Inv (fed (Deliver i a x []) 0 rs (withDelivered (s .book) ds) s)
+  delivered-inv : Inv (did (Deliver i a x []) (writes (withDelivered (s .book) ds) rs) s)
   delivered-inv = record {
     sizeNets = v .sizeNets;
     sizeDelivered = simp length-set (v .sizeDelivered);
@@ -104,14 +104,11 @@ module _ (s : State) (v : Inv s) (i a x : ℕ) (hi : i < 16) (ha : a < 64) (g : 
     charges = v .charges;
   }
 
-pub keeps-deliver : (s : State) → Inv s → (i a x : ℕ) (out : List ℕ) → Keeps (Deliver i a x out) s (deliver (s .book) i a x out)
-unfolding deliver
+pub keeps-deliver : (s : State) → Inv s → (i a x : ℕ) (out : List ℕ) → Keeps (Deliver i a x out) s (called (s .book) (Deliver i a x out))
 keeps-deliver s v i a x out =
     let b = s .book in
     let rs = deliverRecords (b .nets) (b .delivered) i x in
-    answered (Keeps (Deliver i a x out) s)
-    (askOutput outputWords out ∷ askSound b ∷ deliverAsks (b .phase) (b .nets) (b .delivered) i a x) b out
-    (withDelivered b (raisedDelivered (b .delivered) i a x)) rs (omega arith)
+    by-answer (Keeps (Deliver i a x out) s) b (Deliver i a x out)
     (λ y.
     let hi : i < 16 = omega (arith, leb-true i 15 (y .1 .1 .1 .0)) in
     let ha : a < 64 = omega (arith, leb-true a 63 (y .1 .1 .1 .1 .0)) in

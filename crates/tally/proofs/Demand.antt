@@ -1,7 +1,8 @@
 -- Demand 3, of every list of calls: the invariant is there at the start, each call keeps it, and it
 -- says what demand 3 asks.
 use mathlib.Core.List.{List, [], _∷_}
-use Rattle.rules.specs.Tally.{State, Call, Trade, Close, Deliver, Cutoff, Resolve, PairOff, Roll, after, afterAll, start, Demand3OfAll}
+use Rattle.rules.specs.Calls.{Call, Trade, Close, Deliver, Cutoff, Resolve, PairOff, Roll}
+use Rattle.rules.specs.Tally.{State, after, afterAll, start, Demand3OfAll}
 use Rattle.tally.proofs.Invariant.{Inv}
 use Rattle.tally.proofs.Shown.{shown}
 use Rattle.tally.proofs.Taking.{starts, keeps-trade, keeps-close}

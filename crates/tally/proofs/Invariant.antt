@@ -12,9 +12,8 @@ use Rattle.rules.specs.Units.{Part, sumLots, ofAccount}
 use Rattle.rules.specs.Handover.{handed, partials}
 use Rattle.rules.specs.Ledger.{isFrom, isTo, lotsOf}
 use Rattle.rules.specs.Book.{isSettling, netAt, deliveredAt, deliveredTotal, orderOf, ledgerOf}
-use Rattle.rules.specs.Records.{recordsIn}
-use Rattle.rules.specs.Calls.{Answer}
-use Rattle.rules.specs.Tally.{Call, State, fed}
+use Rattle.rules.specs.Calls.{Call, Answer, Effect}
+use Rattle.rules.specs.Tally.{State, counted, settlingAfter, answered}
 
 -- an issue's 10s after a cutoff: the units handed, and the stock to the next
 abbrev pub cutRow : List Part → ℕ → List Part
@@ -43,6 +42,11 @@ pub record Inv (s : State) : Type 0 where
       ≡ s .tally .inAll .sold i a + s .tally .inAll .handed i a + lotsOf (isTo i a) (ledgerOf (s .book))
   pub charges : total dueOf (s .book .charges) ≡ total owedOf (s .book .charges)
 
+-- the state after a call that was not refused, of what it did
+abbrev pub did : Call → Effect → State → State
+did c e s =
+    record { book = e .book; tally = counted c (e .records) (s .tally); settling = settlingAfter c (s .settling) }
+
 -- what is to be shown of a call's answer
 abbrev pub Keeps : Call → State → Answer → Type 0
-Keeps c s r = Inv (fed c (r .refusal) (recordsIn (r .count) (r .out)) (r .book) s)
+Keeps c s r = Inv (answered c r s)

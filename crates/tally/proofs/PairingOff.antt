@@ -14,15 +14,15 @@ use Rattle.rules.specs.Measures.{total}
 use Rattle.rules.specs.Ledger.{entry, isFrom, isTo, lotsOf, countOf, firstOf, lower, stepLots, through, stepped, paired, pairing}
 use Rattle.rules.specs.Book.{ledgerOf}
 use Rattle.rules.specs.Questions.{askSound}
-use Rattle.rules.specs.Calls.{pairOffAsks, pairOff}
-use Rattle.rules.specs.Tally.{State, PairOff, ofPair}
+use Rattle.rules.specs.Calls.{PairOff, called}
+use Rattle.rules.specs.Tally.{State}
 use Rattle.laws.proofs.Basics.{byTest, either, total-append, Every, each-map}
 use Rattle.laws.proofs.Sound.{SoundEntry, sound-parts}
 use Rattle.laws.proofs.Ledger.{ledger-written}
 use Rattle.laws.proofs.Meeting.{withLots, lots-add, total-putEntry}
 use Rattle.laws.proofs.Lowering.{firstLots, first-pos, first-stays, lowered, Apart, from-not-to, issue-from, issue-to, account-from, account-to}
 use Rattle.laws.proofs.Pairing.{stepped-apart}
-use Rattle.laws.proofs.Answers.{pair-answered}
+use Rattle.laws.proofs.Answers.{by-answer}
 use Rattle.tally.proofs.Invariant.{Inv, Keeps}
 
 -- A number of the first entry that goes by its issue and one other number
@@ -169,12 +169,11 @@ unfolding pairing
 pairing-balance today i a es ss j c =
     paired-balance (countOf (isTo i a) es + countOf (isFrom i a) es) today i a es (each-map SoundEntry Apart (λ e s. s .apart) es ss) j c
 
-pub keeps-pair-off : (s : State) → Inv s → (i a : ℕ) → Keeps (PairOff i a) s (ofPair (pairOff (s .book) i a))
-unfolding pairOff
+pub keeps-pair-off : (s : State) → Inv s → (i a : ℕ) → Keeps (PairOff i a) s (called (s .book) (PairOff i a))
 keeps-pair-off s v i a =
     let b = s .book in
     let p = pairing (b .day) i a (ledgerOf b) in
-    pair-answered (λ r. Keeps (PairOff i a) s (ofPair r)) (askSound b ∷ pairOffAsks i a) b p (omega arith)
+    by-answer (Keeps (PairOff i a) s) b (PairOff i a)
     (λ y. record {
       sizeNets = v .sizeNets;
       sizeDelivered = v .sizeDelivered;

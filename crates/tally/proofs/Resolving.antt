@@ -13,22 +13,22 @@ use Rattle.rules.specs.Ledger.{isFrom, isTo, lotsOf, meet, met}
 use Rattle.rules.specs.Book.{ledgerOf, withLedger}
 use Rattle.rules.specs.Records.{recordOf}
 use Rattle.rules.specs.Questions.{askOutput, askSound}
-use Rattle.rules.specs.Calls.{resolveAsks, resolveRecords, resolve}
-use Rattle.rules.specs.Tally.{State, Resolve, fed}
+use Rattle.rules.specs.Calls.{writes, Resolve, resolveRecords, called}
+use Rattle.rules.specs.Tally.{State}
 use Rattle.laws.proofs.Basics.{each-map}
 use Rattle.laws.proofs.Fails.{each-of-map}
 use Rattle.laws.proofs.Sound.{SoundEntry, sound-parts}
 use Rattle.laws.proofs.Ledger.{ledger-written}
 use Rattle.laws.proofs.Meeting.{lots-add, meet-met, met-from, sound-met}
 use Rattle.laws.proofs.Records.{Fits, entry-fits, records-read, elevens-to}
-use Rattle.laws.proofs.Answers.{answered}
-use Rattle.tally.proofs.Invariant.{Inv, Keeps}
+use Rattle.laws.proofs.Answers.{by-answer}
+use Rattle.tally.proofs.Invariant.{Inv, Keeps, did}
 
 module _ (s : State) (v : Inv s) (i a x : ℕ) (o : x ≤ lotsOf (isFrom i a) (ledgerOf (s .book))) where
   abbrev es : List Entry
   es = ledgerOf (s .book)
 
-  resolved-inv : Inv (fed (Resolve i a x []) 0 (resolveRecords es i a x) (withLedger (s .book) (meet (isFrom i a) x es)) s)
+  resolved-inv : Inv (did (Resolve i a x []) (writes (withLedger (s .book) (meet (isFrom i a) x es)) (resolveRecords es i a x)) s)
   resolved-inv = record {
     sizeNets = v .sizeNets;
     sizeDelivered = v .sizeDelivered;
@@ -51,13 +51,11 @@ module _ (s : State) (v : Inv s) (i a x : ℕ) (o : x ≤ lotsOf (isFrom i a) (l
     charges = v .charges;
   }
 
-pub keeps-resolve : (s : State) → Inv s → (i a x : ℕ) (out : List ℕ) → Keeps (Resolve i a x out) s (resolve (s .book) i a x out)
-unfolding resolve
+pub keeps-resolve : (s : State) → Inv s → (i a x : ℕ) (out : List ℕ) → Keeps (Resolve i a x out) s (called (s .book) (Resolve i a x out))
 keeps-resolve s v i a x out =
     let b = s .book in
     let rs = resolveRecords (ledgerOf b) i a x in
-    answered (Keeps (Resolve i a x out) s) (askOutput outputWords out ∷ askSound b ∷ resolveAsks (ledgerOf b) i a x) b out
-    (withLedger b (meet (isFrom i a) x (ledgerOf b))) rs (omega arith)
+    by-answer (Keeps (Resolve i a x out) s) b (Resolve i a x out)
     (λ y.
     let g = sound-parts b (y .1 .0) in
     let ms = met (isFrom i a) x (ledgerOf b) in

@@ -10,13 +10,12 @@ use lib.IntN.{pos}
 use Rattle.rules.specs.declared.Phase.{Phase}
 use Rattle.rules.specs.declared.Phase.the-variants.{Taking, Settling, Cut}
 use Rattle.rules.specs.Book.{isSettling, isCut, ledgerOf}
-use Rattle.rules.specs.Questions.{askSound}
-use Rattle.rules.specs.Calls.{rollAsks, rolled, roll}
-use Rattle.rules.specs.Tally.{State, Roll}
+use Rattle.rules.specs.Calls.{Roll, called}
+use Rattle.rules.specs.Tally.{State}
 use Rattle.laws.proofs.Cells.{row-zeros}
 use Rattle.laws.proofs.Sound.{sound-parts}
 use Rattle.laws.proofs.Charges.{charged-length, charged-balance}
-use Rattle.laws.proofs.Answers.{answered}
+use Rattle.laws.proofs.Answers.{by-answer}
 use Rattle.tally.proofs.Invariant.{Inv, Keeps}
 use Rattle.tally.proofs.Taking.{no-net, none-delivered}
 
@@ -25,12 +24,10 @@ cut-not-settling Taking h = refl
 cut-not-settling Settling h = absurd (false≢true h)
 cut-not-settling Cut h = refl
 
-pub keeps-roll : (s : State) → Inv s → (days rate : ℕ) (prices : List ℕ) → Keeps (Roll days rate prices) s (roll (s .book) days rate prices)
-unfolding roll
+pub keeps-roll : (s : State) → Inv s → (days rate : ℕ) (prices : List ℕ) → Keeps (Roll days rate prices) s (called (s .book) (Roll days rate prices))
 keeps-roll s v days rate prices =
     let b = s .book in
-    answered (Keeps (Roll days rate prices) s) (askSound b ∷ rollAsks (b .phase) (b .day) days rate prices) b []
-    (rolled b days rate prices) [] (omega arith)
+    by-answer (Keeps (Roll days rate prices) s) b (Roll days rate prices)
     (λ y. record {
       sizeNets = length-replicate 1024 (pos 0);
       sizeDelivered = length-replicate {A = ℕ} 1024 0;

@@ -13,17 +13,16 @@ use Rattle.rules.specs.Units.{sumLots, ofAccount}
 use Rattle.rules.specs.Ledger.{isFrom, isTo}
 use Rattle.rules.specs.Book.{isSettling, netAt, ledgerOf, withPhase, withLedger}
 use Rattle.rules.specs.Questions.{askOutput, askSound}
-use Rattle.rules.specs.Calls.{newEntries, cutoffRecords, cutoffAsks, cutoff}
-use Rattle.rules.specs.Tally.{State, Cutoff, Tally, called, fed, after, recordsOf, inIssue, failsTo, failsBy}
-use Rattle.rules.specs.Records.{recordsIn}
+use Rattle.rules.specs.Calls.{writes, Cutoff, called, newEntries, cutoffRecords}
+use Rattle.rules.specs.Tally.{State, Tally, answered, after, recordsOf, inIssue, failsTo, failsBy}
 use Rattle.laws.proofs.Basics.{total-append}
 use Rattle.laws.proofs.Sound.{SoundBook, sound-parts}
 use Rattle.laws.proofs.Ledger.{ledger-written}
 use Rattle.laws.proofs.Records.{records-read}
 use Rattle.laws.proofs.Issue.{owed-out}
-use Rattle.laws.proofs.Answers.{answered}
+use Rattle.laws.proofs.Answers.{by-answer}
 use Rattle.tally.proofs.Signs.{less}
-use Rattle.tally.proofs.Invariant.{Inv}
+use Rattle.tally.proofs.Invariant.{Inv, did}
 use Rattle.tally.proofs.Shown.{shown}
 use Rattle.tally.proofs.Cutting.{new-from, all-fit, due-handed, cut-inv}
 
@@ -51,8 +50,9 @@ module _ (s : State) (v : Inv s) (g : SoundBook (s .book)) (p : isSettling (s .b
 
   settles :
       Settled s
-      (fed (Cutoff []) 0 (cutoffRecords (b .day) (b .nets) (b .delivered))
-      (withPhase (withLedger b (ledgerOf b ++ newEntries (b .day) (b .nets) (b .delivered))) Cut) s)
+      (did (Cutoff [])
+      (writes (withPhase (withLedger b (ledgerOf b ++ newEntries (b .day) (b .nets) (b .delivered))) Cut)
+      (cutoffRecords (b .day) (b .nets) (b .delivered))) s)
   settles =
       let rs = cutoffRecords (b .day) (b .nets) (b .delivered) in
       let new = newEntries (b .day) (b .nets) (b .delivered) in
@@ -79,14 +79,10 @@ module _ (s : State) (v : Inv s) (g : SoundBook (s .book)) (p : isSettling (s .b
       }
 
 pub cutoff-settles : (s : State) → Inv s → (out : List ℕ) → called (s .book) (Cutoff out) .refusal ≡ 0 → Settled s (after s (Cutoff out))
-unfolding cutoff
 cutoff-settles s v out =
     let b = s .book in
-    let new = newEntries (b .day) (b .nets) (b .delivered) in
     let rs = cutoffRecords (b .day) (b .nets) (b .delivered) in
-    answered (λ r. r .refusal ≡ 0 → Settled s (fed (Cutoff out) (r .refusal) (recordsIn (r .count) (r .out)) (r .book) s))
-    (askOutput outputWords out ∷ askSound b ∷ cutoffAsks (b .phase) (b .count) (length new)) b out
-    (withPhase (withLedger b (ledgerOf b ++ new)) Cut) rs (omega arith)
+    by-answer (λ r. r .refusal ≡ 0 → Settled s (answered (Cutoff out) r s)) b (Cutoff out)
     (λ y h.
     let g = sound-parts b (y .1 .0) in
     let p = y .1 .1 .0 in

@@ -13,16 +13,15 @@ use Rattle.rules.specs.declared.Phase.the-variants.{Taking, Settling, Cut}
 use Rattle.rules.specs.Measures.{dueOf, owedOf}
 use Rattle.rules.specs.Units.{Part}
 use Rattle.rules.specs.Handover.{handed}
-use Rattle.rules.specs.Book.{isTaking, cell, netAt, withNets, withPhase}
-use Rattle.rules.specs.Questions.{askSound}
-use Rattle.rules.specs.Calls.{tradeAsks, tradedNets, trade, closeAsks, close}
-use Rattle.rules.specs.Tally.{State, start, Trade, Close}
+use Rattle.rules.specs.Book.{isTaking, cell, netAt}
+use Rattle.rules.specs.Calls.{Trade, Close, tradedNets, called}
+use Rattle.rules.specs.Tally.{State, start}
 use Rattle.laws.proofs.Basics.{byTest, and-left, and-right, Every}
 use Rattle.laws.proofs.Units.{UnitSized}
 use Rattle.laws.proofs.Cells.{here, here-eq, cell-set, row-zeros}
 use Rattle.laws.proofs.Signed.{rises, falls}
 use Rattle.laws.proofs.SoundRows.{order-in}
-use Rattle.laws.proofs.Answers.{answered}
+use Rattle.laws.proofs.Answers.{by-answer}
 use Rattle.tally.proofs.Invariant.{RowIs, Inv, Keeps}
 
 -- The start
@@ -81,12 +80,10 @@ module _ (s : State) (v : Inv s) (i f c x : ℕ) (hi : i < 16) (hf : f < 64) (hc
       (λ q. simp (p, q) (let r = here-eq i f j e q in rw (r .0, r .1) (omega (arith, falls (netAt ns i f) x, v .nets i f hi hf))))
       (λ q. simp (p, q) (omega (arith, v .nets j e hj he)))))
 
-pub keeps-trade : (s : State) → Inv s → (i f c x : ℕ) → Keeps (Trade i f c x) s (trade (s .book) i f c x)
-unfolding trade
+pub keeps-trade : (s : State) → Inv s → (i f c x : ℕ) → Keeps (Trade i f c x) s (called (s .book) (Trade i f c x))
 keeps-trade s v i f c x =
     let b = s .book in
-    answered (Keeps (Trade i f c x) s) (askSound b ∷ tradeAsks (b .phase) (b .nets) i f c x) b []
-    (withNets b (tradedNets (b .nets) i f c x)) [] (omega arith)
+    by-answer (Keeps (Trade i f c x) s) b (Trade i f c x)
     (λ y.
     let hi : i < 16 = omega (arith, leb-true i 15 (y .1 .1 .0)) in
     let hf : f < 64 = omega (arith, leb-true f 63 (and-left (leb f 63) (leb c 63) (y .1 .1 .1 .0))) in
@@ -117,11 +114,10 @@ closed-row Taking us d l ss h x = rw (x .0, x .1) (sym (none-handed us ss), omeg
 closed-row Settling us d l ss h x = absurd (false≢true h)
 closed-row Cut us d l ss h x = absurd (false≢true h)
 
-pub keeps-close : (s : State) → Inv s → Keeps Close s (close (s .book))
-unfolding close
+pub keeps-close : (s : State) → Inv s → Keeps Close s (called (s .book) Close)
 keeps-close s v =
     let b = s .book in
-    answered (Keeps Close s) (askSound b ∷ closeAsks (b .phase)) b [] (withPhase b Settling) [] (omega arith)
+    by-answer (Keeps Close s) b Close
     (λ y. record {
       sizeNets = v .sizeNets;
       sizeDelivered = v .sizeDelivered;
