@@ -2,5 +2,3 @@ pub mod Signs
 pub mod RowLaws
 pub mod ScanLaws
 pub mod Halves
-pub mod Answers
-pub mod Lent

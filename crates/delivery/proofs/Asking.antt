@@ -20,7 +20,7 @@ use Rattle.laws.proofs.Signed.{size-of}
 use Rattle.laws.proofs.Kept.{deliver-kept}
 use Rattle.laws.proofs.SoundRows.{total-due}
 use Rattle.laws.proofs.Sound.{SoundBook, net-bounded, delivered-owed}
-use Rattle.book.proofs.Answers.{Yes, yes}
+use Rattle.laws.proofs.Answers.{Yes, yes}
 use Rattle.delivery.specs.Deliver.{CanAsk, CanDeliver}
 
 module _ (b : Book) (s : SoundBook b) (n : length (b .nets) ≡ 1024) (d : length (b .delivered) ≡ 1024) where

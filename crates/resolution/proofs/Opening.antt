@@ -22,7 +22,7 @@ use Rattle.laws.proofs.Sound.{SoundEntry, sound-parts, parts-entry, each-all}
 use Rattle.laws.proofs.Ledger.{FullColumns, columns-back}
 use Rattle.book.specs.Columns.{withColumns}
 use Rattle.ledger.specs.Columns.{Columns, Whole, Held}
-use Rattle.book.proofs.Answers.{yes, said-yes, said-no, reply, refused}
+use Rattle.laws.proofs.Answers.{yes, said-yes, said-no, reply, refused}
 use Rattle.laws.proofs.Pairing.{pairing-steps}
 use Rattle.resolution.specs.declared.Counts.{Counts}
 use Rattle.resolution.specs.declared.Steps.{Steps}

@@ -20,7 +20,7 @@ use Rattle.laws.proofs.Basics.{and-left, and-right, and-both, each-map}
 use Rattle.laws.proofs.Sound.{sound-parts, charge-bounded, all-each, each-getD}
 use Rattle.laws.proofs.Ledger.{sound-at}
 use Rattle.measures.proofs.Limits.{between-most, termed}
-use Rattle.book.proofs.Answers.{yes, said-yes, said-no}
+use Rattle.laws.proofs.Answers.{yes, said-yes, said-no}
 use Rattle.rolling.specs.Rolling.{Chargeable, Ready}
 
 and-no : (a b : Bool) → b ≡ false → a && b ≡ false

@@ -18,7 +18,7 @@ use Rattle.rules.specs.Tally.{ofPair}
 use Rattle.laws.proofs.Ledger.{FullColumns}
 use Rattle.ledger.specs.Columns.{Whole}
 use Rattle.book.specs.Scan.{LedgerLengths}
-use Rattle.book.proofs.Answers.{reply, asked-no, asked-yes}
+use Rattle.laws.proofs.Answers.{reply, asked-no, asked-yes}
 use Rattle.book.proofs.Lent.{own-no, own-yes}
 use Rattle.delivery.specs.Deliver.{Delivered}
 use Rattle.cutoff.specs.declared.Counts.{Counts as CutCounts}

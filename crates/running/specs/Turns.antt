@@ -1,55 +1,144 @@
--- A book is a state and its columns. An instruction in place is lent the columns that it reads or changes: its answer is the
--- call's, of every sound book that has them.
+-- What an instruction answers in place. It is lent the columns that it reads or changes: its answer is the call's, of
+-- every sound book that has them.
 use mathlib.Core.Path.{_≡_}
 use mathlib.Core.Bool.{true}
 use mathlib.Core.List.{List}
-use Prim.Native.Nat.{ℕ}
+use Prim.Native.Nat.{ℕ, _≤_}
 use lib.ListN.{length}
 use lib.IntN.{ℤ}
 use denote.Ref.{now}
 use Rattle.rules.specs.declared.Book.{Book}
 use Rattle.rules.specs.declared.Instruction.{Instruction}
-use Rattle.rules.specs.Book.{bookOf, sound, withNets, withDelivered}
-use Rattle.rules.specs.Calls.{Answer}
-use Rattle.rules.specs.Tally.{called}
+use Rattle.rules.specs.Measures.{outputWords}
+use Rattle.rules.specs.Book.{sound}
+use Rattle.rules.specs.Calls.{Call, Trade, Close, Deliver, Cutoff, Resolve, PairOff, Roll, Answer, called}
 use Rattle.rules.specs.Run.{callOf}
-use Rattle.book.specs.Scan.{CellLengths}
 use Rattle.book.specs.declared.State.{State}
-use Rattle.book.specs.States.{Column, Columns}
+use Rattle.book.specs.Scan.{CellLengths, LedgerLengths}
+use Rattle.book.specs.States.{bookIn, Lent, Column, Columns}
 use Rattle.running.specs.declared.Turn.{Turn}
 
--- any book with this state
+-- number, count, lots cancelled, book and words are an answer's
+pub record TurnIs (d : Answer) (r : Turn) (b : Book) (words : List ℕ) : Type 0 where
+  pub refusal : r .refusal ≡ d .refusal
+  pub count : r .count ≡ d .count
+  pub cancelled : r .cancelled ≡ d .cancelled
+  pub book : b ≡ d .book
+  pub out : words ≡ d .out
+
+-- Any instruction, on all columns
+
+-- what an output holds after a call: only deliver, cutoff and resolve are lent it
+abbrev pub outAfter : Call → List ℕ → Answer → List ℕ
+outAfter (Trade i f t x) out d = out
+outAfter Close out d = out
+outAfter (Deliver i a x lent) out d = d .out
+outAfter (Cutoff lent) out d = d .out
+outAfter (Resolve i a x lent) out d = d .out
+outAfter (PairOff i a) out d = out
+outAfter (Roll days rate prices) out d = out
+
+-- a call made on a book: number, count, lots cancelled, book and output are the call's
+pub record Gives (b : Book) (c : Call) (r : Turn) (b′ : Book) (out out′ : List ℕ) : Type 0 where
+  pub refusal : r .refusal ≡ called b c .refusal
+  pub count : r .count ≡ called b c .count
+  pub cancelled : r .cancelled ≡ called b c .cancelled
+  pub book : b′ ≡ called b c .book
+  pub words : out′ ≡ outAfter c out (called b c)
+
+-- an instruction, with roll's prices and an output beside it, made on the book of a state and its columns
+abbrev pub Answered : Instruction → Column ℕ → Column ℕ → State → Turn → Columns → Type 0
+Answered x prices out s r c =
+    Gives (c .before s) (callOf x (now (prices .entry)) (now (out .entry))) r (c .after (r .state)) (now (out .entry)) (now (out .exit))
+
+-- One call, on the columns that it reads or changes
+
+-- a book with what is lent, before the call and after it
+pub record Within : Type 0 where
+  pub before : State → Book → Book
+  pub after : State → Book → Book
+
+-- any book with this state, and with these columns
 abbrev pub inState : State → Book → Book
-inState s b =
-    bookOf (s .day) (s .phase) (b .nets) (b .delivered) (b .charges) (s .entries) (b .issues) (b .froms) (b .tos) (b .lots) (b .days)
+inState s b = bookIn s (b .nets) (b .delivered) (b .charges) (b .issues) (b .froms) (b .tos) (b .lots) (b .days)
 
--- and with these nets
 abbrev pub withinNets : State → List ℤ → Book → Book
-withinNets s nets b = withNets (inState s b) nets
+withinNets s nets b = bookIn s nets (b .delivered) (b .charges) (b .issues) (b .froms) (b .tos) (b .lots) (b .days)
 
--- and delivered lots
 abbrev pub withinCells : State → List ℤ → List ℕ → Book → Book
-withinCells s nets delivered b = withDelivered (withinNets s nets b) delivered
+withinCells s nets delivered b = bookIn s nets delivered (b .charges) (b .issues) (b .froms) (b .tos) (b .lots) (b .days)
 
--- or with these columns of the ledger
 abbrev pub withinLedger : State → List ℕ → List ℕ → List ℕ → List ℕ → List ℕ → Book → Book
-withinLedger s issues froms tos lots days b =
-    bookOf (s .day) (s .phase) (b .nets) (b .delivered) (b .charges) (s .entries) issues froms tos lots days
+withinLedger s issues froms tos lots days b = bookIn s (b .nets) (b .delivered) (b .charges) issues froms tos lots days
 
--- all but the charges
 abbrev pub butCharges : State → List ℤ → List ℕ → List ℕ → List ℕ → List ℕ → List ℕ → List ℕ → Book → Book
-butCharges s nets delivered issues froms tos lots days b =
-    bookOf (s .day) (s .phase) nets delivered (b .charges) (s .entries) issues froms tos lots days
+butCharges s nets delivered issues froms tos lots days b = bookIn s nets delivered (b .charges) issues froms tos lots days
 
--- all but the entries' days
 abbrev pub butDays : State → List ℤ → List ℕ → List ℤ → List ℕ → List ℕ → List ℕ → List ℕ → Book → Book
-butDays s nets delivered charges issues froms tos lots b =
-    bookOf (s .day) (s .phase) nets delivered charges (s .entries) issues froms tos lots (b .days)
+butDays s nets delivered charges issues froms tos lots b = bookIn s nets delivered charges issues froms tos lots (b .days)
 
--- some book with these columns is sound
+abbrev pub onState : Within
+onState = record { before = inState; after = inState }
+
+abbrev pub onNets : Column ℤ → Within
+onNets nets =
+    record { before = λ s. withinNets s (now (nets .entry)); after = λ s. withinNets s (now (nets .exit)) }
+
+abbrev pub onDelivered : Column ℤ → Column ℕ → Within
+onDelivered nets delivered =
+    record {
+      before = λ s. withinCells s (now (nets .entry)) (now (delivered .entry));
+      after = λ s. withinCells s (now (nets .entry)) (now (delivered .exit));
+    }
+
+abbrev pub onLedger : Column ℕ → Column ℕ → Column ℕ → Column ℕ → Column ℕ → Within
+onLedger issues froms tos lots days =
+    record {
+      before = λ s. withinLedger s (now (issues .entry)) (now (froms .entry)) (now (tos .entry)) (now (lots .entry)) (now (days .entry));
+      after = λ s. withinLedger s (now (issues .exit)) (now (froms .exit)) (now (tos .exit)) (now (lots .exit)) (now (days .exit));
+    }
+
+abbrev pub onFails : Column ℤ → Column ℕ → Column ℕ → Column ℕ → Column ℕ → Column ℕ → Column ℕ → Within
+onFails nets delivered issues froms tos lots days =
+    record {
+      before = λ s. butCharges s (now (nets .entry)) (now (delivered .entry)) (now (issues .entry)) (now (froms .entry)) (now (tos .entry)) (now (lots .entry)) (now (days .entry));
+      after = λ s. butCharges s (now (nets .entry)) (now (delivered .entry)) (now (issues .exit)) (now (froms .exit)) (now (tos .exit)) (now (lots .exit)) (now (days .exit));
+    }
+
+abbrev pub onCharges : Column ℤ → Column ℕ → Column ℤ → Column ℕ → Column ℕ → Column ℕ → Column ℕ → Within
+onCharges nets delivered charges issues froms tos lots =
+    record {
+      before = λ s. butDays s (now (nets .entry)) (now (delivered .entry)) (now (charges .entry)) (now (issues .entry)) (now (froms .entry)) (now (tos .entry)) (now (lots .entry));
+      after = λ s. butDays s (now (nets .exit)) (now (delivered .exit)) (now (charges .exit)) (now (issues .entry)) (now (froms .entry)) (now (tos .entry)) (now (lots .entry));
+    }
+
+-- the answer of a call, of every sound book with what is lent
+abbrev pub Turns : Within → State → Call → Turn → List ℕ → Type 0
+Turns w s c r words =
+    (b : Book) → sound (w .before s b) ≡ true → TurnIs (called (w .before s b) c) r (w .after (r .state) b) words
+
+-- what a call in place asks: some book with what is lent is sound, and the lengths are right
 pub record SomeSound (within : Book → Book) : Type 0 where
   pub rest : Book
   pub sound : sound (within rest) ≡ true
+
+abbrev pub tradeReady : State → Lent ℤ → Type 0
+tradeReady s nets = (length (now nets) ≡ 1024) × SomeSound (withinNets s (now nets))
+
+abbrev pub deliverReady : State → Lent ℤ → Lent ℕ → Lent ℕ → Type 0
+deliverReady s nets delivered out =
+    CellLengths (now nets) (now delivered) × SomeSound (withinCells s (now nets) (now delivered)) × (outputWords ≤ length (now out))
+
+abbrev pub ledgerReady : State → Lent ℕ → Lent ℕ → Lent ℕ → Lent ℕ → Lent ℕ → Type 0
+ledgerReady s issues froms tos lots days =
+    LedgerLengths (now issues) (now froms) (now tos) (now lots) (now days)
+    × SomeSound (withinLedger s (now issues) (now froms) (now tos) (now lots) (now days))
+
+abbrev pub cutoffReady : State → Lent ℤ → Lent ℕ → Lent ℕ → Lent ℕ → Lent ℕ → Lent ℕ → Lent ℕ → Lent ℕ → Type 0
+cutoffReady s nets delivered issues froms tos lots days out =
+    CellLengths (now nets) (now delivered) × LedgerLengths (now issues) (now froms) (now tos) (now lots) (now days)
+    × SomeSound (butCharges s (now nets) (now delivered) (now issues) (now froms) (now tos) (now lots) (now days))
+    × (outputWords ≤ length (now out))
 
 -- the lengths of the columns that a roll reads or changes
 pub record RollLengths (nets : List ℤ) (delivered : List ℕ) (charges : List ℤ) (issues froms tos lots : List ℕ) : Type 0 where
@@ -60,17 +149,7 @@ pub record RollLengths (nets : List ℤ) (delivered : List ℕ) (charges : List 
   pub to : length tos ≡ 2048
   pub lot : length lots ≡ 2048
 
--- number, count and book are an answer's
-pub record TurnIs (d : Answer) (r : Turn) (b : Book) : Type 0 where
-  pub refusal : r .refusal ≡ d .refusal
-  pub count : r .count ≡ d .count
-  pub book : b ≡ d .book
-
--- the answer of a call, of every sound book with these columns
-abbrev pub Turns : (Book → Book) → (Book → Answer) → Turn → (Book → Book) → Type 0
-Turns before call r after = (b : Book) → sound (before b) ≡ true → TurnIs (call (before b)) r (after b)
-
--- number, count and book are those of an instruction's call
-abbrev pub Answered : Instruction → Column ℕ → Column ℕ → State → Turn → Columns → Type 0
-Answered x prices out s r c =
-    TurnIs (called (c .before s) (callOf x (now (prices .entry)) (now (out .entry)))) r (c .after (r .state))
+abbrev pub rollReady : State → Lent ℤ → Lent ℕ → Lent ℤ → Lent ℕ → Lent ℕ → Lent ℕ → Lent ℕ → Type 0
+rollReady s nets delivered charges issues froms tos lots =
+    RollLengths (now nets) (now delivered) (now charges) (now issues) (now froms) (now tos) (now lots)
+    × SomeSound (butDays s (now nets) (now delivered) (now charges) (now issues) (now froms) (now tos) (now lots))

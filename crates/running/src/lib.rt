@@ -1,29 +1,28 @@
-// A run's instructions, answered in place on the book's columns.
+// A run's instructions, answered in place on the columns of a sound book.
 use book::State;
 use rules::Instruction;
 use rules::Phase;
-ghost use mathlib.Core.Path.{_≡_};
+ghost use mathlib.Core.List.{[]};
 ghost use Prim.Native.Nat.{_≤_};
 ghost use lib.ListN.{length};
 ghost use Rattle.rules.specs.Measures.{outputWords};
-ghost use Rattle.rules.specs.Calls.{trade as tradeOf, close as closeOf, deliver as deliverOf, cutoff as cutoffOf, resolve as resolveOf, pairOff as pairOffOf, roll as rollOf};
-ghost use Rattle.rules.specs.Tally.{ofPair};
-ghost use Rattle.book.specs.Scan.{CellLengths, LedgerLengths};
+ghost use Rattle.rules.specs.Calls.{Trade, Close, Deliver, Cutoff, Resolve, PairOff, Roll};
 ghost use Rattle.book.specs.States.{ready, columns};
-ghost use Rattle.running.specs.Turns.{inState, withinNets, withinCells, withinLedger, butCharges, butDays, SomeSound, RollLengths, Turns, Answered};
+ghost use Rattle.running.specs.Turns.{Turns, Answered, onState, onNets, onDelivered, onLedger, onFails, onCharges, tradeReady, deliverReady, ledgerReady, cutoffReady, rollReady};
 
 // What an instruction answers: the refusal's number (0: done), the count of records (for pair-off,
-// steps), and the state after it.
+// steps), pair-off's lots cancelled, and the state after it.
 pub struct Turn {
     pub refusal: u32,
     pub count: usize,
+    pub cancelled: u64,
     pub state: State,
 }
 
 // trade: the nets of from and to, unless it is refused.
 fn trade(s: State, nets: &mut [i32], i: u32, f: u32, t: u32, x: u32) -> Turn
-    requires { ⌜ (length (now nets) ≡ 1024) × SomeSound (withinNets s (now nets)) ⌝ }
-    ensures { λ r. ⌜ Turns (withinNets s (now (nets .entry))) (λ b. tradeOf b i f t x) r (withinNets (r .state) (now (nets .exit))) ⌝ }
+    requires { ⌜ tradeReady s nets ⌝ }
+    ensures { λ r. ⌜ Turns (onNets nets) s (Trade i f t x) r [] ⌝ }
 {
     let phase = s.phase;
     let no = trading::trade_asks(phase, nets, i, f, t, x);
@@ -31,6 +30,7 @@ fn trade(s: State, nets: &mut [i32], i: u32, f: u32, t: u32, x: u32) -> Turn
         return Turn {
             refusal: no,
             count: 0,
+            cancelled: 0,
             state: s,
         };
     }
@@ -38,13 +38,14 @@ fn trade(s: State, nets: &mut [i32], i: u32, f: u32, t: u32, x: u32) -> Turn
     Turn {
         refusal: 0,
         count: 0,
+        cancelled: 0,
         state: s,
     }
 }
 
 // close: the phase, unless it is refused.
 fn close(s: State) -> Turn
-    ensures { λ r. ⌜ Turns (inState s) closeOf r (inState (r .state)) ⌝ }
+    ensures { λ r. ⌜ Turns onState s Close r [] ⌝ }
 {
     let phase = s.phase;
     let no = trading::close_asks(phase);
@@ -52,17 +53,16 @@ fn close(s: State) -> Turn
         return Turn {
             refusal: no,
             count: 0,
+            cancelled: 0,
             state: s,
         };
     }
+    let next = book::with_phase(s, Phase::Settling);
     Turn {
         refusal: 0,
         count: 0,
-        state: State {
-            day: s.day,
-            phase: Phase::Settling,
-            entries: s.entries,
-        },
+        cancelled: 0,
+        state: next,
     }
 }
 
@@ -76,8 +76,8 @@ fn deliver(
     x: u32,
     out: &mut [u32],
 ) -> Turn
-    requires { ⌜ CellLengths (now nets) (now delivered) × SomeSound (withinCells s (now nets) (now delivered)) × (outputWords ≤ length (now out)) ⌝ }
-    ensures { λ r. ⌜ Turns (withinCells s (now (nets .entry)) (now (delivered .entry))) (λ b. deliverOf b i a x (now (out .entry))) r (withinCells (r .state) (now (nets .entry)) (now (delivered .exit))) ⌝ }
+    requires { ⌜ deliverReady s nets delivered out ⌝ }
+    ensures { λ r. ⌜ Turns (onDelivered nets delivered) s (Deliver i a x (now (out .entry))) r (now (out .exit)) ⌝ }
 {
     let phase = s.phase;
     let no = delivery::deliver_asks(phase, nets, delivered, i, a, x);
@@ -85,6 +85,7 @@ fn deliver(
         return Turn {
             refusal: no,
             count: 0,
+            cancelled: 0,
             state: s,
         };
     }
@@ -92,6 +93,7 @@ fn deliver(
     Turn {
         refusal: 0,
         count,
+        cancelled: 0,
         state: s,
     }
 }
@@ -109,8 +111,8 @@ fn cutoff<'a>(
     days: &mut [u16],
     out: &mut [u32],
 ) -> Turn
-    requires { ⌜ CellLengths (now nets) (now delivered) × LedgerLengths (now issues) (now froms) (now tos) (now lots) (now days) × SomeSound (butCharges s (now nets) (now delivered) (now issues) (now froms) (now tos) (now lots) (now days)) × (outputWords ≤ length (now out)) ⌝ }
-    ensures { λ r. ⌜ Turns (butCharges s (now (nets .entry)) (now (delivered .entry)) (now (issues .entry)) (now (froms .entry)) (now (tos .entry)) (now (lots .entry)) (now (days .entry))) (λ b. cutoffOf b (now (out .entry))) r (butCharges (r .state) (now (nets .entry)) (now (delivered .entry)) (now (issues .exit)) (now (froms .exit)) (now (tos .exit)) (now (lots .exit)) (now (days .exit))) ⌝ }
+    requires { ⌜ cutoffReady s nets delivered issues froms tos lots days out ⌝ }
+    ensures { λ r. ⌜ Turns (onFails nets delivered issues froms tos lots days) s (Cutoff (now (out .entry))) r (now (out .exit)) ⌝ }
 {
     let day = s.day;
     let phase = s.phase;
@@ -120,6 +122,7 @@ fn cutoff<'a>(
         return Turn {
             refusal: no,
             count: 0,
+            cancelled: 0,
             state: s,
         };
     }
@@ -135,14 +138,12 @@ fn cutoff<'a>(
         days,
         out,
     );
+    let next = book::with_entries(book::with_phase(s, Phase::Cut), k.entries);
     Turn {
         refusal: 0,
         count: k.records,
-        state: State {
-            day,
-            phase: Phase::Cut,
-            entries: k.entries,
-        },
+        cancelled: 0,
+        state: next,
     }
 }
 
@@ -159,28 +160,26 @@ fn resolve(
     x: u32,
     out: &mut [u32],
 ) -> Turn
-    requires { ⌜ LedgerLengths (now issues) (now froms) (now tos) (now lots) (now days) × SomeSound (withinLedger s (now issues) (now froms) (now tos) (now lots) (now days)) × (outputWords ≤ length (now out)) ⌝ }
-    ensures { λ r. ⌜ Turns (withinLedger s (now (issues .entry)) (now (froms .entry)) (now (tos .entry)) (now (lots .entry)) (now (days .entry))) (λ b. resolveOf b i a x (now (out .entry))) r (withinLedger (r .state) (now (issues .exit)) (now (froms .exit)) (now (tos .exit)) (now (lots .exit)) (now (days .exit))) ⌝ }
+    requires { ⌜ ledgerReady s issues froms tos lots days × (outputWords ≤ length (now out)) ⌝ }
+    ensures { λ r. ⌜ Turns (onLedger issues froms tos lots days) s (Resolve i a x (now (out .entry))) r (now (out .exit)) ⌝ }
 {
     let count = s.entries;
-    let phase = s.phase;
     let no = resolution::resolve_asks(count, issues, froms, lots, i, a, x);
     if no != 0 {
         return Turn {
             refusal: no,
             count: 0,
+            cancelled: 0,
             state: s,
         };
     }
     let k = resolution::resolve_in(count, issues, froms, tos, lots, days, i, a, x, out);
+    let next = book::with_entries(s, k.entries);
     Turn {
         refusal: 0,
         count: k.records,
-        state: State {
-            day: s.day,
-            phase,
-            entries: k.entries,
-        },
+        cancelled: 0,
+        state: next,
     }
 }
 
@@ -195,29 +194,27 @@ fn pair_off(
     i: u32,
     a: u32,
 ) -> Turn
-    requires { ⌜ LedgerLengths (now issues) (now froms) (now tos) (now lots) (now days) × SomeSound (withinLedger s (now issues) (now froms) (now tos) (now lots) (now days)) ⌝ }
-    ensures { λ r. ⌜ Turns (withinLedger s (now (issues .entry)) (now (froms .entry)) (now (tos .entry)) (now (lots .entry)) (now (days .entry))) (λ b. ofPair (pairOffOf b i a)) r (withinLedger (r .state) (now (issues .exit)) (now (froms .exit)) (now (tos .exit)) (now (lots .exit)) (now (days .exit))) ⌝ }
+    requires { ⌜ ledgerReady s issues froms tos lots days ⌝ }
+    ensures { λ r. ⌜ Turns (onLedger issues froms tos lots days) s (PairOff i a) r [] ⌝ }
 {
     let no = resolution::pair_off_asks(i, a);
     if no != 0 {
         return Turn {
             refusal: no,
             count: 0,
+            cancelled: 0,
             state: s,
         };
     }
     let count = s.entries;
     let day = s.day;
-    let phase = s.phase;
     let k = resolution::pair_off_in(count, issues, froms, tos, lots, days, day, i, a);
+    let next = book::with_entries(s, k.count);
     Turn {
         refusal: 0,
         count: k.steps,
-        state: State {
-            day,
-            phase,
-            entries: k.count,
-        },
+        cancelled: k.cancelled,
+        state: next,
     }
 }
 
@@ -235,8 +232,8 @@ fn roll<'a>(
     rate: u32,
     prices: &[u32],
 ) -> Turn
-    requires { ⌜ RollLengths (now nets) (now delivered) (now charges) (now issues) (now froms) (now tos) (now lots) × SomeSound (butDays s (now nets) (now delivered) (now charges) (now issues) (now froms) (now tos) (now lots)) ⌝ }
-    ensures { λ r. ⌜ Turns (butDays s (now (nets .entry)) (now (delivered .entry)) (now (charges .entry)) (now (issues .entry)) (now (froms .entry)) (now (tos .entry)) (now (lots .entry))) (λ b. rollOf b days rate (now (prices .entry))) r (butDays (r .state) (now (nets .exit)) (now (delivered .exit)) (now (charges .exit)) (now (issues .entry)) (now (froms .entry)) (now (tos .entry)) (now (lots .entry))) ⌝ }
+    requires { ⌜ rollReady s nets delivered charges issues froms tos lots ⌝ }
+    ensures { λ r. ⌜ Turns (onCharges nets delivered charges issues froms tos lots) s (Roll days rate (now (prices .entry))) r [] ⌝ }
 {
     let today = s.day;
     let phase = s.phase;
@@ -245,6 +242,7 @@ fn roll<'a>(
         return Turn {
             refusal: no,
             count: 0,
+            cancelled: 0,
             state: s,
         };
     }
@@ -262,19 +260,17 @@ fn roll<'a>(
         nets,
         delivered,
     );
+    let next = book::next_day(s);
     Turn {
         refusal: 0,
         count: 0,
-        state: State {
-            day: today + 1,
-            phase: Phase::Taking,
-            entries: n,
-        },
+        cancelled: 0,
+        state: next,
     }
 }
 
-// The answer to an instruction of a sound book in its columns: number, count and book are those of the
-// call. Roll's prices stand beside it.
+// The answer to an instruction of a sound book in its columns: number, count, lots cancelled, book and
+// output are those of the call. Roll's prices stand beside it.
 pub fn answer(
     x: Instruction,
     prices: &[u32],

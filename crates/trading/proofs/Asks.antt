@@ -16,7 +16,7 @@ use Rattle.rules.specs.Questions.{Question, firstNo, askIssue, askAccounts, ask
 use Rattle.rules.specs.Calls.{tradeAsks}
 use Rattle.laws.proofs.Basics.{and-left, and-right, and-both}
 use Rattle.laws.proofs.Sound.{sound-parts, net-bounded}
-use Rattle.book.proofs.Answers.{yes, said-yes, said-no}
+use Rattle.laws.proofs.Answers.{yes, said-yes, said-no}
 use Rattle.trading.specs.Trading.{SmallNets, Tradable}
 
 and-no : (a b : Bool) → b ≡ false → a && b ≡ false

@@ -6,7 +6,7 @@ use Rattle.rules.specs.declared.Book.{Book}
 use Rattle.rules.specs.declared.Paired.{Paired}
 use Rattle.rules.specs.declared.Reply.{Reply}
 use Rattle.rules.specs.Calls.{Answer, AnswerIs, PairAnswer, PairAnswerIs}
-use Rattle.book.proofs.Answers.{reply}
+use Rattle.laws.proofs.Answers.{reply}
 use Rattle.trial.specs.Columns.{phaseOf, numberOf, Written}
 use Rattle.trial.specs.Answers.{Answered, Recorded, PairedOff}
 use Rattle.trial.proofs.Phases.{there}

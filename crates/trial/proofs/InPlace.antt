@@ -16,7 +16,7 @@ use Rattle.rules.specs.Ledger.{charged}
 use Rattle.rules.specs.Records.{Rec, words, over}
 use Rattle.rules.specs.Questions.{firstNo}
 use Rattle.rules.specs.Calls.{AnswerIs, trade, tradeAsks, tradedNets, close, closeAsks, deliver, deliverAsks, raisedDelivered, deliverRecords, cutoff, cutoffAsks, newEntries, cutoffRecords, roll, rollAsks, rolled}
-use Rattle.book.proofs.Answers.{reply, asked-no, asked-yes}
+use Rattle.laws.proofs.Answers.{reply, asked-no, asked-yes}
 use Rattle.book.proofs.Lent.{too-short, own-no, own-yes}
 use Rattle.cutoff.specs.declared.Counts.{Counts}
 use Rattle.cutoff.specs.Write.{Lent}

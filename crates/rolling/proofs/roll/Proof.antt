@@ -7,7 +7,7 @@ use borrow.Author.Tests.{not-true, not-false}
 use Rattle.rules.specs.Book.{sound}
 use Rattle.rules.specs.Questions.{firstNo}
 use Rattle.rules.specs.Calls.{rollAsks, rolled, roll}
-use Rattle.book.proofs.Answers.{unsound, asked-no, asked-yes}
+use Rattle.laws.proofs.Answers.{unsound, asked-no, asked-yes}
 use borrow.Author.Needs.{needs}
 use Rattle.rolling.proofs.roll.Statement.{statement}
 use Rattle.rolling.proofs.roll.Tie as tie

@@ -6,7 +6,7 @@ use borrow.Author.Tests.{not-true, not-false}
 use Rattle.rules.specs.declared.Phase.the-variants.{Settling}
 use Rattle.rules.specs.Book.{sound, withPhase}
 use Rattle.rules.specs.Calls.{closeAsks, close}
-use Rattle.book.proofs.Answers.{unsound, asked-no, asked-yes}
+use Rattle.laws.proofs.Answers.{unsound, asked-no, asked-yes}
 use borrow.Author.Needs.{needs}
 use Rattle.trading.proofs.close.Statement.{statement}
 use Rattle.trading.proofs.close.Tie as tie

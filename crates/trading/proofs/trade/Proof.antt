@@ -6,7 +6,7 @@ use borrow.Author.Tests.{not-true, not-false}
 use Rattle.rules.specs.Book.{sound, withNets}
 use Rattle.rules.specs.Questions.{firstNo}
 use Rattle.rules.specs.Calls.{tradeAsks, tradedNets, trade}
-use Rattle.book.proofs.Answers.{unsound, asked-no, asked-yes}
+use Rattle.laws.proofs.Answers.{unsound, asked-no, asked-yes}
 use Rattle.trading.specs.Trading.{SmallNets}
 use Rattle.trading.proofs.Asks.{small-nets, tradable}
 use borrow.Author.Needs.{needs}
