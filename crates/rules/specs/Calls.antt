@@ -1,4 +1,5 @@
 -- The calls: of each its questions and its effect; then one answer for all of them.
+use mathlib.Core.Path.{_≡_}
 use mathlib.Core.Bool.{Bool, true, false}
 use mathlib.Core.List.{List, [], _∷_, _++_, map}
 use Prim.Native.Nat.{ℕ, zero, suc, _+_}
@@ -159,6 +160,10 @@ outputAsks (Cutoff out) = askOutput outputWords out ∷ []
 outputAsks (Resolve i a x out) = askOutput outputWords out ∷ []
 outputAsks (PairOff i a) = []
 outputAsks (Roll days rate prices) = []
+
+-- and is answered 'yes'
+abbrev pub HasRoom : Call → Type 0
+HasRoom c = firstNo (outputAsks c) ≡ 0
 
 -- the questions after soundness
 abbrev pub ownAsks : Book → Call → List Question
