@@ -2,19 +2,22 @@
 -- does where none is. Then what each call's effect on its columns is, as a book.
 use mathlib.Core.Path.{_≡_, refl, sym, ap, _∙_}
 use mathlib.Core.Bool.{true}
-use mathlib.Core.List.{List, []}
-use Prim.Native.Nat.{ℕ, zero, suc, _+_}
+use mathlib.Core.List.{List, [], _∷_}
+use Prim.Native.Nat.{ℕ, zero, suc, _+_, _≤_}
 use native.Mathlib.Omega.{arith}
+use lib.Dec.{leb}
 use lib.ListN.{length, replicate}
+use borrow.Author.Tests.{le-leb}
 use lib.IntN.{ℤ, pos}
 use Rattle.rules.specs.declared.Book.{Book}
 use Rattle.rules.specs.declared.Phase.the-variants.{Settling, Cut}
+use Rattle.rules.specs.Measures.{outputWords}
 use Rattle.rules.specs.Ledger.{isFrom, meet, pairing, charged}
 use Rattle.rules.specs.Book.{entries, ledgerOf, sound, withLedger}
 use Rattle.rules.specs.Records.{words, over}
-use Rattle.rules.specs.Questions.{firstNo}
+use Rattle.rules.specs.Questions.{firstNo, askOutput}
 use Rattle.rules.specs.Calls.{Call, Trade, Close, Deliver, Cutoff, Resolve, PairOff, Roll, Effect, lentTo, HasRoom, asks, ownAsks, effect, called, tradedNets}
-use Rattle.laws.proofs.Answers.{own-first, refused-as, accepted-as}
+use Rattle.laws.proofs.Answers.{said-yes, own-first, refused-as, accepted-as}
 use Rattle.laws.proofs.Ledger.{FullColumns}
 use Rattle.ledger.specs.Columns.{Columns, Whole}
 use Rattle.book.specs.declared.State.{State}
@@ -29,10 +32,14 @@ use Rattle.resolution.specs.declared.Steps.{Steps}
 use Rattle.resolution.specs.Resolving.{Resolved}
 use Rattle.resolution.specs.Pairs.{WasPaired}
 use Rattle.running.specs.declared.Turn.{Turn}
-use Rattle.running.specs.Turns.{TurnIs, inState, withinNets, withinCells, withinLedger, butCharges, butDays}
+use Rattle.running.specs.Turns.{TurnIs, Gives, outAfter, inState, withinNets, withinCells, withinLedger, butCharges, butDays}
 
 abbrev pub turnOf : ℕ → ℕ → ℕ → State → Turn
 turnOf n k x s = record { refusal = n; count = k; cancelled = x; state = s }
+
+-- an output that is long enough has room
+pub room-out : (out : List ℕ) → outputWords ≤ length out → firstNo (askOutput outputWords out ∷ []) ≡ 0
+room-out out h = said-yes 1 (leb outputWords (length out)) [] (le-leb outputWords (length out) h)
 
 -- what a call that is not refused has to leave
 pub record Does (e : Effect) (lent : List ℕ) (k x : ℕ) (b : Book) (words′ : List ℕ) : Type 0 where
@@ -54,6 +61,11 @@ module _ (b : Book) (c : Call) (room : HasRoom c) (q : sound b ≡ true) (s : St
   turn-yes n k x b′ out e z d =
       rw (accepted-as b c (own-first b c room q ∙ sym e ∙ z))
       (record { refusal = refl; count = d .count; cancelled = d .cancelled; book = d .book; out = d .out })
+
+-- a call's turn, and what the output holds after it
+pub gives : {b : Book} {c : Call} {r : Turn} {b′ : Book} {words′ out out′ : List ℕ} → out′ ≡ outAfter c out (called b c) →
+    TurnIs (called b c) r b′ words′ → Gives b c r b′ out out′
+gives e t = record { refusal = t .refusal; count = t .count; cancelled = t .cancelled; book = t .book; words = e }
 
 -- What each call does to the columns
 
