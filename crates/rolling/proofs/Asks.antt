@@ -10,7 +10,7 @@ use borrow.Author.Tests.{ltb-true, lt-ltb, le-ltb, eqb-true, eq-eqb, ne-eqb}
 use Rattle.rules.specs.declared.Book.{Book}
 use Rattle.rules.specs.declared.Phase.{Phase}
 use Rattle.rules.specs.Measures.{mostPrice, lastDay, issueCount}
-use Rattle.rules.specs.Book.{isCut, all}
+use Rattle.rules.specs.Book.{isCut, all, sound}
 use Rattle.rules.specs.Questions.{Question, firstNo, termRight, priceRight}
 use Rattle.rules.specs.Calls.{rollAsks}
 use Rattle.laws.proofs.Basics.{and-left, and-right, and-both, each-map}
@@ -18,7 +18,7 @@ use Rattle.laws.proofs.Sound.{sound-parts, charge-bounded, all-each, each-getD}
 use Rattle.laws.proofs.Ledger.{sound-at}
 use Rattle.measures.proofs.Limits.{between-most, termed}
 use Rattle.laws.proofs.Answers.{AllYes, stops, no-no, all-yes}
-use Rattle.rolling.specs.Rolling.{Chargeable, Ready}
+use Rattle.rolling.specs.Rolling.{Chargeable}
 
 and-no : (a b : Bool) → b ≡ false → a && b ≡ false
 and-no true b e = e
@@ -88,13 +88,13 @@ module _ (p : Phase) (today days rate : ℕ) (prices : List ℕ) where
   not-last h = ltb-true today lastDay (answered h .1 .1 .0)
 
 -- the columns of a sound book
-pub chargeable : (b : Book) (days rate : ℕ) (prices : List ℕ) → Ready b days rate prices → length (b .issues) ≡ 2048 →
+pub chargeable : (b : Book) (days rate : ℕ) (prices : List ℕ) → sound b ≡ true → firstNo (rollAsks (b .phase) (b .day) days rate prices) ≡ 0 → length (b .issues) ≡ 2048 →
     length (b .froms) ≡ 2048 → length (b .tos) ≡ 2048 → length (b .lots) ≡ 2048 → length (b .charges) ≡ 64 →
     Chargeable days rate prices (b .count) (b .issues) (b .froms) (b .tos) (b .lots) (b .charges)
-chargeable b days rate prices r li lf lt lx lc =
-    let s = sound-parts b (r .sound) in
-    let t = terms (b .phase) (b .day) days rate prices (r .asks) in
-    let d = not-last (b .phase) (b .day) days rate prices (r .asks) in
+chargeable b days rate prices h q li lf lt lx lc =
+    let s = sound-parts b h in
+    let t = terms (b .phase) (b .day) days rate prices q in
+    let d = not-last (b .phase) (b .day) days rate prices q in
     let e = sound-at (b .day) (b .count) (b .issues) (b .froms) (b .tos) (b .lots) (b .days) (s .ledger) in
     record {
       term = termed days rate (t .term);

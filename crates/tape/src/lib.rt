@@ -35,13 +35,32 @@ fn word_as(w: u32, lots: u32) -> Word
     let from = words::from_of(w);
     match kind {
         0 => Word::Wrong,
-        1 => clear(w % 4096, Word::Head(Instruction::Trade(issue, from, words::to_of(w), lots), 8, 2)),
-        2 => clear(w % 262144, Word::Head(Instruction::Deliver(issue, from, lots), 8, 2)),
-        3 => clear(w % 262144, Word::Head(Instruction::Resolve(issue, from, lots), 8, 2)),
-        4 => clear(w % 262144, Word::Head(Instruction::PairOff(issue, from), 0, 1)),
+        1 => clear(
+            w % 4096,
+            Word::Head(Instruction::Trade(issue, from, words::to_of(w), lots), 8, 2),
+        ),
+        2 => clear(
+            w % 262144,
+            Word::Head(Instruction::Deliver(issue, from, lots), 8, 2),
+        ),
+        3 => clear(
+            w % 262144,
+            Word::Head(Instruction::Resolve(issue, from, lots), 8, 2),
+        ),
+        4 => clear(
+            w % 262144,
+            Word::Head(Instruction::PairOff(issue, from), 0, 1),
+        ),
         5 => clear(w % 268435456, Word::Head(Instruction::Close, 0, 1)),
         6 => clear(w % 268435456, Word::Head(Instruction::Cutoff, 0, 1)),
-        7 => clear(w % 1024, Word::Head(Instruction::Roll(words::days_of(w), words::rate_of(w)), 9, 17)),
+        7 => clear(
+            w % 1024,
+            Word::Head(
+                Instruction::Roll(words::days_of(w), words::rate_of(w)),
+                9,
+                17,
+            ),
+        ),
         8 => Word::After(8),
         9 => clear(w / 262144 % 1024, Word::After(9)),
         10..=15 => Word::Wrong,

@@ -79,9 +79,19 @@ module _ (p : Phase) (nets : List ℤ) (i f t x : ℕ) where
     rises = withinSize mostLots (netAt nets i t +ℤ pos x)
 
     yes7 : AllYes (take 5 (tradeAsks p nets i f t x))
-    yes7 =
-        (n .taking, (le-leb i 15 (n .issue), (yes5 (n .taking) (n .issue) (n .from) (n .to), (ap not (ne-eqb f t (n .differ)),
-        (and-both (leb 1 x) (leb x mostLots) (le-leb 1 x (n .some)) (le-leb x mostLots (n .most)), tt)))))
+    yes7 = (
+      n .taking,
+      (
+        le-leb i 15 (n .issue),
+        (
+          yes5 (n .taking) (n .issue) (n .from) (n .to),
+          (
+            ap not (ne-eqb f t (n .differ)),
+            (and-both (leb 1 x) (leb x mostLots) (le-leb 1 x (n .some)) (le-leb x mostLots (n .most)), tt),
+          ),
+        ),
+      ),
+    )
 
     pub no8 : withinSize mostLots (netAt nets i f -ℤ pos x) ≡ false → 8 ≡ firstNo (tradeAsks p nets i f t x)
     no8 h = stops 5 qs yes7 (ap (λ b. b && rises) h)
