@@ -1,4 +1,4 @@
--- Document 01 as definitions, in its order.
+-- Document 01 as definitions: each file cites only those before it.
 pub mod Measures
 pub mod Units
 pub mod Handover
