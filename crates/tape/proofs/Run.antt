@@ -22,7 +22,7 @@ use Rattle.rules.specs.Ledger.{isFrom, meet}
 use Rattle.rules.specs.declared.Phase.the-variants.{Cut}
 use Rattle.rules.specs.Tally.{called}
 use Rattle.rules.specs.Tape.{readOf, pricesOf}
-use Rattle.rules.specs.Run.{Ran, callOf, nameOf, line, anyOutput, answerOf, ended, stopped, afterLine, afterRead, runFrom, runOf}
+use Rattle.rules.specs.Run.{Ran, callOf, nameOf, line, anyOutput, answerOf, ended, stopped, afterLine, afterRead, runFrom, runRest, runOf}
 use Rattle.tape.proofs.Sized.{read-sized}
 
 -- what an instruction at the front of some words does: its line, and the rest of the run
@@ -50,10 +50,6 @@ run-fuel (suc n) (suc m) at b ws stray h g =
     let d = length-drop k ws in
     ap (afterLine (line at (nameOf x) (answerOf b x ws .refusal) (answerOf b x ws .count)))
     (run-fuel n m (at + k) (answerOf b x ws .book) (drop k ws) stray (omega arith) (omega arith))))
-
--- the run from an index on, with fuel enough
-abbrev pub runRest : ℕ → Book → List ℕ → Bool → Ran
-runRest at b ws stray = runFrom (suc (length ws)) at b ws stray
 
 pub run-start : (ws : List ℕ) (stray : Bool) → runOf ws stray ≡ runRest 0 fresh ws stray
 unfolding runOf
