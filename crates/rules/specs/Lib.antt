@@ -9,6 +9,8 @@ pub mod Records
 pub mod Questions
 pub mod Calls
 pub mod Tape
+pub mod Bytes
 pub mod Run
+pub mod Text
 pub mod Tally
 pub mod Days

@@ -1,0 +1,2 @@
+-- Laws of a run part by part.
+pub mod Goings

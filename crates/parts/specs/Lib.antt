@@ -1,0 +1,3 @@
+-- What a run does and prints, part by part.
+pub mod Going
+pub mod Parting
