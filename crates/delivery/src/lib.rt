@@ -1,37 +1,40 @@
 // deliver: an account's delivered lots rise, and the next units are handed over whole, in order.
-use rules::Book;
-use rules::Found;
 use rules::Phase;
-use rules::Reply;
+use units::NextUnit;
 ghost use mathlib.Core.Path.{_≡_};
+ghost use lib.ListN.{drop};
 ghost use Rattle.rules.specs.Questions.{firstNo};
-ghost use Rattle.rules.specs.Calls.{AnswerIs, deliverAsks, deliver as deliverAnswer};
+ghost use Rattle.rules.specs.Book.{orderIn};
+ghost use Rattle.rules.specs.Calls.{deliverAsks};
 ghost use Rattle.rules.specs.Records.{words, over};
+ghost use Rattle.book.specs.Cells.{SoundCells};
 ghost use Rattle.units.specs.Runs.{unitsIn};
-ghost use Rattle.delivery.specs.Deliver.{CanHand, handRecords, CanServe, Served, CanAsk, CanDeliver, Delivered};
+ghost use Rattle.delivery.specs.Deliver.{CanHand, handRecords, CanServe, Served, CanDeliver, Delivered};
 
-// Hands over `count` units of n runs, from unit c on: one record each.
+// Hands over `count` units from unit c on: one record each.
 fn hand(runs: &[u32], n: usize, i: u32, c: u32, count: usize, out: &mut [u32])
     requires { ⌜ CanHand (now runs) n i c count (now out) ⌝ }
-    ensures { λ _. ⌜ now (out .exit) ≡ over (words (handRecords (unitsIn (now (runs .entry)) n) i c count)) (now (out .entry)) ⌝ }
+    ensures { λ _. ⌜ now (out .exit) ≡ over (words (handRecords i count (drop c (unitsIn (now (runs .entry)) n)))) (now (out .entry)) ⌝ }
 {
+    let mut seat = units::seek(c);
     let mut m: usize = 0;
     while m < count {
-        let Found::Unit(to, lots) = units::unit_at(runs, n, c + m as u32) else {
+        let NextUnit::Unit(to, lots, next) = units::next_unit(runs, n, seat) else {
             return;
         };
-        words::record_at(out, m, 10, i, 0, to, lots);
+        words::record(&mut out[2 * m..], 10, i, 0, to, lots);
+        seat = next;
         m += 1;
     }
 }
 
 // The units of an issue that x more lots hand over, where d were delivered before; answers their number.
-fn serve(nets: &[i32], d: u32, x: u32, i: u32, out: &mut [u32]) -> usize
-    requires { ⌜ CanServe (now nets) d x i (now out) ⌝ }
-    ensures { λ r. ⌜ Served (now (nets .entry)) d x i (now (out .entry)) (now (out .exit)) r ⌝ }
+fn serve(nets: &[i32], i: u32, d: u32, x: u32, out: &mut [u32]) -> usize
+    requires { ⌜ CanServe (now nets) i d x (now out) ⌝ }
+    ensures { λ r. ⌜ Served (orderIn (now (nets .entry)) i) i d x (now (out .entry)) (now (out .exit)) r ⌝ }
 {
     let mut runs = [0u32; 128];
-    let n = units::prepare(nets, &mut runs);
+    let n = units::prepare(nets, i as usize, &mut runs);
     let before = units::handover(&runs, n, d);
     let after = units::handover(&runs, n, d + x);
     let c = before.count;
@@ -57,7 +60,7 @@ pub fn deliver_in(
     let d = book::total(&delivered[s..e]);
     let at = s + a as usize;
     delivered[at] = delivered[at] + x;
-    serve(&nets[s..e], d, x, i, out)
+    serve(nets, i, d, x, out)
 }
 
 // Questions 3, 4, 5, 7 and 9 of a delivery: the number of the first 'no', 0 where there is none.
@@ -69,7 +72,7 @@ pub fn deliver_asks<'a>(
     a: u32,
     x: u32,
 ) -> u32
-    requires { ⌜ CanAsk (now nets) (now delivered) ⌝ }
+    requires { ⌜ SoundCells (now nets) (now delivered) ⌝ }
     ensures { λ r. ⌜ r ≡ firstNo (deliverAsks phase (now (nets .entry)) (now (delivered .entry)) i a x) ⌝ }
 {
     if !book::settling(phase) {
@@ -90,41 +93,4 @@ pub fn deliver_asks<'a>(
         return 9;
     }
     0
-}
-
-// deliver issue i, account a, x lots: the answer of the rules on any book and any output.
-pub fn deliver(b: Book, i: u32, a: u32, x: u32, out: &mut [u32]) -> Reply
-    ensures { λ r. ⌜ AnswerIs (deliverAnswer b i a x (now (out .entry))) r (now (out .exit)) ⌝ }
-{
-    if out.len() < 4096 {
-        return Reply {
-            refusal: 1,
-            count: 0,
-            book: b,
-        };
-    }
-    if !book::sound(b) {
-        return Reply {
-            refusal: 2,
-            count: 0,
-            book: b,
-        };
-    }
-    let phase = b.phase;
-    let no = deliver_asks(phase, &b.nets, &b.delivered, i, a, x);
-    if no != 0 {
-        return Reply {
-            refusal: no,
-            count: 0,
-            book: b,
-        };
-    }
-    let mut delivered = b.delivered;
-    let count = deliver_in(&b.nets, &mut delivered, i, a, x, out);
-    let next = book::with_delivered(b, delivered);
-    Reply {
-        refusal: 0,
-        count,
-        book: next,
-    }
 }

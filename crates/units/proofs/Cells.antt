@@ -15,7 +15,7 @@ use Rattle.laws.proofs.Signed.{size-of}
 use Rattle.laws.proofs.Fails.{each-of-map}
 use Rattle.laws.proofs.Cutoff.{SoundRow, delivered-due}
 use Rattle.laws.proofs.Cells.{length-row, within-row}
-use Rattle.laws.proofs.Sound.{SoundBook, sound-parts, all-each, each-all, parts-balanced}
+use Rattle.laws.proofs.Sound.{SoundBook, sound-parts, all-each, each-all, each-getD, within-at, parts-balanced}
 use Rattle.book.specs.Cells.{SoundCells}
 
 -- an issue's row, cut out of a column
@@ -41,14 +41,17 @@ sound-cells b s n d =
       owed = s .owed;
     }
 
+sized : (nets : List ℤ) → all (withinSize mostLots) nets ≡ true → Every (λ m. natAbs m ≤ mostLots) nets
+sized nets s =
+    each-map (λ m. withinSize mostLots m ≡ true) (λ m. natAbs m ≤ mostLots) (λ m h. leb-true _ _ h) nets
+    (all-each (withinSize mostLots) nets s)
+
 -- each net of an issue is in bounds, and so is what is due or owed
 module _ (nets : List ℤ) (i : ℕ) (s : all (withinSize mostLots) nets ≡ true) where
   pub row-sized : Every (λ m. natAbs m ≤ mostLots) (row i nets)
   row-sized =
       each-take (λ m. natAbs m ≤ mostLots) 64 (drop (i * 64) nets)
-      (each-drop (λ m. natAbs m ≤ mostLots) (i * 64) nets
-      (each-map (λ m. withinSize mostLots m ≡ true) (λ m. natAbs m ≤ mostLots) (λ m h. leb-true _ _ h) nets
-      (all-each (withinSize mostLots) nets s)))
+      (each-drop (λ m. natAbs m ≤ mostLots) (i * 64) nets (sized nets s))
 
   pub owed-sized : Every (λ x. x ≤ mostLots) (owedsOf nets i)
   owed-sized =
@@ -61,6 +64,16 @@ module _ (nets : List ℤ) (i : ℕ) (s : all (withinSize mostLots) nets ≡ tru
       bound : (ns : List ℤ) → Every (λ m. natAbs m ≤ mostLots) ns → sum (map dueOf ns) ≤ mostLots * length ns
       bound [] ps = omega arith
       bound (m ∷ ms) ps = omega (arith, size-of m, ps .0, bound ms (ps .1))
+
+-- what is delivered of a cell is within 20,000,000
+pub cell-owed : (nets : List ℤ) (delivered : List ℕ) → SoundCells nets delivered → (k : ℕ) → getD delivered k 0 ≤ mostLots
+cell-owed nets delivered s k =
+    omega (
+      arith,
+      within-at nets delivered k (s .cells ∙ sym (s .both)) (s .owed),
+      size-of (getD nets k (pos 0)),
+      each-getD (λ m. natAbs m ≤ mostLots) nets k (pos 0) (sized nets (s .size)) (omega arith),
+    )
 
 -- an issue of a sound book
 module _ (nets : List ℤ) (delivered : List ℕ) (s : SoundCells nets delivered) (i : ℕ) (h : i < 16) where

@@ -1,5 +1,5 @@
 -- The unit question's answers: each refusal, and the unit that is found.
-use mathlib.Core.Path.{_≡_, refl, sym, _∙_}
+use mathlib.Core.Path.{_≡_, refl, sym, ap, _∙_}
 use mathlib.Core.Bool.{true, false}
 use mathlib.Core.List.{List, [], _∷_}
 use Prim.Native.Nat.{ℕ, _≤_, _<_}
@@ -9,25 +9,30 @@ use borrow.Author.Tests.{le-leb, lt-leb}
 use Rattle.rules.specs.declared.Book.{Book}
 use Rattle.rules.specs.declared.Found.{Found}
 use Rattle.rules.specs.declared.Found.the-variants as found
-use Rattle.rules.specs.Units.{Part}
+use Rattle.rules.specs.Measures.{unitLots}
+use Rattle.rules.specs.Units.{Part, part}
 use Rattle.rules.specs.Book.{orderIn, sound}
 use Rattle.rules.specs.Calls.{foundAnswer, firstAnswer, unit}
 use Rattle.units.specs.declared.Seat.{Seat}
 use Rattle.units.specs.declared.NextUnit.{NextUnit}
 use Rattle.units.specs.declared.NextUnit.the-variants as next
-use Rattle.units.specs.Runs.{foundOf, unitsOf, Prepared, SeatIs, NextIs}
+use Rattle.units.specs.Runs.{foundOf, unitsFrom, unitsOf, Prepared, SeatIs, NextIs}
 
--- the unit behind the place in front of unit k is the k-th
-module _ (nets : List ℤ) (i k : ℕ) (runs : List ℕ) (n : ℕ) (s : Seat) (r : NextUnit) (p : Prepared nets i runs n) (q : SeatIs k s)
-    (l : NextIs runs n s r) where
-  list : drop k (orderIn nets i) ≡ unitsOf runs n r
-  list = rw (← p .units) (sym (q runs n) ∙ l .list)
+-- what a step along the units says
+module _ (runs : List ℕ) (n : ℕ) (s : Seat) (r : NextUnit) (l : NextIs runs n s r) where
+  pub unit-list : (a x : ℕ) (s′ : Seat) → r ≡ next.Unit a x s′ → unitsFrom runs n s ≡ part a x ∷ unitsFrom runs n s′
+  unit-list a x s′ e = l .list ∙ ap (unitsOf runs n) e
 
-  pub found-one : (a x : ℕ) (s′ : Seat) → r ≡ next.Unit a x s′ → found.Unit a x ≡ foundOf (drop k (orderIn nets i))
-  found-one a x s′ e = rw (list, e)
+  pub unit-range : (a x : ℕ) (s′ : Seat) → r ≡ next.Unit a x s′ → (a < 64) × (x ≤ unitLots)
+  unit-range a x s′ e = rw e at (l .range)
 
-  pub found-none : r ≡ next.Nothing → found.Nothing ≡ foundOf (drop k (orderIn nets i))
-  found-none e = rw (list, e)
+  pub unit-end : r ≡ next.Nothing → unitsFrom runs n s ≡ []
+  unit-end e = l .list ∙ ap (unitsOf runs n) e
+
+-- behind the place in front of unit k is the k-th
+module _ (nets : List ℤ) (i k : ℕ) (runs : List ℕ) (n : ℕ) (s : Seat) (p : Prepared nets i runs n) (q : SeatIs k s) where
+  pub found-is : (us : List Part) → unitsFrom runs n s ≡ us → foundOf us ≡ foundOf (drop k (orderIn nets i))
+  found-is us e = ap foundOf (sym e ∙ q runs n ∙ ap (drop k) (p .units))
 
 found-first : (us : List Part) → foundAnswer (foundOf us) ≡ firstAnswer us
 found-first [] = refl
