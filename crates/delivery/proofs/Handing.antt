@@ -12,7 +12,7 @@ use Rattle.rules.specs.Records.{handover, words, over}
 use Rattle.laws.proofs.Handover.{covered-grows, covered-le, handovers-length}
 use Rattle.laws.proofs.Records.{length-words}
 use Rattle.words.proofs.Stores.{sets-front}
-use Rattle.delivery.specs.Deliver.{handRecords}
+use Rattle.delivery.specs.Deliver.{handRecords, Served}
 
 -- with `us` to come, `left` of them are still to be handed over, behind m records
 pub record Handing (i m left : ℕ) (us : List Part) (all o out : List ℕ) : Type 0 where
@@ -32,24 +32,43 @@ module _ (i m left : ℕ) (us : List Part) (all o out : List ℕ) (h : Handing i
   pub handing-more : (a x : ℕ) (vs : List Part) (new : List ℕ) → 0 < left → us ≡ part a x ∷ vs →
       new ≡ sets out (2 * m) (words (handover i (part a x) ∷ [])) → Handing i (m + 1) (left - 1) vs all o new
   handing-more a x vs new some e n =
+      let rest = words (handRecords i (left - 1) vs) in
       let f : left ≡ suc (left - 1) = omega arith in
       let g : 2 * (m + 1) ≡ suc (suc (2 * m)) = omega arith in
       record {
         there = omega (arith, h .there, ap length e);
         same = ap length n ∙ length-sets out (2 * m) (words (handover i (part a x) ∷ [])) ∙ h .same;
-        output = h .output ∙ rw (e, f, n, g);
+        output = h .output ∙ ap (λ k. sets out (2 * m) (words (handRecords i k us))) f
+            ∙ ap (λ l. sets out (2 * m) (words (handRecords i (suc (left - 1)) l))) e
+            ∙ sym (ap (λ k. sets new k rest) g ∙ ap (λ l. sets l (suc (suc (2 * m))) rest) n);
       }
 
   pub handing-ends : left ≡ 0 → out ≡ over all o
   handing-ends e = sym (rw e at (h .output))
 
 -- the units between two counts are those that the lots between two totals hand over
-module _ (us : List Part) (d x : ℕ) where
-  abbrev new : ℕ
-  new = covered us (d + x) - covered us d
+pub record Counted (us vs : List Part) (d x before after : ℕ) : Type 0 where
+  pub up : before ≤ after
+  pub there : after - before ≤ length (drop before us)
+  pub number : after - before ≡ length (handovers vs d x)
+  pub same : take (after - before) (drop before us) ≡ handovers vs d x
 
-  pub counted-there : new ≤ length (drop (covered us d) us)
-  counted-there = omega (arith, length-drop (covered us d) us, covered-le us (d + x), covered-grows us d x)
+pub counted : (us vs : List Part) (d x before after : ℕ) → us ≡ vs → before ≡ covered us d → after ≡ covered us (d + x) →
+    Counted us vs d x before after
+unfolding handovers
+counted us vs d x before after e p q =
+    let grows = covered-grows us d x in
+    record {
+      up = omega arith;
+      there = omega (arith, length-drop before us, covered-le us (d + x));
+      number = omega (arith, handovers-length us d x, ap (λ l. length (handovers l d x)) e);
+      same = rw (p, q) (ap (λ l. handovers l d x) e);
+    }
 
-  pub counted-number : (i : ℕ) → new ≡ length (map (handover i) (handovers us d x))
-  counted-number i = omega (arith, length-map (handovers us d x) (handover i), handovers-length us d x)
+pub served : (us vs : List Part) (i d x before after : ℕ) (o new : List ℕ) → Counted us vs d x before after →
+    new ≡ over (words (handRecords i (after - before) (drop before us))) o → Served vs i d x o new (after - before)
+served us vs i d x before after o new k e =
+    record {
+      count = k .number ∙ sym (length-map (handovers vs d x) (handover i));
+      output = e ∙ ap (λ l. over (words (map (handover i) l)) o) (k .same);
+    }

@@ -4,7 +4,7 @@ use mathlib.Core.List.{List, [], _∷_, _++_, append-assoc, append-nil}
 use Prim.Native.Nat.{ℕ, _+_, _-_, _≤_}
 use native.Mathlib.Numerals.{add-one}
 use native.Mathlib.Omega.{arith}
-use lib.ListN.{length, take, drop, set, length-drop, drop-of-length-le}
+use lib.ListN.{length, take, drop, set, length-take, length-drop, drop-of-length-le}
 use lib.Seq.{sets, take-all, drop-drop, sets-eq}
 use Rattle.rules.specs.Records.{over}
 
@@ -13,7 +13,11 @@ set-two [] a b h = absurd (omega arith)
 set-two (x ∷ []) a b h = absurd (omega arith)
 set-two (x ∷ y ∷ t) a b h = refl
 
--- the part from place a on comes back with words at its front
+-- the part from place a on is as long as what stands there
+pub part-length : (out : List ℕ) (a : ℕ) → length (take (length out - a) (drop a out)) ≡ length out - a
+part-length out a = simp (length-take, length-drop) (omega arith)
+
+-- it comes back with words at its front
 pub part-over : (out ys ws : List ℕ) (a : ℕ) → a + length ws ≤ length out →
     ys ≡ over ws (take (length out - a) (drop a out)) →
     take a out ++ (ys ++ drop (length out - a) (drop a out)) ≡ sets out a ws
