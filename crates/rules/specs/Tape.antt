@@ -45,6 +45,9 @@ kinds =
     ∷ after (bits 18 10)
     ∷ []
 
+abbrev pub kindAt : ℕ → Kind
+kindAt k = getD kinds k none
+
 -- unused bits are 0
 abbrev pub clear : Field → ℕ → Bool
 clear unused w = eqb (ofField unused w) 0
@@ -56,7 +59,7 @@ asKind none w x = Wrong
 
 -- what a word is taken as, with the lots of the word after it
 abbrev pub wordAs : ℕ → ℕ → Word
-wordAs w x = asKind (getD kinds (kindOf w) none) w x
+wordAs w x = asKind (kindAt (kindOf w)) w x
 
 abbrev pub isAfter : ℕ → Word → Bool
 isAfter k (Head x j n) = false
@@ -118,11 +121,15 @@ wordsOf (Roll days rate) prices = rollWord days rate ∷ map priceWord prices
 abbrev pub fits : Field → ℕ → Bool
 fits f x = ltb x (2 ^ f .width)
 
+-- the fields of a head and of the lots after it, 0 where a head has none
+abbrev pub headFits : ℕ → ℕ → ℕ → ℕ → Bool
+headFits i f t x = fits issueBits i && fits fromBits f && fits toBits t && fits lotsBits x
+
 abbrev pub fieldsFit : Instruction → List ℕ → Bool
-fieldsFit (Trade i f t x) prices = fits issueBits i && fits fromBits f && fits toBits t && fits lotsBits x
-fieldsFit (Deliver i a x) prices = fits issueBits i && fits fromBits a && fits lotsBits x
-fieldsFit (Resolve i a x) prices = fits issueBits i && fits fromBits a && fits lotsBits x
-fieldsFit (PairOff i a) prices = fits issueBits i && fits fromBits a
+fieldsFit (Trade i f t x) prices = headFits i f t x
+fieldsFit (Deliver i a x) prices = headFits i a 0 x
+fieldsFit (Resolve i a x) prices = headFits i a 0 x
+fieldsFit (PairOff i a) prices = headFits i a 0 0
 fieldsFit Close prices = true
 fieldsFit Cutoff prices = true
 fieldsFit (Roll days rate) prices =

@@ -10,17 +10,23 @@ use lib.ListN.{getD}
 use Rattle.rules.specs.declared.Instruction.{Instruction}
 use Rattle.rules.specs.declared.Word.the-variants.{Head}
 use Rattle.rules.specs.Records.{Field, ofField}
-use Rattle.rules.specs.Tape.{kindOf, Kind, head, after, none, clear, asKind, isAfter}
+use Rattle.rules.specs.Tape.{kindOf, Kind, head, after, none, kinds, kindAt, clear, asKind, isAfter}
 use Rattle.laws.proofs.Basics.{byTest}
 
-abbrev pub Each : (ℕ → Kind → Type 0) → List Kind → Type 0
+abbrev Each : (ℕ → Kind → Type 0) → List Kind → Type 0
 Each P [] = Unit {0}
 Each P (K ∷ Ks) = P 0 K × Each (λ k. P (suc k)) Ks
 
-pub each : (P : ℕ → Kind → Type 0) (Ks : List Kind) → Each P Ks → ((k : ℕ) → P k none) → (k : ℕ) → P k (getD Ks k none)
+each : (P : ℕ → Kind → Type 0) (Ks : List Kind) → Each P Ks → ((k : ℕ) → P k none) → (k : ℕ) → P k (getD Ks k none)
 each P [] h d k = d k
 each P (K ∷ Ks) h d zero = h .0
 each P (K ∷ Ks) h d (suc k) = each (λ j. P (suc j)) Ks (h .1) (λ j. d (suc j)) k
+
+pub by-kind : (P : ℕ → Kind → Type 0) → ((k : ℕ) → P k none) → ((k : ℕ) (u : Field) → P k (after u)) →
+    P 1 (kindAt 1) → P 2 (kindAt 2) → P 3 (kindAt 3) → P 4 (kindAt 4) → P 5 (kindAt 5) → P 6 (kindAt 6) → P 7 (kindAt 7) →
+    (k : ℕ) → P k (kindAt k)
+by-kind P n f h1 h2 h3 h4 h5 h6 h7 k =
+    each P kinds (n 0, (h1, (h2, (h3, (h4, (h5, (h6, (h7, (f 8 _, (f 9 _, tt)))))))))) n k
 
 -- the line of a word that is taken as a head
 pub record HeadIs (K : Kind) (w x : ℕ) (y : Instruction) (k n : ℕ) : Type 0 where
