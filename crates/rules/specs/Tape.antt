@@ -13,7 +13,7 @@ use Rattle.rules.specs.declared.Word.the-variants.{Head, After, Wrong}
 use Rattle.rules.specs.Measures.{issueCount, tapeWords}
 use Rattle.rules.specs.Book.{all}
 use Rattle.rules.specs.Records.{Field, bits, kindBits, issueBits, fromBits, toBits, lotsBits, daysBits, rateBits, priceBits, inField, ofField, headWord, lotsWord, over}
-use Rattle.rules.specs.Questions.{Question, ask, firstNo, askOutput}
+use Rattle.rules.specs.Questions.{ask, firstNo, askOutput}
 
 abbrev pub kindOf : ℕ → ℕ
 kindOf w = ofField kindBits w

@@ -21,7 +21,7 @@ pub mod-one : (w : ℕ) → w / 1 % 1 ≡ 0
 mod-one w = omega arith
 
 -- k is none of the numbers below n
-abbrev NoneBelow : ℕ → ℕ → Type 0
+abbrev pub NoneBelow : ℕ → ℕ → Type 0
 NoneBelow k zero = Unit {0}
 NoneBelow k (suc n) = NoneBelow k n × (k ≡ n → ⊥)
 

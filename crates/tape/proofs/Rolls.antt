@@ -32,6 +32,6 @@ roll-whole (w ∷ rest) days rate n e =
     omega (arith, s w _ days rate (sym (f .is)), f .count, read-sized (w ∷ rest) (Roll days rate) n e .1)
 
 -- its prices fill sixteen lent numbers
-pub roll-prices : (ws lent : List ℕ) (days rate n : ℕ) → readOf ws ≡ Instr (Roll days rate) n → length lent ≡ 16 →
+pub roll-prices : (ws lent : List ℕ) (days rate n : ℕ) → readOf ws ≡ Instr (Roll days rate) n → length lent ≡ issueCount →
     sets lent 0 (pricesOf ws) ≡ pricesOf ws
 roll-prices ws lent days rate n e h = prices-filled ws lent (roll-whole ws days rate n e) h

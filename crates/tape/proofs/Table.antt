@@ -1,6 +1,6 @@
 -- The table of kinds: what holds of each of its lines holds of every kind; and what a word taken as a head, or as a word
 -- after one, says of its line.
-use mathlib.Core.Path.{_≡_, refl, ap}
+use mathlib.Core.Path.{_≡_}
 use mathlib.Core.Bool.{true, false≢true}
 use mathlib.Core.List.{List, [], _∷_}
 use Prim.Native.Nat.{ℕ, zero, suc, _+_}

@@ -4,10 +4,9 @@ use mathlib.Core.Bool.{cond}
 use mathlib.Core.List.{List, [], _∷_, _++_, map}
 use Prim.Native.Nat.{ℕ, zero, suc, _+_, _-_, _≤_}
 use native.Mathlib.Omega.{arith}
-use lib.ListN.{length, getD, take, drop}
+use lib.ListN.{length, take}
 use lib.Seq.{getD-take, take-take, take-append-le}
 use Rattle.rules.specs.declared.Word.{Word}
-use Rattle.rules.specs.declared.Word.the-variants.{Head, After, Wrong}
 use Rattle.rules.specs.Measures.{issueCount, tapeWords}
 use Rattle.rules.specs.Records.{priceBits, ofField}
 use Rattle.rules.specs.Tape.{kindOf, Kind, head, after, none, kindAt, clear, asKind, wordAs, isAfter, wordsWrong, readAs, readFrom, readOf, pricesOf}

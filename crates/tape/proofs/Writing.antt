@@ -1,5 +1,5 @@
 -- Words stored from the front of an output stand over it; and what the writer answers where the fields fit or do not.
-use mathlib.Core.Path.{_≡_, refl, ap, sym, subst, _∙_}
+use mathlib.Core.Path.{_≡_, refl, ap, sym, _∙_}
 use mathlib.Core.Bool.{Bool, true, false}
 use mathlib.Core.List.{List, _++_, map}
 use Prim.Native.Nat.{ℕ, suc, _+_, _≤_, _<_}
@@ -13,7 +13,7 @@ use Rattle.rules.specs.declared.Written.{Written}
 use Rattle.rules.specs.declared.Instruction.{Instruction}
 use Rattle.rules.specs.Measures.{tapeWords}
 use Rattle.rules.specs.Records.{over}
-use Rattle.rules.specs.Tape.{priceWord, fieldsFit, wordsOf, WriteAnswer, writeOf}
+use Rattle.rules.specs.Tape.{priceWord, fieldsFit, wordsOf, writeOf}
 use Rattle.tape.specs.Answers.{WriteAnswerIs, fitted}
 
 pub sets-over : (ws out : List ℕ) → length ws ≤ length out → sets out 0 ws ≡ over ws out

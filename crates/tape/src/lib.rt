@@ -13,7 +13,7 @@ ghost use Rattle.rules.specs.declared.Instruction.the-variants.{Roll};
 ghost use Rattle.rules.specs.Measures.{tapeWords};
 ghost use Rattle.rules.specs.Book.{all};
 ghost use Rattle.rules.specs.Records.{lotsBits, priceBits, ofField};
-ghost use Rattle.rules.specs.declared.Word.the-variants.{Wrong};
+ghost use Rattle.rules.specs.declared.Word.the-variants.{Head, Wrong};
 ghost use Rattle.rules.specs.Tape.{wordAs, isAfter, wordsWrong, readOf, readAnswer, pricesOf, rollWord, priceWord, fits, headFits, fieldsFit, writeOf};
 ghost use Rattle.tape.specs.Answers.{WriteAnswerIs, headWords, rollWords, Room, PricesFit};
 
@@ -27,6 +27,13 @@ fn clear(unused: u32, x: Word) -> Word
     x
 }
 
+// The head of instruction x: the kind of the words that follow it, and the count of all its words.
+fn head(unused: u32, x: Instruction, kind: u32, count: usize) -> Word
+    ensures { λ r. ⌜ r ≡ cond (eqb unused 0) (Head x kind count) Wrong ⌝ }
+{
+    clear(unused, Word::Head(x, kind, count))
+}
+
 // What a word is taken as, with the lots of the word after it: by its kind the head of a call, a word
 // after a head, or wrong.
 fn word_as(w: u32, lots: u32) -> Word
@@ -37,31 +44,22 @@ fn word_as(w: u32, lots: u32) -> Word
     let from = words::from_of(w);
     match kind {
         0 => Word::Wrong,
-        1 => clear(
+        1 => head(
             w % 4096,
-            Word::Head(Instruction::Trade(issue, from, words::to_of(w), lots), 8, 2),
+            Instruction::Trade(issue, from, words::to_of(w), lots),
+            8,
+            2,
         ),
-        2 => clear(
-            w % 262144,
-            Word::Head(Instruction::Deliver(issue, from, lots), 8, 2),
-        ),
-        3 => clear(
-            w % 262144,
-            Word::Head(Instruction::Resolve(issue, from, lots), 8, 2),
-        ),
-        4 => clear(
-            w % 262144,
-            Word::Head(Instruction::PairOff(issue, from), 0, 1),
-        ),
-        5 => clear(w % 268435456, Word::Head(Instruction::Close, 0, 1)),
-        6 => clear(w % 268435456, Word::Head(Instruction::Cutoff, 0, 1)),
-        7 => clear(
+        2 => head(w % 262144, Instruction::Deliver(issue, from, lots), 8, 2),
+        3 => head(w % 262144, Instruction::Resolve(issue, from, lots), 8, 2),
+        4 => head(w % 262144, Instruction::PairOff(issue, from), 0, 1),
+        5 => head(w % 268435456, Instruction::Close, 0, 1),
+        6 => head(w % 268435456, Instruction::Cutoff, 0, 1),
+        7 => head(
             w % 1024,
-            Word::Head(
-                Instruction::Roll(words::days_of(w), words::rate_of(w)),
-                9,
-                17,
-            ),
+            Instruction::Roll(words::days_of(w), words::rate_of(w)),
+            9,
+            17,
         ),
         8 => Word::After(8),
         9 => clear(w / 262144 % 1024, Word::After(9)),
@@ -165,7 +163,7 @@ fn head_fits(issue: u32, from: u32, to: u32, lots: u32) -> bool
 }
 
 // A head at the front of the output, alone or with its kind 8 word, or refusal 15.
-fn write_head(
+fn put_head(
     kind: u32,
     issue: u32,
     from: u32,
@@ -244,7 +242,7 @@ fn roll_fits(days: u32, rate: u32, prices: &[u32]) -> bool
 }
 
 // A roll's head and its price words at the front of the output, or refusal 15.
-fn write_roll(days: u32, rate: u32, prices: &[u32], out: &mut [u32]) -> Written
+fn put_roll(days: u32, rate: u32, prices: &[u32], out: &mut [u32]) -> Written
     requires { ⌜ tapeWords ≤ length (now out) ⌝ }
     ensures { λ r. ⌜ WriteAnswerIs (rollWords days rate (now (prices .entry)) (now (out .entry))) r (now (out .exit)) ⌝ }
 {
@@ -268,36 +266,12 @@ pub fn write(x: Instruction, prices: &[u32], out: &mut [u32]) -> Written
         return refused(1);
     }
     match x {
-        Instruction::Trade(issue, from, to, lots) => write_head(
-            1,
-            issue,
-            from,
-            to,
-            lots,
-            false,
-            out,
-        ),
-        Instruction::Deliver(issue, account, lots) => write_head(
-            2,
-            issue,
-            account,
-            0,
-            lots,
-            false,
-            out,
-        ),
-        Instruction::Resolve(issue, account, lots) => write_head(
-            3,
-            issue,
-            account,
-            0,
-            lots,
-            false,
-            out,
-        ),
-        Instruction::PairOff(issue, account) => write_head(4, issue, account, 0, 0, true, out),
-        Instruction::Close => write_head(5, 0, 0, 0, 0, true, out),
-        Instruction::Cutoff => write_head(6, 0, 0, 0, 0, true, out),
-        Instruction::Roll(days, rate) => write_roll(days, rate, prices, out),
+        Instruction::Trade(issue, from, to, lots) => put_head(1, issue, from, to, lots, false, out),
+        Instruction::Deliver(issue, from, lots) => put_head(2, issue, from, 0, lots, false, out),
+        Instruction::Resolve(issue, from, lots) => put_head(3, issue, from, 0, lots, false, out),
+        Instruction::PairOff(issue, account) => put_head(4, issue, account, 0, 0, true, out),
+        Instruction::Close => put_head(5, 0, 0, 0, 0, true, out),
+        Instruction::Cutoff => put_head(6, 0, 0, 0, 0, true, out),
+        Instruction::Roll(days, rate) => put_roll(days, rate, prices, out),
     }
 }

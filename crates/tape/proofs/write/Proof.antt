@@ -26,41 +26,6 @@ part e y r lent p w =
     let a = e .before .before .before .args in
     room-enough (a .x) (now (a .prices)) (now (a .out)) y lent r (e .if1 .left) p w
 
-returns-2 : tie.Need-returns-2
-returns-2 c =
-    let x = c .before .before .before .before .before in
-    part (x .before .before) _ _ _ (x .x .given .1) (c .before .before .write-head .ensures)
-
-returns-3 : tie.Need-returns-3
-returns-3 c =
-    let x = c .before .before .before .before .before in
-    part (x .before .before) _ _ _ (x .x2 .given .1) (c .before .before .write-head2 .ensures)
-
-returns-4 : tie.Need-returns-4
-returns-4 c =
-    let x = c .before .before .before .before .before in
-    part (x .before .before) _ _ _ (x .x3 .given .1) (c .before .before .write-head3 .ensures)
-
-returns-5 : tie.Need-returns-5
-returns-5 c =
-    let x = c .before .before .before .before .before in
-    part (x .before .before) _ _ _ (x .x4 .given .1) (c .before .before .write-head4 .ensures)
-
-returns-6 : tie.Need-returns-6
-returns-6 c =
-    let x = c .before .before .before .before in
-    part (x .before .before) _ _ _ (x .enum-told .given .1) (c .before .before .write-head5 .ensures)
-
-returns-7 : tie.Need-returns-7
-returns-7 c =
-    let x = c .before .before .before .before in
-    part (x .before .before) _ _ _ (x .enum-told2 .given .1) (c .before .before .write-head6 .ensures)
-
-returns-8 : tie.Need-returns-8
-returns-8 c =
-    let x = c .before .before .before .before .before in
-    part (x .before .before) _ _ _ (x .x5 .given .1) (c .before .before .write-roll .ensures)
-
 pub write-spec : {M : Type 1} → statement M
 write-spec =
     tie.close
@@ -70,10 +35,10 @@ write-spec =
     (λ c. search needs) (λ c κs. search needs) (λ c. search needs) (λ c κs. search needs)
     (λ c. search needs) (λ c κs. search needs) (λ c. search needs) (λ c κs. search needs)
     (λ c. search needs) (λ c κs. search needs)
-    (λ c. search needs) returns-2
-    (λ c. search needs) returns-3
-    (λ c. search needs) returns-4
-    (λ c. search needs) returns-5
-    (λ c. search needs) returns-6
-    (λ c. search needs) returns-7
-    (λ c. search needs) returns-8)
+    (λ c. search needs) (λ c. let x = c .before .before .before .before .before in part (x .before .before) _ _ _ (x .x .given .1) (c .before .before .put-head .ensures))
+    (λ c. search needs) (λ c. let x = c .before .before .before .before .before in part (x .before .before) _ _ _ (x .x2 .given .1) (c .before .before .put-head2 .ensures))
+    (λ c. search needs) (λ c. let x = c .before .before .before .before .before in part (x .before .before) _ _ _ (x .x3 .given .1) (c .before .before .put-head3 .ensures))
+    (λ c. search needs) (λ c. let x = c .before .before .before .before .before in part (x .before .before) _ _ _ (x .x4 .given .1) (c .before .before .put-head4 .ensures))
+    (λ c. search needs) (λ c. let x = c .before .before .before .before in part (x .before .before) _ _ _ (x .enum-told .given .1) (c .before .before .put-head5 .ensures))
+    (λ c. search needs) (λ c. let x = c .before .before .before .before in part (x .before .before) _ _ _ (x .enum-told2 .given .1) (c .before .before .put-head6 .ensures))
+    (λ c. search needs) (λ c. let x = c .before .before .before .before .before in part (x .before .before) _ _ _ (x .x5 .given .1) (c .before .before .put-roll .ensures)))

@@ -12,8 +12,8 @@ use Rattle.rules.specs.declared.Instruction.the-variants.{Roll}
 use Rattle.rules.specs.Tape.{priceWord, fieldsFit}
 use Rattle.tape.proofs.Fitting.{RollFits, roll-fits}
 use Rattle.tape.proofs.Writing.{refused-15, all-written}
-use Rattle.tape.proofs.write_roll.Statement.{statement}
-use Rattle.tape.proofs.write_roll.Tie as tie
+use Rattle.tape.proofs.put_roll.Statement.{statement}
+use Rattle.tape.proofs.put_roll.Tie as tie
 
 returns : tie.Need-returns
 returns c =
@@ -42,7 +42,7 @@ returns-2 c =
     all-written _ _ _ 17 _ (fit (h .before)) (ap suc (length-map ps priceWord ∙ fields (h .before) .count)) (omega arith)
     (c .before .before .put-prices .ensures ∙ rw (h .roll-head .ensures))
 
-pub write-roll-spec : {M : Type 1} → statement M
-write-roll-spec =
+pub put-roll-spec : {M : Type 1} → statement M
+put-roll-spec =
     tie.close
     (tie.spec (λ c κs. search needs) (λ c κs. search needs) returns (λ c κs. (fields c .day, fields c .rates)) (λ c. search needs) put-prices-requires same-length returns-2)

@@ -9,8 +9,8 @@ use lib.ListN.{length-set}
 use Rattle.rules.specs.Tape.{headFits}
 use Rattle.tape.proofs.Fitting.{head-fits, lots-fit}
 use Rattle.tape.proofs.Writing.{refused-15, all-written}
-use Rattle.tape.proofs.write_head.Statement.{statement}
-use Rattle.tape.proofs.write_head.Tie as tie
+use Rattle.tape.proofs.put_head.Statement.{statement}
+use Rattle.tape.proofs.put_head.Tie as tie
 
 returns : tie.Need-returns
 returns c =
@@ -45,7 +45,7 @@ returns-3 c =
     let h = c .before .before in
     rw (c .before .if2 .left) (all-written _ _ _ 2 _ (fit (h .before)) refl (omega arith) (rw (h .head .ensures, c .lots-word .ensures)))
 
-pub write-head-spec : {M : Type 1} → statement M
-write-head-spec =
+pub put-head-spec : {M : Type 1} → statement M
+put-head-spec =
     tie.close
     (tie.spec (λ c κs. search needs) (λ c κs. search needs) returns head-requires (λ c. search needs) (λ c. search needs) returns-2 lots-word-requires slice-write-out-2 (λ c. search needs) returns-3)
