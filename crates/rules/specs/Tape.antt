@@ -26,27 +26,34 @@ pub data Kind : Type 0 where
   after : Field → Kind
   none : Kind
 
--- the kinds of a tape from 0 on, each said once
-abbrev pub kinds : List Kind
+-- a kind's number, and what a word of it is
+pub data Line : Type 0 where
+  kind : ℕ → Kind → Line
+
+-- the kinds of a tape, each said once
+abbrev pub kinds : List Line
 kinds =
-    none
     -- 1 trade, 2 deliver, 3 resolve: head, then a kind 8 word
-    ∷ head (bits 0 12) 1 8 (λ w x. Trade (ofField issueBits w) (ofField fromBits w) (ofField toBits w) x)
-    ∷ head (bits 0 18) 1 8 (λ w x. Deliver (ofField issueBits w) (ofField fromBits w) x)
-    ∷ head (bits 0 18) 1 8 (λ w x. Resolve (ofField issueBits w) (ofField fromBits w) x)
+    kind 1 (head (bits 0 12) 1 8 (λ w x. Trade (ofField issueBits w) (ofField fromBits w) (ofField toBits w) x))
+    ∷ kind 2 (head (bits 0 18) 1 8 (λ w x. Deliver (ofField issueBits w) (ofField fromBits w) x))
+    ∷ kind 3 (head (bits 0 18) 1 8 (λ w x. Resolve (ofField issueBits w) (ofField fromBits w) x))
     -- 4 pair-off, 5 close, 6 cutoff: one word
-    ∷ head (bits 0 18) 0 0 (λ w x. PairOff (ofField issueBits w) (ofField fromBits w))
-    ∷ head (bits 0 28) 0 0 (λ w x. Close)
-    ∷ head (bits 0 28) 0 0 (λ w x. Cutoff)
+    ∷ kind 4 (head (bits 0 18) 0 0 (λ w x. PairOff (ofField issueBits w) (ofField fromBits w)))
+    ∷ kind 5 (head (bits 0 28) 0 0 (λ w x. Close))
+    ∷ kind 6 (head (bits 0 28) 0 0 (λ w x. Cutoff))
     -- 7 roll: then sixteen kind 9 words
-    ∷ head (bits 0 10) issueCount 9 (λ w x. Roll (ofField daysBits w) (ofField rateBits w))
+    ∷ kind 7 (head (bits 0 10) issueCount 9 (λ w x. Roll (ofField daysBits w) (ofField rateBits w)))
     -- 8 lots in 27..0, 9 price in 17..0
-    ∷ after (bits 0 0)
-    ∷ after (bits 18 10)
+    ∷ kind 8 (after (bits 0 0))
+    ∷ kind 9 (after (bits 18 10))
     ∷ []
 
+abbrev pub kindIn : List Line → ℕ → Kind
+kindIn [] k = none
+kindIn (kind n K ∷ ls) k = cond (eqb k n) K (kindIn ls k)
+
 abbrev pub kindAt : ℕ → Kind
-kindAt k = getD kinds k none
+kindAt k = kindIn kinds k
 
 -- unused bits are 0
 abbrev pub clear : Field → ℕ → Bool

@@ -2,9 +2,8 @@
 use mathlib.Core.Path.{_≡_, sym, _∙_}
 use Prim.Native.Nat.{ℕ}
 use borrow.Author.Needs.{needs}
-use lib.ListN.{length}
 use Rattle.rules.specs.declared.Word.the-variants.{Wrong}
-use Rattle.rules.specs.Tape.{kindOf, kinds, wordAs}
+use Rattle.rules.specs.Tape.{kindOf, wordAs}
 use Rattle.tape.proofs.Reading.{div-one, mod-one, NoneBelow, kind-above}
 use Rattle.tape.proofs.word_as.Statement.{statement}
 use Rattle.tape.proofs.word_as.Tie as tie
@@ -14,7 +13,7 @@ kind : (a : tie.After-from-of) (k : ℕ) → a .before .before .kind-of .result 
 kind a k e = sym (a .before .before .kind-of .ensures) ∙ e
 
 -- or none of the table's
-above : (a : tie.After-from-of) → NoneBelow (a .before .before .kind-of .result) (length kinds) →
+above : (a : tie.After-from-of) → NoneBelow (a .before .before .kind-of .result) 10 →
     let s = a .before .before .before .args in Wrong ≡ wordAs (s .w) (s .lots)
 above a h = kind-above _ _ (a .before .before .kind-of .result) (a .before .before .kind-of .ensures) h
 
