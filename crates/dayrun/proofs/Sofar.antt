@@ -18,8 +18,8 @@ use Rattle.laws.proofs.Sound.{sound-parts}
 use Rattle.tape.proofs.Run.{run-start}
 use Rattle.feeding.proofs.WordLaws.{tailIn, words-append, words-tail, words-length, words-from, stray-from}
 use Rattle.parts.specs.declared.Place.{Place}
-use Rattle.parts.specs.Going.{Follows, Goes, onward, Went}
-use Rattle.parts.proofs.Goings.{went-as}
+use Rattle.turns.specs.Going.{Follows, Goes, onward, Went}
+use Rattle.turns.proofs.Goings.{went-as}
 use Rattle.dayrun.specs.declared.Sent.{Sent}
 use Rattle.dayrun.specs.declared.End.{End}
 use Rattle.dayrun.specs.Day.{Standing, unused, Stepped, Shown, Played, Whole}

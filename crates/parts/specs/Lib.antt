@@ -1,3 +1,2 @@
--- What a run does and prints, part by part.
-pub mod Going
+-- One part of a run.
 pub mod Parting

@@ -9,7 +9,7 @@ use Rattle.rules.specs.Measures.{outputWords}
 use Rattle.rules.specs.Book.{sound}
 use Rattle.feeding.specs.declared.Words.{Words}
 use Rattle.parts.specs.declared.Place.{Place}
-use Rattle.parts.specs.Going.{Went}
+use Rattle.turns.specs.Going.{Went}
 
 -- a sound book, at most 4,096 words, room for their lines, and an output that is long enough
 pub record Room (p : Place) (ws text out : List ℕ) : Type 0 where

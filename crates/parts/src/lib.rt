@@ -1,6 +1,4 @@
 // A run in parts: the words that one read gives, as far as they hold whole instructions, run on a book.
-mod run;
-
 use book::State;
 use feeding::Words;
 use rules::Book;
@@ -12,7 +10,7 @@ ghost use lib.ListN.{length};
 ghost use Rattle.rules.specs.Measures.{outputWords};
 ghost use Rattle.rules.specs.Book.{sound};
 ghost use Rattle.book.specs.States.{stateOf, bookIn};
-ghost use Rattle.parts.specs.Going.{Went};
+ghost use Rattle.turns.specs.Going.{Went};
 ghost use Rattle.parts.specs.Parting.{Room, Parted};
 
 // Where a run stands between two parts: the bytes from `start` to `end` are not used yet, the next word
@@ -100,7 +98,7 @@ fn run_on(
     let mut tos = b.tos;
     let mut lots = b.lots;
     let mut days = b.days;
-    let t = run::run(
+    let t = turns::run(
         words,
         last,
         stray,

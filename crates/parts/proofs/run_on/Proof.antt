@@ -5,7 +5,7 @@ use Rattle.rules.specs.Book.{sound}
 use Rattle.book.specs.declared.State.{State}
 use Rattle.book.specs.Scan.{Lengths}
 use Rattle.book.specs.States.{bookIn}
-use Rattle.parts.proofs.Goings.{went-as}
+use Rattle.turns.proofs.Goings.{went-as}
 use borrow.Author.Needs.{needs}
 use Rattle.parts.proofs.run_on.Statement.{statement}
 use Rattle.parts.proofs.run_on.Tie as tie

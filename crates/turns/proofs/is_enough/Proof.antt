@@ -1,7 +1,7 @@
 -- By the two cases.
 use borrow.Author.Needs.{needs}
-use Rattle.parts.proofs.run.is_enough.Statement.{statement}
-use Rattle.parts.proofs.run.is_enough.Tie as tie
+use Rattle.turns.proofs.is_enough.Statement.{statement}
+use Rattle.turns.proofs.is_enough.Tie as tie
 
 returns : tie.Need-returns
 returns c =

@@ -16,7 +16,7 @@ use Rattle.rules.specs.Tape.{readOf, pricesOf}
 use Rattle.rules.specs.Run.{Ran, line, nameOf, callOf, answerOf, stopped, runRest}
 use Rattle.rules.specs.Text.{lineText, linesText}
 use Rattle.report.specs.Added.{Added}
-use Rattle.parts.specs.declared.run.Step.{Step}
+use Rattle.turns.specs.declared.Step.{Step}
 
 -- the words begin with an instruction
 pub record Begins (ws : List ℕ) (x : Instruction) : Type 0 where

@@ -4,17 +4,17 @@ use mathlib.Core.Bool.{true}
 use mathlib.Core.List.{List}
 use Rattle.rules.specs.declared.Read.the-variants.{Instr, Refused}
 use Rattle.rules.specs.Tape.{readOf}
-use Rattle.parts.specs.Going.{enough, refusalOf}
+use Rattle.turns.specs.Going.{enough, refusalOf}
 use Prim.Native.Nat.{ℕ, _+_, _-_, _≤_}
 use native.Mathlib.Omega.{arith}
 use denote.Ref.{now}
 use Rattle.tape.proofs.Sized.{read-sized}
 use Rattle.book.specs.States.{bookIn, Ready}
-use Rattle.parts.proofs.Goings.{Going, going-starts, going-again, going-refused, going-ends, rest-part, rest-enough}
+use Rattle.turns.proofs.Goings.{Going, going-starts, going-again, going-refused, going-ends, rest-part, rest-enough}
 use lib.ListN as list
 use borrow.Author.Needs.{needs}
-use Rattle.parts.proofs.run.run.Statement.{statement}
-use Rattle.parts.proofs.run.run.Tie as tie
+use Rattle.turns.proofs.run.Statement.{statement}
+use Rattle.turns.proofs.run.Tie as tie
 
 abbrev Inv-loop : tie.InvT-loop
 Inv-loop words last stray index nets₀ delivered₀ charges₀ issues₀ froms₀ tos₀ lots₀ days₀ out₀ text₀ at₀ end₀ state₀ nets delivered charges issues froms tos lots days out text at end state =

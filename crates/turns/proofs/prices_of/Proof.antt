@@ -1,10 +1,10 @@
 -- By the test for a roll.
 use mathlib.Core.Path.{sym, _∙_}
 use denote.Ref.{now}
-use Rattle.parts.proofs.Goings.{priced-roll, priced-other}
+use Rattle.turns.proofs.Goings.{priced-roll, priced-other}
 use borrow.Author.Needs.{needs}
-use Rattle.parts.proofs.run.prices_of.Statement.{statement}
-use Rattle.parts.proofs.run.prices_of.Tie as tie
+use Rattle.turns.proofs.prices_of.Statement.{statement}
+use Rattle.turns.proofs.prices_of.Tie as tie
 
 returns : tie.Need-returns
 returns c =

@@ -31,8 +31,8 @@ use Rattle.tape.proofs.Sized.{read-sized}
 use Rattle.tape.proofs.Window.{read-append, prices-append}
 use Rattle.running.specs.declared.Turn.{Turn}
 use Rattle.running.specs.Turns.{TurnIs}
-use Rattle.parts.specs.declared.run.Step.{Step}
-use Rattle.parts.specs.Going.{Begins, rollsOf, Priced, Stepped, enough, strayText, Follows, Goes, onward, Went}
+use Rattle.turns.specs.declared.Step.{Step}
+use Rattle.turns.specs.Going.{Begins, rollsOf, Priced, Stepped, enough, strayText, Follows, Goes, onward, Went}
 
 -- The answer to the instruction that some words begin with
 

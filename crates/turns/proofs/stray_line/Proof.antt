@@ -3,8 +3,8 @@ use mathlib.Core.Path.{refl}
 use native.Mathlib.Omega.{arith}
 use Rattle.report.proofs.Texts.{added-as, added-none}
 use borrow.Author.Needs.{needs}
-use Rattle.parts.proofs.run.stray_line.Statement.{statement}
-use Rattle.parts.proofs.run.stray_line.Tie as tie
+use Rattle.turns.proofs.stray_line.Statement.{statement}
+use Rattle.turns.proofs.stray_line.Tie as tie
 
 returns : tie.Need-returns
 returns c =

@@ -4,10 +4,10 @@ use denote.Ref.{now}
 use Rattle.rules.specs.declared.Book.{Book}
 use Rattle.book.specs.States.{bookIn}
 use Rattle.report.proofs.Texts.{added-as}
-use Rattle.parts.proofs.Goings.{run-answer, answer-sound, same-line}
+use Rattle.turns.proofs.Goings.{run-answer, answer-sound, same-line}
 use borrow.Author.Needs.{needs}
-use Rattle.parts.proofs.run.turn.Statement.{statement}
-use Rattle.parts.proofs.run.turn.Tie as tie
+use Rattle.turns.proofs.turn.Statement.{statement}
+use Rattle.turns.proofs.turn.Tie as tie
 
 abbrev book : tie.Start → Book
 book s =

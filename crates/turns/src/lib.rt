@@ -1,5 +1,5 @@
-// A run, part by part: the instructions of the words that are there, each answered in place on the
-// book's columns, and their lines.
+// The instructions of some words, each answered in place on the book's columns, and their lines. More words
+// may come behind them.
 use book::State;
 use report::text;
 use rules::Instruction;
@@ -11,7 +11,7 @@ ghost use lib.ListN.{length};
 ghost use Rattle.rules.specs.Run.{nameOf};
 ghost use Rattle.book.specs.States.{columns, ready};
 ghost use Rattle.report.specs.Added.{Added};
-ghost use Rattle.parts.specs.Going.{Begins, rollsOf, Priced, Stepped, refusalOf, enough, strayText, Went};
+ghost use Rattle.turns.specs.Going.{Begins, rollsOf, Priced, Stepped, refusalOf, enough, strayText, Went};
 
 // After an instruction: where the text ends, and the state.
 pub struct Step {

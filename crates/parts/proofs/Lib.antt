@@ -1,2 +1,0 @@
--- Laws of a run part by part.
-pub mod Goings
