@@ -37,7 +37,12 @@ abbrev pub bookIn : State → List ℤ → List ℕ → List ℤ → List ℕ �
 bookIn s nets delivered charges issues froms tos lots days =
     bookOf (s .day) (s .phase) nets delivered charges (s .entries) issues froms tos lots days
 
--- a sound book in its columns, and an output that is long enough
+-- columns of a book's lengths that are a sound book
+pub record SoundColumns (s : State) (nets : List ℤ) (delivered : List ℕ) (charges : List ℤ) (issues froms tos lots days : List ℕ) : Type 0 where
+  pub lengths : Lengths nets delivered charges issues froms tos lots days
+  pub sound : sound (bookIn s nets delivered charges issues froms tos lots days) ≡ true
+
+-- and beside them an output that is long enough
 pub record Ready (s : State) (nets : List ℤ) (delivered : List ℕ) (charges : List ℤ) (issues froms tos lots days out : List ℕ) : Type 0 where
   pub lengths : Lengths nets delivered charges issues froms tos lots days
   pub sound : sound (bookIn s nets delivered charges issues froms tos lots days) ≡ true
@@ -62,6 +67,10 @@ columns nets delivered charges issues froms tos lots days =
       before = λ s. bookIn s (now (nets .entry)) (now (delivered .entry)) (now (charges .entry)) (now (issues .entry)) (now (froms .entry)) (now (tos .entry)) (now (lots .entry)) (now (days .entry));
       after = λ s. bookIn s (now (nets .exit)) (now (delivered .exit)) (now (charges .exit)) (now (issues .exit)) (now (froms .exit)) (now (tos .exit)) (now (lots .exit)) (now (days .exit));
     }
+
+abbrev pub soundColumns : State → Lent ℤ → Lent ℕ → Lent ℤ → Lent ℕ → Lent ℕ → Lent ℕ → Lent ℕ → Lent ℕ → Type 0
+soundColumns s nets delivered charges issues froms tos lots days =
+    SoundColumns s (now nets) (now delivered) (now charges) (now issues) (now froms) (now tos) (now lots) (now days)
 
 abbrev pub ready : State → Lent ℤ → Lent ℕ → Lent ℤ → Lent ℕ → Lent ℕ → Lent ℕ → Lent ℕ → Lent ℕ → Lent ℕ → Type 0
 ready s nets delivered charges issues froms tos lots days out =

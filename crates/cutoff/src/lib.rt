@@ -1,14 +1,12 @@
 // Cutoff, issue by issue: the stock goes to the next unit (record 10), then the shortfalls are laid
 // against what the units lack, each overlap an entry of the ledger and a record (12).
-use rules::Book;
 use rules::Phase;
-use rules::Reply;
 use units::Cursor;
 use units::Next;
 ghost use mathlib.Core.Path.{_≡_};
 ghost use Prim.Native.Nat.{_+_, _≤_, _<_};
 ghost use lib.ListN.{length};
-ghost use Rattle.rules.specs.Calls.{issueFails, cutoff as cutoffOf, AnswerIs};
+ghost use Rattle.rules.specs.Calls.{issueFails};
 ghost use Rattle.units.specs.Runs.{runsIn};
 ghost use Rattle.cutoff.specs.Write.{lent, Wrote};
 ghost use Rattle.cutoff.specs.Issue.{entryOf, failRecords, CanEnter, entriesOn, CanLay, CanHand, WasHanded, SoundCells, CanReady, IsReady, CanCut, WasCut};
@@ -268,61 +266,5 @@ pub fn cutoff_in<'a>(
     Counts {
         entries: n,
         records: w,
-    }
-}
-
-// Cutoff: the questions (1 output, 2 sound, 3 phase, 10 entries), then all issues, then the phase is Cut.
-// A refusal changes nothing, neither book nor output.
-pub fn cutoff(b: Book, out: &mut [u32]) -> Reply
-    ensures { λ r. ⌜ AnswerIs (cutoffOf b (now (out .entry))) r (now (out .exit)) ⌝ }
-{
-    if out.len() < 4096 {
-        return Reply {
-            refusal: 1,
-            count: 0,
-            book: b,
-        };
-    }
-    if !book::sound(b) {
-        return Reply {
-            refusal: 2,
-            count: 0,
-            book: b,
-        };
-    }
-    let phase = b.phase;
-    let old = b.count;
-    let no = cutoff_asks(phase, old, &b.nets, &b.delivered);
-    if no != 0 {
-        return Reply {
-            refusal: no,
-            count: 0,
-            book: b,
-        };
-    }
-    let day = b.day;
-    let mut issues = b.issues;
-    let mut froms = b.froms;
-    let mut tos = b.tos;
-    let mut lots = b.lots;
-    let mut days = b.days;
-    let k = cutoff_in(
-        &b.nets,
-        &b.delivered,
-        day,
-        old,
-        &mut issues,
-        &mut froms,
-        &mut tos,
-        &mut lots,
-        &mut days,
-        out,
-    );
-    let cut = book::with_columns(b, k.entries, issues, froms, tos, lots, days);
-    let after = book::with_day(cut, day, Phase::Cut);
-    Reply {
-        refusal: 0,
-        count: k.records,
-        book: after,
     }
 }

@@ -1,11 +1,9 @@
 // deliver: an account's delivered lots rise, and the next units are handed over whole, in order.
-use rules::Book;
 use rules::Found;
 use rules::Phase;
-use rules::Reply;
 ghost use mathlib.Core.Path.{_≡_};
 ghost use Rattle.rules.specs.Questions.{firstNo};
-ghost use Rattle.rules.specs.Calls.{AnswerIs, deliverAsks, deliver as deliverAnswer};
+ghost use Rattle.rules.specs.Calls.{deliverAsks};
 ghost use Rattle.rules.specs.Records.{words, over};
 ghost use Rattle.units.specs.Runs.{unitsIn};
 ghost use Rattle.delivery.specs.Deliver.{CanHand, handRecords, CanServe, Served, CanAsk, CanDeliver, Delivered};
@@ -90,41 +88,4 @@ pub fn deliver_asks<'a>(
         return 9;
     }
     0
-}
-
-// deliver issue i, account a, x lots: the answer of the rules on any book and any output.
-pub fn deliver(b: Book, i: u32, a: u32, x: u32, out: &mut [u32]) -> Reply
-    ensures { λ r. ⌜ AnswerIs (deliverAnswer b i a x (now (out .entry))) r (now (out .exit)) ⌝ }
-{
-    if out.len() < 4096 {
-        return Reply {
-            refusal: 1,
-            count: 0,
-            book: b,
-        };
-    }
-    if !book::sound(b) {
-        return Reply {
-            refusal: 2,
-            count: 0,
-            book: b,
-        };
-    }
-    let phase = b.phase;
-    let no = deliver_asks(phase, &b.nets, &b.delivered, i, a, x);
-    if no != 0 {
-        return Reply {
-            refusal: no,
-            count: 0,
-            book: b,
-        };
-    }
-    let mut delivered = b.delivered;
-    let count = deliver_in(&b.nets, &mut delivered, i, a, x, out);
-    let next = book::with_delivered(b, delivered);
-    Reply {
-        refusal: 0,
-        count,
-        book: next,
-    }
 }

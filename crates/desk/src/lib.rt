@@ -1,15 +1,15 @@
-// Value and charge for a host in C: plain numbers in, the refusal's number (0: paid) and yen out.
+// Value and charge for a host in C: plain numbers in, the refusal's number (0: none) and yen out.
 use rules::Amount;
 use rules::Lots;
-ghost use Rattle.rules.specs.Calls.{paidAnswer, value, charge};
+ghost use Rattle.rules.specs.Calls.{amountAnswer, value, charge};
 ghost use Rattle.desk.specs.Plain.{Plain};
 
 // An amount in plain numbers: 0 with the yen, or the refusal's number with 0 yen.
 fn plain(a: Amount, yen: &mut u64) -> u32
-    ensures { λ r. ⌜ Plain (paidAnswer a) r (now (yen .exit)) ⌝ }
+    ensures { λ r. ⌜ Plain (amountAnswer a) r (now (yen .exit)) ⌝ }
 {
     match a {
-        Amount::Paid(y) => {
+        Amount::Yen(y) => {
             *yen = y.0;
             0
         }

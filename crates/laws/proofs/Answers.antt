@@ -7,12 +7,15 @@ use Prim.Native.Nat.{ℕ, zero, suc, _≤_, _<_}
 use native.Mathlib.Omega.{arith}
 use lib.Dec.{leb}
 use lib.ListN.{length}
-use borrow.Author.Tests.{le-leb, lt-leb}
+use borrow.Author.Tests.{le-leb, lt-leb, leb-true}
 use Rattle.rules.specs.declared.Book.{Book}
+use Rattle.rules.specs.declared.Instruction.{Instruction}
+use Rattle.rules.specs.declared.Instruction.the-variants as instruction
 use Rattle.rules.specs.Measures.{outputWords}
 use Rattle.rules.specs.Book.{sound}
-use Rattle.rules.specs.Questions.{Question, ask, firstNo, askSound}
-use Rattle.rules.specs.Calls.{Call, Trade, Close, Deliver, Cutoff, Resolve, PairOff, Roll, Answer, Effect, answer, lentTo, outputAsks, ownAsks, asks, effect, called}
+use Rattle.rules.specs.Questions.{Question, ask, firstNo, askOutput, askSound}
+use Rattle.rules.specs.Calls.{Call, Trade, Close, Deliver, Cutoff, Resolve, PairOff, Roll, Answer, Effect, answer, lentTo, HasRoom, ownAsks, asks, effect, called}
+use Rattle.rules.specs.Run.{callOf}
 
 -- The first 'no' of a list
 
@@ -70,30 +73,34 @@ by-answer P b c y n = either-way P (asks b c) b (lentTo c) (effect b c) (numbere
 
 -- By its number
 
--- what is lent to a call that asks for an output is long enough
-abbrev pub RoomIn : Call → Type 0
-RoomIn (Trade i f t x) = Unit {0}
-RoomIn Close = Unit {0}
-RoomIn (Deliver i a x out) = outputWords ≤ length out
-RoomIn (Cutoff out) = outputWords ≤ length out
-RoomIn (Resolve i a x out) = outputWords ≤ length out
-RoomIn (PairOff i a) = Unit {0}
-RoomIn (Roll days rate prices) = Unit {0}
+-- an output that is long enough has room for any call
+pub has-room : (x : Instruction) (prices out : List ℕ) → outputWords ≤ length out → HasRoom (callOf x prices out)
+has-room (instruction.Trade i f t x) prices out h = refl
+has-room (instruction.Deliver i a x) prices out h = said-yes 1 (leb outputWords (length out)) [] (le-leb outputWords (length out) h)
+has-room (instruction.Resolve i a x) prices out h = said-yes 1 (leb outputWords (length out)) [] (le-leb outputWords (length out) h)
+has-room (instruction.PairOff i a) prices out h = refl
+has-room instruction.Close prices out h = refl
+has-room instruction.Cutoff prices out h = said-yes 1 (leb outputWords (length out)) [] (le-leb outputWords (length out) h)
+has-room (instruction.Roll days rate) prices out h = refl
 
-room : (b : Book) (c : Call) → RoomIn c → firstNo (asks b c) ≡ firstNo (askSound b ∷ ownAsks b c)
+-- and a call that is lent one had room in it
+pub room-in : (out : List ℕ) → firstNo (askOutput outputWords out ∷ []) ≡ 0 → outputWords ≤ length out
+room-in out h = leb-true outputWords (length out) (yes 0 (leb outputWords (length out)) [] h .first)
+
+room : (b : Book) (c : Call) → HasRoom c → firstNo (asks b c) ≡ firstNo (askSound b ∷ ownAsks b c)
 room b (Trade i f t x) h = refl
 room b Close h = refl
-room b (Deliver i a x out) h = said-yes 1 (leb outputWords (length out)) (askSound b ∷ ownAsks b (Deliver i a x out)) (le-leb outputWords (length out) h)
-room b (Cutoff out) h = said-yes 1 (leb outputWords (length out)) (askSound b ∷ ownAsks b (Cutoff out)) (le-leb outputWords (length out) h)
-room b (Resolve i a x out) h = said-yes 1 (leb outputWords (length out)) (askSound b ∷ ownAsks b (Resolve i a x out)) (le-leb outputWords (length out) h)
+room b (Deliver i a x out) h = said-yes 1 (leb outputWords (length out)) (askSound b ∷ ownAsks b (Deliver i a x out)) (yes 0 (leb outputWords (length out)) [] h .first)
+room b (Cutoff out) h = said-yes 1 (leb outputWords (length out)) (askSound b ∷ ownAsks b (Cutoff out)) (yes 0 (leb outputWords (length out)) [] h .first)
+room b (Resolve i a x out) h = said-yes 1 (leb outputWords (length out)) (askSound b ∷ ownAsks b (Resolve i a x out)) (yes 0 (leb outputWords (length out)) [] h .first)
 room b (PairOff i a) h = refl
 room b (Roll days rate prices) h = refl
 
 -- a sound book and enough room leave the call's own questions
-pub own-first : (b : Book) (c : Call) → RoomIn c → sound b ≡ true → firstNo (asks b c) ≡ firstNo (ownAsks b c)
+pub own-first : (b : Book) (c : Call) → HasRoom c → sound b ≡ true → firstNo (asks b c) ≡ firstNo (ownAsks b c)
 own-first b c h s = room b c h ∙ said-yes 2 (sound b) (ownAsks b c) s
 
-pub unsound-first : (b : Book) (c : Call) → RoomIn c → sound b ≡ false → firstNo (asks b c) ≡ 2
+pub unsound-first : (b : Book) (c : Call) → HasRoom c → sound b ≡ false → firstNo (asks b c) ≡ 2
 unsound-first b c h s = room b c h ∙ said-no 2 (sound b) (ownAsks b c) s
 
 pub short-first : (b : Book) (qs : List Question) (out : List ℕ) → length out < outputWords →

@@ -136,14 +136,18 @@ pub share : (ws us : List Part) → ((a : ℕ) → total (ofAccount a) ws ≤ to
 share [] us h = tt
 share (w ∷ ws) us h = (omega (arith, h (w .account), account-same (w .account) (w .lots)), share ws us (λ a. omega (arith, h a)))
 
--- every unit of an order is a receiver's
+-- every unit of an order is of an account that is due lots
+pub order-due : (xs : List ℕ) (us : List Part) → Order xs us → Every (λ u. 1 ≤ getD xs (u .account) 0) us
+order-due xs us o =
+    each-zip UnitSized (λ u. u .lots ≤ total (ofAccount (u .account)) us) (λ u. 1 ≤ getD xs (u .account) 0)
+    (λ u p q. omega (arith, p .0, o .due (u .account))) us (o .sized) (share us us (λ a. omega arith))
+
+-- and a receiver's
 pub order-receivers : (nets : List ℤ) (us : List Part) → Order (dues nets) us → Every (λ u. Receiver nets (u .account)) us
 order-receivers nets us o =
     each-zip (λ u. u .account < length (dues nets)) (λ u. 1 ≤ getD (dues nets) (u .account) 0) (λ u. Receiver nets (u .account))
     (λ u a h. (omega (arith, length-map nets dueOf), rw (List·getD-map dueOf nets (u .account) (pos 0)) at h))
-    us (o .accounts)
-    (each-zip UnitSized (λ u. u .lots ≤ total (ofAccount (u .account)) us) (λ u. 1 ≤ getD (dues nets) (u .account) 0)
-    (λ u p q. omega (arith, p .0, o .due (u .account))) us (o .sized) (share us us (λ a. omega arith)))
+    us (o .accounts) (order-due (dues nets) us o)
 
 pub each-some : (k : ℕ) (xs : List ℕ) → Every (λ u. 1 ≤ u .lots) (parts k xs)
 each-some k [] = tt

@@ -9,13 +9,13 @@ pub mod Ranking
 pub mod Joins
 pub mod Runs
 pub mod Cutoff
+pub mod Orders
 pub mod Room
 pub mod Signed
 pub mod Cells
 pub mod Sound
 pub mod Ledger
 pub mod SoundRows
-pub mod Orders
 pub mod Meeting
 pub mod Lowering
 pub mod Pairing

@@ -7,7 +7,7 @@ use Prim.Native.Nat.{ℕ, zero, suc, _+_, _-_, _≤_, _<_, min}
 use native.Mathlib.Omega.{arith}
 use lib.Dec.{leb, eqb}
 use lib.ListN.{length}
-use borrow.Author.Tests.{leb-true, leb-false, eqb-true, ne-eqb}
+use borrow.Author.Tests.{eqb-true, ne-eqb}
 use Rattle.rules.specs.declared.Entry.{Entry}
 use Rattle.rules.specs.Measures.{total}
 use Rattle.rules.specs.Ledger.{putEntry, isFrom, isTo, countOf, firstOf, lower}
@@ -22,21 +22,10 @@ firstLots p es = firstOf (λ e. e .lots) p es
 
 -- What there is first
 
-pub first-pos : (p : Entry → Bool) (es : List Entry) → 0 < firstLots p es → 0 < countOf p es
-first-pos p [] h = h
-first-pos p (e ∷ es) h =
-    byTest (p e) (λ t. simp t (omega arith)) (λ t. simp t (omega (arith, first-pos p es (simp t at h))))
-
 pub first-live : (p : Entry → Bool) (es : List Entry) → Every (λ e. 1 ≤ e .lots) es → 0 < countOf p es → 0 < firstLots p es
 first-live p [] ps h = h
 first-live p (e ∷ es) ps h =
     byTest (p e) (λ t. simp t (ps .0)) (λ t. simp t (first-live p es (ps .1) (omega (arith, simp t at h))))
-
-pub first-none : (p : Entry → Bool) (es : List Entry) → countOf p es ≡ 0 → firstLots p es ≡ 0
-first-none p es h =
-    byTest (leb (firstLots p es) 0)
-    (λ e. omega (arith, leb-true))
-    (λ e. absurd (omega (arith, first-pos p es (omega (arith, leb-false)))))
 
 pub first-bound : (g : Entry → ℕ) (n : ℕ) (p : Entry → Bool) (es : List Entry) → 0 < n → Every (λ e. g e < n) es → firstOf g p es < n
 first-bound g n p [] h s = h

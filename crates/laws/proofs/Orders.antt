@@ -1,73 +1,78 @@
--- Two facts make an order: every unit has 1 to 100,000 lots, and for each account its units sum to its due. Its
--- accounts are then those of the dues, since none else is due a lot, and summing over accounts gives the whole.
+-- Three facts make an order: every unit has 1 to 100,000 lots, for each account its units sum to its due, and at most
+-- one of them is small. Its accounts are then those of the dues, since none else is due a lot, and summing over
+-- accounts gives the whole. The paper's units are an order.
 use mathlib.Core.Path.{_≡_, refl, sym, ap, _∙_}
+use mathlib.Core.Bool.{cond}
 use mathlib.Core.List.{List, [], _∷_}
-use Prim.Native.Nat.{ℕ, zero, suc, _+_, _≤_, _<_}
+use Prim.Native.Nat.{ℕ, zero, suc, _+_, _/_, _≤_, _<_}
 use native.Mathlib.Omega.{arith}
-use native.Mathlib.Nat.{add-zero, zero-add, add-suc, suc-add}
-use lib.Dec.{ltb, eqb}
-use lib.ListN.{length, getD, List·getD-eq-default}
-use borrow.Author.Tests.{ltb-true, ltb-false, eqb-true, eqb-false}
-use Rattle.rules.specs.Measures.{total, sum}
-use Rattle.rules.specs.Units.{Part, sumLots, ofAccount}
+use native.Mathlib.Nat.{add-zero, zero-add, add-suc, suc-add, mul-zero}
+use lib.Dec.{leb, ltb, eqb, lit<}
+use lib.ListN.{length, getD, replicate, List·getD-eq-default}
+use borrow.Author.Tests.{ltb-true, ltb-false, eqb-true, eqb-false, le-leb, ne-eqb}
+use Rattle.rules.specs.Measures.{total, sum, unitLots}
+use Rattle.rules.specs.Units.{Part, part, sumLots, ofAccount, largestFirst, receivers, fulls, smalls, units}
 use Rattle.rules.specs.Book.{tab}
-use Rattle.laws.proofs.Basics.{byTest, Every, each-zip}
-use Rattle.laws.proofs.Units.{UnitSized, Order, account-other}
+use Rattle.laws.proofs.Basics.{byTest, either, Every, each-zip, total-append, total-replicate, total-sort}
+use Rattle.laws.proofs.Units.{UnitSized, Order, ofSmall, isOf, units-sized, units-account}
+use Rattle.laws.proofs.Ranking.{Rising, rising-parts, rising-smalls}
 use Rattle.laws.proofs.Cutoff.{share}
 
 -- Sums over accounts k to k + n - 1
 
-tab-add : (f g : ℕ → ℕ) (k n : ℕ) → sum (tab (λ a. f a + g a) k n) ≡ sum (tab f k n) + sum (tab g k n)
+pub tab-add : (f g : ℕ → ℕ) (k n : ℕ) → sum (tab (λ a. f a + g a) k n) ≡ sum (tab f k n) + sum (tab g k n)
 tab-add f g k zero = refl
 tab-add f g k (suc n) = omega (arith, tab-add f g (suc k) n)
 
-tab-none : (u : Part) (k n : ℕ) → u .account < k → sum (tab (λ a. ofAccount a u) k n) ≡ 0
-tab-none u k zero h = refl
-tab-none u k (suc n) h =
-    omega (arith, account-other k (u .account) (u .lots) (omega arith), tab-none u (suc k) n (omega arith))
+-- a number of an account's units alone
+abbrev pub onAccount : (Part → ℕ) → ℕ → Part → ℕ
+onAccount f a u = cond (eqb (u .account) a) (f u) 0
 
-tab-one : (u : Part) (k n : ℕ) → k ≤ u .account → u .account < k + n → sum (tab (λ a. ofAccount a u) k n) ≡ u .lots
-tab-one u k zero h l = absurd (omega arith)
-tab-one u k (suc n) h l =
+tab-none : (f : Part → ℕ) (u : Part) (k n : ℕ) → u .account < k → sum (tab (λ a. onAccount f a u) k n) ≡ 0
+tab-none f u k zero h = refl
+tab-none f u k (suc n) h = rw (ne-eqb (u .account) k (λ e. omega arith)) (omega (arith, tab-none f u (suc k) n (omega arith)))
+
+tab-one : (f : Part → ℕ) (u : Part) (k n : ℕ) → k ≤ u .account → u .account < k + n → sum (tab (λ a. onAccount f a u) k n) ≡ f u
+tab-one f u k zero h l = absurd (omega arith)
+tab-one f u k (suc n) h l =
     byTest (eqb (u .account) k)
-    (λ e.
-    let q = eqb-true (u .account) k e in
-    simp e (omega (arith, tab-none u (suc k) n (omega arith))))
-    (λ e.
-    let ne = eqb-false (u .account) k e in
-    simp e (omega (arith, tab-one u (suc k) n (omega arith) (omega arith))))
+    (λ e. let q = eqb-true (u .account) k e in simp e (omega (arith, tab-none f u (suc k) n (omega arith))))
+    (λ e. let ne = eqb-false (u .account) k e in simp e (omega (arith, tab-one f u (suc k) n (omega arith) (omega arith))))
 
--- each account's lots, summed over the accounts, are all lots
-pub by-account : (n : ℕ) (us : List Part) → Every (λ u. u .account < n) us → sum (tab (λ a. total (ofAccount a) us) 0 n) ≡ sumLots us
-by-account n [] ps = zeros 0 n
+-- each account's number, summed over the accounts, is that of all
+pub by-accounts : (f : Part → ℕ) (n : ℕ) (us : List Part) → Every (λ u. u .account < n) us →
+    sum (tab (λ a. total (onAccount f a) us) 0 n) ≡ total f us
+by-accounts f n [] ps = zeros 0 n
   where
     zeros : (k m : ℕ) → sum (tab (λ a. 0) k m) ≡ 0
     zeros k zero = refl
     zeros k (suc m) = omega (arith, zeros (suc k) m)
-by-account n (u ∷ us) ps =
+by-accounts f n (u ∷ us) ps =
     omega (
       arith,
-      tab-add (λ a. ofAccount a u) (λ a. total (ofAccount a) us) 0 n,
-      tab-one u 0 n (omega arith) (omega (arith, ps .0)),
-      by-account n us (ps .1),
+      tab-add (λ a. onAccount f a u) (λ a. total (onAccount f a) us) 0 n,
+      tab-one f u 0 n (omega arith) (omega (arith, ps .0)),
+      by-accounts f n us (ps .1),
     )
 
 -- a list by its places
-sum-tab : (f : ℕ → ℕ) (k : ℕ) (xs : List ℕ) → ((a : ℕ) → f (k + a) ≡ getD xs a 0) → sum (tab f k (length xs)) ≡ sum xs
+pub sum-tab : (f : ℕ → ℕ) (k : ℕ) (xs : List ℕ) → ((a : ℕ) → f (k + a) ≡ getD xs a 0) → sum (tab f k (length xs)) ≡ sum xs
 sum-tab f k [] h = refl
 sum-tab f k (x ∷ xs) h =
     let e : f k ≡ x = ap f (sym (add-zero k)) ∙ h 0 in
     omega (arith, sum-tab f (suc k) xs (λ a. ap f (suc-add k a ∙ sym (add-suc k a)) ∙ h (suc a)))
 
--- an order from its two facts
-pub order-of : (dues : List ℕ) (us : List Part) → Every UnitSized us → ((a : ℕ) → total (ofAccount a) us ≡ getD dues a 0) → Order dues us
-order-of dues us ss h =
+-- an order from its three facts
+pub order-of : (dues : List ℕ) (us : List Part) → Every UnitSized us → ((a : ℕ) → total (ofAccount a) us ≡ getD dues a 0) →
+    ((a : ℕ) → total (ofSmall unitLots (isOf a)) us ≤ 1) → Order dues us
+order-of dues us ss h one =
     record {
       sized = ss;
       accounts = accounts;
       due = h;
-      whole = sym (by-account (length dues) us accounts)
+      whole = sym (by-accounts (λ u. u .lots) (length dues) us accounts)
           ∙ sum-tab (λ a. total (ofAccount a) us) 0 dues (λ a. ap (λ n. total (ofAccount n) us) (zero-add a) ∙ h a);
+      small = one;
     }
   where
     accounts : Every (λ u. u .account < length dues) us
@@ -80,3 +85,50 @@ order-of dues us ss h =
         let z = List·getD-eq-default dues 0 (ltb-false (u .account) (length dues) e) in
         absurd (omega (arith, p .0, h (u .account)))))
         us ss (share us us (λ a. omega arith))
+
+-- The paper's units: of an account there is one small unit at most
+
+none-above : (a : ℕ) (us : List Part) → Every (λ v. a < v .account) us → total (isOf a) us ≡ 0
+none-above a [] ps = refl
+none-above a (u ∷ us) ps = rw (ne-eqb (u .account) a (λ e. omega (arith, ps .0)), none-above a us (ps .1))
+
+once-rising : (a : ℕ) (us : List Part) → Rising us → total (isOf a) us ≤ 1
+once-rising a [] rs = omega arith
+once-rising a (u ∷ us) rs =
+    byTest (eqb (u .account) a)
+    (λ e. simp (e, none-above a us (rw (eqb-true (u .account) a e) at (rs .0))) (omega arith))
+    (λ e. simp e (omega (arith, once-rising a us (rs .1))))
+
+small-fulls : (size : ℕ) (f : Part → ℕ) (rs : List Part) → total (ofSmall size f) (fulls size rs) ≡ 0
+small-fulls size f [] = refl
+small-fulls size f (r ∷ rs) =
+    let u = part (r .account) size in
+    let z : ofSmall size f u ≡ 0 = rw (le-leb size size (omega arith)) in
+    total-append (ofSmall size f) (replicate (r .lots / size) u) (fulls size rs)
+    ∙ rw (total-replicate (ofSmall size f) (r .lots / size) u, z, mul-zero, small-fulls size f rs)
+
+small-le : (size a : ℕ) (us : List Part) → total (ofSmall size (isOf a)) us ≤ total (isOf a) us
+small-le size a [] = omega arith
+small-le size a (u ∷ us) =
+    either (λ n. n + total (ofSmall size (isOf a)) us ≤ isOf a u + total (isOf a) us) (leb size (u .lots))
+    (omega (arith, small-le size a us)) (omega (arith, small-le size a us))
+
+units-small : (size a : ℕ) (dues : List ℕ) → total (ofSmall size (isOf a)) (units size dues) ≤ 1
+unfolding units
+units-small size a dues =
+    let rs = receivers dues in
+    let ss = smalls size rs in
+    omega (
+      arith,
+      total-append (ofSmall size (isOf a)) (fulls size (largestFirst rs)) (largestFirst ss),
+      small-fulls size (isOf a) (largestFirst rs),
+      small-le size a (largestFirst ss),
+      total-sort (isOf a) ss,
+      once-rising a ss (rising-smalls size rs (rising-parts 0 dues)),
+    )
+
+-- the paper's order is one
+pub units-order : (dues : List ℕ) → Order dues (units unitLots dues)
+units-order dues =
+    order-of dues (units unitLots dues) (units-sized unitLots (lit< tt) dues) (λ a. units-account unitLots a dues)
+    (λ a. units-small unitLots a dues)

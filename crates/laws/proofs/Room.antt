@@ -1,27 +1,114 @@
--- 4,096 words are enough for the records of one call. An issue's fails are fewer than its shortfalls and
--- stretches together, and an account is deliverer or receiver, not both. A delivery's units are full but for at
--- most one an account.
-use mathlib.Core.Path.{_≡_, refl, ap, _∙_}
+-- 4,096 words are enough for the records of one call, whatever the order of units. An account has at most two
+-- stretches, of its full units and of its small one; an issue's fails are fewer than its shortfalls and stretches
+-- together, and an account is deliverer or receiver, not both. A delivery's units are full but for one an account.
+use mathlib.Core.Path.{_≡_, refl, sym, ap, _∙_}
 use mathlib.Core.List.{List, [], _∷_, map}
-use Prim.Native.Nat.{ℕ, zero, suc, _+_, _-_, _*_, _/_, _%_, _≤_, _<_, min}
+use Prim.Native.Nat.{ℕ, zero, suc, _+_, _-_, _*_, _≤_, _<_, min}
 use native.Mathlib.Omega.{arith}
-use lib.Dec.{lit<}
+use native.Mathlib.Nat.{zero-add}
+use lib.Dec.{leb, eqb}
 use lib.IntN.{ℤ, pos, negsuc}
-use lib.ListN.{length, replicate, length-map, length-append}
+use lib.ListN.{length, getD, length-map, length-append, List·getD-map}
+use borrow.Author.Tests.{leb-true, eqb-true, eqb-false}
 use Rattle.rules.specs.Measures.{total, sum, dueOf, owedOf, unitLots, mostLots, issueCount, outputWords}
-use Rattle.rules.specs.Units.{Part, part, put, parts, sumLots, largestFirst, receivers, fulls, smalls, units}
+use Rattle.rules.specs.Units.{Part, parts, sumLots, receivers}
 use Rattle.rules.specs.Handover.{covered, waiting, handovers, partials}
 use Rattle.rules.specs.Fails.{stretches, lacks, shorts, shortfalls, fails}
 use Rattle.rules.specs.Book.{tab, row, duesOf, owedsOf, deliveredTotal, orderIn}
 use Rattle.rules.specs.Records.{handover, recordOf}
 use Rattle.rules.specs.Calls.{deliverRecords, issuePartials, issueFails, failEntry, issueRecords, cutoffRecords, joined}
-use Rattle.laws.proofs.Basics.{total-append, total-replicate, total-sort, total-take-le, total-drop-le, length-put}
-use Rattle.laws.proofs.Units.{Order, units-order}
+use Rattle.laws.proofs.Basics.{byTest, Every, total-take-le, total-drop-le, length-put}
+use Rattle.laws.proofs.Units.{UnitSized, Order, ofSmall, isOf}
 use Rattle.laws.proofs.Handover.{partials-length, order-stock, handovers-sum}
 use Rattle.laws.proofs.Fails.{nonzero, nonzero-le, overlaps-count}
-use Rattle.laws.proofs.Stretches.{lacks-length}
-use Rattle.laws.proofs.Runs.{smalls-parts, units-stretches}
-use Rattle.laws.proofs.Cutoff.{SoundRow, dues, oweds, delivered-due, shorts-lacks}
+use Rattle.laws.proofs.Stretches.{every-stretches, account-stretches, lacks-length}
+use Rattle.laws.proofs.Cutoff.{SoundRow, dues, oweds, delivered-due, shorts-lacks, order-due}
+use Rattle.laws.proofs.Orders.{onAccount, tab-add, by-accounts, sum-tab}
+
+-- what a unit lacks of a full one
+pub gap : Part → ℕ
+gap u = unitLots - u .lots
+
+-- Stretches and gaps of an order
+
+tab-le : (f g : ℕ → ℕ) (k n : ℕ) → ((a : ℕ) → f a ≤ g a) → sum (tab f k n) ≤ sum (tab g k n)
+tab-le f g k zero h = omega arith
+tab-le f g k (suc n) h = omega (arith, h k, tab-le f g (suc k) n h)
+
+count-parts : (k : ℕ) (xs : List ℕ) → length (parts k xs) ≡ sum (map (min 1) xs)
+count-parts k [] = refl
+count-parts k (x ∷ xs) = omega (arith, length-put k x (parts (suc k) xs), count-parts (suc k) xs)
+
+-- receivers, counted by account
+receivers-count : (dues : List ℕ) → length (receivers dues) ≡ sum (tab (λ a. min 1 (getD dues a 0)) 0 (length dues))
+receivers-count dues =
+    count-parts 0 dues
+    ∙ sym (sum-tab (λ a. min 1 (getD dues a 0)) 0 (map (min 1) dues)
+    (λ a. ap (λ n. min 1 (getD dues n 0)) (zero-add a) ∙ sym (List·getD-map (min 1) dues a 0)))
+    ∙ ap (λ n. sum (tab (λ a. min 1 (getD dues a 0)) 0 n)) (length-map dues (min 1))
+
+none-due : (dues : List ℕ) (a : ℕ) (vs : List Part) → getD dues a 0 ≡ 0 → Every (λ v. 1 ≤ getD dues (v .account) 0) vs →
+    total (isOf a) vs ≡ 0
+none-due dues a [] z ps = refl
+none-due dues a (v ∷ vs) z ps =
+    byTest (eqb (v .account) a)
+    (λ e. absurd (omega (arith, ap (λ n. getD dues n 0) (eqb-true (v .account) a e), ps .0)))
+    (λ e. simp e (omega (arith, none-due dues a vs z (ps .1))))
+
+count-one : (vs : List Part) → total (λ v. 1) vs ≡ length vs
+count-one [] = refl
+count-one (v ∷ vs) = omega (arith, count-one vs)
+
+module _ (xs : List ℕ) (us : List Part) (o : Order xs us) where
+  -- at most two stretches a receiver
+  order-stretches : length (stretches unitLots us) ≤ 2 * length (receivers xs)
+  order-stretches =
+      let vs = stretches unitLots us in
+      let n = length xs in
+      let rs = every-stretches unitLots (λ a. 1 ≤ getD xs a 0) us (order-due xs us o) in
+      let one : ℕ → ℕ = λ a. min 1 (getD xs a 0) in
+      let two : (a : ℕ) → total (isOf a) vs ≤ one a + one a =
+      (λ a.
+      byTest (eqb (getD xs a 0) 0)
+      (λ e. omega (arith, none-due xs a vs (eqb-true (getD xs a 0) 0 e) rs))
+      (λ e. let ne = eqb-false (getD xs a 0) 0 e in omega (arith, account-stretches unitLots a us, o .small a))) in
+      omega (
+        arith,
+        receivers-count xs,
+        by-accounts (λ v. 1) n vs (every-stretches unitLots (λ a. a < n) us (o .accounts)),
+        count-one vs,
+        tab-le (λ a. total (isOf a) vs) (λ a. one a + one a) 0 n two,
+        tab-add one one 0 n,
+      )
+
+  -- the gaps are at most one unit an account
+  order-gaps : total gap us ≤ unitLots * length xs
+  unfolding gap
+  order-gaps =
+      let n = length xs in
+      omega (
+        arith,
+        gaps us (o .sized),
+        by-accounts (ofSmall unitLots (λ v. 1)) n us (o .accounts),
+        tab-le (λ a. total (onAccount (ofSmall unitLots (λ v. 1)) a) us) (λ a. 1) 0 n (λ a. omega (arith, same a us, o .small a)),
+        ones 0 n,
+      )
+    where
+      gaps : (vs : List Part) → Every UnitSized vs → total gap vs ≤ unitLots * total (ofSmall unitLots (λ v. 1)) vs
+      gaps [] ps = omega arith
+      gaps (v ∷ vs) ps =
+          byTest (leb unitLots (v .lots))
+          (λ e. simp e (omega (arith, leb-true unitLots (v .lots) e, gaps vs (ps .1))))
+          (λ e. simp e (omega (arith, gaps vs (ps .1))))
+      same : (a : ℕ) (vs : List Part) → total (onAccount (ofSmall unitLots (λ v. 1)) a) vs ≡ total (ofSmall unitLots (isOf a)) vs
+      same a [] = refl
+      same a (v ∷ vs) =
+          byTest (leb unitLots (v .lots))
+          (λ e. byTest (eqb (v .account) a) (λ q. simp (e, q, zero-add) (same a vs)) (λ q. simp (e, q, zero-add) (same a vs)))
+          (λ e. byTest (eqb (v .account) a) (λ q. simp (e, q) (ap (λ n. 1 + n) (same a vs))) (λ q. simp (e, q, zero-add) (same a vs)))
+      ones : (k n : ℕ) → sum (tab (λ a. 1) k n) ≡ n
+      ones k zero = refl
+      ones k (suc n) = omega (arith, ones (suc k) n)
 
 -- Fails of an issue
 
@@ -53,15 +140,14 @@ nonzero-sum : (vs : List Part) → (min 1 (sumLots vs) ≤ nonzero vs) × (nonze
 nonzero-sum [] = (omega arith, omega arith)
 nonzero-sum (v ∷ vs) = let h = nonzero-sum vs in (omega arith, omega arith)
 
--- with at most two stretches a receiver, n accounts have at most 2 (n − 1) fails
-pub fails-few : (nets : List ℤ) (delivered : List ℕ) (us : List Part) (size : ℕ) → Order (dues nets) us → SoundRow nets delivered →
-    length (stretches size us) ≤ 2 * length (receivers (dues nets)) →
-    length (fails size us (oweds nets) delivered) ≤ 2 * (length nets - 1)
+-- n accounts have at most 2 (n − 1) fails
+pub fails-few : (nets : List ℤ) (delivered : List ℕ) (us : List Part) → Order (dues nets) us → SoundRow nets delivered →
+    length (fails unitLots us (oweds nets) delivered) ≤ 2 * (length nets - 1)
 unfolding fails
-fails-few nets delivered us size o r h =
+fails-few nets delivered us o r =
     let ss = shortfalls (oweds nets) delivered in
-    let vs = lacks size us (sum delivered) in
-    let e = shorts-lacks nets delivered us o r size in
+    let vs = lacks unitLots us (sum delivered) in
+    let e = shorts-lacks nets delivered us o r unitLots in
     omega (
       arith,
       overlaps-count ss vs e,
@@ -69,19 +155,15 @@ fails-few nets delivered us size o r h =
       nonzero-sum vs,
       nonzero-le ss,
       nonzero-le vs,
-      lacks-length size us (sum delivered),
+      lacks-length unitLots us (sum delivered),
+      order-stretches (dues nets) us o,
       sides 0 nets delivered,
     )
 
--- of 64 accounts with the paper's units: at most 126
-pub issue-fails : (nets : List ℤ) (delivered : List ℕ) → length nets ≡ 64 → SoundRow nets delivered →
-    length (fails unitLots (units unitLots (dues nets)) (oweds nets) delivered) ≤ 126
-issue-fails nets delivered n r =
-    omega (
-      arith,
-      fails-few nets delivered (units unitLots (dues nets)) unitLots (units-order (dues nets)) r
-          (units-stretches unitLots (lit< tt) (dues nets)),
-    )
+-- of 64 accounts: at most 126
+pub issue-fails : (nets : List ℤ) (delivered : List ℕ) (us : List Part) → Order (dues nets) us → length nets ≡ 64 →
+    SoundRow nets delivered → length (fails unitLots us (oweds nets) delivered) ≤ 126
+issue-fails nets delivered us o n r = omega (arith, fails-few nets delivered us o r)
 
 -- Records of a cutoff
 
@@ -95,12 +177,13 @@ length-joined g m k (suc n) h =
       length-joined g m (suc k) n (λ i l. h i (omega arith)),
     )
 
-module _ (today : ℕ) (nets : List ℤ) (delivered : List ℕ) where
+-- of the issues' orders
+module _ (today : ℕ) (nets : List ℤ) (delivered : List ℕ) (o : (i : ℕ) → Order (duesOf nets i) (orderIn nets i)) where
   pub issue-records : (i : ℕ) → length (row i nets) ≡ 64 → SoundRow (row i nets) (row i delivered) →
       length (issueRecords today nets delivered i) ≤ 127
-  unfolding issuePartials issueFails orderIn
+  unfolding issuePartials issueFails
   issue-records i n r =
-      let us = units unitLots (duesOf nets i) in
+      let us = orderIn nets i in
       let d = deliveredTotal delivered i in
       let fs = fails unitLots us (owedsOf nets i) (row i delivered) in
       omega (
@@ -110,7 +193,7 @@ module _ (today : ℕ) (nets : List ℤ) (delivered : List ℕ) where
         length-map (map (failEntry today i) fs) (recordOf 12),
         length-map fs (failEntry today i),
         partials-length us d,
-        issue-fails (row i nets) (row i delivered) n r,
+        issue-fails (row i nets) (row i delivered) us (o i) n r,
       )
 
   -- 16 issues have at most 16 × 127 records
@@ -125,76 +208,34 @@ module _ (today : ℕ) (nets : List ℤ) (delivered : List ℕ) where
 
 -- Records of a delivery
 
--- what a unit lacks of a full one
-pub gap : Part → ℕ
-gap u = unitLots - u .lots
-
 -- so many units have so many lots, or gaps
 pub many : (us : List Part) → length us * unitLots ≤ sumLots us + total gap us
 unfolding gap
 many [] = omega arith
 many (u ∷ us) = omega (arith, many us)
 
-gap-fulls : (rs : List Part) → total gap (fulls unitLots rs) ≡ 0
-unfolding gap
-gap-fulls [] = refl
-gap-fulls (r ∷ rs) =
-    omega (
-      arith,
-      total-append gap (replicate (r .lots / unitLots) (part (r .account) unitLots)) (fulls unitLots rs),
-      total-replicate gap (r .lots / unitLots) (part (r .account) unitLots),
-      gap-fulls rs,
-    )
-
-gap-put : (a x : ℕ) (us : List Part) → total gap (put a x us) ≤ unitLots + total gap us
-unfolding gap
-gap-put a zero us = omega arith
-gap-put a (suc n) us = omega arith
-
-gap-parts : (k : ℕ) (xs : List ℕ) → total gap (parts k xs) ≤ unitLots * length xs
-gap-parts k [] = omega arith
-gap-parts k (x ∷ xs) = omega (arith, gap-put k x (parts (suc k) xs), gap-parts (suc k) xs)
-
--- the gaps of an issue's units are at most one unit an account
-pub gap-units : (xs : List ℕ) → total gap (units unitLots xs) ≤ unitLots * length xs
-unfolding units
-gap-units xs =
-    let rs = receivers xs in
-    omega (
-      arith,
-      total-append gap (fulls unitLots (largestFirst rs)) (largestFirst (smalls unitLots rs)),
-      gap-fulls (largestFirst rs),
-      total-sort gap (smalls unitLots rs),
-      ap (total gap) (smalls-parts unitLots 0 xs),
-      gap-parts 0 (map (λ x. x % unitLots) xs),
-      length-map xs (λ x. x % unitLots),
-    )
-
--- a delivery hands over at most 264 units
-pub handovers-few : (xs : List ℕ) (d x : ℕ) → length xs ≡ 64 → x ≤ mostLots → d ≤ sum xs →
-    length (handovers (units unitLots xs) d x) ≤ 264
+-- a delivery hands over at most 264 units of an order
+pub handovers-few : (xs : List ℕ) (us : List Part) (d x : ℕ) → Order xs us → length xs ≡ 64 → x ≤ mostLots → d ≤ sum xs →
+    length (handovers us d x) ≤ 264
 unfolding handovers
-handovers-few xs d x n h g =
-    let us = units unitLots xs in
+handovers-few xs us d x o n h g =
     let new = handovers us d x in
     omega (
       arith,
       many new,
       handovers-sum us d x,
-      order-stock xs us d (units-order xs) g,
+      order-stock xs us d o g,
       total-take-le gap (covered us (d + x) - covered us d) (waiting us d),
       total-drop-le gap (covered us d) us,
-      gap-units xs,
+      order-gaps xs us o,
     )
 
-pub deliver-room : (nets : List ℤ) (delivered : List ℕ) (i x : ℕ) → length (row i nets) ≡ 64 → SoundRow (row i nets) (row i delivered) →
-    x ≤ mostLots → 2 * length (deliverRecords nets delivered i x) ≤ outputWords
-unfolding orderIn
-deliver-room nets delivered i x n r h =
-    let hs = handovers (units unitLots (duesOf nets i)) (deliveredTotal delivered i) x in
+pub deliver-room : (nets : List ℤ) (delivered : List ℕ) (i x : ℕ) → Order (duesOf nets i) (orderIn nets i) → length (row i nets) ≡ 64 →
+    SoundRow (row i nets) (row i delivered) → x ≤ mostLots → 2 * length (deliverRecords nets delivered i x) ≤ outputWords
+deliver-room nets delivered i x o n r h =
     omega (
       arith,
-      length-map hs (handover i),
-      handovers-few (duesOf nets i) (deliveredTotal delivered i) x (length-map (row i nets) dueOf ∙ n) h
+      length-map (handovers (orderIn nets i) (deliveredTotal delivered i) x) (handover i),
+      handovers-few (duesOf nets i) (orderIn nets i) (deliveredTotal delivered i) x o (length-map (row i nets) dueOf ∙ n) h
           (delivered-due (row i nets) (row i delivered) r),
     )

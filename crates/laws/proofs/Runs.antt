@@ -5,18 +5,17 @@ use mathlib.Core.Bool.{true}
 use mathlib.Core.List.{List, [], _∷_, _++_, map, append-assoc}
 use Prim.Native.Nat.{ℕ, zero, suc, _+_, _*_, _/_, _%_, _≤_, _<_}
 use native.Mathlib.Omega.{arith}
-use native.Mathlib.Nat.{add-zero, zero-sub, sub-zero, zero-mod, zero-mul, mul-zero, one-mul, suc-mul}
+use native.Mathlib.Nat.{add-zero, zero-sub, sub-zero, zero-mod, zero-mul, one-mul, suc-mul}
 use lib.Dec.{leb, eqb}
-use lib.ListN.{length, replicate, length-append, length-map}
-use borrow.Author.Tests.{le-leb, lt-leb, eqb-true, eq-eqb, ne-eqb}
-use Rattle.rules.specs.Measures.{total}
+use lib.ListN.{replicate}
+use borrow.Author.Tests.{le-leb, lt-leb, eq-eqb}
 use Rattle.rules.specs.Units.{Part, part, put, parts, largestFirst, receivers, fulls, smalls, units}
 use Rattle.rules.specs.Fails.{isFullOf, stretches, skip, lacks}
-use Rattle.laws.proofs.Basics.{byTest, either, Every, and-both, total-append, total-replicate, total-sort, put-pos, put-append, length-put, length-sort, each-append, each-map, each-put, each-sort}
+use Rattle.laws.proofs.Basics.{Every, and-both, put-pos, put-append, each-append, each-map, each-put, each-sort}
 use Rattle.laws.proofs.Units.{Small, smalls-small}
-use Rattle.laws.proofs.Overlaps.{skip0-append, skip0-some, skip-skip0, length-skip}
-use Rattle.laws.proofs.Stretches.{NotFull, without-none, full-lots-none, ofSmall, isOf, account-stretches}
-use Rattle.laws.proofs.Ranking.{Distinct, Rising, distinct-sort, rising-parts, rising-smalls}
+use Rattle.laws.proofs.Overlaps.{skip0-append, skip0-some, skip-skip0}
+use Rattle.laws.proofs.Stretches.{NotFull, without-none, full-lots-none}
+use Rattle.laws.proofs.Ranking.{Distinct, distinct-sort, rising-parts}
 use Rattle.laws.proofs.Joins.{not-full, not-full-other, lacks-units}
 
 -- a receiver's full units together
@@ -92,68 +91,3 @@ stretches-runs size h dues =
 pub lacks-runs : (size : ℕ) → 0 < size → (dues : List ℕ) (d : ℕ) → lacks size (units size dues) d ≡ skip d (runs size dues)
 lacks-runs size h dues d =
     lacks-units size h dues d ∙ ap (skip d) (stretches-runs size h dues) ∙ skip-skip0 d (runs size dues)
-
--- Their number: at most two a receiver
-
-length-smalls : (size : ℕ) (rs : List Part) → length (smalls size rs) ≤ length rs
-length-smalls size [] = omega arith
-length-smalls size (r ∷ rs) = omega (arith, length-put (r .account) (r .lots % size) (smalls size rs), length-smalls size rs)
-
-pub runs-length : (size : ℕ) (dues : List ℕ) → length (runs size dues) ≤ 2 * length (receivers dues)
-unfolding runs
-runs-length size dues =
-    let rs = receivers dues in
-    omega (
-      arith,
-      length-append (map (fullRun size) (largestFirst rs)) (largestFirst (smalls size rs)),
-      length-map (largestFirst rs) (fullRun size),
-      length-sort rs,
-      length-sort (smalls size rs),
-      length-smalls size rs,
-    )
-
-pub units-stretches : (size : ℕ) → 0 < size → (dues : List ℕ) → length (stretches size (units size dues)) ≤ 2 * length (receivers dues)
-units-stretches size h dues =
-    omega (arith, ap length (stretches-runs size h dues), length-skip 0 (runs size dues), runs-length size dues)
-
--- Of one account: at most one of full units and one small
-
-none-above : (a : ℕ) (us : List Part) → Every (λ v. a < v .account) us → total (isOf a) us ≡ 0
-none-above a [] ps = refl
-none-above a (u ∷ us) ps = rw (ne-eqb (u .account) a (λ e. omega (arith, ps .0)), none-above a us (ps .1))
-
-once-rising : (a : ℕ) (us : List Part) → Rising us → total (isOf a) us ≤ 1
-once-rising a [] rs = omega arith
-once-rising a (u ∷ us) rs =
-    byTest (eqb (u .account) a)
-    (λ e. simp (e, none-above a us (rw (eqb-true (u .account) a e) at (rs .0))) (omega arith))
-    (λ e. simp e (omega (arith, once-rising a us (rs .1))))
-
-small-fulls : (size : ℕ) (f : Part → ℕ) (rs : List Part) → total (ofSmall size f) (fulls size rs) ≡ 0
-small-fulls size f [] = refl
-small-fulls size f (r ∷ rs) =
-    let u = part (r .account) size in
-    let z : ofSmall size f u ≡ 0 = rw (le-leb size size (omega arith)) in
-    total-append (ofSmall size f) (replicate (r .lots / size) u) (fulls size rs)
-    ∙ rw (total-replicate (ofSmall size f) (r .lots / size) u, z, mul-zero, small-fulls size f rs)
-
-small-le : (size a : ℕ) (us : List Part) → total (ofSmall size (isOf a)) us ≤ total (isOf a) us
-small-le size a [] = omega arith
-small-le size a (u ∷ us) =
-    either (λ n. n + total (ofSmall size (isOf a)) us ≤ isOf a u + total (isOf a) us) (leb size (u .lots))
-    (omega (arith, small-le size a us)) (omega (arith, small-le size a us))
-
-pub two-stretches : (size a : ℕ) (dues : List ℕ) → total (isOf a) (stretches size (units size dues)) ≤ 2
-unfolding units
-two-stretches size a dues =
-    let rs = receivers dues in
-    let ss = smalls size rs in
-    omega (
-      arith,
-      account-stretches size a (fulls size (largestFirst rs) ++ largestFirst ss),
-      total-append (ofSmall size (isOf a)) (fulls size (largestFirst rs)) (largestFirst ss),
-      small-fulls size (isOf a) (largestFirst rs),
-      small-le size a (largestFirst ss),
-      total-sort (isOf a) ss,
-      once-rising a ss (rising-smalls size rs (rising-parts 0 dues)),
-    )

@@ -12,7 +12,8 @@ use Rattle.rules.specs.Handover.{stock}
 use Rattle.rules.specs.Book.{row, duesOf, owedsOf, deliveredTotal, orderIn}
 use Rattle.rules.specs.Calls.{deliverRecords, issueFails, cutoffRecords}
 use Rattle.laws.proofs.Basics.{Every, each-map, each-take, each-drop}
-use Rattle.laws.proofs.Units.{Order, units-order}
+use Rattle.laws.proofs.Units.{Order}
+use Rattle.laws.proofs.Orders.{units-order}
 use Rattle.laws.proofs.Handover.{order-stock}
 use Rattle.laws.proofs.Fails.{Bounded, each-of-map}
 use Rattle.laws.proofs.Cutoff.{SoundRow, Deliverer, Receiver, delivered-due, fails-bounded}
@@ -21,7 +22,7 @@ use Rattle.laws.proofs.Cells.{length-row, within-row}
 use Rattle.laws.proofs.Signed.{size-of}
 use Rattle.laws.proofs.Sound.{SoundBook, parts-balanced}
 
--- the order of an issue has what laws assume of an order
+-- the order of an issue has what laws assume of an order: here alone is it known that it is `units`
 pub order-in : (nets : List ℤ) (i : ℕ) → Order (duesOf nets i) (orderIn nets i)
 unfolding orderIn
 order-in nets i = units-order (duesOf nets i)
@@ -63,13 +64,14 @@ module _ (b : Book) (s : SoundBook b) (n : length (b .nets) ≡ 1024) (d : lengt
 
     -- and are at most 126
     pub issue-few : length (issueFails (b .nets) (b .delivered) i) ≤ 126
-    unfolding issueFails orderIn
-    issue-few = issue-fails (row i (b .nets)) (row i (b .delivered)) (length-row (b .nets) i n h) sound-row
+    unfolding issueFails
+    issue-few =
+        issue-fails (row i (b .nets)) (row i (b .delivered)) (orderIn (b .nets) i) (order-in (b .nets) i) (length-row (b .nets) i n h) sound-row
 
     -- the records of a delivery fit
     pub deliver-fits : (x : ℕ) → x ≤ mostLots → 2 * length (deliverRecords (b .nets) (b .delivered) i x) ≤ outputWords
-    deliver-fits x l = deliver-room (b .nets) (b .delivered) i x (length-row (b .nets) i n h) sound-row l
+    deliver-fits x l = deliver-room (b .nets) (b .delivered) i x (order-in (b .nets) i) (length-row (b .nets) i n h) sound-row l
 
   -- and so do those of a cutoff
   pub cutoff-fits : 2 * length (cutoffRecords (b .day) (b .nets) (b .delivered)) ≤ outputWords
-  cutoff-fits = cutoff-room (b .day) (b .nets) (b .delivered) (λ i h. length-row (b .nets) i n h) (λ i h. sound-row i h)
+  cutoff-fits = cutoff-room (b .day) (b .nets) (b .delivered) (order-in (b .nets)) (λ i h. length-row (b .nets) i n h) (λ i h. sound-row i h)

@@ -1,7 +1,7 @@
 -- Stretches of any list of units: a stretch takes up the lots of the full units that it joins, so sums stay;
 -- of an account there is one stretch of full units at most, and small units are left as they are.
 use mathlib.Core.Path.{_≡_, refl, sym, ap, _∙_}
-use mathlib.Core.Bool.{true, false, cond, false≢true}
+use mathlib.Core.Bool.{true, false, false≢true}
 use mathlib.Core.List.{List, [], _∷_}
 use Prim.Native.Nat.{ℕ, zero, suc, _+_, _-_, _≤_}
 use native.Mathlib.Omega.{arith}
@@ -14,6 +14,7 @@ use Rattle.rules.specs.Units.{Part, part, sumLots}
 use Rattle.rules.specs.Handover.{covered, stock, waiting}
 use Rattle.rules.specs.Fails.{isFullOf, fullLots, withoutFulls, join, stretches, lacks}
 use Rattle.laws.proofs.Basics.{byTest, either, and-left, and-right, Every, each-drop}
+use Rattle.laws.proofs.Units.{ofSmall, isOf}
 use Rattle.laws.proofs.Overlaps.{Additive, additive-zero, sum-skip, every-skip, length-skip}
 use Rattle.laws.proofs.Handover.{handed-stock, total-handed}
 
@@ -153,11 +154,6 @@ stretches-drop size (suc k) [] = omega arith
 stretches-drop size (suc k) (u ∷ us) =
     omega (arith, join-more size u (stretches size us) (one-stretches size us), stretches-drop size k us)
 
-pub stretches-few : (size : ℕ) (us : List Part) → length (stretches size us) ≤ length us
-stretches-few size [] = omega arith
-stretches-few size (u ∷ us) =
-    omega (arith, join-more size u (stretches size us) (one-stretches size us), stretches-few size us)
-
 pub lacks-length : (size : ℕ) (us : List Part) (d : ℕ) → length (lacks size us d) ≤ length (stretches size us)
 unfolding lacks
 lacks-length size us d =
@@ -166,13 +162,6 @@ lacks-length size us d =
       length-skip (stock us d) (stretches size (waiting us d)),
       stretches-drop size (covered us d) us,
     )
-
--- what is counted of small units alone
-abbrev pub ofSmall : ℕ → (Part → ℕ) → Part → ℕ
-ofSmall size f v = cond (leb size (v .lots)) 0 (f v)
-
-abbrev pub isOf : ℕ → Part → ℕ
-isOf a v = cond (eqb (v .account) a) 1 0
 
 small-without : (size : ℕ) (f : Part → ℕ) (a : ℕ) (vs : List Part) → total (ofSmall size f) (withoutFulls size a vs) ≡ total (ofSmall size f) vs
 small-without size f a [] = refl

@@ -1,16 +1,17 @@
 -- The units of accounts with any dues, for any size of a unit: their sums, sizes and accounts. Full and
 -- small units of a receiver are its quotient and its remainder by the size, and sorting changes no sum.
 use mathlib.Core.Path.{_≡_, refl, sym, ap, _∙_}
+use mathlib.Core.Bool.{cond}
 use mathlib.Core.List.{List, [], _∷_}
 use Prim.Native.Nat.{ℕ, zero, suc, _+_, _*_, _/_, _%_, _≤_, _<_}
 use native.Mathlib.Omega.{arith}
 use native.Mathlib.Nat.{div-add-mod', mod-lt, mul-assoc, add-mul, zero-add, add-zero, add-suc, suc-add}
-use lib.Dec.{eqb, lit<}
+use lib.Dec.{leb, eqb}
 use lib.ListN.{length, getD, replicate}
 use borrow.Author.Tests.{ne-eqb, eq-eqb}
 use Rattle.rules.specs.Measures.{total, sum, unitLots}
 use Rattle.rules.specs.Units.{Part, part, put, parts, sumLots, ofAccount, largestFirst, receivers, fulls, smalls, units}
-use Rattle.laws.proofs.Basics.{byTest, either, Every, total-append, total-replicate, total-put, total-add, total-sort, sum-parts, each-append, each-replicate, each-map, each-put, each-sort, every-of}
+use Rattle.laws.proofs.Basics.{byTest, either, Every, total-append, total-replicate, total-put, total-add, total-sort, each-append, each-replicate, each-put, each-sort, every-of}
 
 -- Sums
 
@@ -67,17 +68,9 @@ total-units size f l dues =
         ap (λ n. q * n) (l (u .account) size) ∙ sym (mul-assoc q size c) in
         rw (e, l (u .account) r, l (u .account) (u .lots)) (sym (add-mul (q * size) r c) ∙ ap (λ n. n * c) (div-add-mod' (u .lots) size))
 
-pub linear-lots : Linear (λ u. u .lots)
-unfolding Linear
-linear-lots a x = omega arith
-
 pub linear-account : (a : ℕ) → Linear (ofAccount a)
 unfolding Linear
 linear-account a b x = byTest (eqb b a) (λ e. simp e (omega arith)) (λ e. simp e (omega arith))
-
--- the units have the lots of the dues
-pub units-sum : (size : ℕ) (dues : List ℕ) → sumLots (units size dues) ≡ sum dues
-units-sum size dues = total-units size (λ u. u .lots) linear-lots dues ∙ sum-parts 0 dues
 
 pub account-put : (a k x : ℕ) (us : List Part) → total (ofAccount a) (put k x us) ≡ ofAccount a (part k x) + total (ofAccount a) us
 account-put a k x us = total-put (ofAccount a) k x us (either (λ n. n ≡ 0) (eqb k a) refl refl)
@@ -163,15 +156,12 @@ each-parts n k [] h = tt
 each-parts n k (x ∷ xs) h =
     each-put (λ v. v .account < n) k x (parts (suc k) xs) (λ p. omega arith) (each-parts n (suc k) xs (omega arith))
 
--- accounts of units are those of the dues
-pub units-accounts : (size : ℕ) (dues : List ℕ) → Every (λ v. v .account < length dues) (units size dues)
-units-accounts size dues =
-    let n = length dues in
-    let rs = receivers dues in
-    let ps = each-parts n 0 dues (omega arith) in
-    each-units (λ v. v .account < n) size dues
-    (each-fulls (λ v. v .account < n) size (largestFirst rs) (each-sort (λ v. v .account < n) rs ps))
-    (each-smalls (λ v. v .account < n) size rs (each-map (λ v. v .account < n) _ (λ v p q. p) rs ps))
+-- what is counted of small units alone
+abbrev pub ofSmall : ℕ → (Part → ℕ) → Part → ℕ
+ofSmall size f v = cond (leb size (v .lots)) 0 (f v)
+
+abbrev pub isOf : ℕ → Part → ℕ
+isOf a v = cond (eqb (v .account) a) 1 0
 
 -- What laws may assume of a list of units, whatever its order
 pub record Order (dues : List ℕ) (us : List Part) : Type 0 where
@@ -179,13 +169,5 @@ pub record Order (dues : List ℕ) (us : List Part) : Type 0 where
   pub accounts : Every (λ u. u .account < length dues) us
   pub due : (a : ℕ) → total (ofAccount a) us ≡ getD dues a 0
   pub whole : sumLots us ≡ sum dues
-
--- the paper's order has it
-pub units-order : (dues : List ℕ) → Order dues (units unitLots dues)
-units-order dues =
-    record {
-      sized = units-sized unitLots (lit< tt) dues;
-      accounts = units-accounts unitLots dues;
-      due = λ a. units-account unitLots a dues;
-      whole = units-sum unitLots dues;
-    }
+  -- an account has at most one small unit
+  pub small : (a : ℕ) → total (ofSmall unitLots (isOf a)) us ≤ 1

@@ -6,7 +6,7 @@ use Prim.Native.Nat.{ℕ, zero, suc, _<_}
 use native.Mathlib.Omega.{arith}
 use Rattle.rules.specs.Measures.{mostLots, between, valueOf, chargeOf}
 use Rattle.rules.specs.Questions.{ask, firstNo, priceRight, termRight}
-use Rattle.rules.specs.Calls.{amountAnswer, value, charge}
+use Rattle.rules.specs.Calls.{someYen, noYen, yenAnswer, value, charge}
 use Rattle.measures.specs.Range.{Priced, Termed}
 use Rattle.measures.proofs.Limits.{left, right, priced, termed}
 
@@ -28,12 +28,12 @@ together true true c = refl
 together true false c = refl
 together false b c = refl
 
-refused : (n y : ℕ) → 0 < n → record { refusal = n; yen = 0 } ≡ amountAnswer n y
+refused : (n y : ℕ) → 0 < n → noYen n ≡ yenAnswer n y
 refused zero y h = absurd (omega arith)
 refused (suc n) y h = refl
 
 module _ (x p n : ℕ) (e : n ≡ number (between 1 mostLots x) (priceRight p)) where
-  pub value-refused : 0 < n → record { refusal = n; yen = 0 } ≡ value x p
+  pub value-refused : 0 < n → noYen n ≡ value x p
   unfolding value
   value-refused h = rw (← e) (refused n (valueOf x p) h)
 
@@ -41,12 +41,12 @@ module _ (x p n : ℕ) (e : n ≡ number (between 1 mostLots x) (priceRight p)) 
     pub value-priced : Priced x p
     value-priced = let w = both-yes _ _ (sym e ∙ z) in priced x p (w .0) (w .1)
 
-    pub value-paid : (y : ℕ) → y ≡ valueOf x p → record { refusal = 0; yen = y } ≡ value x p
+    pub value-yen : (y : ℕ) → y ≡ valueOf x p → someYen y ≡ value x p
     unfolding value
-    value-paid y h = rw (← e, z, h)
+    value-yen y h = rw (← e, z, h)
 
 module _ (x p d r n : ℕ) (e : n ≡ number (between 1 mostLots x) (priceRight p && termRight d r)) where
-  pub charge-refused : 0 < n → record { refusal = n; yen = 0 } ≡ charge x p d r
+  pub charge-refused : 0 < n → noYen n ≡ charge x p d r
   unfolding charge
   charge-refused h = rw (together (between 1 mostLots x) (priceRight p) (termRight d r), ← e) (refused n (chargeOf x p d r) h)
 
@@ -56,6 +56,6 @@ module _ (x p d r n : ℕ) (e : n ≡ number (between 1 mostLots x) (priceRight 
         let w = both-yes _ _ (sym e ∙ z) in
         (priced x p (w .0) (left (priceRight p) (termRight d r) (w .1)), termed d r (right (priceRight p) (termRight d r) (w .1)))
 
-    pub charge-paid : (y : ℕ) → y ≡ chargeOf x p d r → record { refusal = 0; yen = y } ≡ charge x p d r
+    pub charge-yen : (y : ℕ) → y ≡ chargeOf x p d r → someYen y ≡ charge x p d r
     unfolding charge
-    charge-paid y h = rw (together (between 1 mostLots x) (priceRight p) (termRight d r), ← e, z, h)
+    charge-yen y h = rw (together (between 1 mostLots x) (priceRight p) (termRight d r), ← e, z, h)

@@ -8,7 +8,7 @@ ghost use mathlib.Core.List.{[], _∷_};
 ghost use Prim.Native.Nat.{_/_};
 ghost use Rattle.rules.specs.Measures.{between, mostLots};
 ghost use Rattle.rules.specs.Questions.{ask, firstNo, priceRight, termRight};
-ghost use Rattle.rules.specs.Calls.{paidAnswer, value as valueAnswer, charge as chargeAnswer};
+ghost use Rattle.rules.specs.Calls.{amountAnswer, value as valueAnswer, charge as chargeAnswer};
 ghost use Rattle.measures.specs.Range.{Priced, Termed, ValueIs, ChargeIs};
 
 const MOST_LOTS: u32 = 20_000_000;
@@ -86,24 +86,24 @@ pub fn charge_of(lots: u32, price: u32, days: u32, rate: u32) -> u64
 
 // The value of lots at a price, or refusal 7 (lots) or 11 (price).
 pub fn value(lots: Lots, price: u32) -> Amount
-    ensures { λ r. ⌜ paidAnswer r ≡ valueAnswer (lots .0) price ⌝ }
+    ensures { λ r. ⌜ amountAnswer r ≡ valueAnswer (lots .0) price ⌝ }
 {
     let n = lots.0;
     let no = refusal(lots_right(n), price_right(price));
     if 0 < no {
         return Amount::Refused(no);
     }
-    Amount::Paid(Yen(value_of(n, price)))
+    Amount::Yen(Yen(value_of(n, price)))
 }
 
 // The charge on lots at a price over days at a rate, or refusal 7 (lots) or 11 (price, days, rate).
 pub fn charge(lots: Lots, price: u32, days: u32, rate: u32) -> Amount
-    ensures { λ r. ⌜ paidAnswer r ≡ chargeAnswer (lots .0) price days rate ⌝ }
+    ensures { λ r. ⌜ amountAnswer r ≡ chargeAnswer (lots .0) price days rate ⌝ }
 {
     let n = lots.0;
     let no = refusal(lots_right(n), charge_right(price, days, rate));
     if 0 < no {
         return Amount::Refused(no);
     }
-    Amount::Paid(Yen(charge_of(n, price, days, rate)))
+    Amount::Yen(Yen(charge_of(n, price, days, rate)))
 }

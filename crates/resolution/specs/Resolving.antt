@@ -5,13 +5,12 @@ use mathlib.Core.List.{List, [], map}
 use Prim.Native.Nat.{ℕ, _+_, _-_, _*_, _≤_, _<_}
 use lib.ListN.{length, getD}
 use lib.Seq.{sets}
-use Rattle.rules.specs.declared.Book.{Book}
 use Rattle.rules.specs.declared.Entry.{Entry}
 use Rattle.rules.specs.Measures.{outputWords}
 use Rattle.rules.specs.Ledger.{entry, putEntry, isFrom, metBy, meet}
-use Rattle.rules.specs.Book.{all, entries, ledgerOf, withLedger, entrySound}
+use Rattle.rules.specs.Book.{all, entries, entrySound}
 use Rattle.rules.specs.Records.{recordOf, words, over}
-use Rattle.rules.specs.Calls.{Answer, answer, resolveRecords}
+use Rattle.rules.specs.Calls.{resolveRecords}
 use Rattle.ledger.specs.Columns.{EachPair, Columns, Whole, Held}
 use Rattle.resolution.specs.declared.Counts.{Counts}
 use Rattle.resolution.specs.declared.Turn.{Turn}
@@ -63,8 +62,3 @@ pub record Resolved (es : List Entry) (i a x : ℕ) (r : Counts) (is fs ts xs ds
   pub columns : Columns (meet (isFrom i a) x es) is fs ts xs ds
   pub records : r .records ≡ length (resolveRecords es i a x)
   pub written : out′ ≡ over (words (resolveRecords es i a x)) out
-
--- what resolve answers where no question is answered 'no'
-abbrev pub resolveAnswer : Book → ℕ → ℕ → ℕ → List ℕ → Answer
-resolveAnswer b i a x out =
-    answer 0 b out (withLedger b (meet (isFrom i a) x (ledgerOf b))) (resolveRecords (ledgerOf b) i a x)

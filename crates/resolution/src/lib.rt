@@ -1,7 +1,4 @@
 // Resolve and pair-off: the ledger's fails met, and set against one another.
-use rules::Book;
-use rules::Paired;
-use rules::Reply;
 ghost use mathlib.Core.Path.{_≡_};
 ghost use mathlib.Core.Bool.{true, cond, _&&_};
 ghost use mathlib.Core.List.{List, _++_};
@@ -11,11 +8,11 @@ ghost use lib.ListN.{length};
 ghost use Rattle.rules.specs.Ledger.{entry, isTo, lower, through, pairing};
 ghost use Rattle.rules.specs.Book.{entries, ledgerOf, sound};
 ghost use Rattle.rules.specs.Questions.{firstNo};
-ghost use Rattle.rules.specs.Calls.{AnswerIs, resolveAsks, resolve as resolveOf, pairOffAsks, PairAnswerIs, pairAnswer, pairOff};
+ghost use Rattle.rules.specs.Calls.{resolveAsks, pairOffAsks};
 ghost use Rattle.rules.specs.Measures.{outputWords};
 ghost use Rattle.ledger.specs.Columns.{Whole, Held, Kept};
-ghost use Rattle.resolution.specs.Pairs.{Pairable, CanFall, CanStep, WasStepped, WasPaired, FewSteps};
-ghost use Rattle.resolution.specs.Resolving.{resolveAnswer, Put, Recorded, CanMeet, WasMet, Resolvable, Resolved};
+ghost use Rattle.resolution.specs.Pairs.{Pairable, CanFall, CanStep, WasStepped, WasPaired};
+ghost use Rattle.resolution.specs.Resolving.{Put, Recorded, CanMeet, WasMet, Resolvable, Resolved};
 
 // What a resolve leaves: the number of entries in the ledger, and of records written.
 pub struct Counts {
@@ -193,68 +190,6 @@ pub fn pair_off_asks(i: u32, a: u32) -> u32
     0
 }
 
-// A resolve of a sound book whose questions are all answered 'yes'.
-fn resolve_book(b: Book, i: u32, a: u32, x: u32, out: &mut [u32]) -> Reply
-    requires { ⌜ (outputWords ≤ length (now out)) × (sound b ≡ true) ⌝ }
-    ensures { λ r. ⌜ AnswerIs (resolveAnswer b i a x (now (out .entry))) r (now (out .exit)) ⌝ }
-{
-    let count = b.count;
-    let mut issues = b.issues;
-    let mut froms = b.froms;
-    let mut tos = b.tos;
-    let mut lots = b.lots;
-    let mut days = b.days;
-    let left = resolve_in(
-        count,
-        &mut issues,
-        &mut froms,
-        &mut tos,
-        &mut lots,
-        &mut days,
-        i,
-        a,
-        x,
-        out,
-    );
-    let next = book::with_columns(b, left.entries, issues, froms, tos, lots, days);
-    Reply {
-        refusal: 0,
-        count: left.records,
-        book: next,
-    }
-}
-
-// Entries of issue i from account a are met by x lots in ledger order, and each gives one record.
-// A refusal gives its number, 0 records, and the book and the output as they were.
-pub fn resolve(b: Book, i: u32, a: u32, x: u32, out: &mut [u32]) -> Reply
-    ensures { λ r. ⌜ AnswerIs (resolveOf b i a x (now (out .entry))) r (now (out .exit)) ⌝ }
-{
-    if out.len() < 4096 {
-        return Reply {
-            refusal: 1,
-            count: 0,
-            book: b,
-        };
-    }
-    if !book::sound(b) {
-        return Reply {
-            refusal: 2,
-            count: 0,
-            book: b,
-        };
-    }
-    let count = b.count;
-    let no = resolve_asks(count, &b.issues, &b.froms, &b.lots, i, a, x);
-    if no != 0 {
-        return Reply {
-            refusal: no,
-            count: 0,
-            book: b,
-        };
-    }
-    resolve_book(b, i, a, x, out)
-}
-
 // What pair-off leaves: the steps made, the lots cancelled, the number of entries in the ledger.
 pub struct Steps {
     pub steps: usize,
@@ -403,63 +338,4 @@ pub fn pair_off_in(
         steps += 1;
         cancelled += s.lots as u64;
     }
-}
-
-// Pair-off of a sound book whose questions are all answered 'yes'.
-fn pair_off_book(b: Book, i: u32, a: u32) -> Paired
-    requires { ⌜ (i < 16) × (sound b ≡ true) ⌝ }
-    ensures { λ r. ⌜ PairAnswerIs (pairAnswer 0 b (pairing (b .day) i a (ledgerOf b))) r ⌝ }
-{
-    let count = b.count;
-    let today = b.day;
-    let mut issues = b.issues;
-    let mut froms = b.froms;
-    let mut tos = b.tos;
-    let mut lots = b.lots;
-    let mut days = b.days;
-    let made = pair_off_in(
-        count,
-        &mut issues,
-        &mut froms,
-        &mut tos,
-        &mut lots,
-        &mut days,
-        today,
-        i,
-        a,
-    );
-    let next = book::with_columns(b, made.count, issues, froms, tos, lots, days);
-    Paired {
-        refusal: 0,
-        steps: made.steps,
-        cancelled: made.cancelled,
-        book: next,
-    }
-}
-
-// Fails to account a in issue i are set against its fails from there, first against first; the answer
-// carries the steps made and the lots cancelled. A refusal gives its number, 0 steps and 0 lots, and
-// the book as it was.
-pub fn pair_off(b: Book, i: u32, a: u32) -> Paired
-    ensures answer { λ r. ⌜ PairAnswerIs (pairOff b i a) r ⌝ }
-    ensures few { λ r. ⌜ FewSteps b i a (r .steps) ⌝ }
-{
-    if !book::sound(b) {
-        return Paired {
-            refusal: 2,
-            steps: 0,
-            cancelled: 0,
-            book: b,
-        };
-    }
-    let no = pair_off_asks(i, a);
-    if no != 0 {
-        return Paired {
-            refusal: no,
-            steps: 0,
-            cancelled: 0,
-            book: b,
-        };
-    }
-    pair_off_book(b, i, a)
 }

@@ -1,16 +1,13 @@
-// roll: its questions, its effect in place, and the open call.
-use rules::Book;
+// roll: its questions, and its effect in place.
 use rules::Phase;
-use rules::Reply;
 ghost use mathlib.Core.Path.{_≡_};
-ghost use mathlib.Core.List.{[]};
 ghost use Prim.Native.Nat.{_+_, _<_};
 ghost use lib.ListN.{length, replicate};
 ghost use lib.IntN.{pos, _+ℤ_, _-ℤ_};
 ghost use Rattle.rules.specs.Book.{all};
 ghost use Rattle.rules.specs.Questions.{firstNo, priceRight};
-ghost use Rattle.rules.specs.Calls.{rollAsks, rolled as rolledOf, AnswerIs, roll as rollOf};
-ghost use Rattle.rolling.specs.Rolling.{Room, Payable, paid, Chargeable, Charged, Cells, Rolled, Ready};
+ghost use Rattle.rules.specs.Calls.{rollAsks};
+ghost use Rattle.rolling.specs.Rolling.{Room, Payable, paid, Chargeable, Charged, Cells, Rolled};
 
 // Is each price 1..200,000?
 fn prices_right(prices: &[u32]) -> bool
@@ -142,61 +139,4 @@ pub fn roll_in<'a>(
     charge_entries(days, rate, prices, count, issues, froms, tos, lots, charges);
     clear_nets(nets);
     clear_delivered(delivered);
-}
-
-// A sound book, its questions answered: the book of the next day.
-fn rolled(b: Book, days: u32, rate: u32, prices: &[u32]) -> Book
-    requires { ⌜ Ready b days rate (now prices) ⌝ }
-    ensures { λ r. ⌜ r ≡ rolledOf b days rate (now (prices .entry)) ⌝ }
-{
-    let count = b.count;
-    let mut charges = b.charges;
-    let mut nets = b.nets;
-    let mut delivered = b.delivered;
-    roll_in(
-        days,
-        rate,
-        prices,
-        count,
-        &b.issues,
-        &b.froms,
-        &b.tos,
-        &b.lots,
-        &mut charges,
-        &mut nets,
-        &mut delivered,
-    );
-    let tomorrow = b.day + 1;
-    let charged = book::with_charges(b, charges);
-    let cleared = book::with_delivered(book::with_nets(charged, nets), delivered);
-    book::with_day(cleared, tomorrow, Phase::Taking)
-}
-
-// roll: on a refusal its number and the book as it came, else the book of the next day.
-pub fn roll(b: Book, days: u32, rate: u32, prices: &[u32]) -> Reply
-    ensures { λ r. ⌜ AnswerIs (rollOf b days rate (now (prices .entry))) r [] ⌝ }
-{
-    if !book::sound(b) {
-        return Reply {
-            refusal: 2,
-            count: 0,
-            book: b,
-        };
-    }
-    let phase = b.phase;
-    let today = b.day;
-    let no = roll_asks(phase, today, days, rate, prices);
-    if no != 0 {
-        return Reply {
-            refusal: no,
-            count: 0,
-            book: b,
-        };
-    }
-    let next = rolled(b, days, rate, prices);
-    Reply {
-        refusal: 0,
-        count: 0,
-        book: next,
-    }
 }

@@ -1,10 +1,12 @@
 -- The calls: of each its questions and its effect; then one answer for all of them.
+use mathlib.Core.Path.{_≡_}
+use mathlib.Core.Bool.{Bool, true, false}
 use mathlib.Core.List.{List, [], _∷_, _++_, map}
 use Prim.Native.Nat.{ℕ, zero, suc, _+_}
 use lib.ListN.{length, set, drop, replicate}
 use lib.IntN.{ℤ, pos, _+ℤ_, _-ℤ_}
 use Rattle.rules.specs.declared.Amount.{Amount}
-use Rattle.rules.specs.declared.Amount.the-variants.{Paid, Refused}
+use Rattle.rules.specs.declared.Amount.the-variants.{Yen, Refused}
 use Rattle.rules.specs.declared.Book.{Book}
 use Rattle.rules.specs.declared.Entry.{Entry}
 use Rattle.rules.specs.declared.Found.{Found}
@@ -159,6 +161,10 @@ outputAsks (Resolve i a x out) = askOutput outputWords out ∷ []
 outputAsks (PairOff i a) = []
 outputAsks (Roll days rate prices) = []
 
+-- and is answered 'yes'
+abbrev pub HasRoom : Call → Type 0
+HasRoom c = firstNo (outputAsks c) ≡ 0
+
 -- the questions after soundness
 abbrev pub ownAsks : Book → Call → List Question
 ownAsks b (Trade i f t x) = tradeAsks (b .phase) (b .nets) i f t x
@@ -217,23 +223,31 @@ foundAnswer (found.Unit a x) = oneUnit a x
 foundAnswer found.Nothing = noUnit
 foundAnswer (found.Refused r) = unitRefused r
 
--- value and charge alone: a refusal gives its number and 0 yen
+-- value and charge alone: number, whether there is an amount, yen
 pub record AmountAnswer : Type 0 where
   pub refusal : ℕ
+  pub some : Bool
   pub yen : ℕ
 
-abbrev pub amountAnswer : ℕ → ℕ → AmountAnswer
-amountAnswer zero y = record { refusal = 0; yen = y }
-amountAnswer (suc r) y = record { refusal = suc r; yen = 0 }
+abbrev pub someYen : ℕ → AmountAnswer
+someYen y = record { refusal = 0; some = true; yen = y }
+
+-- a refusal gives its number and 0 yen
+abbrev pub noYen : ℕ → AmountAnswer
+noYen r = record { refusal = r; some = false; yen = 0 }
+
+abbrev pub yenAnswer : ℕ → ℕ → AmountAnswer
+yenAnswer zero y = someYen y
+yenAnswer (suc r) y = noYen (suc r)
 
 unfoldable pub value : ℕ → ℕ → AmountAnswer
-value lots price = amountAnswer (firstNo (askLots lots ∷ askPrice price ∷ [])) (valueOf lots price)
+value lots price = yenAnswer (firstNo (askLots lots ∷ askPrice price ∷ [])) (valueOf lots price)
 
 unfoldable pub charge : ℕ → ℕ → ℕ → ℕ → AmountAnswer
 charge lots price days rate =
-    amountAnswer (firstNo (askLots lots ∷ askPrice price ∷ askTerm days rate ∷ [])) (chargeOf lots price days rate)
+    yenAnswer (firstNo (askLots lots ∷ askPrice price ∷ askTerm days rate ∷ [])) (chargeOf lots price days rate)
 
 -- the paper's number and yen for each case of the enum
-abbrev pub paidAnswer : Amount → AmountAnswer
-paidAnswer (Paid y) = record { refusal = 0; yen = y .0 }
-paidAnswer (Refused r) = record { refusal = r; yen = 0 }
+abbrev pub amountAnswer : Amount → AmountAnswer
+amountAnswer (Yen y) = someYen (y .0)
+amountAnswer (Refused r) = noYen r

@@ -16,7 +16,7 @@ use Rattle.rules.specs.Fails.{lacks, fails}
 use Rattle.rules.specs.Ledger.{entry, pairing}
 use Rattle.rules.specs.Book.{conditions, sound, orderIn, orderOf, stockOf, ledgerOf, withLedger, fresh}
 use Rattle.rules.specs.Records.{Rec, recordsIn}
-use Rattle.rules.specs.Calls.{Call, Trade, Close, Deliver, Cutoff, Resolve, PairOff, Roll, Answer, oneUnit, noUnit, AmountAnswer, called, unit, value, charge, issuePartials, issueFails}
+use Rattle.rules.specs.Calls.{Call, Trade, Close, Deliver, Cutoff, Resolve, PairOff, Roll, Answer, oneUnit, noUnit, someYen, noYen, called, unit, value, charge, issuePartials, issueFails}
 use Rattle.rules.specs.Tape.{readOf, pricesOf, wordsOf, writeOf}
 use Rattle.rules.specs.Run.{Ran, ChargeLine, runOf, answerOf, failLines, chargeLines, line}
 use Rattle.rules.specs.Tally.{State, afterAll, start, inIssue}
@@ -137,11 +137,11 @@ ledgerDays =
     case (ledgerOf (pairedOff .book)) (fail 1 2 5 ∷ fail 1 3 20 ∷ [])
     ∷ case (pairedOff .refusal ∷ pairedOff .count ∷ pairedOff .cancelled ∷ []) (0 ∷ 2 ∷ 25 ∷ [])
     -- P11: 1 lot at 99,999: value 49,999; 12 days at 10,000: 1,643
-    ∷ case (value 1 99999) (record { refusal = 0; yen = 49999 })
-    ∷ case (charge 1 99999 12 10000) (record { refusal = 0; yen = 1643 })
+    ∷ case (value 1 99999) (someYen 49999)
+    ∷ case (charge 1 99999 12 10000) (someYen 1643)
     ∷ case (called fresh (Trade 0 1 2 0) .refusal ∷ called fresh (Trade 0 1 2 20000001) .refusal ∷ []) (7 ∷ 7 ∷ [])
-    ∷ case (value 0 1) (record { refusal = 7; yen = 0 })
-    ∷ case (value 20000001 1) (record { refusal = 7; yen = 0 })
+    ∷ case (value 0 1) (noYen 7)
+    ∷ case (value 20000001 1) (noYen 7)
     ∷ []
 
 -- the example of 'The program', through tape and run
@@ -156,11 +156,11 @@ programDays =
 abbrev pub ownDays : List Case
 ownDays =
     -- charge rounds twice: 1 lot at 61 has value 30, and 12 days at 10,000 give 0 and not 1
-    case (charge 1 61 12 10000) (record { refusal = 0; yen = 0 })
+    case (charge 1 61 12 10000) (someYen 0)
     -- lots are asked before the price
-    ∷ case (value 0 0) (record { refusal = 7; yen = 0 })
+    ∷ case (value 0 0) (noYen 7)
     -- the limits themselves are within
-    ∷ case (charge 20000000 200000 12 10000) (record { refusal = 0; yen = 65753424657 })
+    ∷ case (charge 20000000 200000 12 10000) (someYen 65753424657)
     -- resolve: 4→2 is met whole and goes, 4→3 falls
     ∷ case (numbers 5 resolved) (0 ∷ 2 ∷ 0xb0102000 ∷ 0x80001388 ∷ 0xb0103000 ∷ 0x800003e8 ∷ 7 ∷ [])
     ∷ case (ledgerOf (resolved .book)) (fail 4 3 24000 ∷ fail 5 3 25000 ∷ fail 5 1 30000 ∷ [])

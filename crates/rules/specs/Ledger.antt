@@ -2,7 +2,7 @@
 use mathlib.Core.Bool.{Bool, cond, _&&_}
 use mathlib.Core.List.{List, [], _∷_, _++_}
 use Prim.Native.Nat.{ℕ, zero, suc, _+_, _-_, min}
-use lib.Dec.{eqb}
+use lib.Dec.{eqb, ltb}
 use lib.ListN.{getD, set}
 use lib.IntN.{ℤ, pos, _+ℤ_, _-ℤ_}
 use Rattle.rules.specs.declared.Entry.{Entry}
@@ -49,25 +49,25 @@ abbrev pub firstOf : (Entry → ℕ) → (Entry → Bool) → List Entry → ℕ
 firstOf g p [] = 0
 firstOf g p (e ∷ es) = cond (p e) (g e) (firstOf g p es)
 
--- the first entry that passes falls by m
+-- the first entry that passes falls by m; at 0 it goes
 abbrev pub lower : (Entry → Bool) → ℕ → List Entry → List Entry
 lower p m [] = []
 lower p m (e ∷ es) = cond (p e) (putEntry e (e .lots - m) es) (e ∷ lower p m es)
 
--- pair-off takes the first entry to the account and the first from it: the smaller lots, 0 where either is missing
-abbrev pub stepLots : ℕ → ℕ → List Entry → ℕ
-stepLots i a es = min (firstOf (λ e. e .lots) (isTo i a) es) (firstOf (λ e. e .lots) (isFrom i a) es)
+-- pair-off takes the first entry to the account and the first from it: the smaller lots
+abbrev pub smallerLots : ℕ → ℕ → List Entry → ℕ
+smallerLots i a es = min (firstOf (λ e. e .lots) (isTo i a) es) (firstOf (λ e. e .lots) (isFrom i a) es)
 
 -- if P and Q differ an entry P to Q of m, today
-abbrev pub through : ℕ → ℕ → ℕ → ℕ → ℕ → List Entry
-through today i p q m = putEntry (entry i p q m today) (cond (eqb p q) 0 m) []
+abbrev pub appended : ℕ → ℕ → ℕ → ℕ → ℕ → List Entry
+appended today i p q m = cond (eqb p q) [] (entry i p q m today ∷ [])
 
--- one step: both fall by m, entries at 0 go, the entry P to Q is appended
+-- one step: both fall by the smaller lots m, entries at 0 go, the entry P to Q is appended
 abbrev pub stepped : ℕ → ℕ → ℕ → List Entry → List Entry
 stepped today i a es =
-    let m = stepLots i a es in
+    let m = smallerLots i a es in
     lower (isTo i a) m (lower (isFrom i a) m es)
-    ++ through today i (firstOf (λ e. e .from) (isTo i a) es) (firstOf (λ e. e .to) (isFrom i a) es) m
+    ++ appended today i (firstOf (λ e. e .from) (isTo i a) es) (firstOf (λ e. e .to) (isFrom i a) es) m
 
 -- the steps made, the lots cancelled and the ledger left
 pub record Pairing : Type 0 where
@@ -75,17 +75,36 @@ pub record Pairing : Type 0 where
   pub cancelled : ℕ
   pub ledger : List Entry
 
--- at most n steps; where no step is left nothing changes
-abbrev pub paired : ℕ → ℕ → ℕ → ℕ → List Entry → Pairing
-paired zero today i a es = record { steps = 0; cancelled = 0; ledger = es }
-paired (suc n) today i a es =
-    let m = stepLots i a es in
-    let r = paired n today i a (stepped today i a es) in
-    record { steps = min 1 m + r .steps; cancelled = m + r .cancelled; ledger = r .ledger }
+abbrev pub noSteps : List Entry → Pairing
+noSteps es = record { steps = 0; cancelled = 0; ledger = es }
 
--- all steps: with a entries in and b out there are at most a + b
+-- one step that cancels m lots, and those behind it
+abbrev pub afterStep : ℕ → Pairing → Pairing
+afterStep m r = record { steps = 1 + r .steps; cancelled = m + r .cancelled; ledger = r .ledger }
+
+-- a entries in and b out, both above 0
+abbrev pub bothAbove0 : ℕ → ℕ → Bool
+bothAbove0 a b = ltb 0 a && ltb 0 b
+
+-- has the account an entry to it and one from it in that issue?
+abbrev pub hasBoth : ℕ → ℕ → List Entry → Bool
+hasBoth i a es = bothAbove0 (countOf (isTo i a) es) (countOf (isFrom i a) es)
+
+-- while it has, a step; n steps are allowed
+abbrev pub paired : ℕ → ℕ → ℕ → ℕ → List Entry → Pairing
+paired zero today i a es = noSteps es
+paired (suc n) today i a es =
+    cond (hasBoth i a es)
+    (afterStep (smallerLots i a es) (paired n today i a (stepped today i a es)))
+    (noSteps es)
+
+-- all steps: as many as there are entries in and out are enough
 unfoldable pub pairing : ℕ → ℕ → ℕ → List Entry → Pairing
 pairing today i a es = paired (countOf (isTo i a) es + countOf (isFrom i a) es) today i a es
+
+-- with a entries in and b out, both above 0, the steps are at most a + b − 1, otherwise 0
+abbrev pub mostSteps : ℕ → ℕ → ℕ
+mostSteps a b = cond (bothAbove0 a b) (a + b - 1) 0
 
 -- roll: for each entry its charge is taken from 'from' and given to 'to'
 abbrev pub charged : ℕ → ℕ → List ℕ → List Entry → List ℤ → List ℤ

@@ -1,71 +1,102 @@
 -- The tape: what its reader and its writer answer.
-use mathlib.Core.Bool.{Bool, true, cond, _&&_}
-use mathlib.Core.List.{List, [], _∷_, _++_, map}
-use Prim.Native.Nat.{ℕ, zero, suc, _+_, _%_, _^_}
-use lib.Dec.{leb, ltb, eqb}
-use lib.ListN.{length, getD, take, drop, replicate}
+use mathlib.Core.Bool.{Bool, true, false, cond, _&&_}
+use mathlib.Core.List.{List, [], _∷_, map}
+use Prim.Native.Nat.{ℕ, zero, suc, _+_, _-_, _^_}
+use lib.Dec.{ltb, eqb}
+use lib.ListN.{length, getD, take, drop}
 use Rattle.rules.specs.declared.Instruction.{Instruction}
 use Rattle.rules.specs.declared.Instruction.the-variants.{Trade, Deliver, Resolve, PairOff, Close, Cutoff, Roll}
 use Rattle.rules.specs.declared.Read.{Read}
 use Rattle.rules.specs.declared.Read.the-variants.{Instr, Refused}
-use Rattle.rules.specs.Measures.{tapeWords, between}
+use Rattle.rules.specs.declared.Word.{Word}
+use Rattle.rules.specs.declared.Word.the-variants.{Head, After, Wrong}
+use Rattle.rules.specs.Measures.{issueCount, tapeWords}
 use Rattle.rules.specs.Book.{all}
-use Rattle.rules.specs.Records.{Field, kindBits, issueBits, fromBits, toBits, lotsBits, daysBits, rateBits, priceBits, inField, ofField, headWord, lotsWord, over}
+use Rattle.rules.specs.Records.{Field, bits, kindBits, issueBits, fromBits, toBits, lotsBits, daysBits, rateBits, priceBits, inField, ofField, headWord, lotsWord, over}
 use Rattle.rules.specs.Questions.{Question, ask, firstNo, askOutput}
 
 abbrev pub kindOf : ℕ → ℕ
 kindOf w = ofField kindBits w
 
--- heads: 1 trade, 2 deliver, 3 resolve, 4 pair-off, 5 close, 6 cutoff, 7 roll; of each, the bits below this are unused
-abbrev pub unusedBelow : ℕ → ℕ
-unusedBelow kind = cond (eqb kind 1) 12 (cond (leb kind 4) 18 (cond (leb kind 6) 28 10))
+-- what a word of a kind is: the head of an instruction, a word after a head, or none of a tape's
+pub data Kind : Type 0 where
+  -- unused bits; how many words follow and of which kind; the instruction of a head and of the lots after it
+  head : Field → ℕ → ℕ → (ℕ → ℕ → Instruction) → Kind
+  -- unused bits
+  after : Field → Kind
+  none : Kind
 
-abbrev pub headRight : ℕ → Bool
-headRight w = between 1 7 (kindOf w) && eqb (w % 2 ^ unusedBelow (kindOf w)) 0
+-- the kinds of a tape from 0 on, each said once
+abbrev pub kinds : List Kind
+kinds =
+    none
+    -- 1 trade, 2 deliver, 3 resolve: head, then a kind 8 word
+    ∷ head (bits 0 12) 1 8 (λ w x. Trade (ofField issueBits w) (ofField fromBits w) (ofField toBits w) x)
+    ∷ head (bits 0 18) 1 8 (λ w x. Deliver (ofField issueBits w) (ofField fromBits w) x)
+    ∷ head (bits 0 18) 1 8 (λ w x. Resolve (ofField issueBits w) (ofField fromBits w) x)
+    -- 4 pair-off, 5 close, 6 cutoff: one word
+    ∷ head (bits 0 18) 0 0 (λ w x. PairOff (ofField issueBits w) (ofField fromBits w))
+    ∷ head (bits 0 28) 0 0 (λ w x. Close)
+    ∷ head (bits 0 28) 0 0 (λ w x. Cutoff)
+    -- 7 roll: then sixteen kind 9 words
+    ∷ head (bits 0 10) issueCount 9 (λ w x. Roll (ofField daysBits w) (ofField rateBits w))
+    -- 8 lots in 27..0, 9 price in 17..0
+    ∷ after (bits 0 0)
+    ∷ after (bits 18 10)
+    ∷ []
 
--- kind 8: lots in 27..0
-abbrev pub lotsRight : ℕ → Bool
-lotsRight w = eqb (kindOf w) 8
+-- unused bits are 0
+abbrev pub clear : Field → ℕ → Bool
+clear unused w = eqb (ofField unused w) 0
 
--- kind 9: price in 17..0, bits 27..18 unused
-abbrev pub priceWordRight : ℕ → Bool
-priceWordRight w = eqb (kindOf w) 9 && eqb (w % 2 ^ 28) (ofField priceBits w)
+abbrev pub asKind : Kind → ℕ → ℕ → Word
+asKind (head unused n k instruction) w x = cond (clear unused w) (Head (instruction w x) k (1 + n)) Wrong
+asKind (after unused) w x = cond (clear unused w) (After (kindOf w)) Wrong
+asKind none w x = Wrong
 
--- the words that follow a head: 1 to 3 a kind 8 word, 4 to 6 none, 7 sixteen kind 9 words
-abbrev pub followers : ℕ → List (ℕ → Bool)
-followers kind = cond (leb kind 3) (lotsRight ∷ []) (cond (leb kind 6) [] (replicate 16 priceWordRight))
+-- what a word is taken as, with the lots of the word after it
+abbrev pub wordAs : ℕ → ℕ → Word
+wordAs w x = asKind (getD kinds (kindOf w) none) w x
 
--- word by word: the first that is missing gives 13, the first that is present and wrong gives 14
-abbrev pub wordsWrong : List (ℕ → Bool) → List ℕ → ℕ
-wordsWrong [] ws = 0
-wordsWrong (right ∷ rights) [] = 13
-wordsWrong (right ∷ rights) (w ∷ ws) = cond (right w) (wordsWrong rights ws) 14
+abbrev pub isAfter : ℕ → Word → Bool
+isAfter k (Head x j n) = false
+isAfter k (After j) = eqb j k
+isAfter k Wrong = false
 
--- the instruction of a head and of the lots in the word after it
-abbrev pub instructionOf : ℕ → ℕ → Instruction
-instructionOf w x =
-    let k = kindOf w in
-    cond (eqb k 1) (Trade (ofField issueBits w) (ofField fromBits w) (ofField toBits w) x)
-    (cond (eqb k 2) (Deliver (ofField issueBits w) (ofField fromBits w) x)
-    (cond (eqb k 3) (Resolve (ofField issueBits w) (ofField fromBits w) x)
-    (cond (eqb k 4) (PairOff (ofField issueBits w) (ofField fromBits w))
-    (cond (eqb k 5) Close
-    (cond (eqb k 6) Cutoff
-    (Roll (ofField daysBits w) (ofField rateBits w)))))))
+-- n words of kind k after a head: the first that is missing gives 13, the first that is present and wrong gives 14
+abbrev pub wordsWrong : ℕ → ℕ → List ℕ → ℕ
+wordsWrong k zero ws = 0
+wordsWrong k (suc n) [] = 13
+wordsWrong k (suc n) (w ∷ ws) = cond (isAfter k (wordAs w 0)) (wordsWrong k n ws) 14
 
-abbrev pub readAs : ℕ → List ℕ → Read
-readAs zero ws =
-    let w = getD ws 0 0 in
-    Instr (instructionOf w (ofField lotsBits (getD ws 1 0))) (1 + length (followers (kindOf w)))
-readAs (suc r) ws = Refused (suc r)
+abbrev pub readAs : ℕ → Instruction → ℕ → Read
+readAs zero x n = Instr x n
+readAs (suc r) x n = Refused (suc r)
+
+abbrev pub readFrom : Word → List ℕ → Read
+readFrom (Head x k n) ws = readAs (wordsWrong k (n - 1) ws) x n
+readFrom (After k) ws = Refused 14
+readFrom Wrong ws = Refused 14
 
 -- the reader takes the words from the instruction on and gives the instruction and its word count
 unfoldable pub readOf : List ℕ → Read
-readOf ws = readAs (wordsWrong (headRight ∷ followers (kindOf (getD ws 0 0))) ws) ws
+readOf [] = Refused 13
+readOf (w ∷ ws) = readFrom (wordAs w (ofField lotsBits (getD ws 0 0))) ws
+
+-- what the reader answers: number, instruction (none on a refusal), word count
+pub record ReadAnswer : Type 0 where
+  pub refusal : ℕ
+  pub instruction : List Instruction
+  pub count : ℕ
+
+-- the paper's number and values for each case of the enum
+abbrev pub readAnswer : Read → ReadAnswer
+readAnswer (Instr x n) = record { refusal = 0; instruction = x ∷ []; count = n }
+readAnswer (Refused r) = record { refusal = r; instruction = []; count = 0 }
 
 -- roll's sixteen prices, issue 0 first, taken from their words
 unfoldable pub pricesOf : List ℕ → List ℕ
-pricesOf ws = map (ofField priceBits) (take 16 (drop 1 ws))
+pricesOf ws = map (ofField priceBits) (take issueCount (drop 1 ws))
 
 -- the words of an instruction
 abbrev pub rollWord : ℕ → ℕ → ℕ
@@ -95,7 +126,7 @@ fieldsFit (PairOff i a) prices = fits issueBits i && fits fromBits a
 fieldsFit Close prices = true
 fieldsFit Cutoff prices = true
 fieldsFit (Roll days rate) prices =
-    fits daysBits days && fits rateBits rate && eqb (length prices) 16 && all (fits priceBits) prices
+    fits daysBits days && fits rateBits rate && eqb (length prices) issueCount && all (fits priceBits) prices
 
 -- what the writer answers: number, count of words, output words
 pub record WriteAnswer : Type 0 where

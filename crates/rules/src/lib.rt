@@ -9,7 +9,7 @@ pub struct Yen(pub u64);
 
 // What value and charge answer: yen, or the number of the question answered 'no'.
 pub enum Amount {
-    Paid(Yen),
+    Yen(Yen),
     Refused(u32),
 }
 
@@ -81,6 +81,14 @@ pub enum Instruction {
     Cutoff,
     // days, rate
     Roll(u32, u32),
+}
+
+// What a word of the tape is taken as: the head of an instruction, with the kind of the words that
+// follow it and the count of all its words; a word of that kind after a head; or a wrong word.
+pub enum Word {
+    Head(Instruction, u32, usize),
+    After(u32),
+    Wrong,
 }
 
 // What the tape reader answers: the instruction and its word count, or the refusal's number.

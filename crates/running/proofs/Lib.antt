@@ -1,2 +1,3 @@
--- The laws of the instructions in place.
+-- What a call in place answers, and demand 3 of it.
 pub mod Turning
+pub mod Fed

@@ -6,8 +6,9 @@ ghost use mathlib.Core.List.{[]};
 ghost use Prim.Native.Nat.{_≤_};
 ghost use lib.ListN.{length};
 ghost use Rattle.rules.specs.Measures.{outputWords};
-ghost use Rattle.rules.specs.Calls.{Trade, Close, Deliver, Cutoff, Resolve, PairOff, Roll};
-ghost use Rattle.book.specs.States.{ready, columns};
+ghost use Rattle.rules.specs.Calls.{Trade, Close, Deliver, Cutoff, Resolve, PairOff, Roll, HasRoom};
+ghost use Rattle.rules.specs.Run.{callOf};
+ghost use Rattle.book.specs.States.{soundColumns, columns};
 ghost use Rattle.running.specs.Turns.{Turns, Answered, onState, onNets, onDelivered, onLedger, onFails, onCharges, tradeReady, deliverReady, ledgerReady, cutoffReady, rollReady};
 
 // What an instruction answers: the refusal's number (0: done), the count of records (for pair-off,
@@ -285,7 +286,7 @@ pub fn answer(
     days: &mut [u16],
     out: &mut [u32],
 ) -> Turn
-    requires { ⌜ ready s nets delivered charges issues froms tos lots days out ⌝ }
+    requires { ⌜ soundColumns s nets delivered charges issues froms tos lots days × HasRoom (callOf x (now prices) (now out)) ⌝ }
     ensures { λ r. ⌜ Answered x prices out s r (columns nets delivered charges issues froms tos lots days) ⌝ }
 {
     match x {

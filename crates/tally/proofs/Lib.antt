@@ -9,6 +9,7 @@ pub mod Resolving
 pub mod PairingOff
 pub mod Rolling
 pub mod Demand
+pub mod Made
 pub mod Reached
 pub mod Settles
 pub mod Corollaries

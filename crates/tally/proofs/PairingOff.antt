@@ -7,11 +7,11 @@ use mathlib.Core.List.{List, [], _∷_}
 use Prim.Native.Nat.{ℕ, zero, suc, _+_, _≤_, _<_}
 use native.Mathlib.Omega.{arith}
 use native.Mathlib.Nat.{add-zero}
-use lib.Dec.{leb, eqb}
-use borrow.Author.Tests.{leb-true, leb-false, eqb-true}
+use lib.Dec.{eqb}
+use borrow.Author.Tests.{eqb-true}
 use Rattle.rules.specs.declared.Entry.{Entry}
 use Rattle.rules.specs.Measures.{total}
-use Rattle.rules.specs.Ledger.{entry, isFrom, isTo, lotsOf, countOf, firstOf, lower, stepLots, through, stepped, paired, pairing}
+use Rattle.rules.specs.Ledger.{isFrom, isTo, lotsOf, countOf, firstOf, lower, smallerLots, appended, stepped, hasBoth, paired, pairing}
 use Rattle.rules.specs.Book.{ledgerOf}
 use Rattle.rules.specs.Questions.{askSound}
 use Rattle.rules.specs.Calls.{PairOff, called}
@@ -19,9 +19,9 @@ use Rattle.rules.specs.Tally.{State}
 use Rattle.laws.proofs.Basics.{byTest, either, total-append, Every, each-map}
 use Rattle.laws.proofs.Sound.{SoundEntry, sound-parts}
 use Rattle.laws.proofs.Ledger.{ledger-written}
-use Rattle.laws.proofs.Meeting.{withLots, lots-add, total-putEntry}
-use Rattle.laws.proofs.Lowering.{firstLots, first-pos, first-stays, lowered, Apart, from-not-to, issue-from, issue-to, account-from, account-to}
-use Rattle.laws.proofs.Pairing.{stepped-apart}
+use Rattle.laws.proofs.Meeting.{withLots, lots-add}
+use Rattle.laws.proofs.Lowering.{firstLots, first-stays, lowered, Apart, from-not-to, issue-from, issue-to, account-from, account-to}
+use Rattle.laws.proofs.Pairing.{inAndOut, both-yes, stepped-apart}
 use Rattle.laws.proofs.Answers.{by-answer}
 use Rattle.tally.proofs.Invariant.{Inv, Keeps}
 
@@ -41,11 +41,6 @@ first-own g a p r [] c = absurd (omega arith)
 first-own g a p r (e ∷ es) c =
     byTest (p e) (λ t. simp t (r e t)) (λ t. simp t (first-own g a p r es (omega (arith, simp t at c))))
 
-first-zero : (r p : Entry → Bool) (es : List Entry) → firstOf (λ e. cond (r e) 0 0) p es ≡ 0
-first-zero r p [] = refl
-first-zero r p (e ∷ es) =
-    either (λ n. n ≡ 0) (p e) (either (λ n. n ≡ 0) (r e) refl refl) (first-zero r p es)
-
 -- lots m of an entry in issue i with account q, if asked for issue j and account c
 abbrev weigh : ℕ → ℕ → ℕ → ℕ → ℕ → ℕ
 weigh m j c i q = cond (eqb i j && eqb q c) m 0
@@ -53,36 +48,11 @@ weigh m j c i q = cond (eqb i j && eqb q c) m 0
 weigh-zero : (j c i q : ℕ) → weigh 0 j c i q ≡ 0
 weigh-zero j c i q = either (λ n. n ≡ 0) (eqb i j && eqb q c) refl refl
 
-through-from : (today i p q m j c : ℕ) → lotsOf (isFrom j c) (through today i p q m) ≡ weigh (cond (eqb p q) 0 m) j c i p
-through-from today i p q m j c =
-    total-putEntry (λ e. cond (isFrom j c e) (e .lots) 0) (lots-add (isFrom j c) (λ e n. refl))
-    (entry i p q m today) (cond (eqb p q) 0 m) [] ∙ add-zero _
+appended-from : (today i p q m j c : ℕ) → lotsOf (isFrom j c) (appended today i p q m) ≡ weigh (cond (eqb p q) 0 m) j c i p
+appended-from today i p q m j c = byTest (eqb p q) (λ e. simp e (sym (weigh-zero j c i p))) (λ e. simp e (add-zero _))
 
-through-to : (today i p q m j c : ℕ) → lotsOf (isTo j c) (through today i p q m) ≡ weigh (cond (eqb p q) 0 m) j c i q
-through-to today i p q m j c =
-    total-putEntry (λ e. cond (isTo j c e) (e .lots) 0) (lots-add (isTo j c) (λ e n. refl))
-    (entry i p q m today) (cond (eqb p q) 0 m) [] ∙ add-zero _
-
-weighs : (m j c i : ℕ) (g : Entry → ℕ) (p : Entry → Bool) → ((e : Entry) → p e ≡ true → e .issue ≡ i) → (es : List Entry) →
-    m ≤ firstLots p es → firstOf (λ e. weigh m j c (e .issue) (g e)) p es ≡ weigh m j c i (firstOf g p es)
-weighs m j c i g p r es h =
-    byTest (leb m 0)
-    (λ e.
-    let z : m ≡ 0 = omega (arith, leb-true m 0 e) in
-    rw z (first-zero (λ e. eqb (e .issue) j && eqb (g e) c) p es ∙ sym (weigh-zero j c i (firstOf g p es))))
-    (λ e. first-map (weigh m j c) g i p r es (first-pos p es (omega (arith, leb-false m 0 e))))
-
-weighs-own : (m j c i : ℕ) (g : Entry → ℕ) (a : ℕ) (p : Entry → Bool) → ((e : Entry) → p e ≡ true → e .issue ≡ i) →
-    ((e : Entry) → p e ≡ true → g e ≡ a) → (es : List Entry) →
-    m ≤ firstLots p es → firstOf (λ e. weigh m j c (e .issue) (g e)) p es ≡ weigh m j c i a
-weighs-own m j c i g a p r o es h =
-    byTest (leb m 0)
-    (λ e.
-    let z : m ≡ 0 = omega (arith, leb-true m 0 e) in
-    rw z (first-zero (λ e. eqb (e .issue) j && eqb (g e) c) p es ∙ sym (weigh-zero j c i a)))
-    (λ e.
-    let k = first-pos p es (omega (arith, leb-false m 0 e)) in
-    first-map (weigh m j c) g i p r es k ∙ ap (weigh m j c i) (first-own g a p o es k))
+appended-to : (today i p q m j c : ℕ) → lotsOf (isTo j c) (appended today i p q m) ≡ weigh (cond (eqb p q) 0 m) j c i q
+appended-to today i p q m j c = byTest (eqb p q) (λ e. simp e (sym (weigh-zero j c i q))) (λ e. simp e (add-zero _))
 
 -- P and Q differ, or are one
 p-and-q : (m j c i p q : ℕ) →
@@ -103,9 +73,9 @@ chain F F₁ F₂ T T₁ T₂ h k = omega arith
 shift : (A C F F′ T T′ : ℕ) → A + F ≡ C + T → F′ + T ≡ F + T′ → A + F′ ≡ C + T′
 shift A C F F′ T T′ h k = omega arith
 
-module _ (today i a : ℕ) (es : List Entry) (ps : Every Apart es) (j c : ℕ) where
+module _ (today i a : ℕ) (es : List Entry) (ps : Every Apart es) (both : hasBoth i a es ≡ true) (j c : ℕ) where
   abbrev m : ℕ
-  m = stepLots i a es
+  m = smallerLots i a es
 
   abbrev P : ℕ
   P = firstOf (λ e. e .from) (isTo i a) es
@@ -125,6 +95,7 @@ module _ (today i a : ℕ) (es : List Entry) (ps : Every Apart es) (j c : ℕ) w
   -- a step takes as much from what an account owes as from what is owed to it
   step-balance : lotsOf (isFrom j c) (stepped today i a es) + lotsOf (isTo j c) es ≡ lotsOf (isFrom j c) es + lotsOf (isTo j c) (stepped today i a es)
   step-balance =
+      let h = both-yes (countOf (isTo i a) es) (countOf (isFrom i a) es) both in
       let aF = lots-add (isFrom j c) (λ e n. refl) in
       let aT = lots-add (isTo j c) (λ e n. refl) in
       let apart = each-map Apart (λ e. isFrom i a e ≡ true → isTo i a e ≡ false) (from-not-to i a) es ps in
@@ -136,14 +107,15 @@ module _ (today i a : ℕ) (es : List Entry) (ps : Every Apart es) (j c : ℕ) w
       let T₁ = lowered fT aT (isFrom i a) m es k₁ in
       let F₂ = lowered fF aF (isTo i a) m es₁ k₂ in
       let T₂ = lowered fT aT (isTo i a) m es₁ k₂ in
-      let F₃ = total-append fF (lower (isTo i a) m es₁) (through today i P Q m) in
-      let T₃ = total-append fT (lower (isTo i a) m es₁) (through today i P Q m) in
-      let wFF = weighs-own m j c i (λ e. e .from) a (isFrom i a) (issue-from i a) (account-from i a) es k₁ in
-      let wTF = weighs m j c i (λ e. e .to) (isFrom i a) (issue-from i a) es k₁ in
-      let wFT = st (λ e. fF (withLots e m)) ∙ weighs m j c i (λ e. e .from) (isTo i a) (issue-to i a) es (omega arith) in
-      let wTT = st (λ e. fT (withLots e m)) ∙ weighs-own m j c i (λ e. e .to) a (isTo i a) (issue-to i a) (account-to i a) es (omega arith) in
-      let tF = through-from today i P Q m j c in
-      let tT = through-to today i P Q m j c in
+      let F₃ = total-append fF (lower (isTo i a) m es₁) (appended today i P Q m) in
+      let T₃ = total-append fT (lower (isTo i a) m es₁) (appended today i P Q m) in
+      let w = weigh m j c in
+      let wFF = first-map w (λ e. e .from) i (isFrom i a) (issue-from i a) es (h .1) ∙ ap (w i) (first-own (λ e. e .from) a (isFrom i a) (account-from i a) es (h .1)) in
+      let wTF = first-map w (λ e. e .to) i (isFrom i a) (issue-from i a) es (h .1) in
+      let wFT = st (λ e. fF (withLots e m)) ∙ first-map w (λ e. e .from) i (isTo i a) (issue-to i a) es (h .0) in
+      let wTT = st (λ e. fT (withLots e m)) ∙ first-map w (λ e. e .to) i (isTo i a) (issue-to i a) es (h .0) ∙ ap (w i) (first-own (λ e. e .to) a (isTo i a) (account-to i a) es (h .0)) in
+      let tF = appended-from today i P Q m j c in
+      let tT = appended-to today i P Q m j c in
       balanced-step _ _ _ _ _ _ _ _ _ _ _ _ _
       (F₃ ∙ ap (λ n. total fF (lower (isTo i a) m es₁) + n) tF)
       (ap (λ n. total fF (lower (isTo i a) m es₁) + n) (sym wFT) ∙ F₂)
@@ -158,8 +130,11 @@ paired-balance : (n today i a : ℕ) (es : List Entry) → Every Apart es → (j
     ≡ lotsOf (isFrom j c) es + lotsOf (isTo j c) (paired n today i a es .ledger)
 paired-balance zero today i a es ps j c = refl
 paired-balance (suc n) today i a es ps j c =
+    byTest (hasBoth i a es)
+    (λ e.
     let ih = paired-balance n today i a (stepped today i a es) (stepped-apart today i a es ps) j c in
-    chain _ _ _ _ _ _ (step-balance today i a es ps j c) ih
+    rw e (chain _ _ _ _ _ _ (step-balance today i a es ps e j c) ih))
+    (λ e. rw e)
 
 -- what each account owes less what is owed to it is as it was
 pub pairing-balance : (today i a : ℕ) (es : List Entry) → Every SoundEntry es → (j c : ℕ) →
@@ -167,7 +142,7 @@ pub pairing-balance : (today i a : ℕ) (es : List Entry) → Every SoundEntry e
     ≡ lotsOf (isFrom j c) es + lotsOf (isTo j c) (pairing today i a es .ledger)
 unfolding pairing
 pairing-balance today i a es ss j c =
-    paired-balance (countOf (isTo i a) es + countOf (isFrom i a) es) today i a es (each-map SoundEntry Apart (λ e s. s .apart) es ss) j c
+    paired-balance (inAndOut i a es) today i a es (each-map SoundEntry Apart (λ e s. s .apart) es ss) j c
 
 pub keeps-pair-off : (s : State) → Inv s → (i a : ℕ) → Keeps (PairOff i a) s (called (s .book) (PairOff i a))
 keeps-pair-off s v i a =

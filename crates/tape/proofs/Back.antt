@@ -1,18 +1,17 @@
 -- Read is written: a right head has its kind, its fields and nothing below them, so that it is the sum of its fields;
 -- likewise the words after it.
-use mathlib.Core.Path.{_≡_, refl, ap, _∙_}
-use mathlib.Core.Bool.{Bool, true, _&&_}
+use mathlib.Core.Path.{_≡_, refl, ap, sym, _∙_}
 use mathlib.Core.List.{List, [], _∷_, map}
-use Prim.Native.Nat.{ℕ, zero, suc, _+_, _*_, _/_, _%_, _^_, _≤_, _<_}
+use Prim.Native.Nat.{ℕ, zero, suc, _+_, _*_, _/_, _%_, _^_, _<_}
 use native.Mathlib.Omega.{arith}
-use borrow.Author.Tests.{leb-true, eqb-true}
-use lib.Dec.{leb, eqb}
-use lib.ListN.{length, getD, take, replicate}
+use lib.ListN.{getD, take}
 use Rattle.rules.specs.declared.Instruction.{Instruction}
 use Rattle.rules.specs.declared.Read.the-variants.{Instr}
-use Rattle.rules.specs.Records.{issueBits, fromBits, toBits, lotsBits, daysBits, rateBits, priceBits, ofField, headWord, lotsWord}
-use Rattle.rules.specs.Tape.{kindOf, unusedBelow, headRight, followers, lotsRight, priceWordRight, wordsWrong, instructionOf, readOf, pricesOf, rollWord, priceWord, wordsOf}
-use Rattle.laws.proofs.Basics.{byTest, and-left, and-right}
+use Rattle.rules.specs.Measures.{issueCount}
+use Rattle.rules.specs.Records.{bits, issueBits, fromBits, toBits, lotsBits, daysBits, rateBits, priceBits, ofField, headWord, lotsWord}
+use Rattle.rules.specs.Tape.{kindOf, Kind, head, after, none, kinds, isAfter, wordAs, wordsWrong, readOf, pricesOf, rollWord, priceWord, wordsOf}
+use Rattle.laws.proofs.Basics.{byTest}
+use Rattle.tape.proofs.Table.{each, Clears, after-is}
 use Rattle.tape.proofs.Sized.{read-is}
 
 -- each is a word
@@ -28,154 +27,93 @@ roll-sum : (w q s k d r : ℕ) → w ≡ q * 1024 → q ≡ s * 16384 + r → s 
     w ≡ 1879048192 + d * 16777216 + r * 1024
 roll-sum w q s k d r a b c e = omega arith
 
--- a word is the sum of its fields
-module _ (w : ℕ) (word : w < 2 ^ 32) where
-  above-to : w / 4096 ≡ w / 262144 * 64 + w / 4096 % 64
-  above-to = omega arith
-
+-- a word of kind k is the sum of its fields
+module _ (w k : ℕ) (word : w < 2 ^ 32) (kind : kindOf w ≡ k) where
   above-from : w / 262144 ≡ w / 16777216 * 64 + w / 262144 % 64
   above-from = omega arith
 
-  above-issue : w / 16777216 ≡ w / 268435456 % 16 * 16 + w / 16777216 % 16
+  above-issue : w / 16777216 ≡ k * 16 + w / 16777216 % 16
   above-issue = omega arith
 
-  head-back : w % 2 ^ 12 ≡ 0 →
-      w ≡ headWord (kindOf w) (ofField issueBits w) (ofField fromBits w) (ofField toBits w)
-  head-back z =
-      sum-of w (w / 4096) (w / 262144) (w / 16777216) (kindOf w) (ofField issueBits w) (ofField fromBits w) (ofField toBits w)
+  full : ofField (bits 0 12) w ≡ 0 → w ≡ headWord k (ofField issueBits w) (ofField fromBits w) (ofField toBits w)
+  full z =
+      let above-to : w / 4096 ≡ w / 262144 * 64 + w / 4096 % 64 = omega arith in
+      sum-of w (w / 4096) (w / 262144) (w / 16777216) k (ofField issueBits w) (ofField fromBits w) (ofField toBits w)
       (omega arith) above-to above-from above-issue
 
-  account-back : w % 2 ^ 18 ≡ 0 → w ≡ headWord (kindOf w) (ofField issueBits w) (ofField fromBits w) 0
-  account-back z =
-      sum-of w (w / 262144 * 64) (w / 262144) (w / 16777216) (kindOf w) (ofField issueBits w) (ofField fromBits w) 0
+  short : ofField (bits 0 18) w ≡ 0 → w ≡ headWord k (ofField issueBits w) (ofField fromBits w) 0
+  short z =
+      sum-of w (w / 262144 * 64) (w / 262144) (w / 16777216) k (ofField issueBits w) (ofField fromBits w) 0
       (omega arith) (omega arith) above-from above-issue
 
-  bare-back : w % 2 ^ 28 ≡ 0 → w ≡ headWord (kindOf w) 0 0 0
-  bare-back z = omega arith
+  bare : ofField (bits 0 28) w ≡ 0 → w ≡ headWord k 0 0 0
+  bare z = omega arith
 
-  above-rate : w / 1024 ≡ w / 16777216 * 16384 + w / 1024 % 16384
-  above-rate = omega arith
+  terms : k ≡ 7 → ofField (bits 0 10) w ≡ 0 → w ≡ rollWord (ofField daysBits w) (ofField rateBits w)
+  terms e z =
+      let above-rate : w / 1024 ≡ w / 16777216 * 16384 + w / 1024 % 16384 = omega arith in
+      roll-sum w (w / 1024) (w / 16777216) k (ofField daysBits w) (ofField rateBits w) (omega arith) above-rate above-issue e
 
-  roll-back : kindOf w ≡ 7 → w % 2 ^ 10 ≡ 0 → w ≡ rollWord (ofField daysBits w) (ofField rateBits w)
-  roll-back k z =
-      roll-sum w (w / 1024) (w / 16777216) (kindOf w) (ofField daysBits w) (ofField rateBits w)
-      (omega arith) above-rate above-issue k
+  lots-back : k ≡ 8 → w ≡ lotsWord (ofField lotsBits w)
+  lots-back e = omega arith
 
-  lots-back : kindOf w ≡ 8 → w ≡ lotsWord (ofField lotsBits w)
-  lots-back k = omega arith
-
-  price-back : kindOf w ≡ 9 → w % 2 ^ 28 ≡ ofField priceBits w → w ≡ priceWord (ofField priceBits w)
-  price-back k z =
-      let e : w ≡ kindOf w * 268435456 + w % 268435456 = omega arith in
-      e ∙ rw (k, z) (omega arith)
+  price-back : k ≡ 9 → ofField (bits 18 10) w ≡ 0 → w ≡ priceWord (ofField priceBits w)
+  price-back e z =
+      let s : w ≡ k * 268435456 + w / 262144 % 1024 * 262144 + w % 262144 = omega arith in
+      omega arith
 
 -- a first word that is right leaves the words after it
-pub first-right : (right : ℕ → Bool) (rights : List (ℕ → Bool)) (w : ℕ) (ws : List ℕ) → 0 ≡ wordsWrong (right ∷ rights) (w ∷ ws) →
-    (right w ≡ true) × (0 ≡ wordsWrong rights ws)
-first-right right rights w ws e =
-    byTest (right w) (λ t. (t, simp t at e)) (λ t. let z : _≡_ {A = ℕ} 0 14 = simp t at e in absurd (omega arith))
+first-right : (k n w : ℕ) (ws : List ℕ) → 0 ≡ wordsWrong k (suc n) (w ∷ ws) →
+    (kindOf w ≡ k) × Clears (getD kinds k none) w × (0 ≡ wordsWrong k n ws)
+first-right k n w ws e =
+    byTest (isAfter k (wordAs w 0))
+    (λ t.
+    let a = after-is (getD kinds (kindOf w) none) w 0 k t in
+    (a .0, rw (a .0) at (a .1), simp t at e))
+    (λ t. let z : _≡_ {A = ℕ} 0 14 = simp t at e in absurd (omega arith))
+
+joined : {w h : ℕ} {xs ys : List ℕ} → w ≡ h → xs ≡ ys → w ∷ xs ≡ h ∷ ys
+joined {w} {h} {xs} {ys} p q = rw (p, q)
 
 -- the words after a head
-lots-after : (ws : List ℕ) → Words ws → 0 ≡ wordsWrong (lotsRight ∷ []) ws → take 1 ws ≡ lotsWord (ofField lotsBits (getD ws 0 0)) ∷ []
+lots-after : (ws : List ℕ) → Words ws → 0 ≡ wordsWrong 8 1 ws → take 1 ws ≡ lotsWord (ofField lotsBits (getD ws 0 0)) ∷ []
 lots-after [] b e = absurd (omega arith)
-lots-after (w ∷ ws) b e =
-    let k = eqb-true (kindOf w) 8 (first-right lotsRight [] w ws e .0) in
-    ap (λ (x : ℕ). x ∷ []) (lots-back w (b 0) k)
+lots-after (w ∷ ws) b e = joined (lots-back w 8 (b 0) (first-right 8 0 w ws e .0) refl) refl
 
-prices-after : (n : ℕ) (ws : List ℕ) → Words ws → 0 ≡ wordsWrong (replicate n priceWordRight) ws →
+prices-after : (n : ℕ) (ws : List ℕ) → Words ws → 0 ≡ wordsWrong 9 n ws →
     take n ws ≡ map priceWord (map (ofField priceBits) (take n ws))
 prices-after zero ws b e = refl
 prices-after (suc n) [] b e = refl
 prices-after (suc n) (w ∷ ws) b e =
-    let r = first-right priceWordRight (replicate n priceWordRight) w ws e in
-    let k = eqb-true (kindOf w) 9 (and-left (eqb (kindOf w) 9) (eqb (w % 2 ^ 28) (ofField priceBits w)) (r .0)) in
-    let u = eqb-true (w % 2 ^ 28) (ofField priceBits w) (and-right (eqb (kindOf w) 9) (eqb (w % 2 ^ 28) (ofField priceBits w)) (r .0)) in
-    let p : w ≡ priceWord (ofField priceBits w) = price-back w (b 0) k u in
-    let q = prices-after n ws (λ i. b (suc i)) (r .1) in
-    ap (λ (x : ℕ). x ∷ take n ws) p ∙ ap (λ (xs : List ℕ). priceWord (ofField priceBits w) ∷ xs) q
+    let r = first-right 9 n w ws e in
+    joined (price-back w 9 (b 0) (r .0) refl (r .1)) (prices-after n ws (λ i. b (suc i)) (r .2))
 
--- a kind from 1 to 7 is one of seven
-pub seven : (P : ℕ → Type 0) (k : ℕ) → 1 ≤ k → k ≤ 7 → P 1 → P 2 → P 3 → P 4 → P 5 → P 6 → P 7 → P k
-seven P zero l m a b c d e f g = absurd (omega arith)
-seven P (suc zero) l m a b c d e f g = a
-seven P (suc (suc zero)) l m a b c d e f g = b
-seven P (suc (suc (suc zero))) l m a b c d e f g = c
-seven P (suc (suc (suc (suc zero)))) l m a b c d e f g = d
-seven P (suc (suc (suc (suc (suc zero))))) l m a b c d e f g = e
-seven P (suc (suc (suc (suc (suc (suc zero)))))) l m a b c d e f g = f
-seven P (suc (suc (suc (suc (suc (suc (suc zero))))))) l m a b c d e f g = g
-seven P (suc (suc (suc (suc (suc (suc (suc (suc k)))))))) l m a b c d e f g = absurd (omega arith)
+-- each head by its line
+module _ (w : ℕ) (rest : List ℕ) (b : Words (w ∷ rest)) where
+  abbrev Back : ℕ → Kind → Type 0
+  Back k (head u n j f) =
+      kindOf w ≡ k → ofField u w ≡ 0 → 0 ≡ wordsWrong j n rest →
+      take (1 + n) (w ∷ rest) ≡ wordsOf (f w (ofField lotsBits (getD rest 0 0))) (pricesOf (w ∷ rest))
+  Back k (after u) = Unit {0}
+  Back k none = Unit {0}
 
-joined : {w h : ℕ} {xs ys : List ℕ} → w ≡ h → xs ≡ ys → w ∷ xs ≡ h ∷ ys
-joined {w} {h} {xs} {ys} p q = ap (λ (x : ℕ). x ∷ xs) p ∙ ap (λ (l : List ℕ). h ∷ l) q
-
-module _ (w : ℕ) (rest : List ℕ) (b : Words (w ∷ rest)) (right : 0 ≡ wordsWrong (headRight ∷ followers (kindOf w)) (w ∷ rest)) where
-  abbrev Back : Type 0
-  Back =
-      take (1 + length (followers (kindOf w))) (w ∷ rest)
-      ≡ wordsOf (instructionOf w (ofField lotsBits (getD rest 0 0))) (pricesOf (w ∷ rest))
-
-  head : headRight w ≡ true
-  head = first-right headRight (followers (kindOf w)) w rest right .0
-
-  after : 0 ≡ wordsWrong (followers (kindOf w)) rest
-  after = first-right headRight (followers (kindOf w)) w rest right .1
-
-  unused : w % 2 ^ unusedBelow (kindOf w) ≡ 0
-  unused = eqb-true (w % 2 ^ unusedBelow (kindOf w)) 0 (and-right (leb 1 (kindOf w) && leb (kindOf w) 7) _ head)
-
-  ranged : leb 1 (kindOf w) && leb (kindOf w) 7 ≡ true
-  ranged = and-left (leb 1 (kindOf w) && leb (kindOf w) 7) (eqb (w % 2 ^ unusedBelow (kindOf w)) 0) head
-
-  later : Words rest
-  later i = b (suc i)
-
-  -- the parts of a head, with the kind as a number
-  full : (k : ℕ) → kindOf w ≡ k → w % 4096 ≡ 0 → w ≡ headWord k (ofField issueBits w) (ofField fromBits w) (ofField toBits w)
-  full k e z =
-      head-back w (b 0) z
-      ∙ ap (λ (x : ℕ). headWord x (ofField issueBits w) (ofField fromBits w) (ofField toBits w)) e
-
-  short : (k : ℕ) → kindOf w ≡ k → w % 262144 ≡ 0 → w ≡ headWord k (ofField issueBits w) (ofField fromBits w) 0
-  short k e z = account-back w (b 0) z ∙ ap (λ (x : ℕ). headWord x (ofField issueBits w) (ofField fromBits w) 0) e
-
-  bare : (k : ℕ) → kindOf w ≡ k → w % 268435456 ≡ 0 → w ≡ headWord k 0 0 0
-  bare k e z = bare-back w (b 0) z ∙ ap (λ (x : ℕ). headWord x 0 0 0) e
-
-  trade-back : kindOf w ≡ 1 → Back
-  trade-back e = rw e (joined (full 1 e (simp e at unused)) (lots-after rest later (simp e at after)))
-
-  deliver-back : kindOf w ≡ 2 → Back
-  deliver-back e = rw e (joined (short 2 e (simp e at unused)) (lots-after rest later (simp e at after)))
-
-  resolve-back : kindOf w ≡ 3 → Back
-  resolve-back e = rw e (joined (short 3 e (simp e at unused)) (lots-after rest later (simp e at after)))
-
-  pairOff-back : kindOf w ≡ 4 → Back
-  pairOff-back e = rw e (joined (short 4 e (simp e at unused)) refl)
-
-  close-back : kindOf w ≡ 5 → Back
-  close-back e = rw e (joined (bare 5 e (simp e at unused)) refl)
-
-  cutoff-back : kindOf w ≡ 6 → Back
-  cutoff-back e = rw e (joined (bare 6 e (simp e at unused)) refl)
-
-  roll-all-back : kindOf w ≡ 7 → Back
+  roll-back : Back 7 (getD kinds 7 none)
   unfolding pricesOf
-  roll-all-back e =
-      rw e (joined (roll-back w (b 0) e (simp e at unused)) (prices-after 16 rest later (simp e at after)))
+  roll-back e z r = joined (terms w 7 (b 0) e refl z) (prices-after issueCount rest (λ i. b (suc i)) r)
 
-  all-back : Back
-  all-back =
-      let l : 1 ≤ kindOf w = leb-true 1 (kindOf w) (and-left (leb 1 (kindOf w)) (leb (kindOf w) 7) ranged) in
-      let m : kindOf w ≤ 7 = leb-true (kindOf w) 7 (and-right (leb 1 (kindOf w)) (leb (kindOf w) 7) ranged) in
-      seven (λ k. kindOf w ≡ k → Back) (kindOf w) l m
-      trade-back deliver-back resolve-back pairOff-back close-back cutoff-back roll-all-back refl
+  back : (k : ℕ) → Back k (getD kinds k none)
+  back k =
+      each Back kinds
+      (tt, (λ e z r. joined (full w 1 (b 0) e z) (lots-after rest (λ i. b (suc i)) r), (λ e z r. joined (short w 2 (b 0) e z) (lots-after rest (λ i. b (suc i)) r), (λ e z r. joined (short w 3 (b 0) e z) (lots-after rest (λ i. b (suc i)) r), (λ e z r. joined (short w 4 (b 0) e z) refl, (λ e z r. joined (bare w 5 (b 0) e z) refl, (λ e z r. joined (bare w 6 (b 0) e z) refl, (roll-back, (tt, (tt, tt)))))))))) (λ k. tt) k
 
 -- the words that are read as an instruction are exactly those written for it
 pub read-is-written : (ws : List ℕ) (x : Instruction) (n : ℕ) → Words ws → readOf ws ≡ Instr x n →
     take n ws ≡ wordsOf x (pricesOf ws)
-read-is-written [] x n b e = let r = read-is [] x n e in absurd (omega (arith, r .right))
+unfolding readOf
+read-is-written [] x n b e = let z : _≡_ {A = ℕ} 0 1 = cc in absurd (omega arith)
 read-is-written (w ∷ rest) x n b e =
-    let r = read-is (w ∷ rest) x n e in
-    rw (r .instruction, r .count) (all-back w rest b (r .right))
+    let r = read-is w rest x n e in
+    let f = r .first in
+    let l = rw (f .line) at (back w rest b (kindOf w)) in
+    ap (λ (m : ℕ). take m (w ∷ rest)) (f .count) ∙ l refl (f .clears) (r .right)
+    ∙ sym (ap (λ (y : Instruction). wordsOf y (pricesOf (w ∷ rest))) (f .is))

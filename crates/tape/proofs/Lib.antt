@@ -1,4 +1,5 @@
 -- Laws of the tape.
+pub mod Table
 pub mod Reading
 pub mod PriceWords
 pub mod Writing

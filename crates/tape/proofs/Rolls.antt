@@ -1,40 +1,36 @@
 -- Only kind 7 is read as a roll, and its sixteen price words were asked: a roll that is read is whole.
-use mathlib.Core.Path.{_≡_, refl}
-use mathlib.Core.Bool.{_&&_}
+use mathlib.Core.Path.{_≡_, refl, sym}
 use mathlib.Core.List.{List, [], _∷_}
-use Prim.Native.Nat.{ℕ, _%_, _^_, _≤_}
+use Prim.Native.Nat.{ℕ, _≤_}
 use native.Mathlib.Omega.{arith}
-use borrow.Author.Tests.{leb-true}
-use lib.Dec.{leb, eqb}
-use lib.ListN.{length}
+use lib.ListN.{length, getD}
 use lib.Seq.{sets}
 use Rattle.rules.specs.declared.Instruction.the-variants.{Roll}
 use Rattle.rules.specs.declared.Read.the-variants.{Instr}
-use Rattle.rules.specs.Tape.{kindOf, unusedBelow, headRight, followers, readOf, pricesOf}
-use Rattle.laws.proofs.Basics.{and-left, and-right}
-use Rattle.tape.proofs.Sized.{read-is, right-length}
-use Rattle.tape.proofs.Back.{first-right, seven}
+use Rattle.rules.specs.Measures.{issueCount, tapeWords}
+use Rattle.rules.specs.Tape.{kindOf, Kind, head, after, none, kinds, readOf, pricesOf}
+use Rattle.tape.proofs.Table.{each}
+use Rattle.tape.proofs.Sized.{read-is, read-sized}
 use Rattle.tape.proofs.PriceWords.{prices-filled}
 
-pub roll-whole : (ws : List ℕ) (days rate n : ℕ) → readOf ws ≡ Instr (Roll days rate) n → 17 ≤ length ws
-roll-whole [] days rate n e = let r = read-is [] (Roll days rate) n e in absurd (omega (arith, r .right))
+abbrev Sixteen : Kind → Type 0
+Sixteen (head u n k f) = (w x days rate : ℕ) → f w x ≡ Roll days rate → n ≡ issueCount
+Sixteen (after u) = Unit {0}
+Sixteen none = Unit {0}
+
+-- no other instruction is a roll
+sixteen : (k : ℕ) → Sixteen (getD kinds k none)
+sixteen k =
+    each (λ k K. Sixteen K) kinds
+    (tt, (λ w x d r e. cc, (λ w x d r e. cc, (λ w x d r e. cc, (λ w x d r e. cc, (λ w x d r e. cc, (λ w x d r e. cc, (λ w x d r e. refl, (tt, (tt, tt)))))))))) (λ k. tt) k
+
+pub roll-whole : (ws : List ℕ) (days rate n : ℕ) → readOf ws ≡ Instr (Roll days rate) n → tapeWords ≤ length ws
+unfolding readOf
+roll-whole [] days rate n e = let z : _≡_ {A = ℕ} 0 1 = cc in absurd (omega arith)
 roll-whole (w ∷ rest) days rate n e =
-    let r = read-is (w ∷ rest) (Roll days rate) n e in
-    let h = first-right headRight (followers (kindOf w)) w rest (r .right) .0 in
-    let ranged = and-left (leb 1 (kindOf w) && leb (kindOf w) 7) (eqb (w % 2 ^ unusedBelow (kindOf w)) 0) h in
-    let i = r .instruction in
-    let s = right-length (headRight ∷ followers (kindOf w)) (w ∷ rest) (r .right) in
-    seven (λ k. kindOf w ≡ k → 17 ≤ length (w ∷ rest)) (kindOf w)
-    (leb-true 1 (kindOf w) (and-left (leb 1 (kindOf w)) (leb (kindOf w) 7) ranged))
-    (leb-true (kindOf w) 7 (and-right (leb 1 (kindOf w)) (leb (kindOf w) 7) ranged))
-    (λ q. let j = simp q at i in let z : _≡_ {A = ℕ} 0 1 = cc in absurd (omega arith))
-    (λ q. let j = simp q at i in let z : _≡_ {A = ℕ} 0 1 = cc in absurd (omega arith))
-    (λ q. let j = simp q at i in let z : _≡_ {A = ℕ} 0 1 = cc in absurd (omega arith))
-    (λ q. let j = simp q at i in let z : _≡_ {A = ℕ} 0 1 = cc in absurd (omega arith))
-    (λ q. let j = simp q at i in let z : _≡_ {A = ℕ} 0 1 = cc in absurd (omega arith))
-    (λ q. let j = simp q at i in let z : _≡_ {A = ℕ} 0 1 = cc in absurd (omega arith))
-    (λ q. simp q at s)
-    refl
+    let f = read-is w rest (Roll days rate) n e .first in
+    let s = rw (f .line) at (sixteen (kindOf w)) in
+    omega (arith, s w _ days rate (sym (f .is)), f .count, read-sized (w ∷ rest) (Roll days rate) n e .1)
 
 -- its prices fill sixteen lent numbers
 pub roll-prices : (ws lent : List ℕ) (days rate n : ℕ) → readOf ws ≡ Instr (Roll days rate) n → length lent ≡ 16 →

@@ -2,7 +2,7 @@
 -- one equation. What stands in the lent output changes no line.
 use mathlib.Core.Path.{_≡_, refl, ap, sym, subst}
 use mathlib.Core.Bool.{Bool, true, false, cond}
-use mathlib.Core.List.{List, [], _∷_, _++_}
+use mathlib.Core.List.{List, [], _∷_}
 use Prim.Native.Nat.{ℕ, zero, suc, _+_, _≤_, _<_}
 use native.Mathlib.Omega.{arith}
 use borrow.Author.Tests.{le-leb, ne-eqb}
@@ -14,13 +14,9 @@ use Rattle.rules.specs.declared.Name.the-variants as name
 use Rattle.rules.specs.declared.Read.{Read}
 use Rattle.rules.specs.declared.Read.the-variants.{Instr, Refused}
 use Rattle.rules.specs.Measures.{outputWords}
-use Rattle.rules.specs.Book.{fresh, ledgerOf, withDelivered, withLedger, withPhase}
-use Rattle.rules.specs.Records.{Rec}
+use Rattle.rules.specs.Book.{fresh}
 use Rattle.rules.specs.Questions.{Question, firstNo, askOutput, askSound}
-use Rattle.rules.specs.Calls.{Answer, answer, deliver, deliverAsks, raisedDelivered, deliverRecords, cutoff, newEntries, cutoffAsks, cutoffRecords, resolve, resolveAsks, resolveRecords}
-use Rattle.rules.specs.Ledger.{isFrom, meet}
-use Rattle.rules.specs.declared.Phase.the-variants.{Cut}
-use Rattle.rules.specs.Tally.{called}
+use Rattle.rules.specs.Calls.{Deliver, Cutoff, Resolve, Answer, Effect, answer, ownAsks, effect, called}
 use Rattle.rules.specs.Tape.{readOf, pricesOf}
 use Rattle.rules.specs.Run.{Ran, callOf, nameOf, line, anyOutput, answerOf, ended, stopped, afterLine, afterRead, runFrom, runOf}
 use Rattle.tape.proofs.Sized.{read-sized}
@@ -92,44 +88,28 @@ pub record SameAnswer (a c : Answer) : Type 0 where
 same : (a : Answer) → SameAnswer a a
 same a = record { refusal = refl; count = refl; book = refl }
 
-any-out : (r : ℕ) (b new : Book) (out lent : List ℕ) (rs : List Rec) → SameAnswer (answer r b out new rs) (answer r b lent new rs)
-any-out zero b new out lent rs = record { refusal = refl; count = refl; book = refl }
-any-out (suc r) b new out lent rs = record { refusal = refl; count = refl; book = refl }
+any-out : (r : ℕ) (b : Book) (out lent : List ℕ) (e : Effect) → SameAnswer (answer r b out e) (answer r b lent e)
+any-out zero b out lent e = record { refusal = refl; count = refl; book = refl }
+any-out (suc r) b out lent e = record { refusal = refl; count = refl; book = refl }
 
 -- two outputs of at least 4,096 words
 module _ (b : Book) (out lent : List ℕ) (room : outputWords ≤ length out) (also : outputWords ≤ length lent) where
-  any-asked : (qs : List Question) (new : Book) (rs : List Rec) →
-      SameAnswer (answer (firstNo (askOutput outputWords out ∷ qs)) b out new rs) (answer (firstNo (askOutput outputWords lent ∷ qs)) b lent new rs)
-  any-asked qs new rs =
-      rw (le-leb outputWords (length out) room, le-leb outputWords (length lent) also) (any-out (firstNo qs) b new out lent rs)
-
-  any-deliver : (i a x : ℕ) → SameAnswer (deliver b i a x out) (deliver b i a x lent)
-  unfolding deliver
-  any-deliver i a x =
-      any-asked (askSound b ∷ deliverAsks (b .phase) (b .nets) (b .delivered) i a x)
-      (withDelivered b (raisedDelivered (b .delivered) i a x)) (deliverRecords (b .nets) (b .delivered) i x)
-
-  any-cutoff : SameAnswer (cutoff b out) (cutoff b lent)
-  unfolding cutoff
-  any-cutoff =
-      let new = newEntries (b .day) (b .nets) (b .delivered) in
-      any-asked (askSound b ∷ cutoffAsks (b .phase) (b .count) (length new))
-      (withPhase (withLedger b (ledgerOf b ++ new)) Cut) (cutoffRecords (b .day) (b .nets) (b .delivered))
-
-  any-resolve : (i a x : ℕ) → SameAnswer (resolve b i a x out) (resolve b i a x lent)
-  unfolding resolve
-  any-resolve i a x =
-      any-asked (askSound b ∷ resolveAsks (ledgerOf b) i a x)
-      (withLedger b (meet (isFrom i a) x (ledgerOf b))) (resolveRecords (ledgerOf b) i a x)
+  any-asked : (qs : List Question) (e : Effect) →
+      SameAnswer (answer (firstNo (askOutput outputWords out ∷ qs)) b out e) (answer (firstNo (askOutput outputWords lent ∷ qs)) b lent e)
+  any-asked qs e =
+      rw (le-leb outputWords (length out) room, le-leb outputWords (length lent) also) (any-out (firstNo qs) b out lent e)
 
   pub answer-any-output : (x : Instruction) (prices : List ℕ) →
       SameAnswer (called b (callOf x prices out)) (called b (callOf x prices lent))
+  unfolding called
   answer-any-output (instruction.Trade i f t x) prices = same (called b (callOf (instruction.Trade i f t x) prices out))
-  answer-any-output (instruction.Deliver i a x) prices = any-deliver i a x
-  answer-any-output (instruction.Resolve i a x) prices = any-resolve i a x
+  answer-any-output (instruction.Deliver i a x) prices =
+      any-asked (askSound b ∷ ownAsks b (Deliver i a x out)) (effect b (Deliver i a x out))
+  answer-any-output (instruction.Resolve i a x) prices =
+      any-asked (askSound b ∷ ownAsks b (Resolve i a x out)) (effect b (Resolve i a x out))
   answer-any-output (instruction.PairOff i a) prices = same (called b (callOf (instruction.PairOff i a) prices out))
   answer-any-output instruction.Close prices = same (called b (callOf instruction.Close prices out))
-  answer-any-output instruction.Cutoff prices = any-cutoff
+  answer-any-output instruction.Cutoff prices = any-asked (askSound b ∷ ownAsks b (Cutoff out)) (effect b (Cutoff out))
   answer-any-output (instruction.Roll days rate) prices = same (called b (callOf (instruction.Roll days rate) prices out))
 
 -- so any such output gives the line and the book of the run

@@ -1,31 +1,51 @@
 // The tape: its reader and its writer.
 use rules::Instruction;
+use rules::Word;
 use rules::Written;
 ghost use mathlib.Core.Path.{_≡_};
-ghost use mathlib.Core.List.{[], _∷_, map};
-ghost use Prim.Native.Nat.{_+_, _≤_, _<_, _^_};
-ghost use lib.ListN.{length, getD, drop, replicate};
+ghost use mathlib.Core.Bool.{cond};
+ghost use mathlib.Core.List.{map};
+ghost use Prim.Native.Nat.{_-_, _≤_, _<_, _^_};
+ghost use lib.Dec.{eqb};
+ghost use lib.ListN.{length, getD, drop};
 ghost use lib.Seq.{sets};
 ghost use Rattle.rules.specs.Book.{all};
 ghost use Rattle.rules.specs.Records.{lotsBits, priceBits, ofField};
-ghost use Rattle.rules.specs.Tape.{kindOf, headRight, lotsRight, priceWordRight, followers, wordsWrong, instructionOf, readOf, pricesOf, rollWord, priceWord, fits, writeOf};
+ghost use Rattle.rules.specs.declared.Word.the-variants.{Wrong};
+ghost use Rattle.rules.specs.Tape.{wordAs, isAfter, wordsWrong, readOf, readAnswer, pricesOf, rollWord, priceWord, fits, writeOf};
 ghost use Rattle.tape.specs.Answers.{WriteAnswerIs, twoWords, oneWord, rollWords, Room, PricesFit};
 
-// The instruction of a head, with the lots of the word after it.
-fn instruction(w: u32, lots: u32) -> Instruction
-    ensures { λ r. ⌜ r ≡ instructionOf w lots ⌝ }
+// A word taken as x, or a wrong word where its unused bits, which hold `unused`, are not 0.
+fn clear(unused: u32, x: Word) -> Word
+    ensures { λ r. ⌜ r ≡ cond (eqb unused 0) x Wrong ⌝ }
+{
+    if unused != 0 {
+        return Word::Wrong;
+    }
+    x
+}
+
+// What a word is taken as, with the lots of the word after it: by its kind the head of a call, a word
+// after a head, or wrong.
+fn word_as(w: u32, lots: u32) -> Word
+    ensures { λ r. ⌜ r ≡ wordAs w lots ⌝ }
 {
     let kind = words::kind_of(w);
     let issue = words::issue_of(w);
     let from = words::from_of(w);
     match kind {
-        1 => Instruction::Trade(issue, from, words::to_of(w), lots),
-        2 => Instruction::Deliver(issue, from, lots),
-        3 => Instruction::Resolve(issue, from, lots),
-        4 => Instruction::PairOff(issue, from),
-        5 => Instruction::Close,
-        6 => Instruction::Cutoff,
-        _ => Instruction::Roll(words::days_of(w), words::rate_of(w)),
+        0 => Word::Wrong,
+        1 => clear(w % 4096, Word::Head(Instruction::Trade(issue, from, words::to_of(w), lots), 8, 2)),
+        2 => clear(w % 262144, Word::Head(Instruction::Deliver(issue, from, lots), 8, 2)),
+        3 => clear(w % 262144, Word::Head(Instruction::Resolve(issue, from, lots), 8, 2)),
+        4 => clear(w % 262144, Word::Head(Instruction::PairOff(issue, from), 0, 1)),
+        5 => clear(w % 268435456, Word::Head(Instruction::Close, 0, 1)),
+        6 => clear(w % 268435456, Word::Head(Instruction::Cutoff, 0, 1)),
+        7 => clear(w % 1024, Word::Head(Instruction::Roll(words::days_of(w), words::rate_of(w)), 9, 17)),
+        8 => Word::After(8),
+        9 => clear(w / 262144 % 1024, Word::After(9)),
+        10..=15 => Word::Wrong,
+        _ => Word::Wrong,
     }
 }
 
@@ -39,49 +59,28 @@ fn lots_in(tape: &[u32]) -> u32
     words::lots_of(tape[1])
 }
 
-// How many words an instruction of a kind has, its head included.
-fn word_count(kind: u32) -> usize
-    ensures { λ r. ⌜ r ≡ 1 + length (followers kind) ⌝ }
+// Is this a word of kind k after a head?
+fn is_after(w: u32, k: u32) -> bool
+    ensures { λ r. ⌜ r ≡ isAfter k (wordAs w 0) ⌝ }
 {
-    if kind <= 3 {
-        return 2;
+    match word_as(w, 0) {
+        Word::Head(x, kind, count) => false,
+        Word::After(kind) => kind == k,
+        Word::Wrong => false,
     }
-    if kind <= 6 {
-        return 1;
-    }
-    17
 }
 
-// Of a head's kind 8 word: 0 where it is right, 13 where it is missing, 14 where it is wrong.
-fn lots_wrong(tape: &[u32]) -> u32
-    ensures { λ r. ⌜ r ≡ wordsWrong (lotsRight ∷ []) (drop 1 (now (tape .entry))) ⌝ }
-{
-    if tape.len() <= 1 {
-        return 13;
-    }
-    let kind = words::kind_of(tape[1]);
-    if kind != 8 {
-        return 14;
-    }
-    0
-}
-
-// Of a roll's sixteen kind 9 words: 0 where all are right, else 13 or 14 of the first that is not.
-fn prices_wrong(tape: &[u32]) -> u32
-    ensures { λ r. ⌜ r ≡ wordsWrong (replicate 16 priceWordRight) (drop 1 (now (tape .entry))) ⌝ }
+// Of the words of kind k after a head, up to `count` words in all: 0 where each is right, else 13 or
+// 14 of the first that is not.
+fn wrong(tape: &[u32], k: u32, count: usize) -> u32
+    ensures { λ r. ⌜ r ≡ wordsWrong k (count - 1) (drop 1 (now (tape .entry))) ⌝ }
 {
     let mut at = 1;
-    while at < 17 {
+    while at < count {
         if tape.len() <= at {
             return 13;
         }
-        let w = tape[at];
-        let kind = words::kind_of(w);
-        let price = words::price_of(w);
-        if kind != 9 {
-            return 14;
-        }
-        if w % 268435456 != price {
+        if !is_after(tape[at], k) {
             return 14;
         }
         at += 1;
@@ -89,44 +88,24 @@ fn prices_wrong(tape: &[u32]) -> u32
     0
 }
 
-// Of an instruction's words in tape order: 0 where all are right, else 13 or 14 of the first that is not.
-fn wrong(tape: &[u32]) -> u32
-    ensures { λ r. ⌜ r ≡ wordsWrong (headRight ∷ followers (kindOf (getD (now (tape .entry)) 0 0))) (now (tape .entry)) ⌝ }
-{
-    if tape.len() == 0 {
-        return 13;
-    }
-    let w = tape[0];
-    let kind = words::kind_of(w);
-    match kind {
-        1 => if w % 4096 != 0 { 14 } else { lots_wrong(tape) },
-        4 => if w % 262144 != 0 { 14 } else { 0 },
-        7 => if w % 1024 != 0 {
-            14
-        } else {
-            prices_wrong(tape)
-        },
-        2..=3 => if w % 262144 != 0 {
-            14
-        } else {
-            lots_wrong(tape)
-        },
-        5..=6 => if w % 268435456 != 0 { 14 } else { 0 },
-        _ => 14,
-    }
-}
-
 // The instruction that a tape begins with and its word count, or the refusal's number.
 pub fn read(tape: &[u32]) -> rules::Read
-    ensures { λ r. ⌜ r ≡ readOf (now (tape .entry)) ⌝ }
+    ensures { λ r. ⌜ readAnswer r ≡ readAnswer (readOf (now (tape .entry))) ⌝ }
 {
-    let refusal = wrong(tape);
-    if refusal != 0 {
-        return rules::Read::Refused(refusal);
+    if tape.len() == 0 {
+        return rules::Read::Refused(13);
     }
-    let w = tape[0];
-    let count = word_count(words::kind_of(w));
-    rules::Read::Instr(instruction(w, lots_in(tape)), count)
+    match word_as(tape[0], lots_in(tape)) {
+        Word::Head(x, k, count) => {
+            let refusal = wrong(tape, k, count);
+            if refusal != 0 {
+                return rules::Read::Refused(refusal);
+            }
+            rules::Read::Instr(x, count)
+        }
+        Word::After(k) => rules::Read::Refused(14),
+        Word::Wrong => rules::Read::Refused(14),
+    }
 }
 
 // A roll's prices, issue 0 first, from the words after its head into the lent prices, as far as

@@ -5,7 +5,7 @@ use borrow.Author.Needs.{needs}
 use native.Mathlib.Omega.{arith}
 use Rattle.rules.specs.Measures.{mostLots, between}
 use Rattle.rules.specs.Questions.{priceRight, termRight}
-use Rattle.measures.proofs.Answers.{number, same-number, charge-refused, charge-priced, charge-paid}
+use Rattle.measures.proofs.Answers.{number, same-number, charge-refused, charge-priced, charge-yen}
 use Rattle.measures.proofs.charge.Statement.{statement}
 use Rattle.measures.proofs.charge.Tie as tie
 
@@ -20,7 +20,7 @@ charge-of-requires : tie.Need-charge-of-requires
 charge-of-requires c κs = charge-priced _ _ _ _ _ (asked (c .before)) (omega arith)
 
 returns-2 : tie.Need-returns-2
-returns-2 c = charge-paid _ _ _ _ _ (asked (c .before .before)) (omega arith) _ (c .charge-of .ensures .exact)
+returns-2 c = charge-yen _ _ _ _ _ (asked (c .before .before)) (omega arith) _ (c .charge-of .ensures .exact)
 
 pub charge-spec : {M : Type 1} → statement M
 charge-spec =

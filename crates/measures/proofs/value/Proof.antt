@@ -4,7 +4,7 @@ use borrow.Author.Needs.{needs}
 use native.Mathlib.Omega.{arith}
 use Rattle.rules.specs.Measures.{mostLots, between}
 use Rattle.rules.specs.Questions.{priceRight}
-use Rattle.measures.proofs.Answers.{number, same-number, value-refused, value-priced, value-paid}
+use Rattle.measures.proofs.Answers.{number, same-number, value-refused, value-priced, value-yen}
 use Rattle.measures.proofs.value.Statement.{statement}
 use Rattle.measures.proofs.value.Tie as tie
 
@@ -19,7 +19,7 @@ value-of-requires : tie.Need-value-of-requires
 value-of-requires c κs = value-priced _ _ _ (asked (c .before)) (omega arith)
 
 returns-2 : tie.Need-returns-2
-returns-2 c = value-paid _ _ _ (asked (c .before .before)) (omega arith) _ (c .value-of .ensures .exact)
+returns-2 c = value-yen _ _ _ (asked (c .before .before)) (omega arith) _ (c .value-of .ensures .exact)
 
 pub value-spec : {M : Type 1} → statement M
 value-spec =

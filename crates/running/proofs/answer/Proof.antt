@@ -1,7 +1,13 @@
 -- Each instruction is answered as its call is, of the book that the state and the columns are.
+use mathlib.Core.Path.{refl, subst}
 use denote.Ref.{now}
 use Rattle.rules.specs.declared.Book.{Book}
+use Rattle.rules.specs.declared.Instruction.{Instruction}
+use Rattle.rules.specs.Calls.{HasRoom}
+use Rattle.rules.specs.Run.{callOf}
+use Rattle.laws.proofs.Answers.{room-in}
 use Rattle.book.specs.States.{bookIn}
+use Rattle.running.proofs.Turning.{gives}
 use borrow.Author.Needs.{needs}
 use Rattle.running.proofs.answer.Statement.{statement}
 use Rattle.running.proofs.answer.Tie as tie
@@ -14,22 +20,22 @@ book s =
 trade-requires : tie.Need-trade-requires
 trade-requires c κs =
     let s = c .before .before .before .before .before .before .before .before .before .before .before .before in
-    (s .pre .lengths .cells .nets, record { rest = book s; sound = s .pre .sound })
+    (s .pre .0 .lengths .cells .nets, record { rest = book s; sound = s .pre .0 .sound })
 
 deliver-requires : tie.Need-deliver-requires
 deliver-requires c κs =
     let s = c .before .before .before .before .before .before .before .before .before .before .before .before .before .before in
-    (s .pre .lengths .cells, record { rest = book s; sound = s .pre .sound }, s .pre .room)
+    (s .pre .0 .lengths .cells, record { rest = book s; sound = s .pre .0 .sound }, room-in (now (s .args .out)) (subst (λ (y : Instruction). HasRoom (callOf y (now (s .args .prices)) (now (s .args .out)))) (c .before .before .before .before .x2 .given .1) (s .pre .1)))
 
 resolve-requires : tie.Need-resolve-requires
 resolve-requires c κs =
     let s = c .before .before .before .before .before .before .before .before .before .before .before .before .before .before .before .before .before in
-    (s .pre .lengths .ledger, record { rest = book s; sound = s .pre .sound }, s .pre .room)
+    ((s .pre .0 .lengths .ledger, record { rest = book s; sound = s .pre .0 .sound }), room-in (now (s .args .out)) (subst (λ (y : Instruction). HasRoom (callOf y (now (s .args .prices)) (now (s .args .out)))) (c .before .before .before .before .before .before .before .x3 .given .1) (s .pre .1)))
 
 pair-off-requires : tie.Need-pair-off-requires
 pair-off-requires c κs =
     let s = c .before .before .before .before .before .before .before .before .before .before .before .before .before .before .before .before in
-    (s .pre .lengths .ledger, record { rest = book s; sound = s .pre .sound })
+    (s .pre .0 .lengths .ledger, record { rest = book s; sound = s .pre .0 .sound })
 
 enum-told : tie.Need-enum-told
 enum-told c = search needs
@@ -37,57 +43,60 @@ enum-told c = search needs
 cutoff-requires : tie.Need-cutoff-requires
 cutoff-requires c κs =
     let s = c .before .before .before .before .before .before .before .before .before .before .before .before .before .before .before .before .before .before in
-    (s .pre .lengths .cells, s .pre .lengths .ledger, record { rest = book s; sound = s .pre .sound }, s .pre .room)
+    (s .pre .0 .lengths .cells, s .pre .0 .lengths .ledger, record { rest = book s; sound = s .pre .0 .sound }, room-in (now (s .args .out)) (subst (λ (y : Instruction). HasRoom (callOf y (now (s .args .prices)) (now (s .args .out)))) (c .before .before .before .before .before .before .before .before .enum-told2 .given .1) (s .pre .1)))
 
 roll-requires : tie.Need-roll-requires
 roll-requires c κs =
     let s = c .before .before .before .before .before .before .before .before .before .before .before .before .before .before .before .before .before .before in
-    let l = s .pre .lengths .ledger in (
+    let l = s .pre .0 .lengths .ledger in (
       record {
-        cells = s .pre .lengths .cells;
-        accounts = s .pre .lengths .charges;
+        cells = s .pre .0 .lengths .cells;
+        accounts = s .pre .0 .lengths .charges;
         issue = l .issues;
         from = l .froms;
         to = l .tos;
         lot = l .lots;
       },
-      record { rest = book s; sound = s .pre .sound },
+      record { rest = book s; sound = s .pre .0 .sound },
     )
 
 returns : tie.Need-returns
 returns c =
     let s = c .before .before .before .before .before .before .before .before .before .before .before .before .before .before in
-    rw (c .before .before .before .before .x .given .1) (c .before .trade .ensures (book s) (s .pre .sound))
+    rw (c .before .before .before .before .x .given .1) (gives refl (c .before .trade .ensures (book s) (s .pre .0 .sound)))
 
 returns-2 : tie.Need-returns-2
 returns-2 c =
     let s = c .before .before .before .before .before .before .before .before .before .before .before .before .before .before .before .before .before .before .before in
-    rw (c .before .before .before .before .before .before .before .before .before .x2 .given .1) (c .before .before .before .before .deliver .ensures (book s) (s .pre .sound))
+    let t = c .before .before .before .before .deliver .ensures (book s) (s .pre .0 .sound) in
+    rw (c .before .before .before .before .before .before .before .before .before .x2 .given .1) (gives (t .out) t)
 
 returns-3 : tie.Need-returns-3
 returns-3 c =
     let s = c .before .before .before .before .before .before .before .before .before .before .before .before .before .before .before .before .before .before .before .before .before .before .before .before .before .before .before .before .before .before in
-    rw (c .before .before .before .before .before .before .before .before .before .before .before .before .before .before .before .before .before .before .before .before .x3 .given .1) (c .before .before .before .before .before .before .before .before .before .before .before .before .resolve .ensures (book s) (s .pre .sound))
+    let t = c .before .before .before .before .before .before .before .before .before .before .before .before .resolve .ensures (book s) (s .pre .0 .sound) in
+    rw (c .before .before .before .before .before .before .before .before .before .before .before .before .before .before .before .before .before .before .before .before .x3 .given .1) (gives (t .out) t)
 
 returns-4 : tie.Need-returns-4
 returns-4 c =
     let s = c .before .before .before .before .before .before .before .before .before .before .before .before .before .before .before .before .before .before .before .before .before .before .before .before .before .before .before in
-    rw (c .before .before .before .before .before .before .before .before .before .before .before .before .before .before .before .before .before .x4 .given .1) (c .before .before .before .before .before .before .before .before .before .before .pair-off .ensures (book s) (s .pre .sound))
+    rw (c .before .before .before .before .before .before .before .before .before .before .before .before .before .before .before .before .before .x4 .given .1) (gives refl (c .before .before .before .before .before .before .before .before .before .before .pair-off .ensures (book s) (s .pre .0 .sound)))
 
 returns-5 : tie.Need-returns-5
 returns-5 c =
     let s = c .before .before .before .before .before .before .before .before .before .before .before in
-    rw (c .before .enum-told .given .1) (c .close .ensures (book s) (s .pre .sound))
+    rw (c .before .enum-told .given .1) (gives refl (c .close .ensures (book s) (s .pre .0 .sound)))
 
 returns-6 : tie.Need-returns-6
 returns-6 c =
     let s = c .before .before .before .before .before .before .before .before .before .before .before .before .before .before .before .before .before .before .before .before .before .before .before .before .before .before .before .before .before .before .before in
-    rw (c .before .before .before .before .before .before .before .before .before .before .before .before .before .before .before .before .before .before .before .before .before .enum-told2 .given .1) (c .before .before .before .before .before .before .before .before .before .before .before .before .cutoff .ensures (book s) (s .pre .sound))
+    let t = c .before .before .before .before .before .before .before .before .before .before .before .before .cutoff .ensures (book s) (s .pre .0 .sound) in
+    rw (c .before .before .before .before .before .before .before .before .before .before .before .before .before .before .before .before .before .before .before .before .before .enum-told2 .given .1) (gives (t .out) t)
 
 returns-7 : tie.Need-returns-7
 returns-7 c =
     let s = c .before .before .before .before .before .before .before .before .before .before .before .before .before .before .before .before .before .before .before .before .before .before .before in
-    rw (c .before .before .before .before .before .before .before .before .before .before .before .before .before .x5 .given .1) (c .before .before .before .before .roll .ensures (book s) (s .pre .sound))
+    rw (c .before .before .before .before .before .before .before .before .before .before .before .before .before .x5 .given .1) (gives refl (c .before .before .before .before .roll .ensures (book s) (s .pre .0 .sound)))
 
 pub answer-spec : {M : Type 1} → statement M
 answer-spec =

@@ -1,16 +1,23 @@
 -- The phase is the only question, and what changes.
-use Rattle.running.proofs.Turning.{close-no, close-yes}
+use mathlib.Core.Path.{refl}
+use Rattle.rules.specs.Calls.{Close}
+use Rattle.running.specs.Turns.{inState}
+use Rattle.running.proofs.Turning.{turn-no, turn-yes, closed}
 use borrow.Author.Needs.{needs}
 use Rattle.running.proofs.close.Statement.{statement}
 use Rattle.running.proofs.close.Tie as tie
 
 returns : tie.Need-returns
-returns c =
-    close-no (c .before .before .args .s) (c .before .close-asks .result) (c .before .close-asks .ensures) (c .if1 .taken)
+returns c b q =
+    let s = c .before .before .args .s in
+    turn-no (inState s b) Close refl q s (c .before .close-asks .result) (c .before .close-asks .ensures) (c .if1 .taken)
 
 returns-2 : tie.Need-returns-2
-returns-2 c =
-    close-yes (c .before .before .args .s) (c .before .close-asks .result) (c .before .close-asks .ensures) (c .if1 .left)
+returns-2 c b q =
+    let k = c .before in
+    let s = k .before .before .args .s in
+    turn-yes (inState s b) Close refl q _ (k .before .close-asks .result) 0 0 _ _ (k .before .close-asks .ensures) (k .if1 .left)
+    (closed s _ b (c .with-phase .ensures))
 
 pub close-spec : {M : Type 1} → statement M
-close-spec = tie.close (tie.spec (λ c κs. search needs) returns returns-2)
+close-spec = tie.close (tie.spec (λ c κs. search needs) returns (λ c κs. search needs) returns-2)

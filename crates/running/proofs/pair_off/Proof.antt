@@ -1,39 +1,50 @@
 -- With no 'no' the steps are made in place.
+use mathlib.Core.Path.{refl, sym, _∙_}
 use denote.Ref.{now}
 use Rattle.rules.specs.declared.Book.{Book}
+use Rattle.rules.specs.Calls.{PairOff}
 use Rattle.resolution.proofs.Opening.{book-pairable, pair-issue}
 use Rattle.running.specs.Turns.{withinLedger}
-use Rattle.running.proofs.Turning.{paired-no, paired-yes, whole}
+use Rattle.running.proofs.Turning.{turn-no, turn-yes, paired-off, whole}
 use borrow.Author.Needs.{needs}
 use Rattle.running.proofs.pair_off.Statement.{statement}
 use Rattle.running.proofs.pair_off.Tie as tie
 
--- a sound book with what is lent
-abbrev book : tie.Start → Book
-book s =
+-- a book with what is lent
+abbrev within : tie.Start → Book → Book
+within s b =
     let a = s .args in
-    withinLedger (a .s) (now (a .issues)) (now (a .froms)) (now (a .tos)) (now (a .lots)) (now (a .days)) (s .pre .1 .rest)
+    withinLedger (a .s) (now (a .issues)) (now (a .froms)) (now (a .tos)) (now (a .lots)) (now (a .days)) b
+
+-- where the questions were asked
+abbrev start : tie.After-pair-off-asks → tie.Start
+start c = c .before .before .before .before .before .before
 
 returns : tie.Need-returns
-returns c =
-    let a = c .before .before .before .before .before .before .before .args in
-    paired-no (a .s) (now (a .issues)) (now (a .froms)) (now (a .tos)) (now (a .lots)) (now (a .days)) (a .i) (a .a) (c .before .pair-off-asks .result)
-    (c .before .pair-off-asks .ensures) (c .if1 .taken)
+returns c b q =
+    let s = start (c .before) in
+    let a = s .args in
+    turn-no (within s b) (PairOff (a .i) (a .a)) refl q (a .s) (c .before .pair-off-asks .result) (c .before .pair-off-asks .ensures) (c .if1 .taken)
 
 pair-off-in-requires : tie.Need-pair-off-in-requires
 pair-off-in-requires c κs =
-    let s = c .before .before .before .before .before .before .before .before .before .before .before .before in
+    let k = c .before .before .before .before .before in
+    let s = start (k .before) in
     let a = s .args in
-    let q = c .before .before .before .before .before .before .pair-off-asks in
-    book-pairable (book s) (a .i) (a .a) (pair-issue (book s) (a .i) (a .a) (s .pre .1 .sound) (q .result) (q .ensures) (c .before .before .before .before .before .if1 .left)) (s .pre .1 .sound)
+    let b = within s (s .pre .1 .rest) in
+    book-pairable b (a .i) (a .a) (pair-issue b (a .i) (a .a) (sym (k .before .pair-off-asks .ensures) ∙ k .if1 .left)) (s .pre .1 .sound)
     (whole (now (a .issues)) (now (a .froms)) (now (a .tos)) (now (a .lots)) (now (a .days)) (s .pre .0))
 
 returns-2 : tie.Need-returns-2
-returns-2 c =
-    let a = c .before .before .before .before .before .before .before .before .before .before .before .before .before .before .before .before .before .before .before .before .before .before .before .args in
-    let k = c .before .before .before .before .before .before .before .before .before .before .pair-off-in in
-    paired-yes (a .s) (now (a .issues)) (now (a .froms)) (now (a .tos)) (now (a .lots)) (now (a .days)) (a .i) (a .a) (c .before .before .before .before .before .before .before .before .before .before .before .before .before .before .before .before .before .pair-off-asks .result) (k .result) _ _ _ _ _ (c .before .before .before .before .before .before .before .before .before .before .before .before .before .before .before .before .before .pair-off-asks .ensures)
-    (c .before .before .before .before .before .before .before .before .before .before .before .before .before .before .before .before .if1 .left) (k .ensures)
+returns-2 c b q =
+    let d = c .before .before .before .before .before .before .before .before .before .before .before .pair-off-in in
+    let k = c .before .before .before .before .before .before .before .before .before .before .before .before .before .before .before .before .before in
+    let s = start (k .before) in
+    let a = s .args in
+    turn-yes (within s b) (PairOff (a .i) (a .a)) refl q _ (k .before .pair-off-asks .result) (d .result .steps) (d .result .cancelled) _ _
+    (k .before .pair-off-asks .ensures) (k .if1 .left)
+    (paired-off (a .s) _ (now (a .issues)) (now (a .froms)) (now (a .tos)) (now (a .lots)) (now (a .days)) (a .i) (a .a) (d .result) _ _ _ _ _ b
+    (c .with-entries .ensures) (d .ensures))
 
 pub pair-off-spec : {M : Type 1} → statement M
 pair-off-spec =
@@ -42,6 +53,7 @@ pair-off-spec =
     (λ c κs. search needs)
     returns
     pair-off-in-requires
+    (λ c κs. search needs)
     (λ c. search needs)
     (λ c. search needs)
     (λ c. search needs)

@@ -1,55 +1,63 @@
 -- With no 'no' the columns are rolled in place.
-use mathlib.Core.Path.{_≡_, sym, _∙_}
-use native.Mathlib.Omega.{arith}
+use mathlib.Core.Path.{_≡_, refl, sym, _∙_}
 use denote.Ref.{now}
 use Rattle.rules.specs.declared.Book.{Book}
 use Rattle.rules.specs.Questions.{firstNo}
-use Rattle.rules.specs.Calls.{rollAsks}
+use Rattle.rules.specs.Calls.{Roll, rollAsks}
 use Rattle.rolling.proofs.Asks.{chargeable, not-last}
 use Rattle.running.specs.Turns.{butDays}
-use Rattle.running.proofs.Turning.{rolled-no, rolled-yes}
+use Rattle.running.proofs.Turning.{turn-no, turn-yes, rolled-on}
 use borrow.Author.Needs.{needs}
 use Rattle.running.proofs.roll.Statement.{statement}
 use Rattle.running.proofs.roll.Tie as tie
 
--- a sound book with what is lent
-abbrev book : tie.Start → Book
-book s =
+-- a book with what is lent
+abbrev within : tie.Start → Book → Book
+within s b =
     let a = s .args in
-    butDays (a .s) (now (a .nets)) (now (a .delivered)) (now (a .charges)) (now (a .issues)) (now (a .froms)) (now (a .tos)) (now (a .lots)) (s .pre .1 .rest)
+    butDays (a .s) (now (a .nets)) (now (a .delivered)) (now (a .charges)) (now (a .issues)) (now (a .froms)) (now (a .tos)) (now (a .lots)) b
+
+-- where the questions were asked
+abbrev start : tie.After-roll-asks → tie.Start
+start c = c .before .before .before .before .before .before .before
 
 -- no question is answered 'no'
-answered : (c : tie.Else1) → let a = c .before .before .before .before .before .before .before .before .args in firstNo (rollAsks (a .s .phase) (a .s .day) (a .days) (a .rate) (now (a .prices))) ≡ 0
+answered : (c : tie.Else1) → let a = start (c .before) .args in
+    firstNo (rollAsks (a .s .phase) (a .s .day) (a .days) (a .rate) (now (a .prices))) ≡ 0
 answered c = sym (c .before .roll-asks .ensures) ∙ c .if1 .left
 
 returns : tie.Need-returns
-returns c =
-    let a = c .before .before .before .before .before .before .before .before .args in
-    rolled-no (a .s) (now (a .nets)) (now (a .delivered)) (now (a .charges)) (now (a .issues)) (now (a .froms)) (now (a .tos)) (now (a .lots))
-    (a .days) (a .rate) (now (a .prices)) (c .before .roll-asks .result) (c .before .roll-asks .ensures) (c .if1 .taken)
+returns c b q =
+    let s = start (c .before) in
+    let a = s .args in
+    turn-no (within s b) (Roll (a .days) (a .rate) (now (a .prices))) refl q (a .s) (c .before .roll-asks .result) (c .before .roll-asks .ensures) (c .if1 .taken)
 
 roll-in-requires : tie.Need-roll-in-requires
 roll-in-requires c κs =
-    let s = c .before .before .before .before .before .before .before .before .before .before .before in
+    let k = c .before .before .before in
+    let s = start (k .before) in
     let a = s .args in
     let l = s .pre .0 in (
-      chargeable (book s) (a .days) (a .rate) (now (a .prices)) (record { sound = s .pre .1 .sound; asks = answered (c .before .before .before) })
+      chargeable (within s (s .pre .1 .rest)) (a .days) (a .rate) (now (a .prices)) (record { sound = s .pre .1 .sound; asks = answered k })
           (l .issue) (l .from) (l .to) (l .lot) (l .accounts),
       record { nets = l .cells .nets; delivered = l .cells .delivered },
     )
 
-add-t24 : tie.Need-add-t24
-add-t24 c =
-    let a = c .before .before .before .before .before .before .before .before .before .before .before .before .before .before .before .before .args in
-    record { fits = omega (arith, not-last (a .s .phase) (a .s .day) (a .days) (a .rate) (now (a .prices)) (answered (c .before .before .before .before .before .before .before .before))) }
+next-day-requires : tie.Need-next-day-requires
+next-day-requires c κs =
+    let k = c .before .before .before .before .before .before .before .before in
+    let a = start (k .before) .args in
+    not-last (a .s .phase) (a .s .day) (a .days) (a .rate) (now (a .prices)) (answered k)
 
 returns-2 : tie.Need-returns-2
-returns-2 c =
-    let a = c .before .before .before .before .before .before .before .before .before .before .before .before .before .before .before .before .args in
-    let k = c .before .before .before .before .roll-in .ensures in
-    rolled-yes (a .s) (now (a .nets)) (now (a .delivered)) (now (a .charges)) (now (a .issues)) (now (a .froms)) (now (a .tos)) (now (a .lots))
-    (a .days) (a .rate) (now (a .prices)) (c .before .before .before .before .before .before .before .before .before .roll-asks .result) _ _ _ (c .before .before .before .before .before .before .before .before .before .roll-asks .ensures) (c .before .before .before .before .before .before .before .before .if1 .left) (k .0 .charges)
-    (k .1 .nets) (k .1 .delivered)
+returns-2 c b q =
+    let d = c .before .before .before .before .before .roll-in .ensures in
+    let k = c .before .before .before .before .before .before .before .before .before in
+    let s = start (k .before) in
+    let a = s .args in
+    turn-yes (within s b) (Roll (a .days) (a .rate) (now (a .prices))) refl q _ (k .before .roll-asks .result) 0 0 _ _ (k .before .roll-asks .ensures) (k .if1 .left)
+    (rolled-on (a .s) _ (now (a .nets)) (now (a .delivered)) (now (a .charges)) (now (a .issues)) (now (a .froms)) (now (a .tos)) (now (a .lots))
+    (a .days) (a .rate) (now (a .prices)) _ _ _ b (c .next-day .ensures) (d .0 .charges (b .days)) (d .1 .nets) (d .1 .delivered))
 
 pub roll-spec : {M : Type 1} → statement M
 roll-spec =
@@ -58,7 +66,7 @@ roll-spec =
     (λ c κs. search needs)
     returns
     roll-in-requires
-    add-t24
+    next-day-requires
     (λ c. search needs)
     (λ c. search needs)
     (λ c. search needs)

@@ -1,10 +1,10 @@
 -- With no 'no' the nets are traded in place.
-use mathlib.Core.Path.{sym, _∙_}
+use mathlib.Core.Path.{refl, sym, _∙_}
 use denote.Ref.{now}
-use Rattle.trading.specs.Trading.{SmallNets}
+use Rattle.rules.specs.Calls.{Trade}
 use Rattle.trading.proofs.Asks.{small-nets, tradable}
 use Rattle.running.specs.Turns.{withinNets}
-use Rattle.running.proofs.Turning.{trade-no, trade-yes}
+use Rattle.running.proofs.Turning.{turn-no, turn-yes, traded}
 use borrow.Author.Needs.{needs}
 use Rattle.running.proofs.trade.Statement.{statement}
 use Rattle.running.proofs.trade.Tie as tie
@@ -14,9 +14,10 @@ trade-asks-requires c κs =
     small-nets (withinNets (c .before .args .s) (now (c .before .args .nets)) (c .before .pre .1 .rest)) (c .before .pre .1 .sound) (c .before .pre .0)
 
 returns : tie.Need-returns
-returns c =
+returns c b q =
     let a = c .before .before .before .args in
-    trade-no (a .s) (now (a .nets)) (a .i) (a .f) (a .t) (a .x) (c .before .trade-asks .result) (c .before .trade-asks .ensures) (c .if1 .taken)
+    turn-no (withinNets (a .s) (now (a .nets)) b) (Trade (a .i) (a .f) (a .t) (a .x)) refl q (a .s) (c .before .trade-asks .result)
+    (c .before .trade-asks .ensures) (c .if1 .taken)
 
 trade-in-requires : tie.Need-trade-in-requires
 trade-in-requires c κs =
@@ -27,10 +28,11 @@ trade-in-requires c κs =
     (sym (c .before .before .trade-asks .ensures) ∙ c .before .if1 .left)
 
 returns-2 : tie.Need-returns-2
-returns-2 c =
-    let a = c .before .before .before .before .before .before .args in
-    trade-yes (a .s) (now (a .nets)) (a .i) (a .f) (a .t) (a .x) (c .before .before .before .before .trade-asks .result) _ (c .before .before .before .before .trade-asks .ensures) (c .before .before .before .if1 .left)
-    (c .before .trade-in .ensures)
+returns-2 c b q =
+    let k = c .before .before .before in
+    let a = k .before .before .before .args in
+    turn-yes (withinNets (a .s) (now (a .nets)) b) (Trade (a .i) (a .f) (a .t) (a .x)) refl q (a .s) (k .before .trade-asks .result) 0 0 _ _
+    (k .before .trade-asks .ensures) (k .if1 .left) (traded (a .s) (now (a .nets)) _ (a .i) (a .f) (a .t) (a .x) b (c .before .trade-in .ensures))
 
 pub trade-spec : {M : Type 1} → statement M
 trade-spec =

@@ -1,0 +1,61 @@
+-- Demand 3 speaks of this code: what `answer` gives, fed to the tally, leads to the states of a list of calls.
+use mathlib.Core.Path.{_≡_, refl, sym, _∙_}
+use mathlib.Core.List.{List, []}
+use Prim.Native.Nat.{ℕ}
+use Rattle.rules.specs.declared.Book.{Book}
+use Rattle.rules.specs.declared.Instruction.{Instruction}
+use Rattle.rules.specs.Calls.{Call, Trade, Close, Deliver, Cutoff, Resolve, PairOff, Roll, Answer, called}
+use Rattle.rules.specs.Run.{callOf}
+use Rattle.rules.specs.Tally.{State, Demand3}
+use Rattle.laws.proofs.Answers.{by-answer}
+use Rattle.tally.proofs.Made.{Made, demand3-of}
+use Rattle.running.specs.declared.Turn.{Turn}
+use Rattle.running.specs.Turns.{Gives}
+
+-- the words that a call wrote its records to: those of the lent output, none where none is lent
+abbrev pub wordsLent : Call → List ℕ → List ℕ
+wordsLent (Trade i f t x) out = []
+wordsLent Close out = []
+wordsLent (Deliver i a x lent) out = out
+wordsLent (Cutoff lent) out = out
+wordsLent (Resolve i a x lent) out = out
+wordsLent (PairOff i a) out = []
+wordsLent (Roll days rate prices) out = []
+
+-- a turn, the book and the words that it left, as an answer
+abbrev pub gave : Call → Turn → Book → List ℕ → Answer
+gave c r b out =
+    record { refusal = r .refusal; count = r .count; cancelled = r .cancelled; book = b; out = wordsLent c out }
+
+words-lent : (b : Book) (c : Call) (r : Turn) (b′ : Book) (out out′ : List ℕ) → Gives b c r b′ out out′ → wordsLent c out′ ≡ called b c .out
+words-lent b (Trade i f t x) r b′ out out′ g = by-answer (λ d. [] ≡ d .out) b (Trade i f t x) (λ y. refl) (λ n. refl)
+words-lent b Close r b′ out out′ g = by-answer (λ d. [] ≡ d .out) b Close (λ y. refl) (λ n. refl)
+words-lent b (Deliver i a x lent) r b′ out out′ g = g .words
+words-lent b (Cutoff lent) r b′ out out′ g = g .words
+words-lent b (Resolve i a x lent) r b′ out out′ g = g .words
+words-lent b (PairOff i a) r b′ out out′ g = by-answer (λ d. [] ≡ d .out) b (PairOff i a) (λ y. refl) (λ n. refl)
+words-lent b (Roll days rate prices) r b′ out out′ g =
+    by-answer (λ d. [] ≡ d .out) b (Roll days rate prices) (λ y. refl) (λ n. refl)
+
+-- what a turn gives is the call's answer
+pub gave-answer : (b : Book) (c : Call) (r : Turn) (b′ : Book) (out out′ : List ℕ) → Gives b c r b′ out out′ → gave c r b′ out′ ≡ called b c
+gave-answer b c r b′ out out′ g =
+    λ j. record {
+      refusal = g .refusal j;
+      count = g .count j;
+      cancelled = g .cancelled j;
+      book = g .book j;
+      out = words-lent b c r b′ out out′ g j;
+    }
+
+-- an instruction made on a book through it, and what that gave
+pub data InPlace (b : Book) : Call → Answer → Type 0 where
+  turned : (x : Instruction) (prices out : List ℕ) (r : Turn) (b′ : Book) (out′ : List ℕ) → Gives b (callOf x prices out) r b′ out out′ →
+      InPlace b (callOf x prices out) (gave (callOf x prices out) r b′ out′)
+
+-- so demand 3 holds after every list of instructions made through it
+pub demand3-in-place : {s : State} → Made InPlace s → Demand3 s
+demand3-in-place m = demand3-of InPlace right m
+  where
+    right : (b : Book) (c : Call) (r : Answer) → InPlace b c r → r ≡ called b c
+    right b _ _ (turned x prices out r b′ out′ g) = gave-answer b (callOf x prices out) r b′ out out′ g
