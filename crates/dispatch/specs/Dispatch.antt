@@ -1,35 +1,40 @@
--- A call made through one function answers as the call of the tally's lists does.
-use mathlib.Core.Path.{_≡_}
-use mathlib.Core.List.{List, []}
+-- A call made on columns of any length.
+use mathlib.Core.Bool.{Bool}
+use mathlib.Core.List.{List, _∷_, _++_}
 use Prim.Native.Nat.{ℕ}
+use denote.Ref.{now}
 use Rattle.rules.specs.declared.Book.{Book}
 use Rattle.rules.specs.declared.Instruction.{Instruction}
-use Rattle.rules.specs.declared.Instruction.the-variants as instruction
-use Rattle.rules.specs.declared.Reply.{Reply}
-use Rattle.rules.specs.Calls.{Answer, pairOff}
-use Rattle.rules.specs.Tally.{called, ofPair}
+use Rattle.rules.specs.Questions.{Question, ask, firstNo}
+use Rattle.rules.specs.Calls.{Call, Answer, answer, lentTo, outputAsks, ownAsks, effect}
 use Rattle.rules.specs.Run.{callOf}
+use Rattle.book.specs.declared.State.{State}
+use Rattle.book.specs.States.{Column, Columns}
+use Rattle.soundness.specs.Sound.{soundIn}
+use Rattle.running.specs.declared.Turn.{Turn}
+use Rattle.running.specs.Turns.{TurnIs, outAfter}
 
--- the lent output after a call: only deliver, resolve and cutoff are lent one
-abbrev pub outAfter : Instruction → Answer → List ℕ → List ℕ
-outAfter (instruction.Trade i f t x) a out = out
-outAfter (instruction.Deliver i c x) a out = a .out
-outAfter (instruction.Resolve i c x) a out = a .out
-outAfter (instruction.PairOff i c) a out = out
-outAfter instruction.Close a out = out
-outAfter instruction.Cutoff a out = a .out
-outAfter (instruction.Roll days rate) a out = out
+-- the questions of a call, where question 2 is answered so
+abbrev pub asksWhere : Bool → Book → Call → List Question
+asksWhere good b c = outputAsks c ++ (ask 2 good ∷ ownAsks b c)
 
--- a reply is an answer's number, count and book
-pub record ReplyIs (a : Answer) (r : Reply) : Type 0 where
-  pub refusal : r .refusal ≡ a .refusal
-  pub count : r .count ≡ a .count
-  pub book : r .book ≡ a .book
+unfoldable pub calledWhere : Bool → Book → Call → Answer
+calledWhere good b c = answer (firstNo (asksWhere good b c)) b (lentTo c) (effect b c)
 
-abbrev pub PairOffIs : Book → ℕ → ℕ → Reply → Type 0
-PairOffIs b i a r = ReplyIs (ofPair (pairOff b i a)) r
+-- columns of another length are no sound book
+abbrev pub calledIn : Book → Call → Answer
+calledIn b c = calledWhere (soundIn b) b c
 
--- the answer over which demand 3 is proved, and the output
-pub record Answers (b : Book) (x : Instruction) (prices lent : List ℕ) (r : Reply) (after : List ℕ) : Type 0 where
-  pub reply : ReplyIs (called b (callOf x prices lent)) r
-  pub output : after ≡ outAfter x (called b (callOf x prices lent)) lent
+-- an answer, with what an output that stands beside the call holds after it
+abbrev pub beside : Call → List ℕ → Answer → Answer
+beside c out d =
+    record { refusal = d .refusal; count = d .count; cancelled = d .cancelled; book = d .book; out = outAfter c out d }
+
+-- an instruction, with roll's prices and an output beside it, made on the columns of a state
+abbrev pub Called : Instruction → Column ℕ → Column ℕ → State → Turn → Columns → Type 0
+Called x prices out s r c =
+    let call = callOf x (now (prices .entry)) (now (out .entry)) in
+    TurnIs (beside call (now (out .entry)) (calledIn (c .before s) call)) r (c .after (r .state)) (now (out .exit))
+
+abbrev pub refusedTurn : ℕ → State → Turn
+refusedTurn n s = record { refusal = n; count = 0; cancelled = 0; state = s }

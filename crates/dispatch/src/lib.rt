@@ -1,33 +1,81 @@
-// One function for the seven calls: an instruction made on a book.
-use rules::Book;
+// One function for the seven calls: an instruction made in place on any columns whatever.
+use book::State;
 use rules::Instruction;
-use rules::Reply;
-ghost use Rattle.dispatch.specs.Dispatch.{Answers, PairOffIs};
+use running::Turn;
+ghost use mathlib.Core.Path.{_≡_};
+ghost use mathlib.Core.List.{[]};
+ghost use Rattle.rules.specs.Questions.{firstNo};
+ghost use Rattle.rules.specs.Calls.{outputAsks};
+ghost use Rattle.rules.specs.Run.{callOf};
+ghost use Rattle.book.specs.States.{columns};
+ghost use Rattle.dispatch.specs.Dispatch.{Called, refusedTurn};
 
-// Pair-off's answer as a reply: its count is the steps made.
-fn pair_off(b: Book, i: u32, a: u32) -> Reply
-    ensures { λ r. ⌜ PairOffIs b i a r ⌝ }
+// Question 1, of deliver, cutoff and resolve: has the output at least 4,096 words? 1 where it has not.
+pub fn output_asks(x: Instruction, out: &[u32]) -> u32
+    ensures { λ r. ⌜ r ≡ firstNo (outputAsks (callOf x [] (now (out .entry)))) ⌝ }
 {
-    let p = resolution::pair_off(b, i, a);
-    let after = p.book;
-    Reply {
-        refusal: p.refusal,
-        count: p.steps,
-        book: after,
+    if 4096 <= out.len() {
+        return 0;
+    }
+    match x {
+        Instruction::Trade(_, _, _, _) => 0,
+        Instruction::Deliver(_, _, _) => 1,
+        Instruction::Resolve(_, _, _) => 1,
+        Instruction::PairOff(_, _) => 0,
+        Instruction::Close => 0,
+        Instruction::Cutoff => 1,
+        Instruction::Roll(_, _) => 0,
     }
 }
 
-// The call of an instruction, with roll's prices and a lent output beside it, on any book.
-pub fn call(b: Book, x: Instruction, prices: &[u32], out: &mut [u32]) -> Reply
-    ensures { λ r. ⌜ Answers b x (now (prices .entry)) (now (out .entry)) r (now (out .exit)) ⌝ }
+// A refusal: its number, and 0 for every other number.
+fn refused(no: u32, s: State) -> Turn
+    ensures { λ r. ⌜ r ≡ refusedTurn no s ⌝ }
 {
-    match x {
-        Instruction::Trade(i, f, t, n) => trading::trade(b, i, f, t, n),
-        Instruction::Deliver(i, a, n) => delivery::deliver(b, i, a, n, out),
-        Instruction::Resolve(i, a, n) => resolution::resolve(b, i, a, n, out),
-        Instruction::PairOff(i, a) => pair_off(b, i, a),
-        Instruction::Close => trading::close(b),
-        Instruction::Cutoff => cutoff::cutoff(b, out),
-        Instruction::Roll(days, rate) => rolling::roll(b, days, rate, prices),
+    Turn {
+        refusal: no,
+        count: 0,
+        cancelled: 0,
+        state: s,
     }
+}
+
+// The call of an instruction, with roll's prices and an output beside it, on any book.
+pub fn call(
+    x: Instruction,
+    prices: &[u32],
+    s: State,
+    nets: &mut [i32],
+    delivered: &mut [u32],
+    charges: &mut [i64],
+    issues: &mut [u8],
+    froms: &mut [u8],
+    tos: &mut [u8],
+    lots: &mut [u32],
+    days: &mut [u16],
+    out: &mut [u32],
+) -> Turn
+    ensures { λ r. ⌜ Called x prices out s r (columns nets delivered charges issues froms tos lots days) ⌝ }
+{
+    let no = output_asks(x, out);
+    if no != 0 {
+        return refused(no, s);
+    }
+    if !soundness::sound(s, nets, delivered, charges, issues, froms, tos, lots, days) {
+        return refused(2, s);
+    }
+    running::answer(
+        x,
+        prices,
+        s,
+        nets,
+        delivered,
+        charges,
+        issues,
+        froms,
+        tos,
+        lots,
+        days,
+        out,
+    )
 }

@@ -199,32 +199,29 @@ effect b (Roll days rate prices) = changes (rolled b days rate prices)
 unfoldable pub called : Book → Call → Answer
 called b c = answer (firstNo (asks b c)) b (lentTo c) (effect b c)
 
--- the k-th unit of an issue, k from 0: account and lots, or 'none' exactly when k is not below the number of units
-pub record UnitAnswer : Type 0 where
-  pub refusal : ℕ
-  pub some : Bool
-  pub account : ℕ
-  pub lots : ℕ
-
-abbrev pub noUnit : ℕ → UnitAnswer
-noUnit r = record { refusal = r; some = false; account = 0; lots = 0 }
+-- the k-th unit of an issue, k from 0: account and lots, or 'none' exactly when k is not below the number of units;
+-- a refusal is neither, and has its number
+pub data UnitAnswer : Type 0 where
+  oneUnit : ℕ → ℕ → UnitAnswer
+  noUnit : UnitAnswer
+  unitRefused : ℕ → UnitAnswer
 
 abbrev pub firstAnswer : List Part → UnitAnswer
-firstAnswer [] = noUnit 0
-firstAnswer (u ∷ us) = record { refusal = 0; some = true; account = u .account; lots = u .lots }
+firstAnswer [] = noUnit
+firstAnswer (u ∷ us) = oneUnit (u .account) (u .lots)
 
 abbrev pub unitAnswer : ℕ → List Part → UnitAnswer
 unitAnswer zero us = firstAnswer us
-unitAnswer (suc r) us = noUnit (suc r)
+unitAnswer (suc r) us = unitRefused (suc r)
 
 unfoldable pub unit : Book → ℕ → ℕ → UnitAnswer
 unit b i k = unitAnswer (firstNo (askSound b ∷ askIssue i ∷ [])) (drop k (orderOf b i))
 
--- the paper's number and values for each case of the enum
+-- the paper's answer for each case of the enum
 abbrev pub foundAnswer : Found → UnitAnswer
-foundAnswer (found.Unit a x) = record { refusal = 0; some = true; account = a; lots = x }
-foundAnswer found.Nothing = noUnit 0
-foundAnswer (found.Refused r) = noUnit r
+foundAnswer (found.Unit a x) = oneUnit a x
+foundAnswer found.Nothing = noUnit
+foundAnswer (found.Refused r) = unitRefused r
 
 -- value and charge alone: number, whether there is an amount, yen
 pub record AmountAnswer : Type 0 where

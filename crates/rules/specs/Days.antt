@@ -16,7 +16,7 @@ use Rattle.rules.specs.Fails.{lacks, fails}
 use Rattle.rules.specs.Ledger.{entry, pairing}
 use Rattle.rules.specs.Book.{conditions, sound, orderIn, orderOf, stockOf, ledgerOf, withLedger, fresh}
 use Rattle.rules.specs.Records.{Rec, recordsIn}
-use Rattle.rules.specs.Calls.{Call, Trade, Close, Deliver, Cutoff, Resolve, PairOff, Roll, Answer, UnitAnswer, noUnit, someYen, noYen, called, unit, value, charge, issuePartials, issueFails}
+use Rattle.rules.specs.Calls.{Call, Trade, Close, Deliver, Cutoff, Resolve, PairOff, Roll, Answer, oneUnit, noUnit, someYen, noYen, called, unit, value, charge, issuePartials, issueFails}
 use Rattle.rules.specs.Tape.{readOf, pricesOf, wordsOf, writeOf}
 use Rattle.rules.specs.Run.{Ran, ChargeLine, runOf, answerOf, failLines, chargeLines, line}
 use Rattle.rules.specs.Text.{decimal, lineText, failText, chargeText, ranOf, closingText, printedOf}
@@ -123,8 +123,8 @@ bookDays =
     case (orderOf (closed .book) 0)
     (part 2 100000 ∷ part 2 100000 ∷ part 1 100000 ∷ part 1 100000 ∷ part 3 100000
     ∷ part 2 50000 ∷ part 3 50000 ∷ part 1 30000 ∷ [])
-    ∷ case (unit (closed .book) 0 7) (record { refusal = 0; some = true; account = 1; lots = 30000 })
-    ∷ case (unit (closed .book) 0 8) (noUnit 0)
+    ∷ case (unit (closed .book) 0 7) (oneUnit 1 30000)
+    ∷ case (unit (closed .book) 0 8) noUnit
     -- P6: three units, stock 45,000
     ∷ case (numbers 7 delivered1)
     (0 ∷ 3 ∷ 0xa0002000 ∷ 0x800186a0 ∷ 0xa0002000 ∷ 0x800186a0 ∷ 0xa0001000 ∷ 0x800186a0 ∷ 7 ∷ [])

@@ -1,83 +1,103 @@
--- Each arm's call answers as the rules say; the arm says which instruction it is.
-use mathlib.Core.Path.{refl}
-use borrow.Author.Needs.{needs}
+-- Question 1 and then question 2 are asked; a sound book is answered in place.
+use mathlib.Core.Path.{_≡_, sym, _∙_}
+use mathlib.Core.Bool.{true, false}
 use denote.Ref.{now}
-use Rattle.dispatch.proofs.Told.{reply-of, told}
+use borrow.Author.Needs.{needs}
+use borrow.Author.Tests.{not-true, not-false}
+use Rattle.rules.specs.declared.Book.{Book}
+use Rattle.rules.specs.Calls.{HasRoom}
+use Rattle.rules.specs.Run.{callOf}
+use Rattle.book.specs.States.{bookIn}
+use Rattle.soundness.specs.Sound.{soundIn}
+use Rattle.soundness.proofs.Told.{sound-lengths, sound-book}
+use Rattle.dispatch.proofs.Calling.{room-of, too-short, unsound, answered}
 use Rattle.dispatch.proofs.call.Statement.{statement}
 use Rattle.dispatch.proofs.call.Tie as tie
-use Rattle.dispatch.proofs.call.Reads as reads
-use Rattle.dispatch.proofs.call.Lts as lts
-use Rattle.cutoff.proofs.cutoff.Reads as cutoff-reads
-use Rattle.delivery.proofs.deliver.Reads as deliver-reads
-use Rattle.dispatch.proofs.pair_off.Reads as pair-off-reads
-use Rattle.resolution.proofs.resolve.Reads as resolve-reads
-use Rattle.rolling.proofs.roll.Reads as roll-reads
-use Rattle.trading.proofs.close.Reads as close-reads
-use Rattle.trading.proofs.trade.Reads as trade-reads
 
-enum-told : tie.Need-enum-told
-enum-told c = search needs
+abbrev book : tie.Start → Book
+book s =
+    let a = s .args in
+    bookIn (a .s) (now (a .nets)) (now (a .delivered)) (now (a .charges)) (now (a .issues)) (now (a .froms)) (now (a .tos)) (now (a .lots)) (now (a .days))
+
+-- where question 1 was asked, and where question 2 is
+abbrev first : tie.After-output-asks → tie.Start
+first c = c .before .before .before .before .before .before .before .before .before .before
+
+abbrev second : tie.After-sound → tie.Else1
+second c = c .before .before .before .before .before .before .before .before .before
+
+-- what is known where both are answered 'yes'
+room : (c : tie.Else1) → HasRoom (callOf (first (c .before) .args .x) (now (first (c .before) .args .prices)) (now (first (c .before) .args .out)))
+room c =
+    let a = first (c .before) .args in
+    sym (room-of (a .x) (now (a .prices)) (now (a .out))) ∙ sym (c .before .output-asks .ensures) ∙ c .if1 .left
+
+good : (c : tie.Else2) → soundIn (book (first (second (c .before) .before))) ≡ true
+good c = sym (c .before .sound .ensures) ∙ not-false _ (c .if2 .left)
+
+bad : (c : tie.Then2) → soundIn (book (first (second (c .before) .before))) ≡ false
+bad c = sym (c .before .sound .ensures) ∙ not-true _ (c .if2 .taken)
 
 returns : tie.Need-returns
 returns c =
-    let a = c .before .before .before .before .before .before .args in
-    told (a .b) (a .x) _ (now (a .prices)) (now (a .out)) _ _ (c .before .before .x .given .1) (record { reply = reply-of (c .trade .ensures); output = refl })
+    let s = first (c .before .before) in
+    let a = s .args in
+    rw (c .refused .ensures)
+    (too-short (soundIn (book s)) (book s) (a .x) (now (a .prices)) (now (a .out)) (a .s) (c .before .before .output-asks .result)
+    (c .before .before .output-asks .ensures) (c .before .if1 .taken))
 
 returns-2 : tie.Need-returns-2
 returns-2 c =
-    let a = c .before .before .before .before .before .before .before .before .before .args in
-    told (a .b) (a .x) _ (now (a .prices)) (now (a .out)) _ _ (c .before .before .before .before .before .x2 .given .1) (record { reply = reply-of (c .before .before .deliver .ensures); output = c .before .before .deliver .ensures .out })
+    let e = second (c .before .before) in
+    let s = first (e .before) in
+    let a = s .args in
+    rw (c .refused2 .ensures)
+    (unsound (soundIn (book s)) (book s) (a .x) (now (a .prices)) (now (a .out)) (a .s) (room e) (bad (c .before)))
+
+answer-requires : tie.Need-answer-requires
+answer-requires c κs =
+    let e = c .before .before .before .before .before .before .before .before .before in
+    let b = book (first (second (e .before) .before)) in
+    (record { lengths = sound-lengths b (good e); sound = sound-book b (good e) }, room (second (e .before)))
 
 returns-3 : tie.Need-returns-3
 returns-3 c =
-    let a = c .before .before .before .before .before .before .before .before .before .args in
-    told (a .b) (a .x) _ (now (a .prices)) (now (a .out)) _ _ (c .before .before .before .before .before .x3 .given .1) (record { reply = reply-of (c .before .before .resolve .ensures); output = c .before .before .resolve .ensures .out })
-
-returns-4 : tie.Need-returns-4
-returns-4 c =
-    let a = c .before .before .before .before .before .before .args in
-    told (a .b) (a .x) _ (now (a .prices)) (now (a .out)) _ _ (c .before .before .x4 .given .1) (record { reply = c .pair-off .ensures; output = refl })
-
-returns-5 : tie.Need-returns-5
-returns-5 c =
-    let a = c .before .before .before .before .before .args in
-    told (a .b) (a .x) _ (now (a .prices)) (now (a .out)) _ _ (c .before .enum-told .given .1) (record { reply = reply-of (c .close .ensures); output = refl })
-
-returns-6 : tie.Need-returns-6
-returns-6 c =
-    let a = c .before .before .before .before .before .before .before .before .args in
-    told (a .b) (a .x) _ (now (a .prices)) (now (a .out)) _ _ (c .before .before .before .before .enum-told2 .given .1) (record { reply = reply-of (c .before .before .cutoff .ensures); output = c .before .before .cutoff .ensures .out })
-
-returns-7 : tie.Need-returns-7
-returns-7 c =
-    let a = c .before .before .before .before .before .before .args in
-    told (a .b) (a .x) _ (now (a .prices)) (now (a .out)) _ _ (c .before .before .x5 .given .1) (record { reply = reply-of (c .roll .ensures); output = refl })
+    let k = c .before .before .before .before .before .before .before .before .before .before .before .before .before .before .before .before in
+    let e = k .before .before .before .before .before .before .before .before .before .before in
+    let s = first (second (e .before) .before) in
+    let a = s .args in
+    let b = book s in
+    answered b (callOf (a .x) (now (a .prices)) (now (a .out))) (k .answer .result) _ (now (a .out)) _ (soundIn b) (good e)
+    (sound-book b (good e)) (k .answer .ensures)
 
 pub call-spec : {M : Type 1} → statement M
 call-spec =
     tie.close
     (tie.spec
-    (λ c. search needs)
+    (λ c κs. search needs)
     (λ c κs. search needs)
     (λ c. search needs)
-    (λ c κs. search needs)
-    (λ c. search needs)
-    (λ c κs. search needs)
-    (λ c. search needs)
-    (λ c κs. search needs)
-    enum-told
-    (λ c κs. search needs)
-    (λ c. search needs)
-    (λ c κs. search needs)
-    (λ c. search needs)
-    (λ c κs. search needs)
     returns
+    (λ c κs. search needs)
+    (λ c κs. search needs)
+    (λ c. search needs)
+    (λ c. search needs)
+    (λ c. search needs)
+    (λ c. search needs)
+    (λ c. search needs)
+    (λ c. search needs)
+    (λ c. search needs)
+    (λ c. search needs)
     (λ c. search needs)
     returns-2
+    answer-requires
     (λ c. search needs)
-    returns-3
-    returns-4
-    returns-5
     (λ c. search needs)
-    returns-6
-    returns-7)
+    (λ c. search needs)
+    (λ c. search needs)
+    (λ c. search needs)
+    (λ c. search needs)
+    (λ c. search needs)
+    (λ c. search needs)
+    (λ c. search needs)
+    returns-3)
