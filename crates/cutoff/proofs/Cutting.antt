@@ -1,11 +1,11 @@
 -- The cutoff of one issue: the stock's record and then the fails are what the definition says of the issue.
-use mathlib.Core.Path.{_≡_, ap, sym, _∙_}
+use mathlib.Core.Path.{_≡_, ap, sym}
 use mathlib.Core.List.{List, [], map, append-nil}
 use Prim.Native.Nat.{ℕ, _+_, _*_, _≤_, min}
 use native.Mathlib.Omega.{arith}
 use lib.ListN.{length, length-append, length-map}
 use lib.IntN.{ℤ}
-use Rattle.rules.specs.Records.{handover, recordOf, words}
+use Rattle.rules.specs.Records.{handover, recordOf}
 use Rattle.rules.specs.Calls.{failEntry, issuePartials, issueEntries, issueRecords}
 use Rattle.laws.proofs.Basics.{length-put}
 use Rattle.words.proofs.Output.{records-length}

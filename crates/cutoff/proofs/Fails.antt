@@ -35,9 +35,6 @@ entered e n a b h k o =
     }
 
 -- the stock's record, if any
-pub handed-none : (i a x : ℕ) (o : List ℕ) → x ≡ 0 → WasHanded i a x 0 o o
-handed-none i a x o e = record { records = rw e; out = rw e }
-
 pub handed-one : (i a x : ℕ) (o new : List ℕ) → (x ≡ 0 → ⊥) → new ≡ over (words (handover i (part a x) ∷ [])) o → WasHanded i a x 1 o new
 handed-one i a zero o new n e = absurd (n refl)
 handed-one i a (suc x) o new n e = record { records = refl; out = e }

@@ -4,10 +4,9 @@ use mathlib.Core.List.{List, [], _∷_}
 use Prim.Native.Nat.{ℕ, suc, _+_, _*_, _≤_}
 use native.Mathlib.Nat.{add-assoc}
 use native.Mathlib.Omega.{arith}
-use lib.ListN.{length, length-map}
+use lib.ListN.{length}
 use Rattle.rules.specs.declared.Entry.{Entry}
 use Rattle.rules.specs.Ledger.{entry}
-use Rattle.rules.specs.Records.{recordOf}
 use Rattle.units.specs.declared.Cursor.{Cursor}
 use Rattle.units.specs.declared.Next.{Next}
 use Rattle.units.specs.declared.Next.the-variants.{Overlap}

@@ -1,9 +1,9 @@
 -- What a delivery may assume gives what its issue's part may: room for the records of at most 264 units.
 use mathlib.Core.Path.{_≡_, _∙_}
 use mathlib.Core.List.{List}
-use Prim.Native.Nat.{ℕ, _+_, _≤_, _<_}
+use Prim.Native.Nat.{ℕ, _+_, _≤_}
 use native.Mathlib.Omega.{arith}
-use lib.ListN.{length, length-set}
+use lib.ListN.{length-set}
 use lib.IntN.{ℤ}
 use Rattle.rules.specs.Measures.{sum}
 use Rattle.rules.specs.Book.{cell, duesOf, deliveredTotal, orderIn}

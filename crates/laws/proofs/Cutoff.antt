@@ -13,13 +13,13 @@ use borrow.Author.Tests.{eqb-true}
 use Rattle.rules.specs.Measures.{total, sum, dueOf, owedOf}
 use Rattle.rules.specs.Units.{Part, part, parts, sumLots, ofAccount}
 use Rattle.rules.specs.Handover.{stock, handed, waiting, firstUnit, partials}
-use Rattle.rules.specs.Fails.{Fail, fullLots, withoutFulls, stretches, cut, lacks, shorts, shortfalls, fails}
+use Rattle.rules.specs.Fails.{fullLots, withoutFulls, stretches, cut, lacks, shorts, shortfalls, fails}
 use Rattle.rules.specs.Book.{balanced, withinOwed}
 use Rattle.laws.proofs.Basics.{either, Every, total-put, sum-parts, each-map, each-zip, each-put}
 use Rattle.laws.proofs.Units.{Order, UnitSized, account-same, each-parts}
 use Rattle.laws.proofs.Handover.{stock-next, total-handed, total-partials}
 use Rattle.laws.proofs.Overlaps.{Additive, additive-zero, cut-skip, cut-zero}
-use Rattle.laws.proofs.Fails.{lotsTo, lotsFrom, additive-account, overlaps-to, overlaps-from, Bounded, every-overlaps, overlaps-differ, length-shorts, getD-shorts, shortfalls-account, shorts-sum, each-shorts}
+use Rattle.laws.proofs.Fails.{lotsTo, lotsFrom, additive-account, overlaps-to, overlaps-from, Bounded, every-overlaps, length-shorts, getD-shorts, shortfalls-account, shorts-sum, each-shorts}
 use Rattle.laws.proofs.Stretches.{total-stretches, lacks-sum, every-lacks}
 use Rattle.laws.proofs.Ranking.{due-parts}
 
@@ -190,7 +190,3 @@ fails-bounded nets delivered us size m o e hs =
     every-overlaps (Deliverer nets) (Receiver nets) m (shortfalls (oweds nets) delivered) vs (short-deliverers nets delivered m e hs)
     (each-map (λ v. Receiver nets (v .account) × (1 ≤ v .lots)) (λ v. Receiver nets (v .account)) (λ v p. p .0) vs
     (every-lacks size (Receiver nets) us (sum delivered) (order-receivers nets us o)))
-
-pub fails-differ : (nets : List ℤ) (m : ℕ) (fs : List Fail) → Every (Bounded (Deliverer nets) (Receiver nets) m) fs →
-    Every (λ f. f .from ≡ f .to → ⊥) fs
-fails-differ nets m fs ps = overlaps-differ (Deliverer nets) (Receiver nets) m (not-both nets) fs ps

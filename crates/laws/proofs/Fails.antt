@@ -142,12 +142,6 @@ every-overlaps A B m (s ∷ ss) vs p q =
     (every-overlaps A B m ss (skip (s .lots) vs) (p .1)
     (each-map (λ u. B (u .account) × (1 ≤ u .lots)) (λ u. B (u .account)) (λ u r. r .0) (skip (s .lots) vs) (every-skip B (s .lots) vs q)))
 
--- from is unlike to where no account is both deliverer and receiver
-pub overlaps-differ : (A B : ℕ → Type 0) (m : ℕ) → ((a : ℕ) → A a → B a → ⊥) → (fs : List Fail) →
-    Every (Bounded A B m) fs → Every (λ f. f .from ≡ f .to → ⊥) fs
-overlaps-differ A B m d fs ps =
-    each-map (Bounded A B m) (λ f. f .from ≡ f .to → ⊥) (λ f p e. d (f .to) (rw e at (p .from)) (p .to)) fs ps
-
 -- Shortfalls
 
 pub length-shorts : (xs ds : List ℕ) → length (shorts xs ds) ≤ length xs

@@ -1,18 +1,18 @@
 -- What a delivered total covers of a list of units, whatever their order. Each law goes along the list:
 -- a unit that the total covers is taken off both, and the first that it does not cover ends the matter.
 use mathlib.Core.Path.{_≡_, refl, sym, ap, _∙_}
-use mathlib.Core.List.{List, [], _∷_, _++_, append-nil}
+use mathlib.Core.List.{List, [], _∷_, _++_}
 use Prim.Native.Nat.{ℕ, suc, _+_, _-_, _≤_, _<_, min}
 use native.Mathlib.Omega.{arith}
 use native.Mathlib.Nat.{sub-zero, zero-add, add-zero}
 use lib.Dec.{leb, lit<}
 use lib.ListN.{length, getD, take, length-drop, take-append-drop}
-use lib.Seq.{take-add, drop-drop, getD-take, length-take-le}
+use lib.Seq.{take-add, getD-take, length-take-le}
 use borrow.Author.Tests.{leb-true, leb-false, le-leb}
 use Rattle.rules.specs.Measures.{total, sum, unitLots}
 use Rattle.rules.specs.Units.{Part, part, sumLots}
 use Rattle.rules.specs.Handover.{covered, stock, handed, waiting, handovers, firstUnit, partials}
-use Rattle.laws.proofs.Basics.{byTest, Every, total-append, total-put, length-put, put-pos, each-map, each-take, each-drop, each-put}
+use Rattle.laws.proofs.Basics.{byTest, Every, total-append, total-put, length-put, each-map, each-take, each-drop, each-put}
 use Rattle.laws.proofs.Units.{UnitSized, Order}
 
 -- A total
@@ -135,10 +135,6 @@ handovers-length us d x =
 pub handovers-sum : (us : List Part) (d x : ℕ) → sumLots (handovers us d x) + stock us (d + x) ≡ stock us d + x
 handovers-sum us d x = rw (handovers-handed us d x, stock-more us d x) (handed-stock (waiting us d) (stock us d + x))
 
-pub waiting-more : (us : List Part) (d x : ℕ) → waiting us (d + x) ≡ waiting (waiting us d) (stock us d + x)
-waiting-more us d x =
-    rw (covered-more us d x) (sym (drop-drop (covered (waiting us d) (stock us d + x)) (covered us d) us))
-
 -- what each unit has, each unit handed over has
 pub each-handovers : (P : Part → Type 0) (us : List Part) (d x : ℕ) → Every P us → Every P (handovers us d x)
 unfolding handovers
@@ -173,13 +169,6 @@ stock-within (u ∷ us) vs d h =
     (λ e. simp e (stock-within us vs (d - u .lots) (omega (arith, leb-true (u .lots) d e))))
     (λ e. simp e)
 
--- a total of all units or more covers them all
-pub covered-all : (us : List Part) (d : ℕ) → sumLots us ≤ d → covered us d ≡ length us
-covered-all us d h = rw append-nil at (covered-past us [] d h) ∙ add-zero (length us)
-
-pub stock-all : (us : List Part) (d : ℕ) → sumLots us ≤ d → stock us d ≡ d - sumLots us
-stock-all us d h = rw append-nil at (stock-past us [] d h)
-
 -- The stock to the next unit at the cutoff
 
 pub partials-length : (us : List Part) (d : ℕ) → length (partials us d) ≡ min 1 (stock us d)
@@ -192,15 +181,6 @@ unfolding partials
 total-partials f us d z =
     let a = firstUnit (waiting us d) .account in
     total-put f a (stock us d) [] (z a) ∙ add-zero (f (part a (stock us d)))
-
-pub partials-none : (us : List Part) (d : ℕ) → stock us d ≡ 0 → partials us d ≡ []
-unfolding partials
-partials-none us d e = rw e
-
-pub partials-some : (us : List Part) (d : ℕ) → 0 < stock us d →
-    partials us d ≡ part (firstUnit (waiting us d) .account) (stock us d) ∷ []
-unfolding partials
-partials-some us d h = put-pos (firstUnit (waiting us d) .account) (stock us d) [] h
 
 pub each-partials : (P : Part → Type 0) (us : List Part) (d : ℕ) →
     (0 < stock us d → P (part (firstUnit (waiting us d) .account) (stock us d))) → Every P (partials us d)

@@ -11,7 +11,7 @@ use lib.Dec.{leb, ltb, eqb, lit<}
 use lib.ListN.{length, getD, replicate, List·getD-eq-default}
 use borrow.Author.Tests.{ltb-true, ltb-false, eqb-true, eqb-false, le-leb, ne-eqb}
 use Rattle.rules.specs.Measures.{total, sum, unitLots}
-use Rattle.rules.specs.Units.{Part, part, sumLots, ofAccount, largestFirst, receivers, fulls, smalls, units}
+use Rattle.rules.specs.Units.{Part, part, ofAccount, largestFirst, receivers, fulls, smalls, units}
 use Rattle.rules.specs.Book.{tab}
 use Rattle.laws.proofs.Basics.{byTest, either, Every, each-zip, total-append, total-replicate, total-sort}
 use Rattle.laws.proofs.Units.{UnitSized, Order, ofSmall, isOf, units-sized, units-account}

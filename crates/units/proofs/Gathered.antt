@@ -12,7 +12,6 @@ use lib.ListN.{replicate}
 use borrow.Author.Tests.{leb-true, leb-false, le-leb, lt-leb, eq-eqb, ne-eqb}
 use Rattle.rules.specs.Measures.{unitLots}
 use Rattle.rules.specs.Units.{Part, part, put, parts, largestFirst}
-use Rattle.rules.specs.Handover.{stock, waiting}
 use Rattle.rules.specs.Fails.{isFullOf, stretches, skip, lacks}
 use Rattle.laws.proofs.Basics.{byTest, Every, and-both, put-pos, each-append, each-map, each-put}
 use Rattle.laws.proofs.Units.{Small}

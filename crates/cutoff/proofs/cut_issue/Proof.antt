@@ -41,7 +41,10 @@ cut : (c : tie.After-slice-known13) →
     WasCut (now (a .nets)) (now (a .delivered)) (a .day) (a .i) (a .n) (lending (a .issues) (a .froms) (a .tos) (a .lots) (a .days) (a .out)) (countsOf (a .n + l .result) (v .result + l .result))
     (back (v .result) (withOut (lending (a .issues) (a .froms) (a .tos) (a .lots) (a .days) (a .out)) (v .last .0))
     (lent (l .last .1 .1 .1 .1 .1 .1 .0) (l .last .1 .1 .1 .1 .1 .1 .1 .0) (l .last .1 .1 .1 .1 .1 .1 .1 .1 .0) (l .last .1 .1 .1 .1 .1 .1 .1 .1 .1 .0) (l .last .1 .1 .1 .1 .1 .1 .1 .1 .1 .1 .0) (l .last .1 .1 .1 .1 .1 .1 .1 .1 .1 .1 .1 .0)))
-cut c = let l = c .before .before .before .before .before .before .before .before .before .before .before .before .lay in handed (c .before .before .before .before .before .before .before .before .before .before .before .before .before .before .before .before .before .before .before .before .before .before .before) .done (l .result) _ (l .ensures)
+cut c =
+    let l = c .before .before .before .before .before .before .before .before .before .before .before .before .lay in
+    handed (c .before .before .before .before .before .before .before .before .before .before .before .before .before .before .before .before .before .before .before .before .before .before .before) .done (l .result)
+    (lent (l .last .1 .1 .1 .1 .1 .1 .0) (l .last .1 .1 .1 .1 .1 .1 .1 .0) (l .last .1 .1 .1 .1 .1 .1 .1 .1 .0) (l .last .1 .1 .1 .1 .1 .1 .1 .1 .1 .0) (l .last .1 .1 .1 .1 .1 .1 .1 .1 .1 .1 .0) (l .last .1 .1 .1 .1 .1 .1 .1 .1 .1 .1 .1 .0)) (l .ensures)
 
 returns : tie.Need-returns
 returns c = rw (c .numbers .ensures) (cut (c .before))

@@ -1,7 +1,7 @@
 -- Each return rewrites with the tests that led there.
-use mathlib.Core.Path.{_≡_, refl, sym, ap, _∙_}
-use mathlib.Core.Bool.{true, false}
-use Prim.Native.Nat.{ℕ, _+_, _*_, _≤_, _<_}
+use mathlib.Core.Path.{_≡_, sym, ap, _∙_}
+use mathlib.Core.Bool.{true}
+use Prim.Native.Nat.{_+_, _*_}
 use native.Mathlib.Omega.{arith}
 use borrow.Author.Needs.{needs}
 use borrow.Author.Tests.{le-leb, lt-leb, leb-true, not-true, not-false}
@@ -9,8 +9,6 @@ use mir.ValLaws.{toZ-ofZ}
 use mir.Syntax.{w32}
 use denote.Ref.{now}
 use lib.Dec.{leb}
-use lib.ListN.{getD}
-use lib.IntN.{ℤ, pos}
 use Rattle.rules.specs.Measures.{mostLots, between, owedOf}
 use Rattle.rules.specs.Book.{isSettling, netAt}
 use Rattle.laws.proofs.Basics.{and-right}
