@@ -8,7 +8,7 @@ use borrow.Author.Tests.{leb-true}
 use Rattle.rules.specs.declared.Book.{Book}
 use Rattle.rules.specs.declared.Phase.the-variants.{Cut}
 use Rattle.rules.specs.Measures.{mostEntries, outputWords}
-use Rattle.rules.specs.Book.{isSettling, ledgerOf, bookOf, withPhase, withLedger}
+use Rattle.rules.specs.Book.{isSettling, ledgerOf, bookOf, withPhase, withLedger, orderIn}
 use Rattle.rules.specs.Questions.{firstNo, askEntries}
 use Rattle.rules.specs.Calls.{newEntries, cutoffAsks}
 use Rattle.laws.proofs.Sound.{SoundBook}
@@ -43,10 +43,10 @@ module _ (b : Book) (s : SoundBook b) where
 
   pub can-cut-all : (o : List ℕ) → SoundCells (b .nets) (b .delivered) →
       FullColumns (b .issues) (b .froms) (b .tos) (b .lots) (b .days) → outputWords ≤ length o →
-      firstNo (cutoffAsks (b .phase) (b .count) (length (newEntries (b .day) (b .nets) (b .delivered)))) ≡ 0 →
+      firstNo (cutoffAsks (b .phase) (b .count) (length (newEntries (b .day) (orderIn (b .nets)) (b .nets) (b .delivered)))) ≡ 0 →
       CanCutAll (b .nets) (b .delivered) (b .day) (b .count) (columnsOf b o)
   can-cut-all o c f h q =
-      let n = length (newEntries (b .day) (b .nets) (b .delivered)) in
+      let n = length (newEntries (b .day) (orderIn (b .nets)) (b .nets) (b .delivered)) in
       let y3 = yes 2 (isSettling (b .phase)) (askEntries (b .count) n ∷ []) q in
       record {
         sound = c;
@@ -58,7 +58,7 @@ module _ (b : Book) (s : SoundBook b) where
 -- the columns make the definition's book
 pub made : (b : Book) (o : List ℕ) (r : Counts) (a : Lent) → WasCutAll (b .nets) (b .delivered) (b .day) (b .count) (columnsOf b o) r a →
     bookOf (b .day) Cut (b .nets) (b .delivered) (b .charges) (r .entries) (a .issues) (a .froms) (a .tos) (a .lots) (a .days)
-    ≡ withPhase (withLedger b (ledgerOf b ++ newEntries (b .day) (b .nets) (b .delivered))) Cut
+    ≡ withPhase (withLedger b (ledgerOf b ++ newEntries (b .day) (orderIn (b .nets)) (b .nets) (b .delivered))) Cut
 made b o r a w =
     let c = w .columns in
     rw (w .entries, c .issues, c .froms, c .tos, c .lotss, c .dayss)

@@ -6,6 +6,7 @@ use native.Mathlib.Omega.{arith}
 use lib.ListN.{length, length-append, length-map}
 use lib.IntN.{ℤ}
 use Rattle.rules.specs.Records.{handover, recordOf}
+use Rattle.rules.specs.Book.{orderIn}
 use Rattle.rules.specs.Calls.{failEntry, issuePartials, issueEntries, issueRecords}
 use Rattle.laws.proofs.Basics.{length-put}
 use Rattle.words.proofs.Output.{records-length}
@@ -26,26 +27,26 @@ pub record Behind (nets : List ℤ) (delivered : List ℕ) (day i n : ℕ) (a : 
 module _ (nets : List ℤ) (delivered : List ℕ) (day i n : ℕ) (a : Lent) (can : CanCut nets delivered day i n a)
     (runs shorts : List ℕ) (r : Ready) (y : IsReady nets delivered i runs shorts r) where
   -- the cursor's entries are the issue's
-  entries-ready : entriesOn day i runs (r .n) shorts (r .cursor) ≡ issueEntries day nets delivered i
+  entries-ready : entriesOn day i runs (r .n) shorts (r .cursor) ≡ issueEntries day (orderIn nets) nets delivered i
   unfolding entriesOn
   entries-ready = ap (map (failEntry day i)) (y .fails)
 
   -- how many records the issue has
-  partials-number : length (map (handover i) (issuePartials nets delivered i)) ≡ min 1 (r .stock)
+  partials-number : length (map (handover i) (issuePartials (orderIn nets) delivered i)) ≡ min 1 (r .stock)
   partials-number =
       omega (
         arith,
-        length-map (issuePartials nets delivered i) (handover i),
+        length-map (issuePartials (orderIn nets) delivered i) (handover i),
         ap length (y .partials),
         length-put (r .cursor .to) (r .stock) [],
       )
 
-  records-number : length (issueRecords day nets delivered i) ≡ min 1 (r .stock) + length (issueEntries day nets delivered i)
+  records-number : length (issueRecords day (orderIn nets) nets delivered i) ≡ min 1 (r .stock) + length (issueEntries day (orderIn nets) nets delivered i)
   records-number =
       omega (
         arith,
-        length-append (map (handover i) (issuePartials nets delivered i)) (failRecords (issueEntries day nets delivered i)),
-        length-map (issueEntries day nets delivered i) (recordOf 12),
+        length-append (map (handover i) (issuePartials (orderIn nets) delivered i)) (failRecords (issueEntries day (orderIn nets) nets delivered i)),
+        length-map (issueEntries day (orderIn nets) nets delivered i) (recordOf 12),
         partials-number,
       )
 
@@ -62,7 +63,7 @@ module _ (nets : List ℤ) (delivered : List ℕ) (day i n : ℕ) (a : Lent) (ca
     number : v ≡ min 1 (r .stock)
     number = omega (arith, h .records, length-put (r .cursor .to) (r .stock) [])
 
-    handed : Wrote [] (map (handover i) (issuePartials nets delivered i)) n a n (withOut a o)
+    handed : Wrote [] (map (handover i) (issuePartials (orderIn nets) delivered i)) n a n (withOut a o)
     handed =
         record { held = can .write .held; ledger = sym (append-nil _); out = rw (y .partials) at (h .out) }
 
@@ -80,11 +81,11 @@ module _ (nets : List ℤ) (delivered : List ℕ) (day i n : ℕ) (a : Lent) (ca
                   arith,
                   part-length o (2 * v),
                   ap length (handed .out),
-                  records-length (map (handover i) (issuePartials nets delivered i)) (a .out) (omega (arith, can .write .room, records-number, partials-number)),
+                  records-length (map (handover i) (issuePartials (orderIn nets) delivered i)) (a .out) (omega (arith, can .write .room, records-number, partials-number)),
                   can .write .room,
                   records-number,
                   number,
-                  length-map (issueEntries day nets delivered i) (recordOf 12),
+                  length-map (issueEntries day (orderIn nets) nets delivered i) (recordOf 12),
                 );
               });
         }
@@ -92,11 +93,11 @@ module _ (nets : List ℤ) (delivered : List ℕ) (day i n : ℕ) (a : Lent) (ca
     was-cut : (m : ℕ) (c : Lent) → WasLaid day i runs shorts r n (behind v (withOut a o)) m c →
         WasCut nets delivered day i n a (countsOf (n + m) (v + m)) (back v (withOut a o) c)
     was-cut m c p =
-        let es = issueEntries day nets delivered i in
+        let es = issueEntries day (orderIn nets) nets delivered i in
         let q : Wrote es (failRecords es) n (behind v (withOut a o)) (n + m) c = rw entries-ready at p in
         record {
           wrote =
-              wrote-both [] es (map (handover i) (issuePartials nets delivered i)) (failRecords es) n n (n + m) v a (withOut a o) c
+              wrote-both [] es (map (handover i) (issuePartials (orderIn nets) delivered i)) (failRecords es) n n (n + m) v a (withOut a o) c
               (omega (arith, can .write .room, records-number, partials-number, length-map es (recordOf 12)))
               (omega (arith, number, partials-number)) handed q;
           records = omega (arith, number, records-number, wrote-count es (failRecords es) n (n + m) (behind v (withOut a o)) c q);
@@ -110,7 +111,7 @@ module _ (nets : List ℤ) (delivered : List ℕ) (day i n : ℕ) (a : Lent) (ca
             arith,
             number,
             ap length (handed .out),
-            records-length (map (handover i) (issuePartials nets delivered i)) (a .out) (omega (arith, can .write .room, records-number, partials-number)),
+            records-length (map (handover i) (issuePartials (orderIn nets) delivered i)) (a .out) (omega (arith, can .write .room, records-number, partials-number)),
             can .write .room,
             records-number,
           );

@@ -11,7 +11,7 @@ use borrow.Author.Tests.{le-leb, lt-leb}
 use Rattle.rules.specs.declared.Phase.{Phase}
 use Rattle.rules.specs.declared.Entry.{Entry}
 use Rattle.rules.specs.Measures.{outputWords}
-use Rattle.rules.specs.Book.{tab, isSettling}
+use Rattle.rules.specs.Book.{tab, isSettling, orderIn}
 use Rattle.rules.specs.Records.{Rec}
 use Rattle.rules.specs.Calls.{joined, failEntry, issueFails, issueEntries, issueRecords, newEntries, cutoffRecords}
 use Rattle.laws.proofs.Cells.{length-row}
@@ -27,29 +27,29 @@ use Rattle.cutoff.proofs.Writing.{ledger-length, behind, back, Laying, 
 
 -- entries and records of m issues from issue i on
 unfoldable pub entriesFrom : ℕ → List ℤ → List ℕ → ℕ → ℕ → List Entry
-entriesFrom day nets delivered i m = joined (tab (issueEntries day nets delivered) i m)
+entriesFrom day nets delivered i m = joined (tab (issueEntries day (orderIn nets) nets delivered) i m)
 
 unfoldable pub recordsFrom : ℕ → List ℤ → List ℕ → ℕ → ℕ → List Rec
-recordsFrom day nets delivered i m = joined (tab (issueRecords day nets delivered) i m)
+recordsFrom day nets delivered i m = joined (tab (issueRecords day (orderIn nets) nets delivered) i m)
 
 module _ (day : ℕ) (nets : List ℤ) (delivered : List ℕ) where
   -- all issues are the definition's
-  pub entries-all : entriesFrom day nets delivered 0 16 ≡ newEntries day nets delivered
+  pub entries-all : entriesFrom day nets delivered 0 16 ≡ newEntries day (orderIn nets) nets delivered
   unfolding entriesFrom
   entries-all = refl
 
-  pub records-all : recordsFrom day nets delivered 0 16 ≡ cutoffRecords day nets delivered
+  pub records-all : recordsFrom day nets delivered 0 16 ≡ cutoffRecords day (orderIn nets) nets delivered
   unfolding recordsFrom
   records-all = refl
 
   module _ (i : ℕ) where
     pub entries-on : i < 16 →
-        entriesFrom day nets delivered i (16 - i) ≡ issueEntries day nets delivered i ++ entriesFrom day nets delivered (i + 1) (16 - (i + 1))
+        entriesFrom day nets delivered i (16 - i) ≡ issueEntries day (orderIn nets) nets delivered i ++ entriesFrom day nets delivered (i + 1) (16 - (i + 1))
     unfolding entriesFrom
     entries-on h = let e : 16 - i ≡ suc (16 - (i + 1)) = omega arith in rw (e, add-one i)
 
     pub records-on : i < 16 →
-        recordsFrom day nets delivered i (16 - i) ≡ issueRecords day nets delivered i ++ recordsFrom day nets delivered (i + 1) (16 - (i + 1))
+        recordsFrom day nets delivered i (16 - i) ≡ issueRecords day (orderIn nets) nets delivered i ++ recordsFrom day nets delivered (i + 1) (16 - (i + 1))
     unfolding recordsFrom
     records-on h = let e : 16 - i ≡ suc (16 - (i + 1)) = omega arith in rw (e, add-one i)
 
@@ -64,13 +64,13 @@ module _ (day : ℕ) (nets : List ℤ) (delivered : List ℕ) where
     -- counting
     pub count-on : i < 16 →
         length (entriesFrom day nets delivered i (16 - i))
-        ≡ length (issueFails nets delivered i) + length (entriesFrom day nets delivered (i + 1) (16 - (i + 1)))
+        ≡ length (issueFails (orderIn nets) nets delivered i) + length (entriesFrom day nets delivered (i + 1) (16 - (i + 1)))
     count-on h =
         omega (
           arith,
           ap length (entries-on h),
-          length-append (issueEntries day nets delivered i) (entriesFrom day nets delivered (i + 1) (16 - (i + 1))),
-          length-map (issueFails nets delivered i) (failEntry day i),
+          length-append (issueEntries day (orderIn nets) nets delivered i) (entriesFrom day nets delivered (i + 1) (16 - (i + 1))),
+          length-map (issueFails (orderIn nets) nets delivered i) (failEntry day i),
         )
 
 -- the questions' answers
@@ -85,7 +85,7 @@ module _ (phase : Phase) (old : ℕ) (nets : List ℤ) (delivered : List ℕ) wh
   all-yes n e c h today = rw (e, ← c .count today, le-leb (old + n) 2048 h)
 
 module _ (nets : List ℤ) (delivered : List ℕ) (day n : ℕ) (a : Lent) (c : CanCutAll nets delivered day n a) where
-  room : 2 * length (cutoffRecords day nets delivered) ≤ outputWords
+  room : 2 * length (cutoffRecords day (orderIn nets) nets delivered) ≤ outputWords
   room =
       cutoff-room day nets delivered (order-in nets) (λ i h. length-row nets i (c .sound .cells) h) (λ i h. sound-row nets delivered (c .sound) i h)
 
@@ -99,7 +99,7 @@ module _ (nets : List ℤ) (delivered : List ℕ) (day n : ℕ) (a : Lent) (c : 
       Wrote (entriesFrom day nets delivered 0 16) (recordsFrom day nets delivered 0 16) n a n′ b →
       WasCutAll nets delivered day n a (countsOf n′ w) b
   was-cut-all w n′ b e p =
-      let q : Wrote (newEntries day nets delivered) (cutoffRecords day nets delivered) n a n′ b =
+      let q : Wrote (newEntries day (orderIn nets) nets delivered) (cutoffRecords day (orderIn nets) nets delivered) n a n′ b =
       rw (entries-all day nets delivered, records-all day nets delivered) at p in
       record {
         entries = sym (ledger-length n′ b) ∙ ap length (q .ledger);
@@ -117,7 +117,7 @@ LayingAll nets delivered day n a i m w b =
 -- issue i can be cut there, and then the issues behind it are left
 pub record Turn (nets : List ℤ) (delivered : List ℕ) (day n : ℕ) (a : Lent) (i m w : ℕ) (b : Lent) : Type 0 where
   pub room : 2 * w ≤ length (b .out)
-  pub few : w + length (issueRecords day nets delivered i) ≤ 2048
+  pub few : w + length (issueRecords day (orderIn nets) nets delivered i) ≤ 2048
   pub can : CanCut nets delivered day i m (behind w b)
   pub more : (r : Counts) (c : Lent) → WasCut nets delivered day i m (behind w b) r c →
       LayingAll nets delivered day n a (i + 1) (r .entries) (w + r .records) (back w b c)
@@ -129,8 +129,8 @@ module _ (nets : List ℤ) (delivered : List ℕ) (day n : ℕ) (a : Lent) (c : 
   module _ (i m w : ℕ) (b : Lent) (l : LayingAll nets delivered day n a i m w b) where
     pub turn : i < 16 → Turn nets delivered day n a i m w b
     turn h =
-        let es = issueEntries day nets delivered i in
-        let rs = issueRecords day nets delivered i in
+        let es = issueEntries day (orderIn nets) nets delivered i in
+        let rs = issueRecords day (orderIn nets) nets delivered i in
         let rest = entriesFrom day nets delivered (i + 1) (16 - (i + 1)) in
         let left = recordsFrom day nets delivered (i + 1) (16 - (i + 1)) in
         let all = entriesFrom day nets delivered 0 16 in

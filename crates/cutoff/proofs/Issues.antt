@@ -27,7 +27,7 @@ use Rattle.cutoff.specs.Issue.{IsReady}
 
 module _ (nets : List ℤ) (delivered : List ℕ) (i : ℕ) (h : i < 16) (s : SoundCells nets delivered) where
   -- an issue has at most 126 fails
-  pub few : length (issueFails nets delivered i) ≤ 126
+  pub few : length (issueFails (orderIn nets) nets delivered i) ≤ 126
   unfolding issueFails
   few = issue-fails (row i nets) (row i delivered) (orderIn nets i) (order-in nets i) (length-row nets i (s .cells) h) (sound-row nets delivered s i h)
 
@@ -42,14 +42,14 @@ module _ (nets : List ℤ) (delivered : List ℕ) (i : ℕ) (h : i < 16) (s : So
 
   module _ (runs out : List ℕ) (n d : ℕ) (r : Position) (p : Prepared nets i runs n) (t : d ≡ deliveredTotal delivered i)
       (o : out ≡ shorts (owedsOf nets i) (row i delivered)) (l : length out ≡ 64) (st : Started runs n d r) where
-    issue-cursor : overlapsFrom runs n out (r .cursor) ≡ issueFails nets delivered i
+    issue-cursor : overlapsFrom runs n out (r .cursor) ≡ issueFails (orderIn nets) nets delivered i
     unfolding issueFails fails
     issue-cursor =
         st .lacking out ∙ ap (λ l. overlaps (parts 0 l) (lacks unitLots (unitsIn runs n) d)) o
         ∙ ap (λ us. overlaps (parts 0 (shorts (owedsOf nets i) (row i delivered))) (lacks unitLots us d)) (p .units)
         ∙ ap (λ k. overlaps (parts 0 (shorts (owedsOf nets i) (row i delivered))) (lacks unitLots (orderIn nets i) k)) t
 
-    issue-stock : put (r .cursor .to) (r .stock) [] ≡ issuePartials nets delivered i
+    issue-stock : put (r .cursor .to) (r .stock) [] ≡ issuePartials (orderIn nets) delivered i
     unfolding issuePartials partials
     issue-stock = rw (st .next, st .left, p .units, t)
 

@@ -8,6 +8,7 @@ use Rattle.rules.specs.declared.Phase.{Phase}
 use Rattle.rules.specs.Measures.{mostEntries, outputWords}
 use Rattle.rules.specs.Records.{words, over}
 use Rattle.rules.specs.Questions.{firstNo}
+use Rattle.rules.specs.Book.{orderIn}
 use Rattle.rules.specs.Calls.{newEntries, cutoffRecords, cutoffAsks}
 use Rattle.book.specs.Cells.{SoundCells}
 use Rattle.ledger.specs.Columns.{Columns}
@@ -16,23 +17,23 @@ use Rattle.cutoff.specs.Write.{Lent, ledgerIn, HeldIn}
 
 -- how many entries a cutoff makes, whatever the day
 pub record Counted (nets : List ℤ) (delivered : List ℕ) (r : ℕ) : Type 0 where
-  pub count : (today : ℕ) → r ≡ length (newEntries today nets delivered)
+  pub count : (today : ℕ) → r ≡ length (newEntries today (orderIn nets) nets delivered)
   pub few : r ≤ 2016
 
 -- the first 'no' of a cutoff's questions, whatever the day
 abbrev pub Asked : Phase → ℕ → List ℤ → List ℕ → ℕ → Type 0
-Asked phase old nets delivered r = (today : ℕ) → r ≡ firstNo (cutoffAsks phase old (length (newEntries today nets delivered)))
+Asked phase old nets delivered r = (today : ℕ) → r ≡ firstNo (cutoffAsks phase old (length (newEntries today (orderIn nets) nets delivered)))
 
 -- what a sound book and the answered questions give
 pub record CanCutAll (nets : List ℤ) (delivered : List ℕ) (day n : ℕ) (a : Lent) : Type 0 where
   pub sound : SoundCells nets delivered
   pub held : HeldIn n a
-  pub most : n + length (newEntries day nets delivered) ≤ mostEntries
+  pub most : n + length (newEntries day (orderIn nets) nets delivered) ≤ mostEntries
   pub room : outputWords ≤ length (a .out)
 
 -- the ledger with the new entries, in its columns, and the output with the records over it
 pub record WasCutAll (nets : List ℤ) (delivered : List ℕ) (day n : ℕ) (a : Lent) (r : Counts) (b : Lent) : Type 0 where
-  pub entries : r .entries ≡ length (ledgerIn n a ++ newEntries day nets delivered)
-  pub columns : Columns (ledgerIn n a ++ newEntries day nets delivered) (b .issues) (b .froms) (b .tos) (b .lots) (b .days)
-  pub records : r .records ≡ length (cutoffRecords day nets delivered)
-  pub out : b .out ≡ over (words (cutoffRecords day nets delivered)) (a .out)
+  pub entries : r .entries ≡ length (ledgerIn n a ++ newEntries day (orderIn nets) nets delivered)
+  pub columns : Columns (ledgerIn n a ++ newEntries day (orderIn nets) nets delivered) (b .issues) (b .froms) (b .tos) (b .lots) (b .days)
+  pub records : r .records ≡ length (cutoffRecords day (orderIn nets) nets delivered)
+  pub out : b .out ≡ over (words (cutoffRecords day (orderIn nets) nets delivered)) (a .out)

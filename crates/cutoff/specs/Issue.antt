@@ -8,6 +8,7 @@ use Rattle.rules.specs.declared.Entry.{Entry}
 use Rattle.rules.specs.Measures.{mostLots}
 use Rattle.rules.specs.Units.{put}
 use Rattle.rules.specs.Records.{handover, words, over}
+use Rattle.rules.specs.Book.{orderIn}
 use Rattle.rules.specs.Calls.{failEntry, issueFails, issuePartials, issueEntries, issueRecords}
 use Rattle.book.specs.Cells.{SoundCells}
 use Rattle.units.specs.declared.Cursor.{Cursor}
@@ -63,14 +64,14 @@ pub record IsReady (nets : List ℤ) (delivered : List ℕ) (i : ℕ) (runs shor
   pub advance : CanAdvance runs (r .n) shorts
   pub range : InRange (r .cursor)
   pub stock : r .stock ≤ 99999
-  pub fails : overlapsFrom runs (r .n) shorts (r .cursor) ≡ issueFails nets delivered i
-  pub partials : put (r .cursor .to) (r .stock) [] ≡ issuePartials nets delivered i
+  pub fails : overlapsFrom runs (r .n) shorts (r .cursor) ≡ issueFails (orderIn nets) nets delivered i
+  pub partials : put (r .cursor .to) (r .stock) [] ≡ issuePartials (orderIn nets) delivered i
 
 pub record CanCut (nets : List ℤ) (delivered : List ℕ) (day i n : ℕ) (a : Lent) : Type 0 where
   pub sound : SoundCells nets delivered
   pub issue : i < 16
-  pub write : CanWrite (issueEntries day nets delivered i) (issueRecords day nets delivered i) n a
+  pub write : CanWrite (issueEntries day (orderIn nets) nets delivered i) (issueRecords day (orderIn nets) nets delivered i) n a
 
 pub record WasCut (nets : List ℤ) (delivered : List ℕ) (day i n : ℕ) (a : Lent) (r : Counts) (b : Lent) : Type 0 where
-  pub wrote : Wrote (issueEntries day nets delivered i) (issueRecords day nets delivered i) n a (r .entries) b
-  pub records : r .records ≡ length (issueRecords day nets delivered i)
+  pub wrote : Wrote (issueEntries day (orderIn nets) nets delivered i) (issueRecords day (orderIn nets) nets delivered i) n a (r .entries) b
+  pub records : r .records ≡ length (issueRecords day (orderIn nets) nets delivered i)

@@ -9,6 +9,7 @@ ghost use mathlib.Core.List.{_∷_, []};
 ghost use Prim.Native.Nat.{_+_, _≤_, _<_};
 ghost use lib.ListN.{length};
 ghost use Rattle.rules.specs.Ledger.{entry};
+ghost use Rattle.rules.specs.Book.{orderIn};
 ghost use Rattle.rules.specs.Calls.{issueFails};
 ghost use Rattle.book.specs.Cells.{SoundCells};
 ghost use Rattle.cutoff.specs.Write.{lending, lentBefore, lentAfter, failRecords, Wrote};
@@ -192,7 +193,7 @@ fn cut_issue(
 // How many fails an issue has.
 fn count_issue(nets: &[i32], delivered: &[u32], i: usize) -> usize
     requires { ⌜ SoundCells (now nets) (now delivered) × (i < 16) ⌝ }
-    ensures { λ r. ⌜ r ≡ length (issueFails (now (nets .entry)) (now (delivered .entry)) i) ⌝ }
+    ensures { λ r. ⌜ r ≡ length (issueFails (orderIn (now (nets .entry))) (now (nets .entry)) (now (delivered .entry)) i) ⌝ }
 {
     let mut runs = [0u32; 128];
     let mut shorts = [0u32; 64];

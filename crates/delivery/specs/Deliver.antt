@@ -46,5 +46,5 @@ pub record CanDeliver (nets : List ℤ) (delivered : List ℕ) (i a x : ℕ) (ou
 
 pub record Delivered (nets : List ℤ) (before after : List ℕ) (i a x : ℕ) (lent out : List ℕ) (r : ℕ) : Type 0 where
   pub column : after ≡ raisedDelivered before i a x
-  pub count : r ≡ length (deliverRecords nets before i x)
-  pub output : out ≡ over (words (deliverRecords nets before i x)) lent
+  pub count : r ≡ length (deliverRecords (orderIn nets) before i x)
+  pub output : out ≡ over (words (deliverRecords (orderIn nets) before i x)) lent

@@ -58,7 +58,7 @@ module _ (b : Book) (g : SoundBook b) (n : length (b .nets) ≡ 1024) (m : lengt
   d = deliveredTotal (b .delivered) i
 
   abbrev fs : List Fail
-  fs = issueFails (b .nets) (b .delivered) i
+  fs = issueFails (orderIn (b .nets)) (b .nets) (b .delivered) i
 
   pub delivered-units : d ≤ sumLots us
   delivered-units = omega (arith, total-due b g n m i hi, order-in (b .nets) i .whole)
@@ -77,7 +77,7 @@ module _ (b : Book) (g : SoundBook b) (n : length (b .nets) ≡ 1024) (m : lengt
 
   -- handed and failed to an account are its due
   pub due-in : (a : ℕ) → a < 64 →
-      total (ofAccount a) (handed us d) + total (ofAccount a) (issuePartials (b .nets) (b .delivered) i) + total (lotsTo a) fs
+      total (ofAccount a) (handed us d) + total (ofAccount a) (issuePartials (orderIn (b .nets)) (b .delivered) i) + total (lotsTo a) fs
       ≡ dueOf (netAt (b .nets) i a)
   unfolding issueFails issuePartials
   due-in a ha =
@@ -85,7 +85,7 @@ module _ (b : Book) (g : SoundBook b) (n : length (b .nets) ≡ 1024) (m : lengt
       ∙ due-at (b .nets) i a ha
 
   -- each fail is a sound entry
-  pub entries-sound : (today : ℕ) → Every SoundEntry (issueEntries today (b .nets) (b .delivered) i)
+  pub entries-sound : (today : ℕ) → Every SoundEntry (issueEntries today (orderIn (b .nets)) (b .nets) (b .delivered) i)
   entries-sound today =
       let ns = row i (b .nets) in
       let l = length-row (b .nets) i n hi in
@@ -105,7 +105,7 @@ module _ (b : Book) (g : SoundBook b) (n : length (b .nets) ≡ 1024) (m : lengt
   first-account [] q = lit< tt
   first-account (w ∷ ws) q = q .0 .to
 
-  partials-fit : Every (λ u. Fits (handover i u)) (issuePartials (b .nets) (b .delivered) i)
+  partials-fit : Every (λ u. Fits (handover i u)) (issuePartials (orderIn (b .nets)) (b .delivered) i)
   unfolding issuePartials
   partials-fit =
       let q = stock-small b g n m i hi in
@@ -119,10 +119,10 @@ module _ (b : Book) (g : SoundBook b) (n : length (b .nets) ≡ 1024) (m : lengt
       })
 
   -- the issue's records fit their words
-  pub records-fit : (today : ℕ) → Every Fits (issueRecords today (b .nets) (b .delivered) i)
+  pub records-fit : (today : ℕ) → Every Fits (issueRecords today (orderIn (b .nets)) (b .nets) (b .delivered) i)
   records-fit today =
-      let es = issueEntries today (b .nets) (b .delivered) i in
-      each-append Fits (map (handover i) (issuePartials (b .nets) (b .delivered) i)) (map (recordOf 12) es)
-      (each-of-map Fits (handover i) (issuePartials (b .nets) (b .delivered) i) partials-fit)
+      let es = issueEntries today (orderIn (b .nets)) (b .nets) (b .delivered) i in
+      each-append Fits (map (handover i) (issuePartials (orderIn (b .nets)) (b .delivered) i)) (map (recordOf 12) es)
+      (each-of-map Fits (handover i) (issuePartials (orderIn (b .nets)) (b .delivered) i) partials-fit)
       (each-of-map Fits (recordOf 12) es
       (each-map SoundEntry (λ e. Fits (recordOf 12 e)) (entry-fits 12 (lit< tt)) es (entries-sound today)))

@@ -56,22 +56,22 @@ module _ (b : Book) (s : SoundBook b) (n : length (b .nets) ≡ 1024) (d : lengt
 
     -- an issue's fails run from deliverers to receivers and have 1 to 20,000,000 lots
     pub issue-bounded :
-        Every (Bounded (Deliverer (row i (b .nets))) (Receiver (row i (b .nets))) mostLots) (issueFails (b .nets) (b .delivered) i)
+        Every (Bounded (Deliverer (row i (b .nets))) (Receiver (row i (b .nets))) mostLots) (issueFails (orderIn (b .nets)) (b .nets) (b .delivered) i)
     unfolding issueFails
     issue-bounded =
         fails-bounded (row i (b .nets)) (row i (b .delivered)) (orderIn (b .nets) i) unitLots mostLots (order-in (b .nets) i)
         (sound-row .lengths) owed-small
 
     -- and are at most 126
-    pub issue-few : length (issueFails (b .nets) (b .delivered) i) ≤ 126
+    pub issue-few : length (issueFails (orderIn (b .nets)) (b .nets) (b .delivered) i) ≤ 126
     unfolding issueFails
     issue-few =
         issue-fails (row i (b .nets)) (row i (b .delivered)) (orderIn (b .nets) i) (order-in (b .nets) i) (length-row (b .nets) i n h) sound-row
 
     -- the records of a delivery fit
-    pub deliver-fits : (x : ℕ) → x ≤ mostLots → 2 * length (deliverRecords (b .nets) (b .delivered) i x) ≤ outputWords
+    pub deliver-fits : (x : ℕ) → x ≤ mostLots → 2 * length (deliverRecords (orderIn (b .nets)) (b .delivered) i x) ≤ outputWords
     deliver-fits x l = deliver-room (b .nets) (b .delivered) i x (order-in (b .nets) i) (length-row (b .nets) i n h) sound-row l
 
   -- and so do those of a cutoff
-  pub cutoff-fits : 2 * length (cutoffRecords (b .day) (b .nets) (b .delivered)) ≤ outputWords
+  pub cutoff-fits : 2 * length (cutoffRecords (b .day) (orderIn (b .nets)) (b .nets) (b .delivered)) ≤ outputWords
   cutoff-fits = cutoff-room (b .day) (b .nets) (b .delivered) (order-in (b .nets)) (λ i h. length-row (b .nets) i n h) (λ i h. sound-row i h)

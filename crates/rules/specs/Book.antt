@@ -68,8 +68,12 @@ deliveredTotal delivered i = sum (row i delivered)
 unfoldable pub orderIn : List ℤ → ℕ → List Part
 orderIn nets i = unitsOfNets unitLots (row i nets)
 
-abbrev pub orderOf : Book → ℕ → List Part
-orderOf b i = orderIn (b .nets) i
+-- of each issue; the calls take a book's orders from here
+abbrev pub Orders : Type 0
+Orders = ℕ → List Part
+
+abbrev pub orderOf : Book → Orders
+orderOf b = orderIn (b .nets)
 
 abbrev pub stockOf : Book → ℕ → ℕ
 stockOf b i = stock (orderOf b i) (deliveredTotal (b .delivered) i)

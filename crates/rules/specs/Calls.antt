@@ -18,7 +18,7 @@ use Rattle.rules.specs.Units.{Part}
 use Rattle.rules.specs.Handover.{handovers, partials}
 use Rattle.rules.specs.Fails.{Fail, fails}
 use Rattle.rules.specs.Ledger.{entry, isFrom, meet, met, Pairing, pairing, charged}
-use Rattle.rules.specs.Book.{tab, row, cell, netAt, deliveredAt, owedsOf, deliveredTotal, orderIn, orderOf, ledgerOf, withDay, withPhase, withNets, withDelivered, withCharges, withLedger}
+use Rattle.rules.specs.Book.{tab, row, cell, netAt, deliveredAt, owedsOf, deliveredTotal, Orders, orderOf, ledgerOf, withDay, withPhase, withNets, withDelivered, withCharges, withLedger}
 use Rattle.rules.specs.Records.{Rec, handover, recordOf, words, over}
 use Rattle.rules.specs.Questions.{Question, firstNo, askOutput, askSound, askTaking, askSettling, askCut, askIssue, askAccount, askAccounts, askDiffer, askLots, askNets, askOwedToday, askOwedInLedger, askEntries, askRoll, askPrice, askTerm, askDay}
 
@@ -80,37 +80,37 @@ deliverAsks phase nets delivered i a x =
 abbrev pub raisedDelivered : List ℕ → ℕ → ℕ → ℕ → List ℕ
 raisedDelivered delivered i a x = set delivered (cell i a) (deliveredAt delivered i a + x)
 
-abbrev pub deliverRecords : List ℤ → List ℕ → ℕ → ℕ → List Rec
-deliverRecords nets delivered i x = map (handover i) (handovers (orderIn nets i) (deliveredTotal delivered i) x)
+abbrev pub deliverRecords : Orders → List ℕ → ℕ → ℕ → List Rec
+deliverRecords us delivered i x = map (handover i) (handovers (us i) (deliveredTotal delivered i) x)
 
 -- cutoff (Settling): for issues ascending, the stock to the next unit, then the fails. To Cut
-unfoldable pub issuePartials : List ℤ → List ℕ → ℕ → List Part
-issuePartials nets delivered i = partials (orderIn nets i) (deliveredTotal delivered i)
+unfoldable pub issuePartials : Orders → List ℕ → ℕ → List Part
+issuePartials us delivered i = partials (us i) (deliveredTotal delivered i)
 
-unfoldable pub issueFails : List ℤ → List ℕ → ℕ → List Fail
-issueFails nets delivered i = fails unitLots (orderIn nets i) (owedsOf nets i) (row i delivered)
+unfoldable pub issueFails : Orders → List ℤ → List ℕ → ℕ → List Fail
+issueFails us nets delivered i = fails unitLots (us i) (owedsOf nets i) (row i delivered)
 
 -- each overlap is one ledger entry, with today's day
 abbrev pub failEntry : ℕ → ℕ → Fail → Entry
 failEntry today i f = entry i (f .from) (f .to) (f .lots) today
 
-abbrev pub issueEntries : ℕ → List ℤ → List ℕ → ℕ → List Entry
-issueEntries today nets delivered i = map (failEntry today i) (issueFails nets delivered i)
+abbrev pub issueEntries : ℕ → Orders → List ℤ → List ℕ → ℕ → List Entry
+issueEntries today us nets delivered i = map (failEntry today i) (issueFails us nets delivered i)
 
 -- its 10 if any and then its 12s
-abbrev pub issueRecords : ℕ → List ℤ → List ℕ → ℕ → List Rec
-issueRecords today nets delivered i =
-    map (handover i) (issuePartials nets delivered i) ++ map (recordOf 12) (issueEntries today nets delivered i)
+abbrev pub issueRecords : ℕ → Orders → List ℤ → List ℕ → ℕ → List Rec
+issueRecords today us nets delivered i =
+    map (handover i) (issuePartials us delivered i) ++ map (recordOf 12) (issueEntries today us nets delivered i)
 
 abbrev pub joined {ℓ} : {A : Type ℓ} → List (List A) → List A
 joined [] = []
 joined (xs ∷ xss) = xs ++ joined xss
 
-abbrev pub newEntries : ℕ → List ℤ → List ℕ → List Entry
-newEntries today nets delivered = joined (tab (issueEntries today nets delivered) 0 issueCount)
+abbrev pub newEntries : ℕ → Orders → List ℤ → List ℕ → List Entry
+newEntries today us nets delivered = joined (tab (issueEntries today us nets delivered) 0 issueCount)
 
-abbrev pub cutoffRecords : ℕ → List ℤ → List ℕ → List Rec
-cutoffRecords today nets delivered = joined (tab (issueRecords today nets delivered) 0 issueCount)
+abbrev pub cutoffRecords : ℕ → Orders → List ℤ → List ℕ → List Rec
+cutoffRecords today us nets delivered = joined (tab (issueRecords today us nets delivered) 0 issueCount)
 
 abbrev pub cutoffAsks : Phase → ℕ → ℕ → List Question
 cutoffAsks phase old new = askSettling phase ∷ askEntries old new ∷ []
@@ -170,7 +170,7 @@ abbrev pub ownAsks : Book → Call → List Question
 ownAsks b (Trade i f t x) = tradeAsks (b .phase) (b .nets) i f t x
 ownAsks b Close = closeAsks (b .phase)
 ownAsks b (Deliver i a x out) = deliverAsks (b .phase) (b .nets) (b .delivered) i a x
-ownAsks b (Cutoff out) = cutoffAsks (b .phase) (b .count) (length (newEntries (b .day) (b .nets) (b .delivered)))
+ownAsks b (Cutoff out) = cutoffAsks (b .phase) (b .count) (length (newEntries (b .day) (orderOf b) (b .nets) (b .delivered)))
 ownAsks b (Resolve i a x out) = resolveAsks (ledgerOf b) i a x
 ownAsks b (PairOff i a) = pairOffAsks i a
 ownAsks b (Roll days rate prices) = rollAsks (b .phase) (b .day) days rate prices
@@ -187,10 +187,10 @@ abbrev pub effect : Book → Call → Effect
 effect b (Trade i f t x) = changes (withNets b (tradedNets (b .nets) i f t x))
 effect b Close = changes (withPhase b Settling)
 effect b (Deliver i a x out) =
-    writes (withDelivered b (raisedDelivered (b .delivered) i a x)) (deliverRecords (b .nets) (b .delivered) i x)
+    writes (withDelivered b (raisedDelivered (b .delivered) i a x)) (deliverRecords (orderOf b) (b .delivered) i x)
 effect b (Cutoff out) =
-    writes (withPhase (withLedger b (ledgerOf b ++ newEntries (b .day) (b .nets) (b .delivered))) Cut)
-    (cutoffRecords (b .day) (b .nets) (b .delivered))
+    writes (withPhase (withLedger b (ledgerOf b ++ newEntries (b .day) (orderOf b) (b .nets) (b .delivered))) Cut)
+    (cutoffRecords (b .day) (orderOf b) (b .nets) (b .delivered))
 effect b (Resolve i a x out) = writes (withLedger b (meet (isFrom i a) x (ledgerOf b))) (resolveRecords (ledgerOf b) i a x)
 effect b (PairOff i a) = pairedOff b (pairing (b .day) i a (ledgerOf b))
 effect b (Roll days rate prices) = changes (rolled b days rate prices)

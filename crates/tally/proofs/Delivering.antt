@@ -13,7 +13,7 @@ use Rattle.rules.specs.declared.Phase.the-variants.{Taking, Settling, Cut}
 use Rattle.rules.specs.Measures.{outputWords, owedOf}
 use Rattle.rules.specs.Units.{Part, ofAccount}
 use Rattle.rules.specs.Handover.{handed, handovers}
-use Rattle.rules.specs.Book.{isSettling, cell, netAt, deliveredAt, deliveredTotal, orderOf, withDelivered}
+use Rattle.rules.specs.Book.{isSettling, cell, netAt, deliveredAt, deliveredTotal, orderOf, withDelivered, orderIn}
 use Rattle.rules.specs.Records.{Rec, handover}
 use Rattle.rules.specs.Questions.{askOutput, askSound}
 use Rattle.rules.specs.Calls.{writes, Deliver, raisedDelivered, deliverRecords, called}
@@ -51,7 +51,7 @@ module _ (s : State) (v : Inv s) (i a x : ℕ) (hi : i < 16) (ha : a < 64) (g : 
   ds = raisedDelivered (s .book .delivered) i a x
 
   abbrev rs : List Rec
-  rs = deliverRecords (s .book .nets) (s .book .delivered) i x
+  rs = deliverRecords (orderIn (s .book .nets)) (s .book .delivered) i x
 
   all-fit : Every Fits rs
   all-fit =
@@ -107,7 +107,7 @@ module _ (s : State) (v : Inv s) (i a x : ℕ) (hi : i < 16) (ha : a < 64) (g : 
 pub keeps-deliver : (s : State) → Inv s → (i a x : ℕ) (out : List ℕ) → Keeps (Deliver i a x out) s (called (s .book) (Deliver i a x out))
 keeps-deliver s v i a x out =
     let b = s .book in
-    let rs = deliverRecords (b .nets) (b .delivered) i x in
+    let rs = deliverRecords (orderIn (b .nets)) (b .delivered) i x in
     by-answer (Keeps (Deliver i a x out) s) b (Deliver i a x out)
     (λ y.
     let hi : i < 16 = omega (arith, leb-true i 15 (y .1 .1 .1 .0)) in

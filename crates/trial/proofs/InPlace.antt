@@ -11,7 +11,7 @@ use Rattle.rules.specs.declared.Entry.{Entry}
 use Rattle.rules.specs.declared.Phase.{Phase}
 use Rattle.rules.specs.declared.Phase.the-variants.{Taking, Settling, Cut}
 use Rattle.rules.specs.Measures.{outputWords}
-use Rattle.rules.specs.Book.{sound, ledgerOf, withDay, withPhase, withNets, withDelivered, withCharges, withLedger}
+use Rattle.rules.specs.Book.{sound, ledgerOf, withDay, withPhase, withNets, withDelivered, withCharges, withLedger, orderIn}
 use Rattle.rules.specs.Ledger.{charged}
 use Rattle.rules.specs.Records.{Rec, words, over}
 use Rattle.rules.specs.Questions.{firstNo}
@@ -59,7 +59,7 @@ module _ (b : Book) (s : sound b ≡ true) (p : Phase) (at : p ≡ b .phase) (n 
     delivers = withDelivered b (raisedDelivered (b .delivered) i a x)
 
     abbrev delivered-records : List Rec
-    delivered-records = deliverRecords (b .nets) (b .delivered) i x
+    delivered-records = deliverRecords (orderIn (b .nets)) (b .delivered) i x
 
     pub deliver-asked : n ≡ firstNo (deliverAsks (b .phase) (b .nets) (b .delivered) i a x)
     deliver-asked = q ∙ ap (λ y. firstNo (deliverAsks y (b .nets) (b .delivered) i a x)) at
@@ -69,8 +69,8 @@ module _ (b : Book) (s : sound b ≡ true) (p : Phase) (at : p ≡ b .phase) (n 
     deliver-no h =
         own-no b delivers out delivered-records (deliverAsks (b .phase) (b .nets) (b .delivered) i a x) long n s deliver-asked h
 
-    pub deliver-yes : (count : ℕ) (delivered lent : List ℕ) → n ≡ 0 → count ≡ length (deliverRecords (b .nets) (b .delivered) i x) →
-        delivered ≡ raisedDelivered (b .delivered) i a x → lent ≡ over (words (deliverRecords (b .nets) (b .delivered) i x)) out →
+    pub deliver-yes : (count : ℕ) (delivered lent : List ℕ) → n ≡ 0 → count ≡ length (deliverRecords (orderIn (b .nets)) (b .delivered) i x) →
+        delivered ≡ raisedDelivered (b .delivered) i a x → lent ≡ over (words (deliverRecords (orderIn (b .nets)) (b .delivered) i x)) out →
         AnswerIs (deliver b i a x out) (reply 0 count (withDelivered b delivered)) lent
     unfolding deliver
     deliver-yes count delivered lent z k d o =
@@ -79,18 +79,18 @@ module _ (b : Book) (s : sound b ≡ true) (p : Phase) (at : p ≡ b .phase) (n 
 
   module _ (out : List ℕ) (long : outputWords ≤ length out) (q : Asked p (b .count) (b .nets) (b .delivered) n) where
     abbrev new : List Entry
-    new = newEntries (b .day) (b .nets) (b .delivered)
+    new = newEntries (b .day) (orderIn (b .nets)) (b .nets) (b .delivered)
 
     abbrev cuts : Book
-    cuts = withPhase (withLedger b (ledgerOf b ++ newEntries (b .day) (b .nets) (b .delivered))) Cut
+    cuts = withPhase (withLedger b (ledgerOf b ++ newEntries (b .day) (orderIn (b .nets)) (b .nets) (b .delivered))) Cut
 
-    pub cutoff-asked : n ≡ firstNo (cutoffAsks (b .phase) (b .count) (length (newEntries (b .day) (b .nets) (b .delivered))))
+    pub cutoff-asked : n ≡ firstNo (cutoffAsks (b .phase) (b .count) (length (newEntries (b .day) (orderIn (b .nets)) (b .nets) (b .delivered))))
     cutoff-asked = q (b .day) ∙ ap (λ y. firstNo (cutoffAsks y (b .count) (length new))) at
 
     pub cutoff-no : (n ≡ 0 → ⊥) → AnswerIs (cutoff b out) (reply n 0 b) out
     unfolding cutoff
     cutoff-no h =
-        own-no b cuts out (cutoffRecords (b .day) (b .nets) (b .delivered)) (cutoffAsks (b .phase) (b .count) (length new)) long n s cutoff-asked h
+        own-no b cuts out (cutoffRecords (b .day) (orderIn (b .nets)) (b .nets) (b .delivered)) (cutoffAsks (b .phase) (b .count) (length new)) long n s cutoff-asked h
 
     pub cutoff-yes : (r : Counts) (w : Lent) → n ≡ 0 → WasCutAll (b .nets) (b .delivered) (b .day) (b .count) (columnsOf b out) r w →
         AnswerIs (cutoff b out)
@@ -98,7 +98,7 @@ module _ (b : Book) (s : sound b ≡ true) (p : Phase) (at : p ≡ b .phase) (n 
         (w .out)
     unfolding cutoff
     cutoff-yes r w z c =
-        own-yes b cuts out (cutoffRecords (b .day) (b .nets) (b .delivered)) (cutoffAsks (b .phase) (b .count) (length new)) long
+        own-yes b cuts out (cutoffRecords (b .day) (orderIn (b .nets)) (b .nets) (b .delivered)) (cutoffAsks (b .phase) (b .count) (length new)) long
         (r .records) (withDay (withColumns b (r .entries) (w .issues) (w .froms) (w .tos) (w .lots) (w .days)) (b .day) Cut) (w .out) s
         (sym cutoff-asked ∙ z) (c .records) (made b out r w c) (c .out)
 
@@ -125,12 +125,12 @@ module _ (b : Book) (s : sound b ≡ true) (p : Phase) (at : p ≡ b .phase) (n 
 pub deliver-short : (b : Book) (i a x : ℕ) (out : List ℕ) → length out < outputWords → AnswerIs (deliver b i a x out) (reply 1 0 b) out
 unfolding deliver
 deliver-short b i a x out h =
-    too-short b (withDelivered b (raisedDelivered (b .delivered) i a x)) out (deliverRecords (b .nets) (b .delivered) i x)
+    too-short b (withDelivered b (raisedDelivered (b .delivered) i a x)) out (deliverRecords (orderIn (b .nets)) (b .delivered) i x)
     (deliverAsks (b .phase) (b .nets) (b .delivered) i a x) h
 
 pub cutoff-short : (b : Book) (out : List ℕ) → length out < outputWords → AnswerIs (cutoff b out) (reply 1 0 b) out
 unfolding cutoff
 cutoff-short b out h =
-    let new = newEntries (b .day) (b .nets) (b .delivered) in
-    too-short b (withPhase (withLedger b (ledgerOf b ++ new)) Cut) out (cutoffRecords (b .day) (b .nets) (b .delivered))
+    let new = newEntries (b .day) (orderIn (b .nets)) (b .nets) (b .delivered) in
+    too-short b (withPhase (withLedger b (ledgerOf b ++ new)) Cut) out (cutoffRecords (b .day) (orderIn (b .nets)) (b .nets) (b .delivered))
     (cutoffAsks (b .phase) (b .count) (length new)) h
