@@ -8,7 +8,7 @@ use lib.ListN.{length, take, drop, set, getD, drop-of-length-le, length-map, Lis
 use lib.Seq.{drop-cons, sets, sets-eq, take-suc, take-suc-set}
 use lib.IntN.{ℤ, pos}
 use Rattle.rules.specs.Measures.{sum, owedOf}
-use Rattle.rules.specs.Fails.{shorts}
+use Rattle.rules.specs.Fails.{undelivered}
 
 pub sum-at : (d : List ℕ) (i : ℕ) → i < length d → sum (drop i d) ≡ getD d i 0 + sum (drop (i + 1) d)
 sum-at d i h = rw add-one (ap sum (drop-cons d i 0 h))
@@ -29,20 +29,20 @@ sets-all ws o e =
     ∙ ap (λ l. ws ++ l) (let h : length o ≤ 0 + length ws = omega arith in drop-of-length-le o h)
     ∙ append-nil ws
 
-pub shorts-length : (xs ds : List ℕ) → length xs ≡ length ds → length (shorts xs ds) ≡ length xs
+pub shorts-length : (xs ds : List ℕ) → length xs ≡ length ds → length (undelivered xs ds) ≡ length xs
 shorts-length [] ds e = refl
 shorts-length (x ∷ xs) [] e = absurd (omega arith)
 shorts-length (x ∷ xs) (d ∷ ds) e = ap suc (shorts-length xs ds (omega arith))
 
 shorts-at : (xs ds : List ℕ) (i : ℕ) → i < length xs → i < length ds →
-    shorts (drop i xs) (drop i ds) ≡ (getD xs i 0 - getD ds i 0) ∷ shorts (drop (suc i) xs) (drop (suc i) ds)
+    undelivered (drop i xs) (drop i ds) ≡ (getD xs i 0 - getD ds i 0) ∷ undelivered (drop (suc i) xs) (drop (suc i) ds)
 shorts-at xs ds i h g = rw (drop-cons xs i 0 h, drop-cons ds i 0 g)
 
 module _ (ns : List ℤ) (ds : List ℕ) (i : ℕ) where
   pub shorts-more : (all o : List ℕ) (v : ℕ) → i < length ns → i < length ds →
       v ≡ owedOf (getD ns i (pos 0)) - getD ds i 0 →
-      all ≡ sets o i (shorts (drop i (map owedOf ns)) (drop i ds)) →
-      all ≡ sets (set o i v) (i + 1) (shorts (drop (i + 1) (map owedOf ns)) (drop (i + 1) ds))
+      all ≡ sets o i (undelivered (drop i (map owedOf ns)) (drop i ds)) →
+      all ≡ sets (set o i v) (i + 1) (undelivered (drop (i + 1) (map owedOf ns)) (drop (i + 1) ds))
   shorts-more all o v h g e a =
       let k : i < length (map owedOf ns) = omega (arith, length-map ns owedOf) in
       let x : v ≡ getD (map owedOf ns) i 0 - getD ds i 0 =
@@ -50,7 +50,7 @@ module _ (ns : List ℤ) (ds : List ℕ) (i : ℕ) where
       a ∙ rw (add-one, shorts-at (map owedOf ns) ds i k g, x)
 
   pub shorts-end : (all o : List ℕ) → length ns ≤ i →
-      all ≡ sets o i (shorts (drop i (map owedOf ns)) (drop i ds)) → all ≡ o
+      all ≡ sets o i (undelivered (drop i (map owedOf ns)) (drop i ds)) → all ≡ o
   shorts-end all o h a =
       let k : length (map owedOf ns) ≤ i = omega (arith, length-map ns owedOf) in
       a ∙ rw (drop-of-length-le (map owedOf ns) k)

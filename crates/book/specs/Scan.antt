@@ -9,7 +9,7 @@ use lib.Dec.{leb}
 use Rattle.rules.specs.declared.Phase.{Phase}
 use Rattle.rules.specs.declared.Entry.{Entry}
 use Rattle.rules.specs.Measures.{issueCount, mostLots, mostEntries, mostCharge}
-use Rattle.rules.specs.Book.{isTaking, tab, all, row, entries, balanced, withinSize, withinOwed, isZero, entrySound, daysSound}
+use Rattle.rules.specs.Book.{isTaking, tabulate, all, row, entries, balanced, withinSize, withinOwed, isZero, entrySound, daysSound}
 
 -- an issue's row: each net in bounds, in balance, no more delivered than owed
 unfoldable pub rowSound : List ℤ → List ℕ → Bool
@@ -19,7 +19,7 @@ rowSound ns ds = all (withinSize mostLots) ns && (balanced ns && withinOwed ns d
 unfoldable pub netsSound : List ℤ → List ℕ → Bool
 netsSound ns ds =
     all (withinSize mostLots) ns
-    && (all (λ i. balanced (row i ns)) (tab (λ i. i) 0 issueCount) && withinOwed ns ds)
+    && (all (λ i. balanced (row i ns)) (tabulate (λ i. i) 0 issueCount) && withinOwed ns ds)
 
 -- delivered lots are 0 throughout in Taking
 unfoldable pub deliveredSound : Phase → List ℕ → Bool

@@ -8,7 +8,7 @@ ghost use mathlib.Core.List.{map};
 ghost use Prim.Native.Nat.{_<_};
 ghost use lib.ListN.{length};
 ghost use Rattle.rules.specs.Measures.{mostLots, lastDay, sum, dueOf, owedOf};
-ghost use Rattle.rules.specs.Fails.{shorts};
+ghost use Rattle.rules.specs.Fails.{undelivered};
 ghost use Rattle.rules.specs.Book.{isTaking, isSettling, isCut, withinSize, sound as soundOf, fresh as freshOf, withDay, withNets, withDelivered, withCharges};
 ghost use Rattle.book.specs.Nets.{Small, Lowered, Raised};
 ghost use Rattle.book.specs.Columns.{withColumns};
@@ -82,7 +82,7 @@ pub fn total(d: &[u32]) -> u32
 // What each account of an issue owes and has not delivered.
 pub fn shorts_of(net: &[i32], delivered: &[u32], short: &mut [u32])
     requires { ⌜ Owing (now net) (now delivered) (now short) ⌝ }
-    ensures { λ _. ⌜ now (short .exit) ≡ shorts (map owedOf (now (net .entry))) (now (delivered .entry)) ⌝ }
+    ensures { λ _. ⌜ now (short .exit) ≡ undelivered (map owedOf (now (net .entry))) (now (delivered .entry)) ⌝ }
 {
     let mut i = 0;
     while i < net.len() {

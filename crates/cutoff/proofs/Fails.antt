@@ -6,7 +6,7 @@ use native.Mathlib.Omega.{arith}
 use lib.ListN.{length, length-append}
 use Rattle.rules.specs.declared.Entry.{Entry}
 use Rattle.rules.specs.Measures.{mostEntries}
-use Rattle.rules.specs.Units.{part}
+use Rattle.rules.specs.Units.{accountLots}
 use Rattle.rules.specs.Ledger.{entry}
 use Rattle.rules.specs.Records.{handover, words, over}
 use Rattle.rules.specs.Calls.{failEntry}
@@ -35,7 +35,7 @@ entered e n a b h k o =
     }
 
 -- the stock's record, if any
-pub handed-one : (i a x : ℕ) (o new : List ℕ) → (x ≡ 0 → ⊥) → new ≡ over (words (handover i (part a x) ∷ [])) o → WasHanded i a x 1 o new
+pub handed-one : (i a x : ℕ) (o new : List ℕ) → (x ≡ 0 → ⊥) → new ≡ over (words (handover i (accountLots a x) ∷ [])) o → WasHanded i a x 1 o new
 handed-one i a zero o new n e = absurd (n refl)
 handed-one i a (suc x) o new n e = record { records = refl; out = e }
 

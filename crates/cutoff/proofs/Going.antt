@@ -11,7 +11,7 @@ use borrow.Author.Tests.{le-leb, lt-leb}
 use Rattle.rules.specs.declared.Phase.{Phase}
 use Rattle.rules.specs.declared.Entry.{Entry}
 use Rattle.rules.specs.Measures.{outputWords}
-use Rattle.rules.specs.Book.{tab, isSettling, orderIn}
+use Rattle.rules.specs.Book.{tabulate, isSettling, orderIn}
 use Rattle.rules.specs.Records.{Rec}
 use Rattle.rules.specs.Calls.{joined, failEntry, issueFails, issueEntries, issueRecords, newEntries, cutoffRecords}
 use Rattle.laws.proofs.Cells.{length-row}
@@ -27,10 +27,10 @@ use Rattle.cutoff.proofs.Writing.{ledger-length, behind, back, Laying, 
 
 -- entries and records of m issues from issue i on
 unfoldable pub entriesFrom : ℕ → List ℤ → List ℕ → ℕ → ℕ → List Entry
-entriesFrom day nets delivered i m = joined (tab (issueEntries day (orderIn nets) nets delivered) i m)
+entriesFrom day nets delivered i m = joined (tabulate (issueEntries day (orderIn nets) nets delivered) i m)
 
 unfoldable pub recordsFrom : ℕ → List ℤ → List ℕ → ℕ → ℕ → List Rec
-recordsFrom day nets delivered i m = joined (tab (issueRecords day (orderIn nets) nets delivered) i m)
+recordsFrom day nets delivered i m = joined (tabulate (issueRecords day (orderIn nets) nets delivered) i m)
 
 module _ (day : ℕ) (nets : List ℤ) (delivered : List ℕ) where
   -- all issues are the definition's

@@ -6,10 +6,10 @@ use native.Mathlib.Omega.{arith}
 use lib.ListN.{length}
 use lib.IntN.{ℤ}
 use Rattle.rules.specs.Measures.{unitLots, mostLots}
-use Rattle.rules.specs.Units.{parts, put}
+use Rattle.rules.specs.Units.{byAccount, prepend}
 use Rattle.rules.specs.Handover.{partials}
-use Rattle.rules.specs.Fails.{shorts, overlaps, lacks, fails}
-use Rattle.rules.specs.Book.{row, duesOf, owedsOf, deliveredTotal, orderIn}
+use Rattle.rules.specs.Fails.{undelivered, overlaps, lacks, fails}
+use Rattle.rules.specs.Book.{row, duesOf, obligationsOf, deliveredTotal, orderIn}
 use Rattle.rules.specs.Calls.{issueFails, issuePartials}
 use Rattle.laws.proofs.Handover.{order-stock}
 use Rattle.laws.proofs.Fails.{each-shorts}
@@ -41,15 +41,15 @@ module _ (nets : List ℤ) (delivered : List ℕ) (i : ℕ) (h : i < 16) (s : So
       }
 
   module _ (runs out : List ℕ) (n d : ℕ) (r : Position) (p : Prepared nets i runs n) (t : d ≡ deliveredTotal delivered i)
-      (o : out ≡ shorts (owedsOf nets i) (row i delivered)) (l : length out ≡ 64) (st : Started runs n d r) where
+      (o : out ≡ undelivered (obligationsOf nets i) (row i delivered)) (l : length out ≡ 64) (st : Started runs n d r) where
     issue-cursor : overlapsFrom runs n out (r .cursor) ≡ issueFails (orderIn nets) nets delivered i
     unfolding issueFails fails
     issue-cursor =
-        st .lacking out ∙ ap (λ l. overlaps (parts 0 l) (lacks unitLots (unitsIn runs n) d)) o
-        ∙ ap (λ us. overlaps (parts 0 (shorts (owedsOf nets i) (row i delivered))) (lacks unitLots us d)) (p .units)
-        ∙ ap (λ k. overlaps (parts 0 (shorts (owedsOf nets i) (row i delivered))) (lacks unitLots (orderIn nets i) k)) t
+        st .lacking out ∙ ap (λ l. overlaps (byAccount 0 l) (lacks unitLots (unitsIn runs n) d)) o
+        ∙ ap (λ us. overlaps (byAccount 0 (undelivered (obligationsOf nets i) (row i delivered))) (lacks unitLots us d)) (p .units)
+        ∙ ap (λ k. overlaps (byAccount 0 (undelivered (obligationsOf nets i) (row i delivered))) (lacks unitLots (orderIn nets i) k)) t
 
-    issue-stock : put (r .cursor .to) (r .stock) [] ≡ issuePartials (orderIn nets) delivered i
+    issue-stock : prepend (r .cursor .to) (r .stock) [] ≡ issuePartials (orderIn nets) delivered i
     unfolding issuePartials partials
     issue-stock = rw (st .next, st .left, p .units, t)
 
@@ -61,8 +61,8 @@ module _ (nets : List ℤ) (delivered : List ℕ) (i : ℕ) (h : i < 16) (s : So
             shortfalls = record {
               accounts = l;
               small = λ a. rw o
-                  (each-getD (λ x. x ≤ mostLots) (shorts (owedsOf nets i) (row i delivered)) a 0
-                  (each-shorts mostLots (owedsOf nets i) (row i delivered) (owed-sized nets i (s .size))) (omega arith));
+                  (each-getD (λ x. x ≤ mostLots) (undelivered (obligationsOf nets i) (row i delivered)) a 0
+                  (each-shorts mostLots (obligationsOf nets i) (row i delivered) (owed-sized nets i (s .size))) (omega arith));
             };
           };
           range = st .range;

@@ -6,7 +6,7 @@ use lib.ListN.{length}
 use lib.IntN.{ℤ}
 use Rattle.rules.specs.declared.Entry.{Entry}
 use Rattle.rules.specs.Measures.{mostLots}
-use Rattle.rules.specs.Units.{put}
+use Rattle.rules.specs.Units.{prepend}
 use Rattle.rules.specs.Records.{handover, words, over}
 use Rattle.rules.specs.Book.{orderIn}
 use Rattle.rules.specs.Calls.{failEntry, issueFails, issuePartials, issueEntries, issueRecords}
@@ -50,8 +50,8 @@ pub record CanHand (i a x : ℕ) (before : List ℕ) : Type 0 where
   pub room : 2 * min 1 x ≤ length before
 
 pub record WasHanded (i a x v : ℕ) (before after : List ℕ) : Type 0 where
-  pub records : v ≡ length (put a x [])
-  pub out : after ≡ over (words (map (handover i) (put a x []))) before
+  pub records : v ≡ length (prepend a x [])
+  pub out : after ≡ over (words (map (handover i) (prepend a x []))) before
 
 pub record CanReady (nets : List ℤ) (delivered : List ℕ) (i : ℕ) (runs shorts : List ℕ) : Type 0 where
   pub sound : SoundCells nets delivered
@@ -65,7 +65,7 @@ pub record IsReady (nets : List ℤ) (delivered : List ℕ) (i : ℕ) (runs shor
   pub range : InRange (r .cursor)
   pub stock : r .stock ≤ 99999
   pub fails : overlapsFrom runs (r .n) shorts (r .cursor) ≡ issueFails (orderIn nets) nets delivered i
-  pub partials : put (r .cursor .to) (r .stock) [] ≡ issuePartials (orderIn nets) delivered i
+  pub partials : prepend (r .cursor .to) (r .stock) [] ≡ issuePartials (orderIn nets) delivered i
 
 pub record CanCut (nets : List ℤ) (delivered : List ℕ) (day i n : ℕ) (a : Lent) : Type 0 where
   pub sound : SoundCells nets delivered

@@ -6,7 +6,7 @@ use Prim.Native.Nat.{ℕ, suc, _+_, _-_, _*_, _≤_, _<_}
 use native.Mathlib.Omega.{arith}
 use lib.ListN.{length, take, drop, length-map, length-drop}
 use lib.Seq.{sets, length-sets, length-take-le}
-use Rattle.rules.specs.Units.{Part, part}
+use Rattle.rules.specs.Units.{AccountLots, accountLots}
 use Rattle.rules.specs.Handover.{covered, handovers}
 use Rattle.rules.specs.Records.{handover, words, over}
 use Rattle.laws.proofs.Handover.{covered-grows, covered-le, handovers-length}
@@ -15,12 +15,12 @@ use Rattle.words.proofs.Stores.{sets-front}
 use Rattle.delivery.specs.Deliver.{handRecords, Served}
 
 -- with `us` to come, `left` of them are still to be handed over, behind m records
-pub record Handing (i m left : ℕ) (us : List Part) (all o out : List ℕ) : Type 0 where
+pub record Handing (i m left : ℕ) (us : List AccountLots) (all o out : List ℕ) : Type 0 where
   pub there : left ≤ length us
   pub same : length out ≡ length o
   pub output : over all o ≡ sets out (2 * m) (words (handRecords i left us))
 
-pub handing-starts : (i count : ℕ) (us : List Part) (o : List ℕ) → count ≤ length us → 2 * count ≤ length o →
+pub handing-starts : (i count : ℕ) (us : List AccountLots) (o : List ℕ) → count ≤ length us → 2 * count ≤ length o →
     Handing i 0 count us (words (handRecords i count us)) o o
 handing-starts i count us o h room =
     let ws = words (handRecords i count us) in
@@ -28,16 +28,16 @@ handing-starts i count us o h room =
     omega (arith, length-words (handRecords i count us), length-map (take count us) (handover i), length-take-le count us h) in
     record { there = h; same = refl; output = sym (sets-front ws o l) }
 
-module _ (i m left : ℕ) (us : List Part) (all o out : List ℕ) (h : Handing i m left us all o out) where
-  pub handing-more : (a x : ℕ) (vs : List Part) (new : List ℕ) → 0 < left → us ≡ part a x ∷ vs →
-      new ≡ sets out (2 * m) (words (handover i (part a x) ∷ [])) → Handing i (m + 1) (left - 1) vs all o new
+module _ (i m left : ℕ) (us : List AccountLots) (all o out : List ℕ) (h : Handing i m left us all o out) where
+  pub handing-more : (a x : ℕ) (vs : List AccountLots) (new : List ℕ) → 0 < left → us ≡ accountLots a x ∷ vs →
+      new ≡ sets out (2 * m) (words (handover i (accountLots a x) ∷ [])) → Handing i (m + 1) (left - 1) vs all o new
   handing-more a x vs new some e n =
       let rest = words (handRecords i (left - 1) vs) in
       let f : left ≡ suc (left - 1) = omega arith in
       let g : 2 * (m + 1) ≡ suc (suc (2 * m)) = omega arith in
       record {
         there = omega (arith, h .there, ap length e);
-        same = ap length n ∙ length-sets out (2 * m) (words (handover i (part a x) ∷ [])) ∙ h .same;
+        same = ap length n ∙ length-sets out (2 * m) (words (handover i (accountLots a x) ∷ [])) ∙ h .same;
         output = h .output ∙ ap (λ k. sets out (2 * m) (words (handRecords i k us))) f
             ∙ ap (λ l. sets out (2 * m) (words (handRecords i (suc (left - 1)) l))) e
             ∙ sym (ap (λ k. sets new k rest) g ∙ ap (λ l. sets l (suc (suc (2 * m))) rest) n);
@@ -47,13 +47,13 @@ module _ (i m left : ℕ) (us : List Part) (all o out : List ℕ) (h : Handing i
   handing-ends e = sym (rw e at (h .output))
 
 -- the units between two counts are those that the lots between two totals hand over
-pub record Counted (us vs : List Part) (d x before after : ℕ) : Type 0 where
+pub record Counted (us vs : List AccountLots) (d x before after : ℕ) : Type 0 where
   pub up : before ≤ after
   pub there : after - before ≤ length (drop before us)
   pub number : after - before ≡ length (handovers vs d x)
   pub same : take (after - before) (drop before us) ≡ handovers vs d x
 
-pub counted : (us vs : List Part) (d x before after : ℕ) → us ≡ vs → before ≡ covered us d → after ≡ covered us (d + x) →
+pub counted : (us vs : List AccountLots) (d x before after : ℕ) → us ≡ vs → before ≡ covered us d → after ≡ covered us (d + x) →
     Counted us vs d x before after
 unfolding handovers
 counted us vs d x before after e p q =
@@ -65,7 +65,7 @@ counted us vs d x before after e p q =
       same = rw (p, q) (ap (λ l. handovers l d x) e);
     }
 
-pub served : (us vs : List Part) (i d x before after : ℕ) (o new : List ℕ) → Counted us vs d x before after →
+pub served : (us vs : List AccountLots) (i d x before after : ℕ) (o new : List ℕ) → Counted us vs d x before after →
     new ≡ over (words (handRecords i (after - before) (drop before us))) o → Served vs i d x o new (after - before)
 served us vs i d x before after o new k e =
     record {

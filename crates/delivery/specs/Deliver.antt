@@ -5,7 +5,7 @@ use Prim.Native.Nat.{ℕ, _+_, _*_, _≤_, _<_}
 use lib.ListN.{length, take, drop}
 use lib.IntN.{ℤ}
 use Rattle.rules.specs.Measures.{mostLots, outputWords, owedOf}
-use Rattle.rules.specs.Units.{Part}
+use Rattle.rules.specs.Units.{AccountLots}
 use Rattle.rules.specs.Handover.{handovers}
 use Rattle.rules.specs.Book.{netAt, deliveredAt, orderIn}
 use Rattle.rules.specs.Records.{Rec, handover, words, over}
@@ -21,7 +21,7 @@ pub record CanHand (runs : List ℕ) (n i c count : ℕ) (out : List ℕ) : Type
   pub room : 2 * count ≤ length out
 
 -- the records of the first `count` units
-abbrev pub handRecords : ℕ → ℕ → List Part → List Rec
+abbrev pub handRecords : ℕ → ℕ → List AccountLots → List Rec
 handRecords i count us = map (handover i) (take count us)
 
 -- an issue of which d lots are delivered, and x more can be
@@ -31,7 +31,7 @@ pub record CanServe (nets : List ℤ) (i d x : ℕ) (out : List ℕ) : Type 0 wh
   pub room : 2 * length (handovers (orderIn nets i) d x) ≤ length out
 
 -- the records of the units that x more lots hand over stand in front of the output
-pub record Served (us : List Part) (i d x : ℕ) (before after : List ℕ) (r : ℕ) : Type 0 where
+pub record Served (us : List AccountLots) (i d x : ℕ) (before after : List ℕ) (r : ℕ) : Type 0 where
   pub count : r ≡ length (map (handover i) (handovers us d x))
   pub output : after ≡ over (words (map (handover i) (handovers us d x))) before
 

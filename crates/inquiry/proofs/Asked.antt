@@ -8,14 +8,14 @@ use borrow.Author.Tests.{le-leb, lt-leb}
 use Rattle.rules.specs.declared.Book.{Book}
 use Rattle.rules.specs.declared.Found.{Found}
 use Rattle.rules.specs.declared.Found.the-variants as found
-use Rattle.rules.specs.Units.{Part}
+use Rattle.rules.specs.Units.{AccountLots}
 use Rattle.rules.specs.Book.{sound, orderIn}
 use Rattle.rules.specs.Calls.{foundAnswer, firstAnswer, unit}
 use Rattle.soundness.specs.Sound.{lengthsRight, soundIn}
 use Rattle.units.specs.Runs.{foundOf}
 use Rattle.inquiry.specs.Units.{unitWhere, unitIn}
 
-found-first : (us : List Part) → foundAnswer (foundOf us) ≡ firstAnswer us
+found-first : (us : List AccountLots) → foundAnswer (foundOf us) ≡ firstAnswer us
 found-first [] = refl
 found-first (u ∷ us) = refl
 

@@ -9,8 +9,8 @@ use native.Mathlib.Nat.{add-zero, add-suc, suc-add}
 use lib.Dec.{ltb}
 use lib.ListN.{length, getD, take, drop, replicate, take-append-drop}
 use Rattle.rules.specs.Measures.{total, sum}
-use Rattle.rules.specs.Units.{Part, part, put, parts, sumLots, insert, largestFirst}
-use Rattle.rules.specs.Book.{tab, all}
+use Rattle.rules.specs.Units.{AccountLots, accountLots, prepend, byAccount, sumLots, insert, largestFirst}
+use Rattle.rules.specs.Book.{tabulate, all}
 
 -- Tests
 
@@ -63,11 +63,11 @@ all-replicate p (suc n) x h = and-both (p x) (all p (replicate n x)) h (all-repl
 
 -- Tables
 
-pub length-tab {ℓ} : {A : Type ℓ} (f : ℕ → A) (k n : ℕ) → length (tab f k n) ≡ n
+pub length-tab {ℓ} : {A : Type ℓ} (f : ℕ → A) (k n : ℕ) → length (tabulate f k n) ≡ n
 length-tab f k zero = refl
 length-tab f k (suc n) = ap suc (length-tab f (suc k) n)
 
-pub getD-tab {ℓ} : {A : Type ℓ} (f : ℕ → A) (k n i : ℕ) (d : A) → i < n → getD (tab f k n) i d ≡ f (k + i)
+pub getD-tab {ℓ} : {A : Type ℓ} (f : ℕ → A) (k n i : ℕ) (d : A) → i < n → getD (tabulate f k n) i d ≡ f (k + i)
 getD-tab f k zero i d h = absurd (omega arith)
 getD-tab f k (suc n) zero d h = ap f (sym (add-zero k))
 getD-tab f k (suc n) (suc i) d h = getD-tab f (suc k) n i d (omega arith) ∙ ap f (suc-add k i ∙ sym (add-suc k i))
@@ -108,50 +108,50 @@ total-drop-le f n l = omega (arith, total-split f n l)
 
 -- Lists of parts: put, parts, largestFirst
 
-pub put-pos : (a x : ℕ) (us : List Part) → 0 < x → put a x us ≡ part a x ∷ us
+pub put-pos : (a x : ℕ) (us : List AccountLots) → 0 < x → prepend a x us ≡ accountLots a x ∷ us
 put-pos a zero us h = absurd (omega arith)
 put-pos a (suc n) us h = refl
 
-pub put-none : (a x : ℕ) (us : List Part) → x ≡ 0 → put a x us ≡ us
+pub put-none : (a x : ℕ) (us : List AccountLots) → x ≡ 0 → prepend a x us ≡ us
 put-none a x us e = rw e
 
-pub put-append : (a x : ℕ) (us vs : List Part) → put a x (us ++ vs) ≡ put a x us ++ vs
+pub put-append : (a x : ℕ) (us vs : List AccountLots) → prepend a x (us ++ vs) ≡ prepend a x us ++ vs
 put-append a zero us vs = refl
 put-append a (suc n) us vs = refl
 
-pub length-put : (a x : ℕ) (us : List Part) → length (put a x us) ≡ min 1 x + length us
+pub length-put : (a x : ℕ) (us : List AccountLots) → length (prepend a x us) ≡ min 1 x + length us
 length-put a zero us = omega arith
 length-put a (suc n) us = omega arith
 
-pub total-put : (f : Part → ℕ) (a x : ℕ) (us : List Part) → f (part a 0) ≡ 0 → total f (put a x us) ≡ f (part a x) + total f us
+pub total-put : (f : AccountLots → ℕ) (a x : ℕ) (us : List AccountLots) → f (accountLots a 0) ≡ 0 → total f (prepend a x us) ≡ f (accountLots a x) + total f us
 total-put f a zero us h = omega (arith, h)
 total-put f a (suc n) us h = refl
 
-pub sum-parts : (k : ℕ) (dues : List ℕ) → sumLots (parts k dues) ≡ sum dues
+pub sum-parts : (k : ℕ) (dues : List ℕ) → sumLots (byAccount k dues) ≡ sum dues
 sum-parts k [] = refl
-sum-parts k (x ∷ xs) = omega (arith, total-put (λ u. u .lots) k x (parts (suc k) xs) refl, sum-parts (suc k) xs)
+sum-parts k (x ∷ xs) = omega (arith, total-put (λ u. u .lots) k x (byAccount (suc k) xs) refl, sum-parts (suc k) xs)
 
-pub length-parts : (k : ℕ) (xs : List ℕ) → length (parts k xs) ≤ length xs
+pub length-parts : (k : ℕ) (xs : List ℕ) → length (byAccount k xs) ≤ length xs
 length-parts k [] = omega arith
-length-parts k (x ∷ xs) = omega (arith, length-put k x (parts (suc k) xs), length-parts (suc k) xs)
+length-parts k (x ∷ xs) = omega (arith, length-put k x (byAccount (suc k) xs), length-parts (suc k) xs)
 
-pub total-insert : (f : Part → ℕ) (u : Part) (us : List Part) → total f (insert u us) ≡ f u + total f us
+pub total-insert : (f : AccountLots → ℕ) (u : AccountLots) (us : List AccountLots) → total f (insert u us) ≡ f u + total f us
 total-insert f u [] = refl
 total-insert f u (v ∷ vs) =
     either (λ r. total f r ≡ f u + (f v + total f vs)) (ltb (u .lots) (v .lots))
     (omega (arith, total-insert f u vs)) refl
 
 -- sorting changes no sum, whatever is counted
-pub total-sort : (f : Part → ℕ) (us : List Part) → total f (largestFirst us) ≡ total f us
+pub total-sort : (f : AccountLots → ℕ) (us : List AccountLots) → total f (largestFirst us) ≡ total f us
 total-sort f [] = refl
 total-sort f (u ∷ us) = omega (arith, total-insert f u (largestFirst us), total-sort f us)
 
-pub length-insert : (u : Part) (us : List Part) → length (insert u us) ≡ suc (length us)
+pub length-insert : (u : AccountLots) (us : List AccountLots) → length (insert u us) ≡ suc (length us)
 length-insert u [] = refl
 length-insert u (v ∷ vs) =
     either (λ r. length r ≡ suc (suc (length vs))) (ltb (u .lots) (v .lots)) (ap suc (length-insert u vs)) refl
 
-pub length-sort : (us : List Part) → length (largestFirst us) ≡ length us
+pub length-sort : (us : List AccountLots) → length (largestFirst us) ≡ length us
 length-sort [] = refl
 length-sort (u ∷ us) = length-insert u (largestFirst us) ∙ ap suc (length-sort us)
 
@@ -196,15 +196,15 @@ each-drop P zero us ps = ps
 each-drop P (suc n) [] ps = tt
 each-drop P (suc n) (u ∷ us) ps = each-drop P n us (ps .1)
 
-pub each-put : (P : Part → Type 0) (a x : ℕ) (us : List Part) → (0 < x → P (part a x)) → Every P us → Every P (put a x us)
+pub each-put : (P : AccountLots → Type 0) (a x : ℕ) (us : List AccountLots) → (0 < x → P (accountLots a x)) → Every P us → Every P (prepend a x us)
 each-put P a zero us p ps = ps
 each-put P a (suc n) us p ps = (p (omega arith), ps)
 
-pub each-insert : (P : Part → Type 0) (u : Part) (us : List Part) → P u → Every P us → Every P (insert u us)
+pub each-insert : (P : AccountLots → Type 0) (u : AccountLots) (us : List AccountLots) → P u → Every P us → Every P (insert u us)
 each-insert P u [] p ps = (p, tt)
 each-insert P u (v ∷ vs) p ps =
     either (λ r. Every P r) (ltb (u .lots) (v .lots)) (ps .0, each-insert P u vs p (ps .1)) (p, ps)
 
-pub each-sort : (P : Part → Type 0) (us : List Part) → Every P us → Every P (largestFirst us)
+pub each-sort : (P : AccountLots → Type 0) (us : List AccountLots) → Every P us → Every P (largestFirst us)
 each-sort P [] ps = tt
 each-sort P (u ∷ us) ps = each-insert P u (largestFirst us) (ps .0) (each-sort P us (ps .1))

@@ -12,7 +12,7 @@ use lib.Seq.{drop-set-add, take-set-lt, take-set-le, drop-set-lt, getD-set-other
 use lib.IntN.{ℤ, pos}
 use borrow.Author.Tests.{ltb-true, ltb-false, eqb-true, eq-eqb, le-leb}
 use Rattle.rules.specs.Measures.{total, sum, dueOf, owedOf}
-use Rattle.rules.specs.Book.{tab, row, cell, duesOf, owedsOf, netAt, deliveredAt, deliveredTotal, withinOwed, all, isZero}
+use Rattle.rules.specs.Book.{tabulate, row, cell, duesOf, obligationsOf, netAt, deliveredAt, deliveredTotal, withinOwed, all, isZero}
 use Rattle.laws.proofs.Basics.{byTest, and-left, and-right, and-both, length-tab, getD-tab, total-replicate, total-take-le, total-drop-le, Every}
 
 -- is it this issue and this account?
@@ -63,9 +63,9 @@ module _ {ℓ} {A : Type ℓ} where
 
   -- a row is the table of its cells
   pub tab-row : (f : ℕ → A) (l : List A) (i : ℕ) (d : A) → length l ≡ 1024 → i < 16 →
-      ((a : ℕ) → a < 64 → f a ≡ getD l (cell i a) d) → tab f 0 64 ≡ row i l
+      ((a : ℕ) → a < 64 → f a ≡ getD l (cell i a) d) → tabulate f 0 64 ≡ row i l
   tab-row f l i d h k e =
-      ext-getD d (tab f 0 64) (row i l) (length-tab f 0 64 ∙ sym (length-row l i h k))
+      ext-getD d (tabulate f 0 64) (row i l) (length-tab f 0 64 ∙ sym (length-row l i h k))
       (λ a q.
       let b : a < 64 = omega (arith, length-tab f 0 64) in
       getD-tab f 0 64 a d b ∙ ap f (zero-add a) ∙ e a b ∙ sym (getD-row l i a d b))
@@ -98,13 +98,13 @@ delivered-rises l i a x h k ha =
 pub due-at : (nets : List ℤ) (i a : ℕ) → a < 64 → getD (duesOf nets i) a 0 ≡ dueOf (netAt nets i a)
 due-at nets i a h = List·getD-map dueOf (row i nets) a (pos 0) ∙ ap dueOf (getD-row nets i a (pos 0) h)
 
-pub owed-at : (nets : List ℤ) (i a : ℕ) → a < 64 → getD (owedsOf nets i) a 0 ≡ owedOf (netAt nets i a)
+pub owed-at : (nets : List ℤ) (i a : ℕ) → a < 64 → getD (obligationsOf nets i) a 0 ≡ owedOf (netAt nets i a)
 owed-at nets i a h = List·getD-map owedOf (row i nets) a (pos 0) ∙ ap owedOf (getD-row nets i a (pos 0) h)
 
 pub length-dues : (nets : List ℤ) (i : ℕ) → length nets ≡ 1024 → i < 16 → length (duesOf nets i) ≡ 64
 length-dues nets i n h = length-map (row i nets) dueOf ∙ length-row nets i n h
 
-pub length-oweds : (nets : List ℤ) (i : ℕ) → length nets ≡ 1024 → i < 16 → length (owedsOf nets i) ≡ 64
+pub length-oweds : (nets : List ℤ) (i : ℕ) → length nets ≡ 1024 → i < 16 → length (obligationsOf nets i) ≡ 64
 length-oweds nets i n h = length-map (row i nets) owedOf ∙ length-row nets i n h
 
 -- a row of zeros

@@ -11,7 +11,7 @@ use lib.ListN.{length}
 use lib.IntN.{ℤ}
 use Rattle.rules.specs.declared.Book.{Book}
 use Rattle.rules.specs.Measures.{unitLots, mostLots, total, dueOf, owedOf}
-use Rattle.rules.specs.Units.{Part, sumLots, ofAccount}
+use Rattle.rules.specs.Units.{AccountLots, sumLots, ofAccount}
 use Rattle.rules.specs.Handover.{covered, handed, waiting, firstUnit}
 use Rattle.rules.specs.Fails.{Fail}
 use Rattle.rules.specs.Book.{row, cell, netAt, deliveredAt, duesOf, deliveredTotal, orderIn, orderOf, withinOwed}
@@ -28,7 +28,7 @@ use Rattle.laws.proofs.SoundRows.{order-in, sound-row, total-due, stock
 use Rattle.laws.proofs.Records.{Fits, entry-fits}
 
 -- a unit's handover fits its words
-unit-fits : (i n : ℕ) → i < 16 → n ≡ 64 → (u : Part) → UnitSized u → u .account < n → Fits (handover i u)
+unit-fits : (i n : ℕ) → i < 16 → n ≡ 64 → (u : AccountLots) → UnitSized u → u .account < n → Fits (handover i u)
 unit-fits i n hi e u s a =
     record { kind = lit< tt; issue = hi; from = lit< tt; to = omega arith; lots = omega (arith, s .1) }
 
@@ -51,7 +51,7 @@ within-units b g i hi n ds m w =
     omega (arith, delivered-due (row i (b .nets)) (row i ds) r, order-in (b .nets) i .whole)
 
 module _ (b : Book) (g : SoundBook b) (n : length (b .nets) ≡ 1024) (m : length (b .delivered) ≡ 1024) (i : ℕ) (hi : i < 16) where
-  abbrev us : List Part
+  abbrev us : List AccountLots
   us = orderOf b i
 
   abbrev d : ℕ
@@ -101,7 +101,7 @@ module _ (b : Book) (g : SoundBook b) (n : length (b .nets) ≡ 1024) (m : lengt
       })
       fs (issue-bounded b g n m i hi))
 
-  first-account : (ws : List Part) → Every (λ u. Fits (handover i u)) ws → firstUnit ws .account < 64
+  first-account : (ws : List AccountLots) → Every (λ u. Fits (handover i u)) ws → firstUnit ws .account < 64
   first-account [] q = lit< tt
   first-account (w ∷ ws) q = q .0 .to
 

@@ -10,9 +10,9 @@ use lib.ListN.{length, drop}
 use borrow.Author.Tests.{eq-eqb, ne-eqb}
 use Rattle.rules.specs.declared.Entry.{Entry}
 use Rattle.rules.specs.Measures.{total}
-use Rattle.rules.specs.Units.{Part, part, ofAccount}
+use Rattle.rules.specs.Units.{AccountLots, accountLots, ofAccount}
 use Rattle.rules.specs.Ledger.{isTo, lotsOf}
-use Rattle.rules.specs.Book.{tab}
+use Rattle.rules.specs.Book.{tabulate}
 use Rattle.rules.specs.Records.{Rec, handover, recordOf, headWord, lotsWord, words, over, kindBits, issueBits, fromBits, toBits, lotsBits, ofField, recordIn, recordsIn}
 use Rattle.rules.specs.Calls.{joined}
 use Rattle.rules.specs.Tally.{recordsOf}
@@ -88,15 +88,15 @@ pub recordsOf-append : (k i : ℕ) (xs ys : List Rec) → recordsOf k i (xs ++ y
 recordsOf-append k i [] ys = refl
 recordsOf-append k i (r ∷ rs) ys =
     byTest (eqb (r .kind) k && eqb (r .issue) i)
-    (λ e. simp e (ap (λ l. part (r .to) (r .lots) ∷ l) (recordsOf-append k i rs ys)))
+    (λ e. simp e (ap (λ l. accountLots (r .to) (r .lots) ∷ l) (recordsOf-append k i rs ys)))
     (λ e. simp e (recordsOf-append k i rs ys))
 
 -- the 10s of an issue are its handovers
-pub tens-same : (i : ℕ) (us : List Part) → recordsOf 10 i (map (handover i) us) ≡ us
+pub tens-same : (i : ℕ) (us : List AccountLots) → recordsOf 10 i (map (handover i) us) ≡ us
 tens-same i [] = refl
 tens-same i (u ∷ us) = simp (eq-eqb i i refl) (ap (λ l. u ∷ l) (tens-same i us))
 
-pub tens-other : (i j : ℕ) (us : List Part) → (i ≡ j → ⊥) → recordsOf 10 j (map (handover i) us) ≡ []
+pub tens-other : (i j : ℕ) (us : List AccountLots) → (i ≡ j → ⊥) → recordsOf 10 j (map (handover i) us) ≡ []
 tens-other i j [] ne = refl
 tens-other i j (u ∷ us) ne = simp (ne-eqb i j ne) (tens-other i j us ne)
 
@@ -116,7 +116,7 @@ elevens-to i a (e ∷ es) =
 -- Lists issue by issue
 
 pub each-joined {ℓ} : {A : Type ℓ} (P : A → Type 0) (g : ℕ → List A) (k n : ℕ) → ((i : ℕ) → i < k + n → Every P (g i)) →
-    Every P (joined (tab g k n))
+    Every P (joined (tabulate g k n))
 each-joined P g k zero f = tt
 each-joined P g k (suc n) f =
-    each-append P (g k) (joined (tab g (suc k) n)) (f k (omega arith)) (each-joined P g (suc k) n (λ i h. f i (omega arith)))
+    each-append P (g k) (joined (tabulate g (suc k) n)) (f k (omega arith)) (each-joined P g (suc k) n (λ i h. f i (omega arith)))

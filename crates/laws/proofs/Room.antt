@@ -11,10 +11,10 @@ use lib.IntN.{ℤ, pos, negsuc}
 use lib.ListN.{length, getD, length-map, length-append, List·getD-map}
 use borrow.Author.Tests.{leb-true, eqb-true, eqb-false}
 use Rattle.rules.specs.Measures.{total, sum, dueOf, owedOf, unitLots, mostLots, issueCount, outputWords}
-use Rattle.rules.specs.Units.{Part, parts, sumLots, receivers}
+use Rattle.rules.specs.Units.{AccountLots, byAccount, sumLots, receivers}
 use Rattle.rules.specs.Handover.{covered, waiting, handovers, partials}
-use Rattle.rules.specs.Fails.{stretches, lacks, shorts, shortfalls, fails}
-use Rattle.rules.specs.Book.{tab, row, duesOf, owedsOf, deliveredTotal, orderIn}
+use Rattle.rules.specs.Fails.{stretches, lacks, undelivered, shortfalls, fails}
+use Rattle.rules.specs.Book.{tabulate, row, duesOf, obligationsOf, deliveredTotal, orderIn}
 use Rattle.rules.specs.Records.{handover, recordOf}
 use Rattle.rules.specs.Calls.{deliverRecords, issuePartials, issueFails, failEntry, issueRecords, cutoffRecords, joined}
 use Rattle.laws.proofs.Basics.{byTest, Every, total-take-le, total-drop-le, length-put}
@@ -22,32 +22,32 @@ use Rattle.laws.proofs.Units.{UnitSized, Order, ofSmall, isOf}
 use Rattle.laws.proofs.Handover.{partials-length, order-stock, handovers-sum}
 use Rattle.laws.proofs.Fails.{nonzero, nonzero-le, overlaps-count}
 use Rattle.laws.proofs.Stretches.{every-stretches, account-stretches, lacks-length}
-use Rattle.laws.proofs.Cutoff.{SoundRow, dues, oweds, delivered-due, shorts-lacks, order-due}
+use Rattle.laws.proofs.Cutoff.{SoundRow, dues, obligations, delivered-due, shorts-lacks, order-due}
 use Rattle.laws.proofs.Orders.{onAccount, tab-add, by-accounts, sum-tab}
 
 -- what a unit lacks of a full one
-pub gap : Part → ℕ
+pub gap : AccountLots → ℕ
 gap u = unitLots - u .lots
 
 -- Stretches and gaps of an order
 
-tab-le : (f g : ℕ → ℕ) (k n : ℕ) → ((a : ℕ) → f a ≤ g a) → sum (tab f k n) ≤ sum (tab g k n)
+tab-le : (f g : ℕ → ℕ) (k n : ℕ) → ((a : ℕ) → f a ≤ g a) → sum (tabulate f k n) ≤ sum (tabulate g k n)
 tab-le f g k zero h = omega arith
 tab-le f g k (suc n) h = omega (arith, h k, tab-le f g (suc k) n h)
 
-count-parts : (k : ℕ) (xs : List ℕ) → length (parts k xs) ≡ sum (map (min 1) xs)
+count-parts : (k : ℕ) (xs : List ℕ) → length (byAccount k xs) ≡ sum (map (min 1) xs)
 count-parts k [] = refl
-count-parts k (x ∷ xs) = omega (arith, length-put k x (parts (suc k) xs), count-parts (suc k) xs)
+count-parts k (x ∷ xs) = omega (arith, length-put k x (byAccount (suc k) xs), count-parts (suc k) xs)
 
 -- receivers, counted by account
-receivers-count : (dues : List ℕ) → length (receivers dues) ≡ sum (tab (λ a. min 1 (getD dues a 0)) 0 (length dues))
+receivers-count : (dues : List ℕ) → length (receivers dues) ≡ sum (tabulate (λ a. min 1 (getD dues a 0)) 0 (length dues))
 receivers-count dues =
     count-parts 0 dues
     ∙ sym (sum-tab (λ a. min 1 (getD dues a 0)) 0 (map (min 1) dues)
     (λ a. ap (λ n. min 1 (getD dues n 0)) (zero-add a) ∙ sym (List·getD-map (min 1) dues a 0)))
-    ∙ ap (λ n. sum (tab (λ a. min 1 (getD dues a 0)) 0 n)) (length-map dues (min 1))
+    ∙ ap (λ n. sum (tabulate (λ a. min 1 (getD dues a 0)) 0 n)) (length-map dues (min 1))
 
-none-due : (dues : List ℕ) (a : ℕ) (vs : List Part) → getD dues a 0 ≡ 0 → Every (λ v. 1 ≤ getD dues (v .account) 0) vs →
+none-due : (dues : List ℕ) (a : ℕ) (vs : List AccountLots) → getD dues a 0 ≡ 0 → Every (λ v. 1 ≤ getD dues (v .account) 0) vs →
     total (isOf a) vs ≡ 0
 none-due dues a [] z ps = refl
 none-due dues a (v ∷ vs) z ps =
@@ -55,11 +55,11 @@ none-due dues a (v ∷ vs) z ps =
     (λ e. absurd (omega (arith, ap (λ n. getD dues n 0) (eqb-true (v .account) a e), ps .0)))
     (λ e. simp e (omega (arith, none-due dues a vs z (ps .1))))
 
-count-one : (vs : List Part) → total (λ v. 1) vs ≡ length vs
+count-one : (vs : List AccountLots) → total (λ v. 1) vs ≡ length vs
 count-one [] = refl
 count-one (v ∷ vs) = omega (arith, count-one vs)
 
-module _ (xs : List ℕ) (us : List Part) (o : Order xs us) where
+module _ (xs : List ℕ) (us : List AccountLots) (o : Order xs us) where
   -- at most two stretches a receiver
   order-stretches : length (stretches unitLots us) ≤ 2 * length (receivers xs)
   order-stretches =
@@ -94,21 +94,21 @@ module _ (xs : List ℕ) (us : List Part) (o : Order xs us) where
         ones 0 n,
       )
     where
-      gaps : (vs : List Part) → Every UnitSized vs → total gap vs ≤ unitLots * total (ofSmall unitLots (λ v. 1)) vs
+      gaps : (vs : List AccountLots) → Every UnitSized vs → total gap vs ≤ unitLots * total (ofSmall unitLots (λ v. 1)) vs
       gaps [] ps = omega arith
       gaps (v ∷ vs) ps =
           byTest (leb unitLots (v .lots))
           (λ e. simp e (omega (arith, leb-true unitLots (v .lots) e, gaps vs (ps .1))))
           (λ e. simp e (omega (arith, gaps vs (ps .1))))
 
-      same : (a : ℕ) (vs : List Part) → total (onAccount (ofSmall unitLots (λ v. 1)) a) vs ≡ total (ofSmall unitLots (isOf a)) vs
+      same : (a : ℕ) (vs : List AccountLots) → total (onAccount (ofSmall unitLots (λ v. 1)) a) vs ≡ total (ofSmall unitLots (isOf a)) vs
       same a [] = refl
       same a (v ∷ vs) =
           byTest (leb unitLots (v .lots))
           (λ e. byTest (eqb (v .account) a) (λ q. simp (e, q, zero-add) (same a vs)) (λ q. simp (e, q, zero-add) (same a vs)))
           (λ e. byTest (eqb (v .account) a) (λ q. simp (e, q) (ap (λ n. 1 + n) (same a vs))) (λ q. simp (e, q, zero-add) (same a vs)))
 
-      ones : (k n : ℕ) → sum (tab (λ a. 1) k n) ≡ n
+      ones : (k n : ℕ) → sum (tabulate (λ a. 1) k n) ≡ n
       ones k zero = refl
       ones k (suc n) = omega (arith, ones (suc k) n)
 
@@ -116,19 +116,19 @@ module _ (xs : List ℕ) (us : List Part) (o : Order xs us) where
 
 -- receivers and deliverers with a shortfall are no more than the accounts
 sides : (k : ℕ) (ns : List ℤ) (ds : List ℕ) →
-    length (parts k (map dueOf ns)) + length (parts k (shorts (map owedOf ns) ds)) ≤ length ns
+    length (byAccount k (map dueOf ns)) + length (byAccount k (undelivered (map owedOf ns) ds)) ≤ length ns
 sides k [] ds = omega arith
 sides k (n ∷ ns) [] =
-    omega (arith, length-put k (dueOf n) (parts (suc k) (map dueOf ns)), sides (suc k) ns [], none ns)
+    omega (arith, length-put k (dueOf n) (byAccount (suc k) (map dueOf ns)), sides (suc k) ns [], none ns)
   where
-    none : (ms : List ℤ) → length (parts (suc k) (shorts (map owedOf ms) [])) ≡ 0
+    none : (ms : List ℤ) → length (byAccount (suc k) (undelivered (map owedOf ms) [])) ≡ 0
     none [] = refl
     none (m ∷ ms) = refl
 sides k (n ∷ ns) (d ∷ ds) =
     omega (
       arith,
-      length-put k (dueOf n) (parts (suc k) (map dueOf ns)),
-      length-put k (owedOf n - d) (parts (suc k) (shorts (map owedOf ns) ds)),
+      length-put k (dueOf n) (byAccount (suc k) (map dueOf ns)),
+      length-put k (owedOf n - d) (byAccount (suc k) (undelivered (map owedOf ns) ds)),
       sides (suc k) ns ds,
       one n,
     )
@@ -138,16 +138,16 @@ sides k (n ∷ ns) (d ∷ ds) =
     one (negsuc m) = omega arith
 
 -- some have lots where the sum is not 0, and none where it is
-nonzero-sum : (vs : List Part) → (min 1 (sumLots vs) ≤ nonzero vs) × (nonzero vs ≤ sumLots vs)
+nonzero-sum : (vs : List AccountLots) → (min 1 (sumLots vs) ≤ nonzero vs) × (nonzero vs ≤ sumLots vs)
 nonzero-sum [] = (omega arith, omega arith)
 nonzero-sum (v ∷ vs) = let h = nonzero-sum vs in (omega arith, omega arith)
 
 -- n accounts have at most 2 (n − 1) fails
-pub fails-few : (nets : List ℤ) (delivered : List ℕ) (us : List Part) → Order (dues nets) us → SoundRow nets delivered →
-    length (fails unitLots us (oweds nets) delivered) ≤ 2 * (length nets - 1)
+pub fails-few : (nets : List ℤ) (delivered : List ℕ) (us : List AccountLots) → Order (dues nets) us → SoundRow nets delivered →
+    length (fails unitLots us (obligations nets) delivered) ≤ 2 * (length nets - 1)
 unfolding fails
 fails-few nets delivered us o r =
-    let ss = shortfalls (oweds nets) delivered in
+    let ss = shortfalls (obligations nets) delivered in
     let vs = lacks unitLots us (sum delivered) in
     let e = shorts-lacks nets delivered us o r unitLots in
     omega (
@@ -163,18 +163,18 @@ fails-few nets delivered us o r =
     )
 
 -- of 64 accounts: at most 126
-pub issue-fails : (nets : List ℤ) (delivered : List ℕ) (us : List Part) → Order (dues nets) us → length nets ≡ 64 →
-    SoundRow nets delivered → length (fails unitLots us (oweds nets) delivered) ≤ 126
+pub issue-fails : (nets : List ℤ) (delivered : List ℕ) (us : List AccountLots) → Order (dues nets) us → length nets ≡ 64 →
+    SoundRow nets delivered → length (fails unitLots us (obligations nets) delivered) ≤ 126
 issue-fails nets delivered us o n r = omega (arith, fails-few nets delivered us o r)
 
 -- Records of a cutoff
 
-length-joined {ℓ} : {A : Type ℓ} (g : ℕ → List A) (m k n : ℕ) → ((i : ℕ) → i < k + n → length (g i) ≤ m) → length (joined (tab g k n)) ≤ n * m
+length-joined {ℓ} : {A : Type ℓ} (g : ℕ → List A) (m k n : ℕ) → ((i : ℕ) → i < k + n → length (g i) ≤ m) → length (joined (tabulate g k n)) ≤ n * m
 length-joined g m k zero h = omega arith
 length-joined g m k (suc n) h =
     omega (
       arith,
-      length-append (g k) (joined (tab g (suc k) n)),
+      length-append (g k) (joined (tabulate g (suc k) n)),
       h k (omega arith),
       length-joined g m (suc k) n (λ i l. h i (omega arith)),
     )
@@ -187,7 +187,7 @@ module _ (today : ℕ) (nets : List ℤ) (delivered : List ℕ) (o : (i : ℕ) �
   issue-records i n r =
       let us = orderIn nets i in
       let d = deliveredTotal delivered i in
-      let fs = fails unitLots us (owedsOf nets i) (row i delivered) in
+      let fs = fails unitLots us (obligationsOf nets i) (row i delivered) in
       omega (
         arith,
         length-append (map (handover i) (partials us d)) (map (recordOf 12) (map (failEntry today i) fs)),
@@ -211,13 +211,13 @@ module _ (today : ℕ) (nets : List ℤ) (delivered : List ℕ) (o : (i : ℕ) �
 -- Records of a delivery
 
 -- so many units have so many lots, or gaps
-pub many : (us : List Part) → length us * unitLots ≤ sumLots us + total gap us
+pub many : (us : List AccountLots) → length us * unitLots ≤ sumLots us + total gap us
 unfolding gap
 many [] = omega arith
 many (u ∷ us) = omega (arith, many us)
 
 -- a delivery hands over at most 264 units of an order
-pub handovers-few : (xs : List ℕ) (us : List Part) (d x : ℕ) → Order xs us → length xs ≡ 64 → x ≤ mostLots → d ≤ sum xs →
+pub handovers-few : (xs : List ℕ) (us : List AccountLots) (d x : ℕ) → Order xs us → length xs ≡ 64 → x ≤ mostLots → d ≤ sum xs →
     length (handovers us d x) ≤ 264
 unfolding handovers
 handovers-few xs us d x o n h g =

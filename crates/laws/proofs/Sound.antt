@@ -12,7 +12,7 @@ use borrow.Author.Tests.{leb-true, le-leb, eqb-true, eqb-false, eq-eqb, ne-eqb, 
 use Rattle.rules.specs.declared.Book.{Book}
 use Rattle.rules.specs.declared.Entry.{Entry}
 use Rattle.rules.specs.Measures.{mostLots, mostEntries, mostCharge, between, total, dueOf, owedOf}
-use Rattle.rules.specs.Book.{isTaking, tab, all, row, entries, ledgerOf, balanced, withinSize, withinOwed, isZero, entrySound, daysSound, conditions, sound}
+use Rattle.rules.specs.Book.{isTaking, tabulate, all, row, entries, ledgerOf, balanced, withinSize, withinOwed, isZero, entrySound, daysSound, conditions, sound}
 use Rattle.laws.proofs.Basics.{byTest, and-left, and-right, and-both, total-map, Every, each-map}
 
 -- Tests of all elements
@@ -30,11 +30,11 @@ each-getD P [] k d p q = q
 each-getD P (x ∷ xs) zero d p q = p .0
 each-getD P (x ∷ xs) (suc k) d p q = each-getD P xs k d (p .1) q
 
-each-tab {ℓ} : {A : Type ℓ} (P : A → Type 0) (f : ℕ → A) (k n : ℕ) → ((i : ℕ) → i < k + n → P (f i)) → Every P (tab f k n)
+each-tab {ℓ} : {A : Type ℓ} (P : A → Type 0) (f : ℕ → A) (k n : ℕ) → ((i : ℕ) → i < k + n → P (f i)) → Every P (tabulate f k n)
 each-tab P f k zero h = tt
 each-tab P f k (suc n) h = (h k (omega arith), each-tab P f (suc k) n (λ i l. h i (omega arith)))
 
-tab-each {ℓ} : {A : Type ℓ} (P : A → Type 0) (f : ℕ → A) (k n i : ℕ) → Every P (tab f k n) → k ≤ i → i < k + n → P (f i)
+tab-each {ℓ} : {A : Type ℓ} (P : A → Type 0) (f : ℕ → A) (k n i : ℕ) → Every P (tabulate f k n) → k ≤ i → i < k + n → P (f i)
 tab-each P f k zero i p h l = absurd (omega arith)
 tab-each P f k (suc n) i p h l =
     byTest (eqb k i)
@@ -151,7 +151,7 @@ sound-parts b h =
           (all-each (withinSize mostLots) (b .nets) (e .0));
       rows = λ i l. balanced-parts (row i (b .nets))
           (tab-each (λ j. balanced (row j (b .nets)) ≡ true) (λ j. j) 0 16 i
-          (all-each (λ j. balanced (row j (b .nets))) (tab (λ j. j) 0 16) (e .1 .0)) (omega arith) (omega arith));
+          (all-each (λ j. balanced (row j (b .nets))) (tabulate (λ j. j) 0 16) (e .1 .0)) (omega arith) (omega arith));
       owed = e₂ .0;
       taking = if-taking (isTaking (b .phase)) (all isZero (b .delivered)) (e₂ .1 .0);
       ledger = record {
@@ -177,7 +177,7 @@ parts-sound b g =
       each-all (withinSize mostLots) (b .nets)
           (each-map _ (λ n. withinSize mostLots n ≡ true) (λ n h. le-leb _ _ h) (b .nets) (g .size)),
       (
-        each-all (λ i. balanced (row i (b .nets))) (tab (λ i. i) 0 16)
+        each-all (λ i. balanced (row i (b .nets))) (tabulate (λ i. i) 0 16)
             (each-tab (λ i. balanced (row i (b .nets)) ≡ true) (λ i. i) 0 16
             (λ i h. parts-balanced (row i (b .nets)) (g .rows i (omega arith)))),
         (

@@ -9,7 +9,7 @@ use lib.ListN.{length, drop}
 use Rattle.rules.specs.declared.Book.{Book}
 use Rattle.rules.specs.Measures.{sum, owedOf, unitLots, mostLots, outputWords}
 use Rattle.rules.specs.Handover.{stock}
-use Rattle.rules.specs.Book.{row, duesOf, owedsOf, deliveredTotal, orderIn}
+use Rattle.rules.specs.Book.{row, duesOf, obligationsOf, deliveredTotal, orderIn}
 use Rattle.rules.specs.Calls.{deliverRecords, issueFails, cutoffRecords}
 use Rattle.laws.proofs.Basics.{Every, each-map, each-take, each-drop}
 use Rattle.laws.proofs.Units.{Order}
@@ -47,7 +47,7 @@ module _ (b : Book) (s : SoundBook b) (n : length (b .nets) ≡ 1024) (d : lengt
         order-stock (duesOf (b .nets) i) (orderIn (b .nets) i) (deliveredTotal (b .delivered) i) (order-in (b .nets) i) total-due
 
     -- nobody owes more than 20,000,000
-    pub owed-small : Every (λ x. x ≤ mostLots) (owedsOf (b .nets) i)
+    pub owed-small : Every (λ x. x ≤ mostLots) (obligationsOf (b .nets) i)
     owed-small =
         each-of-map (λ x. x ≤ mostLots) owedOf (row i (b .nets))
         (each-take (λ m. owedOf m ≤ mostLots) 64 (drop (i * 64) (b .nets))

@@ -10,7 +10,7 @@ use Rattle.rules.specs.declared.Entry.{Entry}
 use Rattle.rules.specs.declared.Phase.{Phase}
 use Rattle.rules.specs.declared.Phase.the-variants.{Taking, Settling, Cut}
 use Rattle.rules.specs.Measures.{issueCount, lastIssue, accountCount, lastAccount, cellCount, unitLots, mostLots, mostEntries, mostCharge, between, sum, dueOf, owedOf}
-use Rattle.rules.specs.Units.{Part, unitsOfNets}
+use Rattle.rules.specs.Units.{AccountLots, unitsOfNets}
 use Rattle.rules.specs.Handover.{stock}
 use Rattle.rules.specs.Ledger.{entry}
 
@@ -30,9 +30,9 @@ isCut Settling = false
 isCut Cut = true
 
 -- f k, f (k + 1), .., n of them
-abbrev pub tab {ℓ} : {A : Type ℓ} → (ℕ → A) → ℕ → ℕ → List A
-tab f k zero = []
-tab f k (suc n) = f k ∷ tab f (suc k) n
+abbrev pub tabulate {ℓ} : {A : Type ℓ} → (ℕ → A) → ℕ → ℕ → List A
+tabulate f k zero = []
+tabulate f k (suc n) = f k ∷ tabulate f (suc k) n
 
 -- every element passes
 abbrev pub all {ℓ} : {A : Type ℓ} → (A → Bool) → List A → Bool
@@ -57,20 +57,20 @@ deliveredAt delivered i a = getD delivered (cell i a) 0
 abbrev pub duesOf : List ℤ → ℕ → List ℕ
 duesOf nets i = map dueOf (row i nets)
 
-abbrev pub owedsOf : List ℤ → ℕ → List ℕ
-owedsOf nets i = map owedOf (row i nets)
+abbrev pub obligationsOf : List ℤ → ℕ → List ℕ
+obligationsOf nets i = map owedOf (row i nets)
 
 -- the issue's delivered total
 abbrev pub deliveredTotal : List ℕ → ℕ → ℕ
 deliveredTotal delivered i = sum (row i delivered)
 
 -- the issue's units in the order of the day
-unfoldable pub orderIn : List ℤ → ℕ → List Part
+unfoldable pub orderIn : List ℤ → ℕ → List AccountLots
 orderIn nets i = unitsOfNets unitLots (row i nets)
 
 -- of each issue; the calls take a book's orders from here
 abbrev pub Orders : Type 0
-Orders = ℕ → List Part
+Orders = ℕ → List AccountLots
 
 abbrev pub orderOf : Book → Orders
 orderOf b = orderIn (b .nets)
@@ -127,7 +127,7 @@ conditions b =
     -- each net lies in −20,000,000..20,000,000
     all (withinSize mostLots) (b .nets)
     -- each issue's nets sum to 0
-    ∷ all (λ i. balanced (row i (b .nets))) (tab (λ i. i) 0 issueCount)
+    ∷ all (λ i. balanced (row i (b .nets))) (tabulate (λ i. i) 0 issueCount)
     -- delivered lots are at most what is owed
     ∷ withinOwed (b .nets) (b .delivered)
     -- and are 0 throughout in Taking

@@ -14,11 +14,11 @@ use Rattle.rules.specs.declared.Found.the-variants as found
 use Rattle.rules.specs.declared.Phase.{Phase}
 use Rattle.rules.specs.declared.Phase.the-variants.{Taking, Settling, Cut}
 use Rattle.rules.specs.Measures.{issueCount, cellCount, unitLots, outputWords, valueOf, chargeOf}
-use Rattle.rules.specs.Units.{Part}
+use Rattle.rules.specs.Units.{AccountLots}
 use Rattle.rules.specs.Handover.{handovers, partials}
 use Rattle.rules.specs.Fails.{Fail, fails}
 use Rattle.rules.specs.Ledger.{entry, isFrom, meet, met, Pairing, pairing, charged}
-use Rattle.rules.specs.Book.{tab, row, cell, netAt, deliveredAt, owedsOf, deliveredTotal, Orders, orderOf, ledgerOf, withDay, withPhase, withNets, withDelivered, withCharges, withLedger}
+use Rattle.rules.specs.Book.{tabulate, row, cell, netAt, deliveredAt, obligationsOf, deliveredTotal, Orders, orderOf, ledgerOf, withDay, withPhase, withNets, withDelivered, withCharges, withLedger}
 use Rattle.rules.specs.Records.{Rec, handover, recordOf, words, over}
 use Rattle.rules.specs.Questions.{Question, firstNo, askOutput, askSound, askTaking, askSettling, askCut, askIssue, askAccount, askAccounts, askDiffer, askLots, askNets, askOwedToday, askOwedInLedger, askEntries, askRoll, askPrice, askTerm, askDay}
 
@@ -84,11 +84,11 @@ abbrev pub deliverRecords : Orders → List ℕ → ℕ → ℕ → List Rec
 deliverRecords us delivered i x = map (handover i) (handovers (us i) (deliveredTotal delivered i) x)
 
 -- cutoff (Settling): for issues ascending, the stock to the next unit, then the fails. To Cut
-unfoldable pub issuePartials : Orders → List ℕ → ℕ → List Part
+unfoldable pub issuePartials : Orders → List ℕ → ℕ → List AccountLots
 issuePartials us delivered i = partials (us i) (deliveredTotal delivered i)
 
 unfoldable pub issueFails : Orders → List ℤ → List ℕ → ℕ → List Fail
-issueFails us nets delivered i = fails unitLots (us i) (owedsOf nets i) (row i delivered)
+issueFails us nets delivered i = fails unitLots (us i) (obligationsOf nets i) (row i delivered)
 
 -- each overlap is one ledger entry, with today's day
 abbrev pub failEntry : ℕ → ℕ → Fail → Entry
@@ -107,10 +107,10 @@ joined [] = []
 joined (xs ∷ xss) = xs ++ joined xss
 
 abbrev pub newEntries : ℕ → Orders → List ℤ → List ℕ → List Entry
-newEntries today us nets delivered = joined (tab (issueEntries today us nets delivered) 0 issueCount)
+newEntries today us nets delivered = joined (tabulate (issueEntries today us nets delivered) 0 issueCount)
 
 abbrev pub cutoffRecords : ℕ → Orders → List ℤ → List ℕ → List Rec
-cutoffRecords today us nets delivered = joined (tab (issueRecords today us nets delivered) 0 issueCount)
+cutoffRecords today us nets delivered = joined (tabulate (issueRecords today us nets delivered) 0 issueCount)
 
 abbrev pub cutoffAsks : Phase → ℕ → ℕ → List Question
 cutoffAsks phase old new = askSettling phase ∷ askEntries old new ∷ []
@@ -206,11 +206,11 @@ pub data UnitAnswer : Type 0 where
   noUnit : UnitAnswer
   unitRefused : ℕ → UnitAnswer
 
-abbrev pub firstAnswer : List Part → UnitAnswer
+abbrev pub firstAnswer : List AccountLots → UnitAnswer
 firstAnswer [] = noUnit
 firstAnswer (u ∷ us) = oneUnit (u .account) (u .lots)
 
-abbrev pub unitAnswer : ℕ → List Part → UnitAnswer
+abbrev pub unitAnswer : ℕ → List AccountLots → UnitAnswer
 unitAnswer zero us = firstAnswer us
 unitAnswer (suc r) us = unitRefused (suc r)
 

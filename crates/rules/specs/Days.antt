@@ -10,7 +10,7 @@ use Rattle.rules.specs.declared.Entry.{Entry}
 use Rattle.rules.specs.declared.Line.{Line}
 use Rattle.rules.specs.declared.Name.the-variants as name
 use Rattle.rules.specs.Measures.{unitLots, valueOf, chargeOf}
-use Rattle.rules.specs.Units.{Part, part, units, unitsOfNets, sumLots}
+use Rattle.rules.specs.Units.{AccountLots, accountLots, units, unitsOfNets, sumLots}
 use Rattle.rules.specs.Handover.{handovers, partials}
 use Rattle.rules.specs.Fails.{lacks, fails}
 use Rattle.rules.specs.Ledger.{entry, pairing}
@@ -110,9 +110,9 @@ Holds (case x y ∷ cs) = (x ≡ y) × Holds cs
 -- P1 to P4: 99,999: one small unit. 100,000: one full. 100,001: a full and 1. 0: none
 abbrev pub unitDays : List Case
 unitDays =
-    case (unitsOfNets unitLots (pos 99999 ∷ [])) (part 0 99999 ∷ [])
-    ∷ case (unitsOfNets unitLots (pos 100000 ∷ [])) (part 0 100000 ∷ [])
-    ∷ case (unitsOfNets unitLots (pos 100001 ∷ [])) (part 0 100000 ∷ part 0 1 ∷ [])
+    case (unitsOfNets unitLots (pos 99999 ∷ [])) (accountLots 0 99999 ∷ [])
+    ∷ case (unitsOfNets unitLots (pos 100000 ∷ [])) (accountLots 0 100000 ∷ [])
+    ∷ case (unitsOfNets unitLots (pos 100001 ∷ [])) (accountLots 0 100000 ∷ accountLots 0 1 ∷ [])
     ∷ case (unitsOfNets unitLots (pos 0 ∷ [])) []
     ∷ []
 
@@ -121,8 +121,8 @@ abbrev pub bookDays : List Case
 bookDays =
     -- P5: order by account 2 2 1 1 3, then 2 (50,000), 3 (50,000), 1 (30,000)
     case (orderOf (closed .book) 0)
-    (part 2 100000 ∷ part 2 100000 ∷ part 1 100000 ∷ part 1 100000 ∷ part 3 100000
-    ∷ part 2 50000 ∷ part 3 50000 ∷ part 1 30000 ∷ [])
+    (accountLots 2 100000 ∷ accountLots 2 100000 ∷ accountLots 1 100000 ∷ accountLots 1 100000 ∷ accountLots 3 100000
+    ∷ accountLots 2 50000 ∷ accountLots 3 50000 ∷ accountLots 1 30000 ∷ [])
     ∷ case (unit (closed .book) 0 7) (oneUnit 1 30000)
     ∷ case (unit (closed .book) 0 8) noUnit
     -- P6: three units, stock 45,000
@@ -184,7 +184,7 @@ ownDays =
     -- the tally of P5 to P7, and of P8 and the resolve after it
     ∷ case (inIssue (tallied .tally .today .given) 0 - sumLots (tallied .tally .rows 0)) 45000
     ∷ case (talliedCut .tally .rows 0)
-    (part 2 100000 ∷ part 2 100000 ∷ part 1 100000 ∷ part 1 100000 ∷ part 3 100000 ∷ part 2 45000 ∷ [])
+    (accountLots 2 100000 ∷ accountLots 2 100000 ∷ accountLots 1 100000 ∷ accountLots 1 100000 ∷ accountLots 3 100000 ∷ accountLots 2 45000 ∷ [])
     ∷ case
     (talliedCut .tally .inAll .handed 0 2 ∷ talliedCut .tally .inAll .handed 0 3 ∷ talliedCut .tally .inAll .given 0 4 ∷ [])
     (250000 ∷ 101000 ∷ 206000 ∷ [])

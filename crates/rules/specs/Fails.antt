@@ -4,54 +4,54 @@ use mathlib.Core.List.{List, [], _∷_, _++_, map}
 use Prim.Native.Nat.{ℕ, _+_, _-_, min}
 use lib.Dec.{leb, eqb}
 use Rattle.rules.specs.Measures.{total, sum}
-use Rattle.rules.specs.Units.{Part, part, put, parts}
+use Rattle.rules.specs.Units.{AccountLots, accountLots, prepend, byAccount}
 use Rattle.rules.specs.Handover.{stock, waiting}
 
 -- full units of account a, one or several together
-abbrev pub isFullOf : ℕ → ℕ → Part → Bool
+abbrev pub isFullOf : ℕ → ℕ → AccountLots → Bool
 isFullOf size a v = eqb (v .account) a && leb size (v .lots)
 
-abbrev pub fullLots : ℕ → ℕ → List Part → ℕ
+abbrev pub fullLots : ℕ → ℕ → List AccountLots → ℕ
 fullLots size a vs = total (λ v. cond (isFullOf size a v) (v .lots) 0) vs
 
-abbrev pub withoutFulls : ℕ → ℕ → List Part → List Part
+abbrev pub withoutFulls : ℕ → ℕ → List AccountLots → List AccountLots
 withoutFulls size a [] = []
 withoutFulls size a (v ∷ vs) = cond (isFullOf size a v) (withoutFulls size a vs) (v ∷ withoutFulls size a vs)
 
 -- a unit in front of stretches: where it is full, its account's stretch of full units moves up and joins it
-abbrev pub join : ℕ → Part → List Part → List Part
+abbrev pub join : ℕ → AccountLots → List AccountLots → List AccountLots
 join size u vs =
     cond (leb size (u .lots))
-    (part (u .account) (u .lots + fullLots size (u .account) vs) ∷ withoutFulls size (u .account) vs)
+    (accountLots (u .account) (u .lots + fullLots size (u .account) vs) ∷ withoutFulls size (u .account) vs)
     (u ∷ vs)
 
 -- an account's full units being one stretch, at the place of the first, and its small unit another
-abbrev pub stretches : ℕ → List Part → List Part
+abbrev pub stretches : ℕ → List AccountLots → List AccountLots
 stretches size [] = []
 stretches size (u ∷ us) = join size u (stretches size us)
 
 -- the first x lots of a list of parts, and what is left of it
-abbrev pub cut : ℕ → List Part → List Part
-cut x [] = []
-cut x (v ∷ vs) = put (v .account) (min x (v .lots)) (cut (x - v .lots) vs)
+abbrev pub takeLots : ℕ → List AccountLots → List AccountLots
+takeLots x [] = []
+takeLots x (v ∷ vs) = prepend (v .account) (min x (v .lots)) (takeLots (x - v .lots) vs)
 
-abbrev pub skip : ℕ → List Part → List Part
-skip x [] = []
-skip x (v ∷ vs) = put (v .account) (v .lots - x) (skip (x - v .lots) vs)
+abbrev pub dropLots : ℕ → List AccountLots → List AccountLots
+dropLots x [] = []
+dropLots x (v ∷ vs) = prepend (v .account) (v .lots - x) (dropLots (x - v .lots) vs)
 
 -- what units lack in unit order: those not handed, less the stock that the first of them takes
-unfoldable pub lacks : ℕ → List Part → ℕ → List Part
-lacks size us d = skip (stock us d) (stretches size (waiting us d))
+unfoldable pub lacks : ℕ → List AccountLots → ℕ → List AccountLots
+lacks size us d = dropLots (stock us d) (stretches size (waiting us d))
 
 -- what each account owes and has not delivered
-abbrev pub shorts : List ℕ → List ℕ → List ℕ
-shorts [] ds = []
-shorts (x ∷ xs) [] = []
-shorts (x ∷ xs) (d ∷ ds) = (x - d) ∷ shorts xs ds
+abbrev pub undelivered : List ℕ → List ℕ → List ℕ
+undelivered [] ds = []
+undelivered (x ∷ xs) [] = []
+undelivered (x ∷ xs) (d ∷ ds) = (x - d) ∷ undelivered xs ds
 
 -- shortfalls of deliverers by ascending account
-abbrev pub shortfalls : List ℕ → List ℕ → List Part
-shortfalls oweds delivered = parts 0 (shorts oweds delivered)
+abbrev pub shortfalls : List ℕ → List ℕ → List AccountLots
+shortfalls obligations delivered = byAccount 0 (undelivered obligations delivered)
 
 -- lots that one account fails to deliver to another
 pub record Fail : Type 0 where
@@ -59,14 +59,14 @@ pub record Fail : Type 0 where
   pub to : ℕ
   pub lots : ℕ
 
-abbrev pub failOf : ℕ → Part → Fail
+abbrev pub failOf : ℕ → AccountLots → Fail
 failOf a v = record { from = a; to = v .account; lots = v .lots }
 
 -- shortfalls laid in turn against what is lacking: each overlap is one fail
-abbrev pub overlaps : List Part → List Part → List Fail
+abbrev pub overlaps : List AccountLots → List AccountLots → List Fail
 overlaps [] vs = []
-overlaps (s ∷ ss) vs = map (failOf (s .account)) (cut (s .lots) vs) ++ overlaps ss (skip (s .lots) vs)
+overlaps (s ∷ ss) vs = map (failOf (s .account)) (takeLots (s .lots) vs) ++ overlaps ss (dropLots (s .lots) vs)
 
 -- an issue's fails, from its units, what each account owes, and what each delivered
-unfoldable pub fails : ℕ → List Part → List ℕ → List ℕ → List Fail
-fails size us oweds delivered = overlaps (shortfalls oweds delivered) (lacks size us (sum delivered))
+unfoldable pub fails : ℕ → List AccountLots → List ℕ → List ℕ → List Fail
+fails size us obligations delivered = overlaps (shortfalls obligations delivered) (lacks size us (sum delivered))

@@ -3,7 +3,7 @@ use mathlib.Core.List.{List, [], _∷_, _++_}
 use Prim.Native.Nat.{ℕ, zero, suc, _+_, _*_, _/_, _%_, _^_}
 use lib.ListN.{length, drop}
 use Rattle.rules.specs.declared.Entry.{Entry}
-use Rattle.rules.specs.Units.{Part}
+use Rattle.rules.specs.Units.{AccountLots}
 
 -- bits of a word: `width` of them, above the lowest `shift`
 pub record Field : Type 0 where
@@ -65,7 +65,7 @@ pub record Rec : Type 0 where
   pub lots : ℕ
 
 -- 10 handover from the house (to; from is unused)
-abbrev pub handover : ℕ → Part → Rec
+abbrev pub handover : ℕ → AccountLots → Rec
 handover i u = record { kind = 10; issue = i; from = 0; to = u .account; lots = u .lots }
 
 -- 11 handover in a resolve (from, to), 12 fail (from, to)

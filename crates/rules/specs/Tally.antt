@@ -8,17 +8,17 @@ use lib.ListN.{length, getD}
 use lib.IntN.{ℤ, pos, _+ℤ_, _-ℤ_}
 use Rattle.rules.specs.declared.Book.{Book}
 use Rattle.rules.specs.Measures.{issueCount, accountCount, unitLots, total, sum}
-use Rattle.rules.specs.Units.{Part, part, sumLots, ofAccount, unitsOfNets}
+use Rattle.rules.specs.Units.{AccountLots, accountLots, sumLots, ofAccount, unitsOfNets}
 use Rattle.rules.specs.Ledger.{isFrom, isTo, lotsOf}
-use Rattle.rules.specs.Book.{tab, ledgerOf, fresh}
+use Rattle.rules.specs.Book.{tabulate, ledgerOf, fresh}
 use Rattle.rules.specs.Records.{Rec, recordsIn}
 use Rattle.rules.specs.Calls.{Call, Trade, Close, Deliver, Cutoff, Resolve, PairOff, Roll, Answer, called}
 
 -- the records of a kind in an issue: to whom, and how many lots
-abbrev pub recordsOf : ℕ → ℕ → List Rec → List Part
+abbrev pub recordsOf : ℕ → ℕ → List Rec → List AccountLots
 recordsOf k i [] = []
 recordsOf k i (r ∷ rs) =
-    cond (eqb (r .kind) k && eqb (r .issue) i) (part (r .to) (r .lots) ∷ recordsOf k i rs) (recordsOf k i rs)
+    cond (eqb (r .kind) k && eqb (r .issue) i) (accountLots (r .to) (r .lots) ∷ recordsOf k i rs) (recordsOf k i rs)
 
 -- a number for each issue and account
 abbrev pub Grid : Type 0
@@ -60,7 +60,7 @@ bothCounts x y =
 pub record Tally : Type 0 where
   pub today : Counts
   pub inAll : Counts
-  pub rows : ℕ → List Part
+  pub rows : ℕ → List AccountLots
 
 -- a fresh tally is all 0, rows empty
 abbrev pub freshTally : Tally
@@ -82,7 +82,7 @@ countHanded k rs n =
     record { bought = n .bought; sold = n .sold; given = n .given; handed = plus (n .handed) (lotsTo k rs) }
 
 -- each 10 joins its issue's row
-abbrev pub joinRows : List Rec → (ℕ → List Part) → ℕ → List Part
+abbrev pub joinRows : List Rec → (ℕ → List AccountLots) → ℕ → List AccountLots
 joinRows rs rows i = rows i ++ recordsOf 10 i rs
 
 -- what an accepted call does to the tally
@@ -156,35 +156,35 @@ start = record { book = fresh; tally = freshTally; settling = false }
 
 -- the sum over an issue's accounts
 unfoldable pub inIssue : Grid → ℕ → ℕ
-inIssue g i = sum (tab (g i) 0 accountCount)
+inIssue g i = sum (tabulate (g i) 0 accountCount)
 
 -- today's units are those of today's bought less sold, taken as nets
 abbrev pub netsToday : Tally → ℕ → List ℤ
-netsToday t i = tab (λ a. pos (t .today .bought i a) -ℤ pos (t .today .sold i a)) 0 accountCount
+netsToday t i = tabulate (λ a. pos (t .today .bought i a) -ℤ pos (t .today .sold i a)) 0 accountCount
 
-abbrev pub unitsToday : Tally → ℕ → List Part
+abbrev pub unitsToday : Tally → ℕ → List AccountLots
 unitsToday t i = unitsOfNets unitLots (netsToday t i)
 
 -- 'delivered today less those handed on' is 0 to 99,999 lots, and 0 except between close and cutoff
 pub record StockHeld (given handed : ℕ) (settling : Bool) : Type 0 where
   pub least : handed ≤ given
   pub most : given - handed < unitLots
-  pub zero : settling ≡ false → given ≡ handed
+  pub handedOn : settling ≡ false → given ≡ handed
 
-abbrev pub nobody : Part
-nobody = part 0 0
+abbrev pub noLots : AccountLots
+noLots = accountLots 0 0
 
 -- the k-th 10 of the row is what unit k was handed
-pub record InTurn (handed us : List Part) (k : ℕ) : Type 0 where
+pub record InTurn (handed us : List AccountLots) (k : ℕ) : Type 0 where
   -- that unit exists
   pub exists : k < length us
   -- the 10 names its account
-  pub named : getD handed k nobody .account ≡ getD us k nobody .account
+  pub named : getD handed k noLots .account ≡ getD us k noLots .account
   -- with at least 1 lot and at most the unit's
-  pub some : 1 ≤ getD handed k nobody .lots
-  pub most : getD handed k nobody .lots ≤ getD us k nobody .lots
+  pub some : 1 ≤ getD handed k noLots .lots
+  pub most : getD handed k noLots .lots ≤ getD us k noLots .lots
   -- and each 10 but the last has its unit's lots in full
-  pub full : suc k < length handed → getD handed k nobody .lots ≡ getD us k nobody .lots
+  pub full : suc k < length handed → getD handed k noLots .lots ≡ getD us k noLots .lots
 
 abbrev pub sumℤ : List ℤ → ℤ
 sumℤ [] = pos 0

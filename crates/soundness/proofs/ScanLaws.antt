@@ -13,7 +13,7 @@ use Rattle.rules.specs.Measures.{issueCount, mostLots, mostEntries, mostCharge,
 use Rattle.rules.specs.declared.Book.{Book}
 use Rattle.rules.specs.declared.Entry.{Entry}
 use Rattle.rules.specs.Ledger.{entry}
-use Rattle.rules.specs.Book.{isTaking, tab, all, row, entries, ledgerOf, isZero, balanced, withinSize, withinOwed, entrySound, daysSound, conditions, sound}
+use Rattle.rules.specs.Book.{isTaking, tabulate, all, row, entries, ledgerOf, isZero, balanced, withinSize, withinOwed, entrySound, daysSound, conditions, sound}
 use Rattle.laws.proofs.Ledger.{noEntry, length-entries, entry-at}
 use Rattle.book.specs.Scan.{rowSound, netsSound, deliveredSound, entriesSound, unusedZero, ledgerSound, chargesSound}
 
@@ -96,7 +96,7 @@ module _ (ns : List ℤ) (ds : List ℕ) (i : ℕ) (g : Bool) where
 abbrev pub restOfNets : List ℤ → List ℕ → ℕ → Bool
 restOfNets ns ds i =
     all (withinSize mostLots) (drop (i * 64) ns)
-    && (all (λ j. balanced (row j ns)) (tab (λ j. j) i (16 - i)) && withinOwed (drop (i * 64) ns) (drop (i * 64) ds))
+    && (all (λ j. balanced (row j ns)) (tabulate (λ j. j) i (16 - i)) && withinOwed (drop (i * 64) ns) (drop (i * 64) ds))
 
 all-split {ℓ} : {A : Type ℓ} (p : A → Bool) (n : ℕ) (l : List A) → all p l ≡ all p (take n l) && all p (drop n l)
 all-split p zero l = refl
@@ -143,11 +143,11 @@ issue-more ns ds i g r whole h er e =
     within-split 64 (drop (i * 64) ns) (drop (i * 64) ds)
     ∙ ap (λ l. withinOwed (row i ns) (row i ds) && withinOwed l (drop 64 (drop (i * 64) ds))) dn
     ∙ ap (λ l. withinOwed (row i ns) (row i ds) && withinOwed (drop ((i + 1) * 64) ns) l) dd in
-    let fb : tab (λ j. j) i (16 - i) ≡ i ∷ tab (λ j. j) (i + 1) (16 - (i + 1)) =
-    ap (λ m. tab (λ j. j) i m) k ∙ ap (λ j. i ∷ tab (λ v. v) j (16 - (i + 1))) (sym (add-one i)) in
+    let fb : tabulate (λ j. j) i (16 - i) ≡ i ∷ tabulate (λ j. j) (i + 1) (16 - (i + 1)) =
+    ap (λ m. tabulate (λ j. j) i m) k ∙ ap (λ j. i ∷ tabulate (λ v. v) j (16 - (i + 1))) (sym (add-one i)) in
     let f : restOfNets ns ds i
     ≡ (w (row i ns) && w (drop ((i + 1) * 64) ns))
-    && ((balanced (row i ns) && all (λ j. balanced (row j ns)) (tab (λ j. j) (i + 1) (16 - (i + 1))))
+    && ((balanced (row i ns) && all (λ j. balanced (row j ns)) (tabulate (λ j. j) (i + 1) (16 - (i + 1))))
     && (withinOwed (row i ns) (row i ds) && withinOwed (drop ((i + 1) * 64) ns) (drop ((i + 1) * 64) ds))) =
     rw (fa, fo, fb) in
     rw er (and-issue g (w (row i ns)) (w (drop ((i + 1) * 64) ns)) (balanced (row i ns)) _ (withinOwed (row i ns) (row i ds)) _
@@ -220,7 +220,7 @@ pub sound-joined : (b : Book) →
     ≡ sound b
 unfolding netsSound deliveredSound ledgerSound entriesSound unusedZero chargesSound sound conditions
 sound-joined b =
-    joined (all (withinSize mostLots) (b .nets)) (all (λ i. balanced (row i (b .nets))) (tab (λ i. i) 0 issueCount))
+    joined (all (withinSize mostLots) (b .nets)) (all (λ i. balanced (row i (b .nets))) (tabulate (λ i. i) 0 issueCount))
     (withinOwed (b .nets) (b .delivered)) (cond (isTaking (b .phase)) (all isZero (b .delivered)) true)
     (leb (b .count) mostEntries) (all entrySound (ledgerOf b)) (daysSound 0 (b .day) (ledgerOf b))
     (all isZero (drop (b .count) (b .issues))) (all isZero (drop (b .count) (b .froms)))

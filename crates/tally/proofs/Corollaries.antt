@@ -10,11 +10,11 @@ use borrow.Author.Tests.{leb-true, leb-false}
 use Rattle.rules.specs.declared.Phase.{Phase}
 use Rattle.rules.specs.declared.Phase.the-variants.{Taking, Settling, Cut}
 use Rattle.rules.specs.Measures.{unitLots, total, dueOf, owedOf}
-use Rattle.rules.specs.Units.{Part, ofAccount}
+use Rattle.rules.specs.Units.{AccountLots, ofAccount}
 use Rattle.rules.specs.Handover.{handed, partials}
 use Rattle.rules.specs.Book.{cell, netAt, deliveredTotal, orderOf, sound}
 use Rattle.rules.specs.Calls.{Call, Cutoff, called}
-use Rattle.rules.specs.Tally.{State, after, afterAll, start, nobody, unitsToday}
+use Rattle.rules.specs.Tally.{State, after, afterAll, start, noLots, unitsToday}
 use Rattle.laws.proofs.Basics.{byTest, total-append}
 use Rattle.laws.proofs.Fails.{additive-account}
 use Rattle.laws.proofs.Cutoff.{settled}
@@ -37,7 +37,7 @@ module _ (cs : List Call) where
 
   -- no unit is handed to two accounts: the k-th handover of a day is to the account of the k-th unit
   pub no-unit-to-two-accounts : (i : ℕ) → i < 16 → (k : ℕ) → k < length (s .tally .rows i) →
-      getD (s .tally .rows i) k nobody .account ≡ getD (unitsToday (s .tally) i) k nobody .account
+      getD (s .tally .rows i) k noLots .account ≡ getD (unitsToday (s .tally) i) k noLots .account
   no-unit-to-two-accounts i h k l = demand3 cs .turns i h k l .named
 
   -- nor twice: there are no more handovers than units
@@ -50,7 +50,7 @@ module _ (cs : List Call) where
 
   -- and none is handed more than it is
   pub no-unit-overfilled : (i : ℕ) → i < 16 → (k : ℕ) → k < length (s .tally .rows i) →
-      getD (s .tally .rows i) k nobody .lots ≤ getD (unitsToday (s .tally) i) k nobody .lots
+      getD (s .tally .rows i) k noLots .lots ≤ getD (unitsToday (s .tally) i) k noLots .lots
   no-unit-overfilled i h k l = demand3 cs .turns i h k l .most
 
   net-is : (i a : ℕ) → i < 16 → a < 64 → netToday (s .tally) i a ≡ netAt (s .book .nets) i a
@@ -69,7 +69,7 @@ module _ (cs : List Call) where
         due-at (s .book .nets) i a ha,
       ))
     where
-      row-most : (p : Phase) (us : List Part) (d : ℕ) (row : List Part) (a : ℕ) → RowIs p us d row → total (ofAccount a) row ≤ total (ofAccount a) us
+      row-most : (p : Phase) (us : List AccountLots) (d : ℕ) (row : List AccountLots) (a : ℕ) → RowIs p us d row → total (ofAccount a) row ≤ total (ofAccount a) us
       row-most Taking us d row a r = rw (r .0) (omega arith)
       row-most Settling us d row a r = rw (r .0) (omega (arith, settled unitLots (ofAccount a) (additive-account a) us d (r .1)))
       row-most Cut us d row a r =

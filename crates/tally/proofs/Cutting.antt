@@ -16,7 +16,7 @@ use Rattle.rules.specs.Units.{ofAccount}
 use Rattle.rules.specs.Handover.{handed, partials}
 use Rattle.rules.specs.Fails.{Fail}
 use Rattle.rules.specs.Ledger.{isFrom, isTo, lotsOf}
-use Rattle.rules.specs.Book.{isSettling, tab, netAt, deliveredTotal, orderOf, ledgerOf, withPhase, withLedger, orderIn}
+use Rattle.rules.specs.Book.{isSettling, tabulate, netAt, deliveredTotal, orderOf, ledgerOf, withPhase, withLedger, orderIn}
 use Rattle.rules.specs.Records.{Rec, handover, recordOf}
 use Rattle.rules.specs.Questions.{askOutput, askSound}
 use Rattle.rules.specs.Calls.{writes, Cutoff, issuePartials, issueFails, failEntry, issueEntries, issueRecords, joined, newEntries, cutoffRecords, called}
@@ -34,17 +34,17 @@ use Rattle.tally.proofs.Delivering.{to-settling}
 -- One issue of sixteen
 
 records-joined-none : (q j : ℕ) (g : ℕ → List Rec) (k n : ℕ) → ((i : ℕ) → (i ≡ j → ⊥) → recordsOf q j (g i) ≡ []) → j < k →
-    recordsOf q j (joined (tab g k n)) ≡ []
+    recordsOf q j (joined (tabulate g k n)) ≡ []
 records-joined-none q j g k zero f h = refl
 records-joined-none q j g k (suc n) f h =
-    recordsOf-append q j (g k) (joined (tab g (suc k) n)) ∙ ap (λ l. l ++ recordsOf q j (joined (tab g (suc k) n))) (f k (omega arith))
+    recordsOf-append q j (g k) (joined (tabulate g (suc k) n)) ∙ ap (λ l. l ++ recordsOf q j (joined (tabulate g (suc k) n))) (f k (omega arith))
     ∙ records-joined-none q j g (suc k) n f (omega arith)
 
 records-joined : (q j : ℕ) (g : ℕ → List Rec) (k n : ℕ) → ((i : ℕ) → (i ≡ j → ⊥) → recordsOf q j (g i) ≡ []) → k ≤ j → j < k + n →
-    recordsOf q j (joined (tab g k n)) ≡ recordsOf q j (g j)
+    recordsOf q j (joined (tabulate g k n)) ≡ recordsOf q j (g j)
 records-joined q j g k zero f h l = absurd (omega arith)
 records-joined q j g k (suc n) f h l =
-    recordsOf-append q j (g k) (joined (tab g (suc k) n))
+    recordsOf-append q j (g k) (joined (tabulate g (suc k) n))
     ∙ byTest (eqb k j)
     (λ e.
     let z = eqb-true k j e in
@@ -52,25 +52,25 @@ records-joined q j g k (suc n) f h l =
     ∙ ap (λ r. recordsOf q j (g r)) z)
     (λ e.
     let ne = eqb-false k j e in
-    ap (λ r. r ++ recordsOf q j (joined (tab g (suc k) n))) (f k ne) ∙ records-joined q j g (suc k) n f (omega arith) (omega arith))
+    ap (λ r. r ++ recordsOf q j (joined (tabulate g (suc k) n))) (f k ne) ∙ records-joined q j g (suc k) n f (omega arith) (omega arith))
 
 total-joined-none {ℓ} : {A : Type ℓ} (w : A → ℕ) (j : ℕ) (g : ℕ → List A) (k n : ℕ) → ((i : ℕ) → (i ≡ j → ⊥) → total w (g i) ≡ 0) → j < k →
-    total w (joined (tab g k n)) ≡ 0
+    total w (joined (tabulate g k n)) ≡ 0
 total-joined-none w j g k zero f h = refl
 total-joined-none w j g k (suc n) f h =
-    omega (arith, total-append w (g k) (joined (tab g (suc k) n)), f k (omega arith), total-joined-none w j g (suc k) n f (omega arith))
+    omega (arith, total-append w (g k) (joined (tabulate g (suc k) n)), f k (omega arith), total-joined-none w j g (suc k) n f (omega arith))
 
 total-joined {ℓ} : {A : Type ℓ} (w : A → ℕ) (j : ℕ) (g : ℕ → List A) (k n : ℕ) → ((i : ℕ) → (i ≡ j → ⊥) → total w (g i) ≡ 0) → k ≤ j → j < k + n →
-    total w (joined (tab g k n)) ≡ total w (g j)
+    total w (joined (tabulate g k n)) ≡ total w (g j)
 total-joined w j g k zero f h l = absurd (omega arith)
 total-joined w j g k (suc n) f h l =
     byTest (eqb k j)
     (λ e.
     let z = eqb-true k j e in
-    omega (arith, total-append w (g k) (joined (tab g (suc k) n)), total-joined-none w j g (suc k) n f (omega arith), ap (λ r. total w (g r)) z))
+    omega (arith, total-append w (g k) (joined (tabulate g (suc k) n)), total-joined-none w j g (suc k) n f (omega arith), ap (λ r. total w (g r)) z))
     (λ e.
     let ne = eqb-false k j e in
-    omega (arith, total-append w (g k) (joined (tab g (suc k) n)), f k ne, total-joined w j g (suc k) n f (omega arith) (omega arith)))
+    omega (arith, total-append w (g k) (joined (tabulate g (suc k) n)), f k ne, total-joined w j g (suc k) n f (omega arith) (omega arith)))
 
 -- Entries of fails, by issue and account
 

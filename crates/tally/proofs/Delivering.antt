@@ -11,7 +11,7 @@ use borrow.Author.Tests.{leb-true, eqb-true, eqb-false}
 use Rattle.rules.specs.declared.Phase.{Phase}
 use Rattle.rules.specs.declared.Phase.the-variants.{Taking, Settling, Cut}
 use Rattle.rules.specs.Measures.{outputWords, owedOf}
-use Rattle.rules.specs.Units.{Part, ofAccount}
+use Rattle.rules.specs.Units.{AccountLots, ofAccount}
 use Rattle.rules.specs.Handover.{handed, handovers}
 use Rattle.rules.specs.Book.{isSettling, cell, netAt, deliveredAt, deliveredTotal, orderOf, withDelivered, orderIn}
 use Rattle.rules.specs.Records.{Rec, handover}
@@ -28,12 +28,12 @@ use Rattle.laws.proofs.Issue.{within-units, units-fit}
 use Rattle.laws.proofs.Answers.{by-answer}
 use Rattle.tally.proofs.Invariant.{RowIs, Inv, Keeps, did}
 
-pub to-settling : (p : Phase) (us : List Part) (d : ℕ) (l : List Part) → isSettling p ≡ true → RowIs p us d l → RowIs Settling us d l
+pub to-settling : (p : Phase) (us : List AccountLots) (d : ℕ) (l : List AccountLots) → isSettling p ≡ true → RowIs p us d l → RowIs Settling us d l
 to-settling Taking us d l h x = absurd (false≢true h)
 to-settling Settling us d l h x = x
 to-settling Cut us d l h x = absurd (false≢true h)
 
-of-settling : (p : Phase) (us : List Part) (d : ℕ) (l : List Part) → isSettling p ≡ true → RowIs Settling us d l → RowIs p us d l
+of-settling : (p : Phase) (us : List AccountLots) (d : ℕ) (l : List AccountLots) → isSettling p ≡ true → RowIs Settling us d l → RowIs p us d l
 of-settling Taking us d l h x = absurd (false≢true h)
 of-settling Settling us d l h x = x
 of-settling Cut us d l h x = absurd (false≢true h)
@@ -41,7 +41,7 @@ of-settling Cut us d l h x = absurd (false≢true h)
 module _ (s : State) (v : Inv s) (i a x : ℕ) (hi : i < 16) (ha : a < 64) (g : SoundBook (s .book))
     (p : isSettling (s .book .phase) ≡ true)
     (o : deliveredAt (s .book .delivered) i a + x ≤ owedOf (netAt (s .book .nets) i a)) where
-  abbrev us : List Part
+  abbrev us : List AccountLots
   us = orderOf (s .book) i
 
   abbrev d : ℕ

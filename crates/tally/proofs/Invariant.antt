@@ -8,7 +8,7 @@ use lib.ListN.{length}
 use Rattle.rules.specs.declared.Phase.{Phase}
 use Rattle.rules.specs.declared.Phase.the-variants.{Taking, Settling, Cut}
 use Rattle.rules.specs.Measures.{total, dueOf, owedOf}
-use Rattle.rules.specs.Units.{Part, sumLots, ofAccount}
+use Rattle.rules.specs.Units.{AccountLots, sumLots, ofAccount}
 use Rattle.rules.specs.Handover.{handed, partials}
 use Rattle.rules.specs.Ledger.{isFrom, isTo, lotsOf}
 use Rattle.rules.specs.Book.{isSettling, netAt, deliveredAt, deliveredTotal, orderOf, ledgerOf}
@@ -16,11 +16,11 @@ use Rattle.rules.specs.Calls.{Call, Answer, Effect}
 use Rattle.rules.specs.Tally.{State, counted, settlingAfter, answered}
 
 -- an issue's 10s after a cutoff: the units handed, and the stock to the next
-abbrev pub cutRow : List Part → ℕ → List Part
+abbrev pub cutRow : List AccountLots → ℕ → List AccountLots
 cutRow us d = handed us d ++ partials us d
 
 -- an issue's row of 10s beside its units, by phase and delivered total
-abbrev pub RowIs : Phase → List Part → ℕ → List Part → Type 0
+abbrev pub RowIs : Phase → List AccountLots → ℕ → List AccountLots → Type 0
 RowIs Taking us d row = (row ≡ []) × (d ≡ 0)
 RowIs Settling us d row = (row ≡ handed us d) × (d ≤ sumLots us)
 RowIs Cut us d row = (row ≡ cutRow us d) × (d ≤ sumLots us)

@@ -57,7 +57,7 @@ module _ (s : State) (v : Inv s) (g : SoundBook (s .book)) (p : isSettling (s .b
       let rs = cutoffRecords (b .day) (orderIn (b .nets)) (b .nets) (b .delivered) in
       let new = newEntries (b .day) (orderIn (b .nets)) (b .nets) (b .delivered) in
       record {
-        nothingHeld = λ i h. shown _ (cut-inv s v g p) .stock i h .zero refl;
+        nothingHeld = λ i h. shown _ (cut-inv s v g p) .stock i h .handedOn refl;
         due = λ i a hi ha.
             rw (ledger-written b (ledgerOf b ++ new), net-is i a hi ha)
             (omega (

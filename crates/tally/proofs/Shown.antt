@@ -11,7 +11,7 @@ use borrow.Author.Tests.{leb-true, leb-false}
 use Rattle.rules.specs.declared.Phase.{Phase}
 use Rattle.rules.specs.declared.Phase.the-variants.{Taking, Settling, Cut}
 use Rattle.rules.specs.Measures.{unitLots, sum, dueOf}
-use Rattle.rules.specs.Units.{Part, put, sumLots, units}
+use Rattle.rules.specs.Units.{AccountLots, prepend, sumLots, units}
 use Rattle.rules.specs.Handover.{stock, handed, partials}
 use Rattle.rules.specs.Book.{isSettling, row, netAt, deliveredTotal, orderIn, orderOf}
 use Rattle.rules.specs.Tally.{State, Demand3, StockHeld, InTurn, netsToday, unitsToday, inIssue}
@@ -24,13 +24,13 @@ use Rattle.tally.proofs.Signs.{sum-zero, less, signed}
 use Rattle.tally.proofs.Invariant.{cutRow, RowIs, Inv}
 
 -- a row beside the units, 10 by 10: each but the last is its unit in full
-abbrev Turns : List Part → List Part → Type 0
+abbrev Turns : List AccountLots → List AccountLots → Type 0
 Turns [] us = Unit {0}
 Turns (h ∷ hs) [] = ⊥
 Turns (h ∷ hs) (u ∷ us) =
     (h .account ≡ u .account) × (1 ≤ h .lots) × (h .lots ≤ u .lots) × (0 < length hs → h .lots ≡ u .lots) × Turns hs us
 
-turns-at : (row us : List Part) (k : ℕ) → Turns row us → k < length row → InTurn row us k
+turns-at : (row us : List AccountLots) (k : ℕ) → Turns row us → k < length row → InTurn row us k
 turns-at [] us k t h = absurd (omega arith)
 turns-at (h ∷ hs) [] k t q = absurd t
 turns-at (h ∷ hs) (u ∷ us) zero t q =
@@ -45,12 +45,12 @@ turns-at (h ∷ hs) (u ∷ us) (suc k) t q =
       full = λ l. r .full (omega arith);
     }
 
-turns-put : (u : Part) (us : List Part) (d : ℕ) → d < u .lots → Turns (put (u .account) d []) (u ∷ us)
+turns-put : (u : AccountLots) (us : List AccountLots) (d : ℕ) → d < u .lots → Turns (prepend (u .account) d []) (u ∷ us)
 turns-put u us zero h = tt
 turns-put u us (suc d) h = (refl, omega arith, omega arith, λ l. absurd (omega arith), tt)
 
 -- the units that are covered, then the next one with the stock
-turns-cut : (us : List Part) (d : ℕ) → Every UnitSized us → d ≤ sumLots us → Turns (cutRow us d) us
+turns-cut : (us : List AccountLots) (d : ℕ) → Every UnitSized us → d ≤ sumLots us → Turns (cutRow us d) us
 unfolding partials
 turns-cut [] zero ss h = tt
 turns-cut [] (suc d) ss h = absurd (omega arith)
@@ -59,7 +59,7 @@ turns-cut (u ∷ us) d ss h =
     (λ e. simp e (refl, ss .0 .0, omega arith, λ l. refl, turns-cut us (d - u .lots) (ss .1) (omega (arith, leb-true (u .lots) d e))))
     (λ e. simp e (turns-put u us d (leb-false (u .lots) d e)))
 
-turns-handed : (us : List Part) (d : ℕ) → Every UnitSized us → Turns (handed us d) us
+turns-handed : (us : List AccountLots) (d : ℕ) → Every UnitSized us → Turns (handed us d) us
 turns-handed [] d ss = tt
 turns-handed (u ∷ us) d ss =
     byTest (leb (u .lots) d)
@@ -67,7 +67,7 @@ turns-handed (u ∷ us) d ss =
     (λ e. simp e tt)
 
 -- after a cutoff the row has all that was delivered
-pub cutRow-sum : (us : List Part) (d : ℕ) → sumLots (cutRow us d) ≡ d
+pub cutRow-sum : (us : List AccountLots) (d : ℕ) → sumLots (cutRow us d) ≡ d
 cutRow-sum us d =
     omega (
       arith,
@@ -76,24 +76,24 @@ cutRow-sum us d =
       handed-stock us d,
     )
 
-record Facts (us : List Part) (d : ℕ) (row : List Part) (settling : Bool) : Type 0 where
+record Facts (us : List AccountLots) (d : ℕ) (row : List AccountLots) (settling : Bool) : Type 0 where
   stock : StockHeld d (sumLots row) settling
   turns : Turns row us
 
-row-facts : (p : Phase) (us : List Part) (d : ℕ) (row : List Part) → Every UnitSized us → RowIs p us d row → Facts us d row (isSettling p)
+row-facts : (p : Phase) (us : List AccountLots) (d : ℕ) (row : List AccountLots) → Every UnitSized us → RowIs p us d row → Facts us d row (isSettling p)
 row-facts Taking us d row ss l =
-    rw (l .0) (record { stock = record { least = omega arith; most = omega arith; zero = λ e. l .1 }; turns = tt })
+    rw (l .0) (record { stock = record { least = omega arith; most = omega arith; handedOn = λ e. l .1 }; turns = tt })
 row-facts Settling us d row ss l =
     let b = stock-bound unitLots us d (omega arith) (each-map UnitSized (λ u. u .lots ≤ unitLots) (λ u p. p .1) us ss) (l .1) in
     let h = handed-stock us d in
     rw (l .0) (record {
-      stock = record { least = omega arith; most = omega arith; zero = λ e. absurd (false≢true (sym e)) };
+      stock = record { least = omega arith; most = omega arith; handedOn = λ e. absurd (false≢true (sym e)) };
       turns = turns-handed us d ss;
     })
 row-facts Cut us d row ss l =
     let h = cutRow-sum us d in
     rw (l .0) (record {
-      stock = record { least = omega arith; most = omega arith; zero = λ e. omega arith };
+      stock = record { least = omega arith; most = omega arith; handedOn = λ e. omega arith };
       turns = turns-cut us d ss (l .1);
     })
 

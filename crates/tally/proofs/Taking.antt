@@ -11,7 +11,7 @@ use borrow.Author.Tests.{leb-true, lt-leb, eqb-false, not-true}
 use Rattle.rules.specs.declared.Phase.{Phase}
 use Rattle.rules.specs.declared.Phase.the-variants.{Taking, Settling, Cut}
 use Rattle.rules.specs.Measures.{dueOf, owedOf}
-use Rattle.rules.specs.Units.{Part}
+use Rattle.rules.specs.Units.{AccountLots}
 use Rattle.rules.specs.Handover.{handed}
 use Rattle.rules.specs.Book.{isTaking, cell, netAt}
 use Rattle.rules.specs.Calls.{Trade, Close, tradedNets, called}
@@ -48,7 +48,7 @@ starts = record {
 
 -- Trade
 
-taking-row : (p : Phase) (us us′ : List Part) (d : ℕ) (l : List Part) → isTaking p ≡ true → RowIs p us d l → RowIs p us′ d l
+taking-row : (p : Phase) (us us′ : List AccountLots) (d : ℕ) (l : List AccountLots) → isTaking p ≡ true → RowIs p us d l → RowIs p us′ d l
 taking-row Taking us us′ d l h x = x
 taking-row Settling us us′ d l h x = absurd (false≢true h)
 taking-row Cut us us′ d l h x = absurd (false≢true h)
@@ -105,11 +105,11 @@ keeps-trade s v i f c x =
 
 -- Close
 
-none-handed : (us : List Part) → Every UnitSized us → handed us 0 ≡ []
+none-handed : (us : List AccountLots) → Every UnitSized us → handed us 0 ≡ []
 none-handed [] ss = refl
 none-handed (u ∷ us) ss = simp (lt-leb (u .lots) 0 (ss .0 .0))
 
-closed-row : (p : Phase) (us : List Part) (d : ℕ) (l : List Part) → Every UnitSized us → isTaking p ≡ true → RowIs p us d l → RowIs Settling us d l
+closed-row : (p : Phase) (us : List AccountLots) (d : ℕ) (l : List AccountLots) → Every UnitSized us → isTaking p ≡ true → RowIs p us d l → RowIs Settling us d l
 closed-row Taking us d l ss h x = rw (x .0, x .1) (sym (none-handed us ss), omega arith)
 closed-row Settling us d l ss h x = absurd (false≢true h)
 closed-row Cut us d l ss h x = absurd (false≢true h)

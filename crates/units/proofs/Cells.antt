@@ -9,7 +9,7 @@ use lib.IntN.{ℤ, pos, natAbs}
 use borrow.Author.Tests.{leb-true, le-leb}
 use Rattle.rules.specs.declared.Book.{Book}
 use Rattle.rules.specs.Measures.{mostLots, sum, dueOf, owedOf}
-use Rattle.rules.specs.Book.{all, sound, row, withinSize, duesOf, owedsOf, deliveredTotal}
+use Rattle.rules.specs.Book.{all, sound, row, withinSize, duesOf, obligationsOf, deliveredTotal}
 use Rattle.laws.proofs.Basics.{Every, each-map, each-take, each-drop}
 use Rattle.laws.proofs.Signed.{size-of}
 use Rattle.laws.proofs.Fails.{each-of-map}
@@ -53,7 +53,7 @@ module _ (nets : List ℤ) (i : ℕ) (s : all (withinSize mostLots) nets ≡ tru
       each-take (λ m. natAbs m ≤ mostLots) 64 (drop (i * 64) nets)
       (each-drop (λ m. natAbs m ≤ mostLots) (i * 64) nets (sized nets s))
 
-  pub owed-sized : Every (λ x. x ≤ mostLots) (owedsOf nets i)
+  pub owed-sized : Every (λ x. x ≤ mostLots) (obligationsOf nets i)
   owed-sized =
       each-of-map (λ x. x ≤ mostLots) owedOf (row i nets)
       (each-map (λ m. natAbs m ≤ mostLots) (λ m. owedOf m ≤ mostLots) (λ m p. omega (arith, size-of m)) (row i nets) row-sized)

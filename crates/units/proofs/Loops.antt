@@ -8,7 +8,7 @@ use lib.ListN.{length, take, drop, getD, set, length-map, List·getD-map, drop-o
 use lib.Seq.{take-suc, take-suc-set, drop-cons, getD-take, length-take-le, take-append-add, take-append-le}
 use lib.IntN.{ℤ, pos, natAbs}
 use Rattle.rules.specs.Measures.{dueOf}
-use Rattle.rules.specs.Units.{part, parts, largestFirst}
+use Rattle.rules.specs.Units.{accountLots, byAccount, largestFirst}
 use Rattle.rules.specs.Handover.{covered, stock}
 use Rattle.rules.specs.Book.{row, duesOf, orderIn}
 use Rattle.laws.proofs.Cells.{length-dues}
@@ -60,7 +60,7 @@ module _ (runs : List ℕ) (n j : ℕ) (l : n ≤ length runs) where
 
   pub unit-is : (k x : ℕ) → j < n → k * 100000 < getD runs j 0 / 64 → x ≡ min (getD runs j 0 / 64 - k * 100000) 100000 →
       drop k (unitsOfRuns (drop j (runsIn runs n)))
-      ≡ part (getD runs j 0 % 64) x ∷ drop (k + 1) (unitsOfRuns (drop j (runsIn runs n)))
+      ≡ accountLots (getD runs j 0 % 64) x ∷ drop (k + 1) (unitsOfRuns (drop j (runsIn runs n)))
   unit-is k x h g e = rw (units-at h) (unit-here (partOf (getD runs j 0)) (unitsOfRuns (drop (suc j) (runsIn runs n))) k x g e)
 
   -- what a total covers
@@ -95,10 +95,10 @@ behind r₁ r₂ n m k h g =
     ∙ ap (λ l. take n r₁ ++ l) (take-append-le m r₂ (drop k (drop n r₁)) g)
 
 pub ordered : (dues rests r₀ r₁ r₂ : List ℕ) (n m k : ℕ) → n ≤ length r₁ → m ≤ length r₂ →
-    map partOf (take n r₀) ≡ largestFirst (parts 0 dues) →
+    map partOf (take n r₀) ≡ largestFirst (byAccount 0 dues) →
     map partOf (take n r₁) ≡ map fullOf (map partOf (take n r₀)) →
     rests ≡ map smallLots dues →
-    map partOf (take m r₂) ≡ largestFirst (parts 0 rests) →
+    map partOf (take m r₂) ≡ largestFirst (byAccount 0 rests) →
     map partOf (take (n + m) (take n r₁ ++ (r₂ ++ drop k (drop n r₁)))) ≡ runsOf dues
 unfolding runsOf
 ordered dues rests r₀ r₁ r₂ n m k h g e f r s =

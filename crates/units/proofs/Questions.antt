@@ -10,7 +10,7 @@ use Rattle.rules.specs.declared.Book.{Book}
 use Rattle.rules.specs.declared.Found.{Found}
 use Rattle.rules.specs.declared.Found.the-variants as found
 use Rattle.rules.specs.Measures.{unitLots}
-use Rattle.rules.specs.Units.{Part, part}
+use Rattle.rules.specs.Units.{AccountLots, accountLots}
 use Rattle.rules.specs.Book.{orderIn, sound}
 use Rattle.rules.specs.Calls.{foundAnswer, firstAnswer, unit}
 use Rattle.units.specs.declared.Seat.{Seat}
@@ -20,7 +20,7 @@ use Rattle.units.specs.Runs.{foundOf, unitsFrom, unitsOf, Prepared, Seat
 
 -- what a step along the units says
 module _ (runs : List ℕ) (n : ℕ) (s : Seat) (r : NextUnit) (l : NextIs runs n s r) where
-  pub unit-list : (a x : ℕ) (s′ : Seat) → r ≡ next.Unit a x s′ → unitsFrom runs n s ≡ part a x ∷ unitsFrom runs n s′
+  pub unit-list : (a x : ℕ) (s′ : Seat) → r ≡ next.Unit a x s′ → unitsFrom runs n s ≡ accountLots a x ∷ unitsFrom runs n s′
   unit-list a x s′ e = l .list ∙ ap (unitsOf runs n) e
 
   pub unit-range : (a x : ℕ) (s′ : Seat) → r ≡ next.Unit a x s′ → (a < 64) × (x ≤ unitLots)
@@ -31,10 +31,10 @@ module _ (runs : List ℕ) (n : ℕ) (s : Seat) (r : NextUnit) (l : NextIs runs 
 
 -- behind the place in front of unit k is the k-th
 module _ (nets : List ℤ) (i k : ℕ) (runs : List ℕ) (n : ℕ) (s : Seat) (p : Prepared nets i runs n) (q : SeatIs k s) where
-  pub found-is : (us : List Part) → unitsFrom runs n s ≡ us → foundOf us ≡ foundOf (drop k (orderIn nets i))
+  pub found-is : (us : List AccountLots) → unitsFrom runs n s ≡ us → foundOf us ≡ foundOf (drop k (orderIn nets i))
   found-is us e = ap foundOf (sym e ∙ q runs n ∙ ap (drop k) (p .units))
 
-found-first : (us : List Part) → foundAnswer (foundOf us) ≡ firstAnswer us
+found-first : (us : List AccountLots) → foundAnswer (foundOf us) ≡ firstAnswer us
 found-first [] = refl
 found-first (u ∷ us) = refl
 

@@ -8,7 +8,7 @@ use native.Mathlib.Omega.{arith}
 use lib.Dec.{leb}
 use lib.ListN.{length, drop, getD, drop-of-length-le}
 use borrow.Author.Tests.{leb-true, leb-false}
-use Rattle.rules.specs.Units.{Part, part, put, parts}
+use Rattle.rules.specs.Units.{AccountLots, accountLots, prepend, byAccount}
 use Rattle.rules.specs.Fails.{Fail, failOf, overlaps}
 use Rattle.laws.proofs.Basics.{byTest}
 use Rattle.laws.proofs.Overlaps.{overlaps-short0, overlaps-lack0, overlaps-end, overlaps-short, overlaps-lack}
@@ -21,29 +21,29 @@ use Rattle.units.proofs.Ranking.{parts-at}
 use Rattle.units.proofs.Loops.{runs-at, runs-end}
 
 -- what is left of the shortfalls, and of the runs
-abbrev pub ahead : ℕ → ℕ → ℕ → List ℕ → List Part
-ahead f x a ss = part f x ∷ parts a (drop a ss)
+abbrev pub ahead : ℕ → ℕ → ℕ → List ℕ → List AccountLots
+ahead f x a ss = accountLots f x ∷ byAccount a (drop a ss)
 
-abbrev pub behind : ℕ → ℕ → ℕ → List Part → List Part
-behind t y j us = part t y ∷ drop j us
+abbrev pub behind : ℕ → ℕ → ℕ → List AccountLots → List AccountLots
+behind t y j us = accountLots t y ∷ drop j us
 
-overlaps-put : (a x : ℕ) (ss vs : List Part) → overlaps (put a x ss) vs ≡ overlaps (part a x ∷ ss) vs
+overlaps-put : (a x : ℕ) (ss vs : List AccountLots) → overlaps (prepend a x ss) vs ≡ overlaps (accountLots a x ∷ ss) vs
 overlaps-put a zero ss vs = sym (overlaps-short0 ss vs a)
 overlaps-put a (suc n) ss vs = refl
 
-pub short-next : (ss : List ℕ) (vs : List Part) (f x a : ℕ) → x ≡ 0 → a < length ss →
+pub short-next : (ss : List ℕ) (vs : List AccountLots) (f x a : ℕ) → x ≡ 0 → a < length ss →
     overlaps (ahead f x a ss) vs ≡ overlaps (ahead a (getD ss a 0) (a + 1) ss) vs
 short-next ss vs f x a e h =
     rw (e, add-one)
-    (overlaps-short0 (parts a (drop a ss)) vs f
+    (overlaps-short0 (byAccount a (drop a ss)) vs f
     ∙ ap (λ l. overlaps l vs) (parts-at ss a h)
-    ∙ overlaps-put a (getD ss a 0) (parts (suc a) (drop (suc a) ss)) vs)
+    ∙ overlaps-put a (getD ss a 0) (byAccount (suc a) (drop (suc a) ss)) vs)
 
-pub short-end : (ss : List ℕ) (vs : List Part) (f x a : ℕ) → x ≡ 0 → length ss ≤ a → overlaps (ahead f x a ss) vs ≡ []
+pub short-end : (ss : List ℕ) (vs : List AccountLots) (f x a : ℕ) → x ≡ 0 → length ss ≤ a → overlaps (ahead f x a ss) vs ≡ []
 short-end ss vs f x a e h =
-    rw e (overlaps-short0 (parts a (drop a ss)) vs f ∙ ap (λ l. overlaps (parts a l) vs) (drop-of-length-le ss h))
+    rw e (overlaps-short0 (byAccount a (drop a ss)) vs f ∙ ap (λ l. overlaps (byAccount a l) vs) (drop-of-length-le ss h))
 
-module _ (ss : List Part) (runs : List ℕ) (n j : ℕ) (l : n ≤ length runs) where
+module _ (ss : List AccountLots) (runs : List ℕ) (n j : ℕ) (l : n ≤ length runs) where
   pub run-next : (t y : ℕ) → y ≡ 0 → j < n →
       overlaps ss (behind t y j (runsIn runs n))
       ≡ overlaps ss (behind (getD runs j 0 % 64) (getD runs j 0 / 64) (j + 1) (runsIn runs n))
@@ -55,10 +55,10 @@ module _ (ss : List Part) (runs : List ℕ) (n j : ℕ) (l : n ≤ length runs) 
       rw e (overlaps-lack0 ss (drop j (runsIn runs n)) t ∙ ap (overlaps ss) (runs-end runs n j l h) ∙ overlaps-end ss)
 
 -- the smaller of a shortfall and a lack is laid
-overlaps-least : (ss vs : List Part) (a x b y z : ℕ) → 0 < x → 0 < y → z ≡ min x y →
-    overlaps (part a x ∷ ss) (part b y ∷ vs) ≡ failOf a (part b z) ∷ overlaps (part a (x - z) ∷ ss) (part b (y - z) ∷ vs)
+overlaps-least : (ss vs : List AccountLots) (a x b y z : ℕ) → 0 < x → 0 < y → z ≡ min x y →
+    overlaps (accountLots a x ∷ ss) (accountLots b y ∷ vs) ≡ failOf a (accountLots b z) ∷ overlaps (accountLots a (x - z) ∷ ss) (accountLots b (y - z) ∷ vs)
 overlaps-least ss vs a x b y z p q m =
-    let F : ℕ → ℕ → ℕ → List Fail = λ w u v. failOf a (part b w) ∷ overlaps (part a u ∷ ss) (part b v ∷ vs) in
+    let F : ℕ → ℕ → ℕ → List Fail = λ w u v. failOf a (accountLots b w) ∷ overlaps (accountLots a u ∷ ss) (accountLots b v ∷ vs) in
     byTest (leb x y)
     (λ e.
     let l = leb-true x y e in
@@ -73,7 +73,7 @@ overlaps-least ss vs a x b y z p q m =
 
 -- one step: on to a shortfall, on to a run, then the overlap of the two is handed out
 module _ (runs : List ℕ) (n : ℕ) (ss : List ℕ) (c s : Cursor) (p : AtShort ss c s) where
-  abbrev us : List Part
+  abbrev us : List AccountLots
   us = runsIn runs n
 
   pub none-short : s .short ≡ 0 → Advanced runs n ss c Done
@@ -91,7 +91,7 @@ module _ (runs : List ℕ) (n : ℕ) (ss : List ℕ) (c s : Cursor) (p : AtShort
         let r = q .range in
         record {
           list = p .same us ∙ q .same ss
-              ∙ overlaps-least (parts (v .account) (drop (v .account) ss)) (drop (v .run) us) (v .from) (v .short) (v .to) (v .lack) x some lacking least;
+              ∙ overlaps-least (byAccount (v .account) (drop (v .account) ss)) (drop (v .run) us) (v .from) (v .short) (v .to) (v .lack) x some lacking least;
           range = record {
             from = r .from;
             to = r .to;

@@ -4,7 +4,7 @@ use mathlib.Core.List.{List, [], _∷_}
 use Prim.Native.Nat.{ℕ, _-_, _≤_, _<_}
 use lib.ListN.{length, drop, getD}
 use Rattle.rules.specs.Measures.{unitLots, mostLots}
-use Rattle.rules.specs.Units.{Part, part, parts}
+use Rattle.rules.specs.Units.{AccountLots, accountLots, byAccount}
 use Rattle.rules.specs.Handover.{stock, waiting, firstUnit}
 use Rattle.rules.specs.Fails.{Fail, failOf, overlaps, lacks}
 use Rattle.units.specs.declared.Cursor.{Cursor}
@@ -14,10 +14,10 @@ use Rattle.units.specs.declared.Position.{Position}
 use Rattle.units.specs.Runs.{runsIn, unitsIn}
 
 -- what is still to be handed out: the rest of a shortfall and the later ones, against the rest of a run and the later ones
-abbrev pub overlapsOn : List Part → List ℕ → Cursor → List Fail
+abbrev pub overlapsOn : List AccountLots → List ℕ → Cursor → List Fail
 overlapsOn us shorts c =
-    overlaps (part (c .from) (c .short) ∷ parts (c .account) (drop (c .account) shorts))
-    (part (c .to) (c .lack) ∷ drop (c .run) us)
+    overlaps (accountLots (c .from) (c .short) ∷ byAccount (c .account) (drop (c .account) shorts))
+    (accountLots (c .to) (c .lack) ∷ drop (c .run) us)
 
 -- the same of the units that the first n words of a lent array hold
 unfoldable pub overlapsFrom : List ℕ → ℕ → List ℕ → Cursor → List Fail
@@ -34,12 +34,12 @@ pub record CanShort (shorts : List ℕ) : Type 0 where
 
 -- a cursor whose shortfall is not 0, or which has none left
 pub record AtShort (shorts : List ℕ) (c r : Cursor) : Type 0 where
-  pub same : (us : List Part) → overlapsOn us shorts c ≡ overlapsOn us shorts r
-  pub none : r .short ≡ 0 → (us : List Part) → overlapsOn us shorts r ≡ []
+  pub same : (us : List AccountLots) → overlapsOn us shorts c ≡ overlapsOn us shorts r
+  pub none : r .short ≡ 0 → (us : List AccountLots) → overlapsOn us shorts r ≡ []
   pub range : InRange r
 
 -- a cursor at a run of which something is lacking, or which has none left
-pub record AtRun (us : List Part) (c r : Cursor) : Type 0 where
+pub record AtRun (us : List AccountLots) (c r : Cursor) : Type 0 where
   pub same : (shorts : List ℕ) → overlapsOn us shorts c ≡ overlapsOn us shorts r
   pub none : r .lack ≡ 0 → (shorts : List ℕ) → overlapsOn us shorts r ≡ []
   pub short : r .short ≡ c .short
@@ -57,7 +57,7 @@ pub record CanAdvance (runs : List ℕ) (n : ℕ) (shorts : List ℕ) : Type 0 w
 
 -- the list that a step stands for: the overlap handed out, and what is left
 abbrev pub overlapsOf : List ℕ → ℕ → List ℕ → Next → List Fail
-overlapsOf runs n shorts (Overlap f t x c) = failOf f (part t x) ∷ overlapsFrom runs n shorts c
+overlapsOf runs n shorts (Overlap f t x c) = failOf f (accountLots t x) ∷ overlapsFrom runs n shorts c
 overlapsOf runs n shorts Done = []
 
 pub record OverlapInRange (f t x : ℕ) (c : Cursor) : Type 0 where
@@ -82,7 +82,7 @@ position run to lack s =
 -- after a delivered total: the cursor in front of all overlaps with what units lack, the stock, and whose unit is next
 pub record Started (runs : List ℕ) (n d : ℕ) (r : Position) : Type 0 where
   pub lacking : (shorts : List ℕ) →
-      overlapsFrom runs n shorts (r .cursor) ≡ overlaps (parts 0 shorts) (lacks unitLots (unitsIn runs n) d)
+      overlapsFrom runs n shorts (r .cursor) ≡ overlaps (byAccount 0 shorts) (lacks unitLots (unitsIn runs n) d)
   pub left : r .stock ≡ stock (unitsIn runs n) d
   pub next : r .cursor .to ≡ firstUnit (waiting (unitsIn runs n) d) .account
   pub range : InRange (r .cursor)

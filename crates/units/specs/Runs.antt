@@ -7,9 +7,9 @@ use lib.Dec.{ltb}
 use lib.ListN.{length, take, drop, getD, replicate}
 use lib.IntN.{ℤ}
 use Rattle.rules.specs.Measures.{unitLots, mostLots}
-use Rattle.rules.specs.Units.{Part, part, put, parts, largestFirst}
+use Rattle.rules.specs.Units.{AccountLots, accountLots, prepend, byAccount, largestFirst}
 use Rattle.rules.specs.Handover.{covered, stock}
-use Rattle.rules.specs.Fails.{skip, lacks}
+use Rattle.rules.specs.Fails.{dropLots, lacks}
 use Rattle.rules.specs.Book.{all, withinSize, orderIn}
 use Rattle.rules.specs.declared.Found.{Found}
 use Rattle.rules.specs.declared.Found.the-variants.{Unit, Nothing}
@@ -19,11 +19,11 @@ use Rattle.units.specs.declared.NextUnit.the-variants as next
 use Rattle.units.specs.declared.Handed.{Handed}
 
 -- a part in one word: lots * 64 + account
-abbrev pub partOf : ℕ → Part
-partOf k = part (k % 64) (k / 64)
+abbrev pub partOf : ℕ → AccountLots
+partOf k = accountLots (k % 64) (k / 64)
 
 -- the first n of a list of such words
-abbrev pub runsIn : List ℕ → ℕ → List Part
+abbrev pub runsIn : List ℕ → ℕ → List AccountLots
 runsIn runs n = map partOf (take n runs)
 
 -- how many words at the front have more lots
@@ -32,27 +32,27 @@ larger x [] = 0
 larger x (k ∷ ks) = cond (ltb x (k / 64)) (suc (larger x ks)) 0
 
 -- the units that a run stands for: full ones, and a small one of the rest if that is not 0
-abbrev pub unitsOfRun : Part → List Part
-unitsOfRun u = replicate (u .lots / unitLots) (part (u .account) unitLots) ++ put (u .account) (u .lots % unitLots) []
+abbrev pub unitsOfRun : AccountLots → List AccountLots
+unitsOfRun u = replicate (u .lots / unitLots) (accountLots (u .account) unitLots) ++ prepend (u .account) (u .lots % unitLots) []
 
-abbrev pub unitsOfRuns : List Part → List Part
+abbrev pub unitsOfRuns : List AccountLots → List AccountLots
 unitsOfRuns [] = []
 unitsOfRuns (u ∷ us) = unitsOfRun u ++ unitsOfRuns us
 
 -- the units that n runs stand for
-unfoldable pub unitsIn : List ℕ → ℕ → List Part
+unfoldable pub unitsIn : List ℕ → ℕ → List AccountLots
 unitsIn runs n = unitsOfRuns (runsIn runs n)
 
 -- what is full of a part, and what is small of its lots
-abbrev pub fullOf : Part → Part
-fullOf u = part (u .account) (u .lots / unitLots * unitLots)
+abbrev pub fullOf : AccountLots → AccountLots
+fullOf u = accountLots (u .account) (u .lots / unitLots * unitLots)
 
 abbrev pub smallLots : ℕ → ℕ
 smallLots x = x % unitLots
 
 -- the runs of accounts with these dues: the full units, largest due first, then the small ones, largest first
-unfoldable pub runsOf : List ℕ → List Part
-runsOf dues = map fullOf (largestFirst (parts 0 dues)) ++ largestFirst (parts 0 (map smallLots dues))
+unfoldable pub runsOf : List ℕ → List AccountLots
+runsOf dues = map fullOf (largestFirst (byAccount 0 dues)) ++ largestFirst (byAccount 0 (map smallLots dues))
 
 -- lots of 64 accounts that can be ranked into a lent array of so many words
 pub record CanRank (room : ℕ) (lots keys : List ℕ) : Type 0 where
@@ -62,13 +62,13 @@ pub record CanRank (room : ℕ) (lots keys : List ℕ) : Type 0 where
 
 pub record Ranked (lots keys : List ℕ) (n : ℕ) : Type 0 where
   pub few : n ≤ 64
-  pub order : runsIn keys n ≡ largestFirst (parts 0 lots)
+  pub order : runsIn keys n ≡ largestFirst (byAccount 0 lots)
 
 -- units held in the first n words of a lent array: what they lack after a total is what is left of their runs
 pub record Held (runs : List ℕ) (n : ℕ) : Type 0 where
   pub few : n ≤ 128
   pub there : n ≤ length runs
-  pub gathered : (d : ℕ) → lacks unitLots (unitsIn runs n) d ≡ skip d (runsIn runs n)
+  pub gathered : (d : ℕ) → lacks unitLots (unitsIn runs n) d ≡ dropLots d (runsIn runs n)
 
 -- an issue whose units can be ordered, from all nets
 pub record CanOrder (nets : List ℤ) (i : ℕ) : Type 0 where
@@ -85,12 +85,12 @@ pub record Prepared (nets : List ℤ) (i : ℕ) (runs : List ℕ) (n : ℕ) : Ty
   pub held : Held runs n
   pub units : unitsIn runs n ≡ orderIn nets i
 
-abbrev pub foundOf : List Part → Found
+abbrev pub foundOf : List AccountLots → Found
 foundOf [] = Nothing
 foundOf (u ∷ us) = Unit (u .account) (u .lots)
 
 -- the units behind a place
-unfoldable pub unitsFrom : List ℕ → ℕ → Seat → List Part
+unfoldable pub unitsFrom : List ℕ → ℕ → Seat → List AccountLots
 unitsFrom runs n s = drop (s .passed) (unitsOfRuns (drop (s .run) (runsIn runs n)))
 
 -- the place in front of unit k, whatever holds the units
@@ -98,8 +98,8 @@ abbrev pub SeatIs : ℕ → Seat → Type 0
 SeatIs k s = (runs : List ℕ) (n : ℕ) → unitsFrom runs n s ≡ drop k (unitsIn runs n)
 
 -- the list that a step stands for: the unit handed out, and those behind it
-abbrev pub unitsOf : List ℕ → ℕ → NextUnit → List Part
-unitsOf runs n (next.Unit a x s) = part a x ∷ unitsFrom runs n s
+abbrev pub unitsOf : List ℕ → ℕ → NextUnit → List AccountLots
+unitsOf runs n (next.Unit a x s) = accountLots a x ∷ unitsFrom runs n s
 unitsOf runs n next.Nothing = []
 
 abbrev pub UnitInRange : NextUnit → Type 0
@@ -111,6 +111,6 @@ pub record NextIs (runs : List ℕ) (n : ℕ) (s : Seat) (r : NextUnit) : Type 0
   pub range : UnitInRange r
 
 -- how many of these units a total covers, and the stock
-pub record HandedIs (us : List Part) (d : ℕ) (r : Handed) : Type 0 where
+pub record HandedIs (us : List AccountLots) (d : ℕ) (r : Handed) : Type 0 where
   pub covers : r .count ≡ covered us d
   pub left : r .stock ≡ stock us d

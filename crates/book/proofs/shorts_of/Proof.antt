@@ -8,7 +8,7 @@ use denote.Ref.{now}
 use lib.ListN.{length, drop, getD, length-set}
 use Rattle.rules.specs.Measures.{owedOf}
 use lib.Seq.{sets}
-use Rattle.rules.specs.Fails.{shorts}
+use Rattle.rules.specs.Fails.{undelivered}
 use Rattle.book.proofs.RowLaws.{shorts-more, shorts-end, sets-all, shorts-length}
 use lib.IntN.{pos}
 use lib.ListN.{length-map}
@@ -20,8 +20,8 @@ use Rattle.book.proofs.shorts_of.Tie as tie
 abbrev Inv-loop : tie.InvT-loop
 Inv-loop net delivered short₀ i₀ short i =
     (length short ≡ length short₀)
-    × (sets short₀ 0 (shorts (map owedOf net) delivered)
-    ≡ sets short i (shorts (drop i (map owedOf net)) (drop i delivered)))
+    × (sets short₀ 0 (undelivered (map owedOf net) delivered)
+    ≡ sets short i (undelivered (drop i (map owedOf net)) (drop i delivered)))
 
 abbrev μ-loop : tie.MeasureT-loop
 μ-loop net delivered short₀ i₀ short i = length net - i
@@ -55,8 +55,8 @@ returns c =
     let ds = now (s .args .delivered) in
     let m = length-map ns owedOf in
     let k = shorts-length (map owedOf ns) ds (omega (arith, m, s .pre .both)) in
-    let n : length (shorts (map owedOf ns) ds) ≡ length (now (s .args .short)) = omega (arith, m, k, s .pre .room) in
-    sym (shorts-end ns ds (l .i) _ (l .short) (omega arith) (l .inv .1)) ∙ sets-all (shorts (map owedOf ns) ds)
+    let n : length (undelivered (map owedOf ns) ds) ≡ length (now (s .args .short)) = omega (arith, m, k, s .pre .room) in
+    sym (shorts-end ns ds (l .i) _ (l .short) (omega arith) (l .inv .1)) ∙ sets-all (undelivered (map owedOf ns) ds)
     (now (s .args .short)) n
 
 pub shorts-of-spec : {M : Type 1} → statement M

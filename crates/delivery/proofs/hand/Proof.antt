@@ -7,7 +7,7 @@ use native.Mathlib.Omega.{arith}
 use borrow.Author.Needs.{needs}
 use denote.Ref.{now}
 use lib.ListN.{length, drop}
-use Rattle.rules.specs.Units.{part}
+use Rattle.rules.specs.Units.{accountLots}
 use Rattle.rules.specs.Records.{handover, words}
 use Rattle.units.specs.Runs.{unitsIn, unitsFrom}
 use Rattle.units.proofs.Questions.{unit-list, unit-range, unit-end}
@@ -37,7 +37,7 @@ loop-holds c =
 found : (c : tie.After-known-told Inv-loop μ-loop) →
     let a = c .before .before .before .before .before .before .before .before .before .args in
     let g = c .before .to .given .0 in
-    unitsFrom (now (a .runs)) (a .n) (c .before .before .before .before .before .loop .seat) ≡ part (g .0) (g .1 .0) ∷ unitsFrom (now (a .runs)) (a .n) (g .1 .1 .0)
+    unitsFrom (now (a .runs)) (a .n) (c .before .before .before .before .before .loop .seat) ≡ accountLots (g .0) (g .1 .0) ∷ unitsFrom (now (a .runs)) (a .n) (g .1 .1 .0)
 found c =
     let a = c .before .before .before .before .before .before .before .before .before .args in
     let n = c .before .before .before .next-unit in
@@ -73,7 +73,7 @@ loop-again c =
     let s = c .before .before .before .before .before .before .before .before .before .before .before .before .before in
     let l = c .before .before .before .before .before .before .before .before .before .loop in
     let g = c .before .before .before .before .before .to .given .0 in
-    let w = words (handover (s .args .i) (part (g .0) (g .1 .0)) ∷ []) in
+    let w = words (handover (s .args .i) (accountLots (g .0) (g .1 .0)) ∷ []) in
     let e : s .args .count - (l .m + 1) ≡ s .args .count - l .m - 1 = omega arith in (
       omega arith,
       rw e

@@ -5,7 +5,7 @@ use Prim.Native.Nat.{_-_, _<_}
 use native.Mathlib.Omega.{arith}
 use borrow.Author.Needs.{needs}
 use denote.Ref.{now}
-use Rattle.rules.specs.Units.{Part}
+use Rattle.rules.specs.Units.{AccountLots}
 use Rattle.rules.specs.Fails.{overlaps}
 use Rattle.units.specs.Runs.{runsIn}
 use Rattle.units.proofs.Steps.{ahead, behind, run-next, run-end}
@@ -15,7 +15,7 @@ use Rattle.units.proofs.next_run.Tie as tie
 abbrev Inv-loop : tie.InvT-loop
 Inv-loop runs n c j₀ t₀ y₀ j t y =
     (t < 64)
-    × ((ss : List Part) → overlaps ss (behind t₀ y₀ j₀ (runsIn runs n)) ≡ overlaps ss (behind t y j (runsIn runs n)))
+    × ((ss : List AccountLots) → overlaps ss (behind t₀ y₀ j₀ (runsIn runs n)) ≡ overlaps ss (behind t y j (runsIn runs n)))
 
 abbrev μ-loop : tie.MeasureT-loop
 μ-loop runs n c j₀ t₀ y₀ j t y = n - j

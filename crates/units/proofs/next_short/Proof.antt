@@ -5,7 +5,7 @@ use Prim.Native.Nat.{_-_, _≤_, _<_}
 use native.Mathlib.Omega.{arith}
 use borrow.Author.Needs.{needs}
 use denote.Ref.{now}
-use Rattle.rules.specs.Units.{Part}
+use Rattle.rules.specs.Units.{AccountLots}
 use Rattle.rules.specs.Fails.{overlaps}
 use Rattle.units.proofs.Steps.{ahead, behind, short-next, short-end}
 use Rattle.units.proofs.next_short.Statement.{statement}
@@ -13,7 +13,7 @@ use Rattle.units.proofs.next_short.Tie as tie
 
 abbrev Inv-loop : tie.InvT-loop
 Inv-loop shorts c a₀ f₀ x₀ a f x =
-    (f < 64) × (x ≤ 20000000) × ((vs : List Part) → overlaps (ahead f₀ x₀ a₀ shorts) vs ≡ overlaps (ahead f x a shorts) vs)
+    (f < 64) × (x ≤ 20000000) × ((vs : List AccountLots) → overlaps (ahead f₀ x₀ a₀ shorts) vs ≡ overlaps (ahead f x a shorts) vs)
 
 abbrev μ-loop : tie.MeasureT-loop
 μ-loop shorts c a₀ f₀ x₀ a f x = 64 - a
