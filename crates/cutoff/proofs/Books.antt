@@ -15,7 +15,7 @@ use Rattle.laws.proofs.Sound.{SoundBook}
 use Rattle.laws.proofs.Ledger.{FullColumns, columns-back}
 use Rattle.ledger.specs.Columns.{Held}
 use Rattle.book.specs.Cells.{SoundCells}
-use Rattle.book.proofs.Answers.{yes}
+use Rattle.laws.proofs.Answers.{yes}
 use Rattle.cutoff.specs.declared.Counts.{Counts}
 use Rattle.cutoff.specs.Write.{Lent, lent}
 use Rattle.cutoff.specs.All.{CanCutAll, WasCutAll}
