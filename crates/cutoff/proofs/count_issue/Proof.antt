@@ -24,11 +24,4 @@ returns c = c .count .ensures ∙ ap length (c .before .before .before .before .
 pub count-issue-spec : {M : Type 1} → statement M
 count-issue-spec =
     tie.close
-    (tie.spec
-    (λ c. search needs)
-    (λ c. search needs)
-    (λ c κs. search needs)
-    (λ c. search needs)
-    (λ c. search needs)
-    count-requires
-    returns)
+    (tie.spec (λ c. search needs) (λ c. search needs) (λ c κs. search needs) (λ c. search needs) (λ c. search needs) count-requires returns)

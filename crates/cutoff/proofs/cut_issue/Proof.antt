@@ -18,13 +18,16 @@ hand-stock-requires c κs =
     can-hand (now (a .nets)) (now (a .delivered)) (a .day) (a .i) (a .n) (lending (a .issues) (a .froms) (a .tos) (a .lots) (a .days) (a .out))
     (s .pre) (p .last .1 .1 .1 .0) (p .last .1 .1 .1 .1 .0) (p .result) (p .ensures)
 
+abbrev start : tie.After-hand-stock → tie.Start
+start c = c .before .before .before .before .before .before .before .before .before .before .before .before .before .before .before
+
 handed : (c : tie.After-hand-stock) →
-    let a = c .before .before .before .before .before .before .before .before .before .before .before .before .before .before .before .args in
+    let a = start c .args in
     let p = c .before .before .before .before .before .prepare in
     Behind (now (a .nets)) (now (a .delivered)) (a .day) (a .i) (a .n) (lending (a .issues) (a .froms) (a .tos) (a .lots) (a .days) (a .out))
     (p .last .1 .1 .1 .0) (p .last .1 .1 .1 .1 .0) (p .result) (c .hand-stock .result) (c .hand-stock .last .0)
 handed c =
-    let s = c .before .before .before .before .before .before .before .before .before .before .before .before .before .before .before in
+    let s = start c in
     let a = s .args in
     let p = c .before .before .before .before .before .prepare in
     stock-handed (now (a .nets)) (now (a .delivered)) (a .day) (a .i) (a .n) (lending (a .issues) (a .froms) (a .tos) (a .lots) (a .days) (a .out))
@@ -33,18 +36,23 @@ handed c =
 lay-requires : tie.Need-lay-requires
 lay-requires c κs = handed (c .before .before .before .before .before .before .before .before .before .before) .can
 
+abbrev stocked : tie.After-slice-known13 → tie.After-hand-stock
+stocked c = c .before .before .before .before .before .before .before .before .before .before .before .before .before .before .before .before .before .before .before .before .before .before .before
+
 -- the issue is cut
 cut : (c : tie.After-slice-known13) →
-    let a = c .before .before .before .before .before .before .before .before .before .before .before .before .before .before .before .before .before .before .before .before .before .before .before .before .before .before .before .before .before .before .before .before .before .before .before .before .before .before .args in
+    let a = start (stocked c) .args in
     let l = c .before .before .before .before .before .before .before .before .before .before .before .before .lay in
-    let v = c .before .before .before .before .before .before .before .before .before .before .before .before .before .before .before .before .before .before .before .before .before .before .before .hand-stock in
+    let v = stocked c .hand-stock in
     WasCut (now (a .nets)) (now (a .delivered)) (a .day) (a .i) (a .n) (lending (a .issues) (a .froms) (a .tos) (a .lots) (a .days) (a .out)) (countsOf (a .n + l .result) (v .result + l .result))
     (back (v .result) (withOut (lending (a .issues) (a .froms) (a .tos) (a .lots) (a .days) (a .out)) (v .last .0))
-    (lent (l .last .1 .1 .1 .1 .1 .1 .0) (l .last .1 .1 .1 .1 .1 .1 .1 .0) (l .last .1 .1 .1 .1 .1 .1 .1 .1 .0) (l .last .1 .1 .1 .1 .1 .1 .1 .1 .1 .0) (l .last .1 .1 .1 .1 .1 .1 .1 .1 .1 .1 .0) (l .last .1 .1 .1 .1 .1 .1 .1 .1 .1 .1 .1 .0)))
+    (lent (l .last .1 .1 .1 .1 .1 .1 .0) (l .last .1 .1 .1 .1 .1 .1 .1 .0) (l .last .1 .1 .1 .1 .1 .1 .1 .1 .0) (l .last .1 .1 .1 .1 .1 .1 .1 .1 .1 .0)
+    (l .last .1 .1 .1 .1 .1 .1 .1 .1 .1 .1 .0) (l .last .1 .1 .1 .1 .1 .1 .1 .1 .1 .1 .1 .0)))
 cut c =
     let l = c .before .before .before .before .before .before .before .before .before .before .before .before .lay in
-    handed (c .before .before .before .before .before .before .before .before .before .before .before .before .before .before .before .before .before .before .before .before .before .before .before) .done (l .result)
-    (lent (l .last .1 .1 .1 .1 .1 .1 .0) (l .last .1 .1 .1 .1 .1 .1 .1 .0) (l .last .1 .1 .1 .1 .1 .1 .1 .1 .0) (l .last .1 .1 .1 .1 .1 .1 .1 .1 .1 .0) (l .last .1 .1 .1 .1 .1 .1 .1 .1 .1 .1 .0) (l .last .1 .1 .1 .1 .1 .1 .1 .1 .1 .1 .1 .0)) (l .ensures)
+    handed (stocked c) .done (l .result)
+    (lent (l .last .1 .1 .1 .1 .1 .1 .0) (l .last .1 .1 .1 .1 .1 .1 .1 .0) (l .last .1 .1 .1 .1 .1 .1 .1 .1 .0) (l .last .1 .1 .1 .1 .1 .1 .1 .1 .1 .0)
+    (l .last .1 .1 .1 .1 .1 .1 .1 .1 .1 .1 .0) (l .last .1 .1 .1 .1 .1 .1 .1 .1 .1 .1 .1 .0)) (l .ensures)
 
 returns : tie.Need-returns
 returns c = rw (c .numbers .ensures) (cut (c .before))
@@ -52,28 +60,11 @@ returns c = rw (c .numbers .ensures) (cut (c .before))
 pub cut-issue-spec : {M : Type 1} → statement M
 cut-issue-spec =
     tie.close
-    (tie.spec
-    (λ c. search needs)
-    (λ c. search needs)
-    (λ c κs. search needs)
-    (λ c. search needs)
-    hand-stock-requires
-    (λ c. search needs)
-    (λ c. search needs)
-    (λ c. search needs)
+    (tie.spec (λ c. search needs) (λ c. search needs) (λ c κs. search needs) (λ c. search needs) hand-stock-requires (λ c. search needs)
+    (λ c. search needs) (λ c. search needs)
     (λ c. omega (arith, handed (c .before .before .before .before .before .before .before .before .before) .room, handed (c .before .before .before .before .before .before .before .before .before) .few))
     (λ c. omega (arith, handed (c .before .before .before .before .before .before .before .before .before) .room, handed (c .before .before .before .before .before .before .before .before .before) .few))
     (λ c. handed (c .before .before .before .before .before .before .before .before .before) .room)
-    (λ c. handed (c .before .before .before .before .before .before .before .before .before) .room)
-    (λ c. search needs)
-    lay-requires
-    (λ c. search needs)
-    (λ c. omega (arith, cut c .wrote .held .most, handed (c .before .before .before .before .before .before .before .before .before .before .before .before .before .before .before .before .before .before .before .before .before .before .before) .few))
-    (λ c κs. search needs)
-    (λ c. search needs)
-    (λ c. search needs)
-    (λ c. search needs)
-    (λ c. search needs)
-    (λ c. search needs)
-    (λ c. search needs)
-    returns)
+    (λ c. handed (c .before .before .before .before .before .before .before .before .before) .room) (λ c. search needs) lay-requires
+    (λ c. search needs) (λ c. omega (arith, cut c .wrote .held .most, handed (stocked c) .few)) (λ c κs. search needs) (λ c. search needs)
+    (λ c. search needs) (λ c. search needs) (λ c. search needs) (λ c. search needs) (λ c. search needs) returns)

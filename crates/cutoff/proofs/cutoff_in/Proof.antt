@@ -22,22 +22,29 @@ loop-holds c =
     let a = s .args in
     (omega arith, starts (now (a .nets)) (now (a .delivered)) (a .day) (a .count) (lending (a .issues) (a .froms) (a .tos) (a .lots) (a .days) (a .out)) (s .pre))
 
+abbrev within : tie.After-struct-known Inv-loop μ-loop → tie.In-loop Inv-loop μ-loop
+within c = c .before .before .before .before .before .before .before .before .before .before .before .before .before .before .before .before .before .before .before .before
+
 -- in a turn, issue i is the next
 turned : (c : tie.In-loop Inv-loop μ-loop) →
     let a = c .before .before .before .before .before .before .before .before .before .args in
     let l = c .before .loop in
-    Turn (now (a .nets)) (now (a .delivered)) (a .day) (a .count) (lending (a .issues) (a .froms) (a .tos) (a .lots) (a .days) (a .out)) (l .i) (l .n) (l .w) (lent (l .issues) (l .froms) (l .tos) (l .lots) (l .days) (l .out))
+    Turn (now (a .nets)) (now (a .delivered)) (a .day) (a .count) (lending (a .issues) (a .froms) (a .tos) (a .lots) (a .days) (a .out)) (l .i) (l .n) (l .w)
+    (lent (l .issues) (l .froms) (l .tos) (l .lots) (l .days) (l .out))
 turned c =
     let s = c .before .before .before .before .before .before .before .before .before in
     let a = s .args in
     let l = c .before .loop in
-    turn (now (a .nets)) (now (a .delivered)) (a .day) (a .count) (lending (a .issues) (a .froms) (a .tos) (a .lots) (a .days) (a .out)) (s .pre) (l .i) (l .n) (l .w) (lent (l .issues) (l .froms) (l .tos) (l .lots) (l .days) (l .out)) (l .inv .1) (c .loop-test .taken)
+    turn (now (a .nets)) (now (a .delivered)) (a .day) (a .count) (lending (a .issues) (a .froms) (a .tos) (a .lots) (a .days) (a .out)) (s .pre) (l .i) (l .n) (l .w)
+    (lent (l .issues) (l .froms) (l .tos) (l .lots) (l .days) (l .out)) (l .inv .1) (c .loop-test .taken)
 
 loop-again : tie.Need-loop-again Inv-loop μ-loop
 loop-again c =
     let e = c .before .before .before .before .before .before .before .before .before .before .before .before .before .cut-issue in (
       omega arith,
-      turned (c .before .before .before .before .before .before .before .before .before .before .before .before .before .before .before .before .before .before .before .before) .more (e .result) (lent (e .last .1 .1 .1 .1 .1 .0) (e .last .1 .1 .1 .1 .1 .1 .0) (e .last .1 .1 .1 .1 .1 .1 .1 .0) (e .last .1 .1 .1 .1 .1 .1 .1 .1 .0) (e .last .1 .1 .1 .1 .1 .1 .1 .1 .1 .0) (e .last .1 .1 .1 .1 .1 .1 .1 .1 .1 .1 .0)) (e .ensures),
+      turned (within c) .more (e .result)
+          (lent (e .last .1 .1 .1 .1 .1 .0) (e .last .1 .1 .1 .1 .1 .1 .0) (e .last .1 .1 .1 .1 .1 .1 .1 .0) (e .last .1 .1 .1 .1 .1 .1 .1 .1 .0)
+          (e .last .1 .1 .1 .1 .1 .1 .1 .1 .1 .0) (e .last .1 .1 .1 .1 .1 .1 .1 .1 .1 .1 .0)) (e .ensures),
     )
 
 returns : tie.Need-returns Inv-loop μ-loop
@@ -46,30 +53,19 @@ returns c =
     let a = s .args in
     let l = c .before .before .loop in
     rw (c .numbers .ensures)
-    (ends (now (a .nets)) (now (a .delivered)) (a .day) (a .count) (lending (a .issues) (a .froms) (a .tos) (a .lots) (a .days) (a .out)) (s .pre) (l .i) (l .n) (l .w) (lent (l .issues) (l .froms) (l .tos) (l .lots) (l .days) (l .out)) (l .inv .1) (omega arith))
+    (ends (now (a .nets)) (now (a .delivered)) (a .day) (a .count) (lending (a .issues) (a .froms) (a .tos) (a .lots) (a .days) (a .out)) (s .pre) (l .i) (l .n) (l .w)
+    (lent (l .issues) (l .froms) (l .tos) (l .lots) (l .days) (l .out)) (l .inv .1) (omega arith))
 
 pub cutoff-in-spec : {M : Type 1} → statement M
 cutoff-in-spec =
     tie.close
-    (tie.spec
-    Inv-loop
-    μ-loop
-    loop-holds
+    (tie.spec Inv-loop μ-loop loop-holds
     (λ c. omega (arith, turned (c .before .before .before .before .before) .room, turned (c .before .before .before .before .before) .few))
     (λ c. omega (arith, turned (c .before .before .before .before .before) .room, turned (c .before .before .before .before .before) .few))
     (λ c. omega (arith, turned (c .before .before .before .before .before) .room, turned (c .before .before .before .before .before) .few))
     (λ c. omega (arith, turned (c .before .before .before .before .before) .room, turned (c .before .before .before .before .before) .few))
     (λ c. omega (arith, turned (c .before .before .before .before .before) .room, turned (c .before .before .before .before .before) .few))
     (λ c κs. turned (c .before .before .before .before .before .before) .can)
-    (λ c. let t = turned (c .before .before .before .before .before .before .before .before .before .before .before .before .before .before .before .before .before .before .before .before) in omega (arith, t .few, c .before .before .before .before .before .before .before .before .before .before .before .before .before .cut-issue .ensures .records))
-    (λ c. search needs)
-    (λ c. search needs)
-    loop-again
-    (λ c κs. search needs)
-    (λ c. search needs)
-    (λ c. search needs)
-    (λ c. search needs)
-    (λ c. search needs)
-    (λ c. search needs)
-    (λ c. search needs)
-    returns)
+    (λ c. let t = turned (within c) in omega (arith, t .few, c .before .before .before .before .before .before .before .before .before .before .before .before .before .cut-issue .ensures .records))
+    (λ c. search needs) (λ c. search needs) loop-again (λ c κs. search needs) (λ c. search needs) (λ c. search needs) (λ c. search needs)
+    (λ c. search needs) (λ c. search needs) (λ c. search needs) returns)

@@ -14,8 +14,4 @@ returns-2 c =
 pub hand-stock-spec : {M : Type 1} → statement M
 hand-stock-spec =
     tie.close
-    (tie.spec
-    (λ c. search needs)
-    (λ c κs. search needs)
-    (λ c. search needs)
-    returns-2)
+    (tie.spec (λ c. search needs) (λ c κs. search needs) (λ c. search needs) returns-2)

@@ -32,6 +32,9 @@ loop-holds c =
     (s .pre .range, simp add-zero (laying-starts _ _ _ _ (s .pre .write)))
 
 -- the overlap that was handed out, from here and from the start
+abbrev handed-out : tie.After-slice-known12 Inv-loop μ-loop → tie.After-known-told Inv-loop μ-loop
+handed-out c = c .before .before .before .before .before .before .before .before .before .before .before .before .before .before .before .before .before .before .before .before
+
 turned : (c : tie.After-known-told Inv-loop μ-loop) →
     let a = c .before .before .before .before .before .before .before .before .before .before .before .before .before .before .args in
     let l = c .before .before .before .before .loop in
@@ -52,44 +55,30 @@ returns c =
     let l = c .before .before .before .loop in
     let v = c .before .before .advance in
     let e = entries-end (a .day) (a .i) (now (a .runs)) (a .p .n) (now (a .shorts)) (l .cur) (v .result) (v .ensures) (c .enum-told .given .1) in
-    laying-ends _ _ _ _ _ _ _ (lending (a .issues) (a .froms) (a .tos) (a .lots) (a .days) (a .out)) (lent (l .issues) (l .froms) (l .tos) (l .lots) (l .days) (l .out)) e (ap failRecords e) (l .inv .1)
+    laying-ends _ _ _ _ _ _ _ (lending (a .issues) (a .froms) (a .tos) (a .lots) (a .days) (a .out))
+    (lent (l .issues) (l .froms) (l .tos) (l .lots) (l .days) (l .out)) e (ap failRecords e) (l .inv .1)
 
 enter-requires : tie.Need-enter-requires Inv-loop μ-loop
 enter-requires c κs = rw (c .before .before .before .before .before .before .fail .ensures) (turned (c .before .before .before .before .before .before .before) .can)
 
 loop-again : tie.Need-loop-again Inv-loop μ-loop
 loop-again c =
-    let t = turned (c .before .before .before .before .before .before .before .before .before .before .before .before .before .before .before .before .before .before .before .before) in
+    let t = turned (handed-out c) in
     let e = c .before .before .before .before .before .before .before .before .before .before .before .before .enter in (
       t .range .cursor,
-      t .more _ (lent (e .last .1 .0) (e .last .1 .1 .0) (e .last .1 .1 .1 .0) (e .last .1 .1 .1 .1 .0) (e .last .1 .1 .1 .1 .1 .0) (e .last .1 .1 .1 .1 .1 .1 .0)) (c .before .before .before .before .before .before .before .before .before .before .before .before .before .before .before .before .before .before .before .fail .ensures) (e .ensures),
+      t .more _ (lent (e .last .1 .0) (e .last .1 .1 .0) (e .last .1 .1 .1 .0) (e .last .1 .1 .1 .1 .0) (e .last .1 .1 .1 .1 .1 .0) (e .last .1 .1 .1 .1 .1 .1 .0))
+          (c .before .before .before .before .before .before .before .before .before .before .before .before .before .before .before .before .before .before .before .fail .ensures) (e .ensures),
     )
 
 pub lay-spec : {M : Type 1} → statement M
 lay-spec =
     tie.close
-    (tie.spec
-    Inv-loop
-    μ-loop
-    loop-holds
-    (λ c κs. search needs)
-    (λ c. search needs)
-    (λ c. search needs)
-    (λ c. search needs)
-    (λ c. search needs)
-    (λ c. search needs)
-    (λ c. search needs)
-    (λ c. search needs)
-    (λ c. search needs)
-    returns
-    (λ c κs. let r = turned c .range in (r .from, r .to))
-    (λ c. omega (arith, turned (c .before) .entries))
+    (tie.spec Inv-loop μ-loop loop-holds (λ c κs. search needs) (λ c. search needs) (λ c. search needs) (λ c. search needs)
+    (λ c. search needs) (λ c. search needs) (λ c. search needs) (λ c. search needs) (λ c. search needs) returns
+    (λ c κs. let r = turned c .range in (r .from, r .to)) (λ c. omega (arith, turned (c .before) .entries))
     (λ c. omega (arith, turned (c .before .before .before .before .before .before) .room))
     (λ c. omega (arith, turned (c .before .before .before .before .before .before) .room))
     (λ c. omega (arith, turned (c .before .before .before .before .before .before) .room))
     (λ c. omega (arith, turned (c .before .before .before .before .before .before) .room))
-    (λ c. omega (arith, turned (c .before .before .before .before .before .before) .room))
-    enter-requires
-    (λ c. omega (arith, turned (c .before .before .before .before .before .before .before .before .before .before .before .before .before .before .before .before .before .before .before .before) .entries))
-    (λ c. omega (arith, turned (c .before .before .before .before .before .before .before .before .before .before .before .before .before .before .before .before .before .before .before .before) .less))
-    loop-again)
+    (λ c. omega (arith, turned (c .before .before .before .before .before .before) .room)) enter-requires
+    (λ c. omega (arith, turned (handed-out c) .entries)) (λ c. omega (arith, turned (handed-out c) .less)) loop-again)

@@ -71,20 +71,5 @@ returns-6 c =
 pub deliver-asks-spec : {M : Type 1} → statement M
 deliver-asks-spec =
     tie.close
-    (tie.spec
-    (λ c κs. search needs)
-    returns
-    returns-2
-    returns-3
-    (λ c κs. search needs)
-    returns-4
-    (λ c. search needs)
-    (λ c. search needs)
-    (λ c. search needs)
-    (λ c. search needs)
-    (λ c κs. search needs)
-    (λ c. search needs)
-    (λ c. search needs)
-    add-if5
-    returns-5
-    returns-6)
+    (tie.spec (λ c κs. search needs) returns returns-2 returns-3 (λ c κs. search needs) returns-4 (λ c. search needs) (λ c. search needs)
+    (λ c. search needs) (λ c. search needs) (λ c κs. search needs) (λ c. search needs) (λ c. search needs) add-if5 returns-5 returns-6)

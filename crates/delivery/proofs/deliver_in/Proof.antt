@@ -48,21 +48,6 @@ returns c =
 pub deliver-in-spec : {M : Type 1} → statement M
 deliver-in-spec =
     tie.close
-    (tie.spec
-    (λ c. search needs)
-    (λ c. search needs)
-    (λ c. search needs)
-    (λ c. search needs)
-    (λ c. search needs)
-    (λ c. search needs)
-    total-requires
-    (λ c. search needs)
-    (λ c. search needs)
-    (λ c. search needs)
-    add-delivered
-    (λ c. search needs)
-    (λ c. search needs)
-    serve-requires
-    (λ c. search needs)
-    (λ c. search needs)
-    returns)
+    (tie.spec (λ c. search needs) (λ c. search needs) (λ c. search needs) (λ c. search needs) (λ c. search needs) (λ c. search needs)
+    total-requires (λ c. search needs) (λ c. search needs) (λ c. search needs) add-delivered (λ c. search needs) (λ c. search needs)
+    serve-requires (λ c. search needs) (λ c. search needs) returns)

@@ -89,24 +89,6 @@ returns-2 c =
 pub hand-spec : {M : Type 1} → statement M
 hand-spec =
     tie.close
-    (tie.spec
-    Inv-loop
-    μ-loop
-    (λ c κs. search needs)
-    loop-holds
-    (λ c κs. search needs)
-    (λ c. search needs)
-    (λ c. search needs)
-    (λ c. search needs)
-    returns
-    (λ c. search needs)
-    (λ c. search needs)
-    (λ c. search needs)
-    (λ c. search needs)
-    (λ c. search needs)
-    record-requires
-    (λ c. search needs)
-    (λ c. search needs)
-    loop-again
-    (λ c. search needs)
-    returns-2)
+    (tie.spec Inv-loop μ-loop (λ c κs. search needs) loop-holds (λ c κs. search needs) (λ c. search needs) (λ c. search needs)
+    (λ c. search needs) returns (λ c. search needs) (λ c. search needs) (λ c. search needs) (λ c. search needs) (λ c. search needs)
+    record-requires (λ c. search needs) (λ c. search needs) loop-again (λ c. search needs) returns-2)

@@ -58,17 +58,5 @@ returns-2 c =
 pub handover-spec : {M : Type 1} → statement M
 handover-spec =
     tie.close
-    (tie.spec
-    Inv-loop
-    μ-loop
-    (λ c. search needs)
-    (λ c. search needs)
-    (λ c. search needs)
-    (λ c. search needs)
-    returns
-    add-count
-    (λ c. search needs)
-    (λ c. search needs)
-    (λ c. search needs)
-    loop-again
-    returns-2)
+    (tie.spec Inv-loop μ-loop (λ c. search needs) (λ c. search needs) (λ c. search needs) (λ c. search needs) returns add-count
+    (λ c. search needs) (λ c. search needs) (λ c. search needs) loop-again returns-2)

@@ -61,14 +61,5 @@ returns-2 c =
 pub next-run-spec : {M : Type 1} → statement M
 next-run-spec =
     tie.close
-    (tie.spec
-    Inv-loop
-    μ-loop
-    loop-holds
-    returns
-    (λ c. search needs)
-    (λ c. search needs)
-    (λ c. search needs)
-    (λ c. search needs)
-    loop-again
+    (tie.spec Inv-loop μ-loop loop-holds returns (λ c. search needs) (λ c. search needs) (λ c. search needs) (λ c. search needs) loop-again
     returns-2)

@@ -71,19 +71,5 @@ returns-3 c =
 pub next-unit-spec : {M : Type 1} → statement M
 next-unit-spec =
     tie.close
-    (tie.spec
-    Inv-loop
-    μ-loop
-    (λ c. search needs)
-    (λ c. search needs)
-    (λ c. search needs)
-    add-c
-    mul-left
-    (λ c. search needs)
-    add-t15
-    returns
-    returns-2
-    (λ c. search needs)
-    (λ c. search needs)
-    loop-again
-    returns-3)
+    (tie.spec Inv-loop μ-loop (λ c. search needs) (λ c. search needs) (λ c. search needs) add-c mul-left (λ c. search needs) add-t15 returns
+    returns-2 (λ c. search needs) (λ c. search needs) loop-again returns-3)
