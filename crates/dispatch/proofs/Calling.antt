@@ -62,6 +62,19 @@ as-came instruction.Close prices out n b e = refl
 as-came instruction.Cutoff prices out n b e = refl
 as-came (instruction.Roll days rate) prices out n b e = refl
 
+-- a refusal by its number
+pub unchanged : (b : Book) (x : Instruction) (prices out : List ℕ) (s : State) (k n : ℕ) → k ≡ suc n →
+    TurnIs (beside (callOf x prices out) out (answer k b (lentTo (callOf x prices out)) (effect b (callOf x prices out)))) (refusedTurn (suc n) s) b out
+unchanged b x prices out s k n h =
+    rw h
+    (record {
+      refusal = refl;
+      count = refl;
+      cancelled = refl;
+      book = refl;
+      out = as-came x prices out n b (effect b (callOf x prices out));
+    })
+
 module _ (good : Bool) (b : Book) (x : Instruction) (prices out : List ℕ) (s : State) where
   abbrev call : Call
   call = callOf x prices out
@@ -69,8 +82,7 @@ module _ (good : Bool) (b : Book) (x : Instruction) (prices out : List ℕ) (s :
   refused : (n : ℕ) → firstNo (asksWhere good b call) ≡ suc n →
       TurnIs (beside call out (calledWhere good b call)) (refusedTurn (suc n) s) b out
   unfolding calledWhere
-  refused n h =
-      rw h (record { refusal = refl; count = refl; cancelled = refl; book = refl; out = as-came x prices out n b (effect b call) })
+  refused n h = unchanged b x prices out s (firstNo (asksWhere good b call)) n h
 
   pub too-short : (n : ℕ) → n ≡ firstNo (outputAsks (callOf x [] out)) → (n ≡ 0 → ⊥) →
       TurnIs (beside call out (calledWhere good b call)) (refusedTurn n s) b out

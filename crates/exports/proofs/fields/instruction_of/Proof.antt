@@ -1,0 +1,34 @@
+-- Each arm's kind settles the tests of the definition.
+use mathlib.Core.Path.{_≡_}
+use native.Mathlib.Omega.{arith}
+use Rattle.exports.proofs.Numbers.{other-kind}
+use Rattle.exports.proofs.fields.instruction_of.Statement.{statement}
+use Rattle.exports.proofs.fields.instruction_of.Tie as tie
+
+returns : tie.Need-returns
+returns c = let e : c .before .args .kind ≡ 1 = omega arith in simp e
+
+returns-2 : tie.Need-returns-2
+returns-2 c = let e : c .before .args .kind ≡ 2 = omega arith in simp e
+
+returns-3 : tie.Need-returns-3
+returns-3 c = let e : c .before .args .kind ≡ 3 = omega arith in simp e
+
+returns-4 : tie.Need-returns-4
+returns-4 c = let e : c .before .args .kind ≡ 4 = omega arith in simp e
+
+returns-5 : tie.Need-returns-5
+returns-5 c = let e : c .before .args .kind ≡ 5 = omega arith in simp e
+
+returns-6 : tie.Need-returns-6
+returns-6 c = let e : c .before .args .kind ≡ 6 = omega arith in simp e
+
+returns-7 : tie.Need-returns-7
+returns-7 c =
+    let a = c .before .args in
+    other-kind (a .kind) (a .a) (a .b) (a .c) (a .d) (λ e. omega arith) (λ e. omega arith) (λ e. omega arith) (λ e. omega arith)
+    (λ e. omega arith) (λ e. omega arith)
+
+pub instruction-of-spec : {M : Type 1} → statement M
+instruction-of-spec =
+    tie.close (tie.spec returns returns-2 returns-3 returns-4 returns-5 returns-6 returns-7)

@@ -1,4 +1,0 @@
-pub mod Phases
-pub mod Answering
-pub mod Words
-pub mod InPlace
