@@ -20,9 +20,6 @@ use Rattle.book.specs.Scan.{Lengths}
 abbrev pub stateOf : ℕ → Phase → ℕ → State
 stateOf day phase n = record { day = day; phase = phase; entries = n }
 
-abbrev pub freshState : State
-freshState = stateOf 0 Taking 0
-
 abbrev pub withPhase : State → Phase → State
 withPhase s p = stateOf (s .day) p (s .entries)
 

@@ -1,5 +1,5 @@
-// The book's leaves: signed nets as lots due and lots owed, an issue's rows, the phases, soundness.
-pub mod scan;
+// The book's leaves: signed nets as lots due and lots owed, an issue's rows, the phases, and a book of
+// its state and columns.
 
 use rules::Book;
 use rules::Phase;
@@ -9,10 +9,9 @@ ghost use Prim.Native.Nat.{_<_};
 ghost use lib.ListN.{length};
 ghost use Rattle.rules.specs.Measures.{mostLots, lastDay, sum, dueOf, owedOf};
 ghost use Rattle.rules.specs.Fails.{undelivered};
-ghost use Rattle.rules.specs.Book.{isTaking, isSettling, isCut, withinSize, sound as soundOf, fresh as freshOf, withDay, withNets, withDelivered, withCharges};
+ghost use Rattle.rules.specs.Book.{isTaking, isSettling, isCut, withinSize, fresh as freshOf};
 ghost use Rattle.book.specs.Nets.{Small, Lowered, Raised};
-ghost use Rattle.book.specs.Columns.{withColumns};
-ghost use Rattle.book.specs.States.{freshState, withPhase, withEntries, nextDay};
+ghost use Rattle.book.specs.States.{stateOf, bookIn, withPhase, withEntries, nextDay};
 ghost use Rattle.book.specs.Rows.{Owing};
 
 // The lots due to an account with this net, 0 where it is not positive.
@@ -133,14 +132,44 @@ pub struct State {
     pub entries: usize,
 }
 
-// Day 0, Taking, no entry.
-pub fn first_state() -> State
-    ensures { λ r. ⌜ r ≡ freshState ⌝ }
+// The state of these numbers.
+pub fn state_of(day: u16, phase: Phase, entries: usize) -> State
+    ensures { λ r. ⌜ r ≡ stateOf day phase entries ⌝ }
 {
     State {
-        day: 0,
-        phase: Phase::Taking,
-        entries: 0,
+        day,
+        phase,
+        entries,
+    }
+}
+
+// The book of a state and its columns.
+pub fn book_in(
+    s: State,
+    nets: [i32; 1024],
+    delivered: [u32; 1024],
+    charges: [i64; 64],
+    issues: [u8; 2048],
+    froms: [u8; 2048],
+    tos: [u8; 2048],
+    lots: [u32; 2048],
+    days: [u16; 2048],
+) -> Book
+    ensures { λ r. ⌜ r ≡ bookIn s nets delivered charges issues froms tos lots days ⌝ }
+{
+    let phase = s.phase;
+    Book {
+        day: s.day,
+        phase,
+        nets,
+        delivered,
+        charges,
+        count: s.entries,
+        issues,
+        froms,
+        tos,
+        lots,
+        days,
     }
 }
 
@@ -193,102 +222,4 @@ pub fn fresh() -> Book
         lots: [0; 2048],
         days: [0; 2048],
     }
-}
-
-// The book with other nets.
-pub fn with_nets(b: Book, nets: [i32; 1024]) -> Book
-    ensures { λ r. ⌜ r ≡ withNets b nets ⌝ }
-{
-    let mut next = b;
-    next.nets = nets;
-    next
-}
-
-// The book with other delivered lots.
-pub fn with_delivered(b: Book, delivered: [u32; 1024]) -> Book
-    ensures { λ r. ⌜ r ≡ withDelivered b delivered ⌝ }
-{
-    let mut next = b;
-    next.delivered = delivered;
-    next
-}
-
-// The book with other charges.
-pub fn with_charges(b: Book, charges: [i64; 64]) -> Book
-    ensures { λ r. ⌜ r ≡ withCharges b charges ⌝ }
-{
-    let mut next = b;
-    next.charges = charges;
-    next
-}
-
-// The book with another day and phase.
-pub fn with_day(b: Book, day: u16, phase: Phase) -> Book
-    ensures { λ r. ⌜ r ≡ withDay b day phase ⌝ }
-{
-    let nets = b.nets;
-    let delivered = b.delivered;
-    let charges = b.charges;
-    let issues = b.issues;
-    let froms = b.froms;
-    let tos = b.tos;
-    let lots = b.lots;
-    let days = b.days;
-    Book {
-        day,
-        phase,
-        nets,
-        delivered,
-        charges,
-        count: b.count,
-        issues,
-        froms,
-        tos,
-        lots,
-        days,
-    }
-}
-
-// The book with another ledger, given by its columns.
-pub fn with_columns(
-    b: Book,
-    count: usize,
-    issues: [u8; 2048],
-    froms: [u8; 2048],
-    tos: [u8; 2048],
-    lots: [u32; 2048],
-    days: [u16; 2048],
-) -> Book
-    ensures { λ r. ⌜ r ≡ withColumns b count issues froms tos lots days ⌝ }
-{
-    let mut next = b;
-    next.count = count;
-    next.issues = issues;
-    next.froms = froms;
-    next.tos = tos;
-    next.lots = lots;
-    next.days = days;
-    next
-}
-
-// Is the book sound? Any book is scanned, damaged ones too.
-pub fn sound(b: Book) -> bool
-    ensures { λ r. ⌜ r ≡ soundOf b ⌝ }
-{
-    let day = b.day;
-    let phase = b.phase;
-    let count = b.count;
-    scan::sound_columns(
-        day,
-        phase,
-        &b.nets,
-        &b.delivered,
-        &b.charges,
-        count,
-        &b.issues,
-        &b.froms,
-        &b.tos,
-        &b.lots,
-        &b.days,
-    )
 }

@@ -1,15 +1,12 @@
 // A run in parts: the words that one read gives, as far as they hold whole instructions, run on a book.
-use book::State;
 use feeding::Words;
 use rules::Book;
-use rules::Phase;
 ghost use mathlib.Core.Path.{_≡_};
 ghost use mathlib.Core.Bool.{true};
 ghost use Prim.Native.Nat.{_+_, _*_, _≤_, _<_, _^_};
 ghost use lib.ListN.{length};
 ghost use Rattle.rules.specs.Measures.{outputWords};
 ghost use Rattle.rules.specs.Book.{sound};
-ghost use Rattle.book.specs.States.{stateOf, bookIn};
 ghost use Rattle.turns.specs.Going.{Went};
 ghost use Rattle.parts.specs.Parting.{Room, Parted};
 
@@ -34,47 +31,6 @@ struct Ran {
     book: Book,
 }
 
-// What of a book stands beside its columns.
-fn state_of(day: u16, phase: Phase, entries: usize) -> State
-    ensures { λ r. ⌜ r ≡ stateOf day phase entries ⌝ }
-{
-    State {
-        day,
-        phase,
-        entries,
-    }
-}
-
-// The book of a state and its columns.
-fn book_in(
-    s: State,
-    nets: [i32; 1024],
-    delivered: [u32; 1024],
-    charges: [i64; 64],
-    issues: [u8; 2048],
-    froms: [u8; 2048],
-    tos: [u8; 2048],
-    lots: [u32; 2048],
-    days: [u16; 2048],
-) -> Book
-    ensures { λ r. ⌜ r ≡ bookIn s nets delivered charges issues froms tos lots days ⌝ }
-{
-    let phase = s.phase;
-    Book {
-        day: s.day,
-        phase,
-        nets,
-        delivered,
-        charges,
-        count: s.entries,
-        issues,
-        froms,
-        tos,
-        lots,
-        days,
-    }
-}
-
 // The book's columns are lent to the run of some words, and put together again.
 fn run_on(
     b: Book,
@@ -89,7 +45,7 @@ fn run_on(
     ensures { λ r. ⌜ Went (now (words .entry)) last stray index b (now (text .exit)) (r .used) (r .end) (r .over) (r .book) ⌝ }
 {
     let phase = b.phase;
-    let s = state_of(b.day, phase, b.count);
+    let s = book::state_of(b.day, phase, b.count);
     let mut nets = b.nets;
     let mut delivered = b.delivered;
     let mut charges = b.charges;
@@ -116,7 +72,7 @@ fn run_on(
         text,
     );
     let after = t.state;
-    let book = book_in(
+    let book = book::book_in(
         after,
         nets,
         delivered,
