@@ -1,27 +1,27 @@
 -- A host's numbers: what is asked of a sound book, or of a damaged one, and what a call leaves.
-use mathlib.Core.Path.{_≡_, refl, sym, ap, _∙_}
+use mathlib.Core.Path.{_≡_, sym, ap, _∙_}
 use mathlib.Core.Bool.{Bool, true, false, cond}
-use mathlib.Core.List.{List, [], _∷_}
-use Prim.Native.Nat.{ℕ, suc, _≤_, _<_}
+use mathlib.Core.List.{List, []}
+use Prim.Native.Nat.{ℕ, _≤_, _<_}
 use lib.Dec.{leb}
 use lib.IntN.{ℤ}
 use borrow.Author.Tests.{le-leb, lt-leb}
 use Rattle.rules.specs.declared.Book.{Book}
 use Rattle.rules.specs.declared.Instruction.{Instruction}
-use Rattle.rules.specs.Questions.{ask, firstNo}
+use Rattle.rules.specs.Questions.{firstNo}
 use Rattle.rules.specs.Calls.{Call, Answer, UnitAnswer, outputAsks}
 use Rattle.rules.specs.Run.{callOf}
 use Rattle.laws.proofs.Answers.{said-no}
 use Rattle.book.specs.declared.State.{State}
 use Rattle.book.specs.States.{stateOf, bookIn}
 use Rattle.soundness.specs.Sound.{soundIn}
-use Rattle.inquiry.specs.Units.{unitWhere, unitIn}
+use Rattle.inquiry.specs.Units.{unitIn}
 use Rattle.running.specs.declared.Turn.{Turn}
 use Rattle.running.specs.Turns.{TurnIs}
 use Rattle.dispatch.specs.Dispatch.{asksWhere, calledWhere, calledIn, beside, refusedTurn}
 use Rattle.dispatch.proofs.Calling.{room-of, unchanged, too-short, unsound}
 use Rattle.exports.specs.Fields.{phaseOf, numberOf, isKind}
-use Rattle.exports.specs.Host.{soundAt, dayUnit, dayCalled, Host, CallIs}
+use Rattle.exports.specs.Host.{soundAt, dayUnit, dayCalled, CallIs}
 use Rattle.exports.proofs.Numbers.{back, same-stage}
 
 -- a number above 2 is no phase; with another the scan tells

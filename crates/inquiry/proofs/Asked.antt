@@ -9,7 +9,7 @@ use Rattle.rules.specs.declared.Book.{Book}
 use Rattle.rules.specs.declared.Found.{Found}
 use Rattle.rules.specs.declared.Found.the-variants as found
 use Rattle.rules.specs.Units.{AccountLots}
-use Rattle.rules.specs.Book.{sound, orderIn}
+use Rattle.rules.specs.Book.{orderIn}
 use Rattle.rules.specs.Calls.{foundAnswer, firstAnswer, unit}
 use Rattle.soundness.specs.Sound.{lengthsRight, soundIn}
 use Rattle.units.specs.Runs.{foundOf}

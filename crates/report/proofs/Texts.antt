@@ -1,6 +1,5 @@
 -- Text is added in steps, each behind the last; a number's digits are the fewest that hold it.
 use mathlib.Core.Path.{_≡_, refl, sym, ap, subst, _∙_}
-use mathlib.Core.Bool.{true, false, cond}
 use mathlib.Core.List.{List, [], _∷_, _++_, append-assoc, append-nil}
 use Prim.Native.Nat.{ℕ, zero, suc, _+_, _-_, _/_, _%_, _^_, _≤_, _<_}
 use native.Mathlib.Omega.{arith}

@@ -4,7 +4,7 @@ use mathlib.Core.Bool.{Bool, true, false, _&&_}
 use mathlib.Core.List.{List}
 use Prim.Native.Nat.{ℕ, _≤_, _<_}
 use native.Mathlib.Omega.{arith}
-use lib.Dec.{ltb, eqb}
+use lib.Dec.{eqb}
 use lib.ListN.{length}
 use borrow.Author.Tests.{ltb-true, lt-ltb, le-ltb, eqb-true, eq-eqb, ne-eqb}
 use Rattle.rules.specs.declared.Book.{Book}

@@ -1,24 +1,21 @@
 -- The settled days P1 to P11, and days of our own, as one list with one proof.
 use mathlib.Core.Path.{_≡_, refl}
-use mathlib.Core.Bool.{Bool, true, false}
-use mathlib.Core.List.{List, [], _∷_, _++_, map}
-use Prim.Native.Nat.{ℕ, zero, suc, _-_}
-use lib.ListN.{replicate, take, drop}
-use lib.IntN.{ℤ, pos, negsuc}
-use Rattle.rules.specs.declared.Book.{Book}
+use mathlib.Core.Bool.{true, false}
+use mathlib.Core.List.{List, [], _∷_, _++_}
+use Prim.Native.Nat.{ℕ, _-_}
+use lib.ListN.{replicate, take}
+use lib.IntN.{pos, negsuc}
 use Rattle.rules.specs.declared.Entry.{Entry}
-use Rattle.rules.specs.declared.Line.{Line}
 use Rattle.rules.specs.declared.Name.the-variants as name
 use Rattle.rules.specs.Measures.{unitLots, valueOf, chargeOf}
-use Rattle.rules.specs.Units.{AccountLots, accountLots, units, unitsOfNets, sumLots}
+use Rattle.rules.specs.Units.{accountLots, units, unitsOfNets, sumLots}
 use Rattle.rules.specs.Handover.{handovers, partials}
 use Rattle.rules.specs.Fails.{lacks, fails}
 use Rattle.rules.specs.Ledger.{entry, pairing}
 use Rattle.rules.specs.Book.{conditions, sound, orderIn, orderOf, stockOf, ledgerOf, withLedger, fresh}
-use Rattle.rules.specs.Records.{Rec, recordsIn}
-use Rattle.rules.specs.Calls.{Call, Trade, Close, Deliver, Cutoff, Resolve, PairOff, Roll, Answer, oneUnit, noUnit, someYen, noYen, called, unit, value, charge, issuePartials, issueFails}
-use Rattle.rules.specs.Tape.{readOf, pricesOf, wordsOf, writeOf}
-use Rattle.rules.specs.Run.{Ran, ChargeLine, runOf, answerOf, failLines, chargeLines, line}
+use Rattle.rules.specs.Calls.{Trade, Close, Deliver, Cutoff, Resolve, PairOff, Roll, Answer, oneUnit, noUnit, someYen, noYen, called, unit, value, charge, issuePartials, issueFails}
+use Rattle.rules.specs.Tape.{readOf, pricesOf}
+use Rattle.rules.specs.Run.{Ran, runOf, answerOf, failLines, chargeLines, line}
 use Rattle.rules.specs.Text.{decimal, lineText, failText, chargeText, ranOf, closingText, printedOf}
 use Rattle.rules.specs.Tally.{State, afterAll, start, inIssue}
 

@@ -1,5 +1,5 @@
 -- What units still lack at the cutoff, and the shortfalls laid against it.
-use mathlib.Core.Bool.{Bool, cond, not, _&&_}
+use mathlib.Core.Bool.{Bool, cond, _&&_}
 use mathlib.Core.List.{List, [], _∷_, _++_, map}
 use Prim.Native.Nat.{ℕ, _+_, _-_, min}
 use lib.Dec.{leb, eqb}

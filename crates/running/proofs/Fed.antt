@@ -1,5 +1,5 @@
 -- Demand 3 speaks of this code: what `answer` gives, fed to the tally, leads to the states of a list of calls.
-use mathlib.Core.Path.{_≡_, refl, sym, _∙_}
+use mathlib.Core.Path.{_≡_, refl}
 use mathlib.Core.List.{List, []}
 use Prim.Native.Nat.{ℕ}
 use Rattle.rules.specs.declared.Book.{Book}

@@ -3,8 +3,7 @@
 use mathlib.Core.Path.{_≡_, refl, sym, ap, _∙_}
 use mathlib.Core.Bool.{true}
 use mathlib.Core.List.{List, [], _∷_}
-use Prim.Native.Nat.{ℕ, zero, suc, _+_, _≤_}
-use native.Mathlib.Omega.{arith}
+use Prim.Native.Nat.{ℕ, zero, suc, _≤_}
 use lib.Dec.{leb}
 use lib.ListN.{length, replicate}
 use borrow.Author.Tests.{le-leb}
@@ -12,20 +11,20 @@ use lib.IntN.{ℤ, pos}
 use Rattle.rules.specs.declared.Book.{Book}
 use Rattle.rules.specs.declared.Phase.the-variants.{Settling, Cut}
 use Rattle.rules.specs.Measures.{outputWords}
-use Rattle.rules.specs.Ledger.{isFrom, meet, pairing, charged}
-use Rattle.rules.specs.Book.{entries, ledgerOf, sound, withLedger}
+use Rattle.rules.specs.Ledger.{pairing, charged}
+use Rattle.rules.specs.Book.{entries, sound}
 use Rattle.rules.specs.Records.{words, over}
 use Rattle.rules.specs.Questions.{firstNo, askOutput}
-use Rattle.rules.specs.Calls.{Call, Trade, Close, Deliver, Cutoff, Resolve, PairOff, Roll, Effect, lentTo, HasRoom, asks, ownAsks, effect, called, tradedNets}
+use Rattle.rules.specs.Calls.{Call, Trade, Close, Deliver, Cutoff, Resolve, PairOff, Roll, Effect, lentTo, HasRoom, ownAsks, effect, called, tradedNets}
 use Rattle.laws.proofs.Answers.{said-yes, own-first, refused-as, accepted-as}
 use Rattle.laws.proofs.Ledger.{FullColumns}
-use Rattle.ledger.specs.Columns.{Columns, Whole}
+use Rattle.ledger.specs.Columns.{Whole}
 use Rattle.book.specs.declared.State.{State}
 use Rattle.book.specs.Scan.{LedgerLengths}
-use Rattle.book.specs.States.{bookIn, withPhase, withEntries, nextDay}
+use Rattle.book.specs.States.{withPhase, withEntries, nextDay}
 use Rattle.delivery.specs.Deliver.{Delivered}
 use Rattle.cutoff.specs.declared.Counts.{Counts as CutCounts}
-use Rattle.cutoff.specs.Write.{Lent, lent}
+use Rattle.cutoff.specs.Write.{lent}
 use Rattle.cutoff.specs.All.{WasCutAll}
 use Rattle.resolution.specs.declared.Counts.{Counts}
 use Rattle.pairing.specs.declared.Steps.{Steps}

@@ -6,19 +6,17 @@ use mathlib.Core.List.{List, [], _∷_, _++_, map, append-nil}
 use Prim.Native.Nat.{ℕ, zero, suc, _+_, _-_, _≤_, _<_}
 use native.Mathlib.Omega.{arith}
 use lib.Dec.{eqb}
-use lib.ListN.{length}
 use borrow.Author.Tests.{eqb-true, eqb-false, eq-eqb, ne-eqb}
 use Rattle.rules.specs.declared.Book.{Book}
 use Rattle.rules.specs.declared.Entry.{Entry}
 use Rattle.rules.specs.declared.Phase.the-variants.{Cut}
-use Rattle.rules.specs.Measures.{outputWords, total, dueOf}
+use Rattle.rules.specs.Measures.{total, dueOf}
 use Rattle.rules.specs.Units.{ofAccount}
 use Rattle.rules.specs.Handover.{handed, partials}
 use Rattle.rules.specs.Fails.{Fail}
 use Rattle.rules.specs.Ledger.{isFrom, isTo, lotsOf}
 use Rattle.rules.specs.Book.{isSettling, tabulate, netAt, deliveredTotal, orderOf, ledgerOf, withPhase, withLedger, orderIn}
 use Rattle.rules.specs.Records.{Rec, handover, recordOf}
-use Rattle.rules.specs.Questions.{askOutput, askSound}
 use Rattle.rules.specs.Calls.{writes, Cutoff, issuePartials, issueFails, failEntry, issueEntries, issueRecords, joined, newEntries, cutoffRecords, called}
 use Rattle.rules.specs.Tally.{State, recordsOf}
 use Rattle.laws.proofs.Basics.{byTest, total-append, Every}

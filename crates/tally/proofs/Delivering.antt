@@ -1,8 +1,8 @@
 -- Deliver keeps the invariant: the units that are handed over are the next of the order, so the row
 -- stays a front of it.
 use mathlib.Core.Path.{_≡_, sym, ap, _∙_}
-use mathlib.Core.Bool.{true, false, false≢true}
-use mathlib.Core.List.{List, [], _∷_, _++_, append-nil}
+use mathlib.Core.Bool.{true, false≢true}
+use mathlib.Core.List.{List, [], _++_, append-nil}
 use Prim.Native.Nat.{ℕ, _+_, _-_, _≤_, _<_}
 use native.Mathlib.Omega.{arith}
 use lib.Dec.{eqb}
@@ -10,12 +10,11 @@ use lib.ListN.{length-set}
 use borrow.Author.Tests.{leb-true, eqb-true, eqb-false}
 use Rattle.rules.specs.declared.Phase.{Phase}
 use Rattle.rules.specs.declared.Phase.the-variants.{Taking, Settling, Cut}
-use Rattle.rules.specs.Measures.{outputWords, owedOf}
+use Rattle.rules.specs.Measures.{owedOf}
 use Rattle.rules.specs.Units.{AccountLots, ofAccount}
 use Rattle.rules.specs.Handover.{handed, handovers}
 use Rattle.rules.specs.Book.{isSettling, cell, netAt, deliveredAt, deliveredTotal, orderOf, withDelivered, orderIn}
 use Rattle.rules.specs.Records.{Rec, handover}
-use Rattle.rules.specs.Questions.{askOutput, askSound}
 use Rattle.rules.specs.Calls.{writes, Deliver, raisedDelivered, deliverRecords, called}
 use Rattle.rules.specs.Tally.{State, recordsOf}
 use Rattle.laws.proofs.Basics.{byTest, total-append, Every}

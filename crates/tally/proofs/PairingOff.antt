@@ -13,7 +13,6 @@ use Rattle.rules.specs.declared.Entry.{Entry}
 use Rattle.rules.specs.Measures.{total}
 use Rattle.rules.specs.Ledger.{isFrom, isTo, lotsOf, countOf, firstOf, lower, smallerLots, appended, stepped, hasBoth, paired, pairing}
 use Rattle.rules.specs.Book.{ledgerOf}
-use Rattle.rules.specs.Questions.{askSound}
 use Rattle.rules.specs.Calls.{PairOff, called}
 use Rattle.rules.specs.Tally.{State}
 use Rattle.laws.proofs.Basics.{byTest, either, total-append, Every, each-map}

@@ -1,8 +1,8 @@
 -- Every book that a list of calls reaches is sound, and a refused call leaves book and tally as they were.
-use mathlib.Core.Path.{_≡_, refl, ap}
+use mathlib.Core.Path.{_≡_, refl}
 use mathlib.Core.Bool.{true}
 use mathlib.Core.List.{List, [], _∷_}
-use Prim.Native.Nat.{ℕ, zero, suc, _<_}
+use Prim.Native.Nat.{_<_}
 use native.Mathlib.Omega.{arith}
 use Rattle.rules.specs.Book.{sound, fresh}
 use Rattle.rules.specs.Calls.{Call, called}

@@ -2,17 +2,15 @@
 -- the 11s hand as much to those it was owed to.
 use mathlib.Core.Path.{refl}
 use mathlib.Core.Bool.{cond}
-use mathlib.Core.List.{List, [], _∷_}
+use mathlib.Core.List.{List, []}
 use Prim.Native.Nat.{ℕ, _≤_, _<_}
 use native.Mathlib.Omega.{arith}
 use lib.Dec.{lit<}
 use borrow.Author.Tests.{leb-true}
 use Rattle.rules.specs.declared.Entry.{Entry}
-use Rattle.rules.specs.Measures.{outputWords}
 use Rattle.rules.specs.Ledger.{isFrom, isTo, lotsOf, meet, met}
 use Rattle.rules.specs.Book.{ledgerOf, withLedger}
 use Rattle.rules.specs.Records.{recordOf}
-use Rattle.rules.specs.Questions.{askOutput, askSound}
 use Rattle.rules.specs.Calls.{writes, Resolve, resolveRecords, called}
 use Rattle.rules.specs.Tally.{State}
 use Rattle.laws.proofs.Basics.{each-map}

@@ -2,9 +2,8 @@
 -- go on summing to 0; today's numbers are 0 in book and tally.
 use mathlib.Core.Path.{_≡_, refl, _∙_}
 use mathlib.Core.Bool.{true, false, false≢true}
-use mathlib.Core.List.{List, [], _∷_}
+use mathlib.Core.List.{List}
 use Prim.Native.Nat.{ℕ}
-use native.Mathlib.Omega.{arith}
 use lib.ListN.{length-replicate}
 use lib.IntN.{pos}
 use Rattle.rules.specs.declared.Phase.{Phase}

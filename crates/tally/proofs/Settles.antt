@@ -1,18 +1,16 @@
 -- What an accepted cutoff settles: the house holds nothing, and each due and each owed is accounted for.
 use mathlib.Core.Path.{_≡_, refl}
 use mathlib.Core.Bool.{true, cond}
-use mathlib.Core.List.{List, [], _∷_, _++_}
+use mathlib.Core.List.{List, [], _++_}
 use Prim.Native.Nat.{ℕ, _+_, _<_}
 use native.Mathlib.Omega.{arith}
-use lib.ListN.{length}
 use lib.IntN.{ℤ, pos, _-ℤ_}
 use Rattle.rules.specs.declared.Book.{Book}
 use Rattle.rules.specs.declared.Phase.the-variants.{Cut}
-use Rattle.rules.specs.Measures.{outputWords, dueOf, owedOf}
+use Rattle.rules.specs.Measures.{dueOf, owedOf}
 use Rattle.rules.specs.Units.{sumLots, ofAccount}
 use Rattle.rules.specs.Ledger.{isFrom, isTo}
 use Rattle.rules.specs.Book.{isSettling, netAt, ledgerOf, withPhase, withLedger, orderIn}
-use Rattle.rules.specs.Questions.{askOutput, askSound}
 use Rattle.rules.specs.Calls.{writes, Cutoff, called, newEntries, cutoffRecords}
 use Rattle.rules.specs.Tally.{State, Tally, answered, after, recordsOf, inIssue, failsTo, failsBy}
 use Rattle.laws.proofs.Basics.{total-append}

@@ -1,5 +1,5 @@
 -- trade's questions from each one on, and what it means that none is answered 'no'.
-use mathlib.Core.Path.{_≡_, refl, sym, ap, _∙_}
+use mathlib.Core.Path.{_≡_, refl, ap}
 use mathlib.Core.Bool.{Bool, true, false, not, _&&_}
 use mathlib.Core.List.{List}
 use Prim.Native.Nat.{ℕ, _+_, _≤_, _<_}
@@ -10,7 +10,7 @@ use lib.ListN.{length, take}
 use borrow.Author.Tests.{leb-true, eqb-false, not-true, le-leb, lt-leb, eq-eqb, ne-eqb}
 use Rattle.rules.specs.declared.Book.{Book}
 use Rattle.rules.specs.declared.Phase.{Phase}
-use Rattle.rules.specs.Measures.{mostLots, between}
+use Rattle.rules.specs.Measures.{mostLots}
 use Rattle.rules.specs.Book.{isTaking, withinSize, netAt, sound}
 use Rattle.rules.specs.Questions.{Question, firstNo}
 use Rattle.rules.specs.Calls.{tradeAsks}

@@ -5,10 +5,6 @@ use lib.Seq.{length-take-le}
 use borrow.Author.Needs.{needs}
 use Rattle.feeding.proofs.next.Statement.{statement}
 use Rattle.feeding.proofs.next.Tie as tie
-use Rattle.feeding.proofs.next.Reads as reads
-use Rattle.feeding.proofs.next.Lts as lts
-use Rattle.feeding.proofs.decode.Reads as decode-reads
-use Rattle.feeding.proofs.refill.Reads as refill-reads
 
 -- src/input.rt:87:24
 slice-aggregate-decode : tie.Need-slice-aggregate-decode

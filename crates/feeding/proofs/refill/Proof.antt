@@ -2,7 +2,7 @@
 use mathlib.Core.List.{_++_}
 use Prim.Native.Nat.{_-_}
 use native.Mathlib.Omega.{arith}
-use lib.ListN.{length, take, drop}
+use lib.ListN.{length, drop}
 use denote.Ref.{now}
 use Rattle.feeding.proofs.Bytes.{refilled}
 use borrow.Author.Needs.{needs}

@@ -4,9 +4,6 @@ use Rattle.rules.specs.declared.Entry.{Entry}
 use borrow.Author.Needs.{needs}
 use Rattle.ledger.proofs.left_of.Statement.{statement}
 use Rattle.ledger.proofs.left_of.Tie as tie
-use Rattle.ledger.proofs.left_of.Reads as reads
-use Rattle.ledger.proofs.left_of.Lts as lts
-use Rattle.entries.proofs.met.Reads as met-reads
 
 returns : tie.Need-returns
 returns c = ap (λ (e : Entry). e .lots) (c .met .ensures)

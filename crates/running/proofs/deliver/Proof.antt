@@ -1,5 +1,5 @@
 -- With no 'no' the delivery is made in place.
-use mathlib.Core.Path.{refl, sym, _∙_}
+use mathlib.Core.Path.{sym, _∙_}
 use denote.Ref.{now}
 use Rattle.rules.specs.declared.Book.{Book}
 use Rattle.rules.specs.Calls.{Deliver}

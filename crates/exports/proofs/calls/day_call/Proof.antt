@@ -1,15 +1,13 @@
 -- The kind, question 1 and the phase's number are asked; then the call is made, and its numbers are put in their places.
 use mathlib.Core.Path.{_≡_, refl, sym, _∙_}
-use mathlib.Core.Bool.{true, false}
+use mathlib.Core.Bool.{true}
 use borrow.Author.Tests.{not-true, not-false}
 use Rattle.rules.specs.declared.Instruction.{Instruction}
-use Rattle.rules.specs.Run.{callOf}
 use denote.Ref.{now}
 use Rattle.rules.specs.declared.Book.{Book}
 use Rattle.book.specs.declared.State.{State}
 use Rattle.book.specs.States.{stateOf, bookIn}
 use Rattle.exports.specs.Fields.{phaseOf, isKind, instructionOf}
-use Rattle.exports.specs.Host.{dayCalled}
 use Rattle.exports.proofs.Hosting.{no-kind, short, no-phase, made, as-it-came, as-turned}
 use borrow.Author.Needs.{needs}
 use Rattle.exports.proofs.calls.day_call.Statement.{statement}

@@ -3,7 +3,6 @@ use denote.Ref.{now}
 use Rattle.rules.specs.declared.Book.{Book}
 use Rattle.book.specs.declared.State.{State}
 use Rattle.book.specs.States.{stateOf, bookIn}
-use Rattle.rules.specs.declared.Found.{Found}
 use Rattle.rules.specs.Calls.{foundAnswer}
 use Rattle.inquiry.proofs.Asked.{refused-sound}
 use Rattle.exports.specs.Fields.{phaseOf}
