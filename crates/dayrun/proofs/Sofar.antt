@@ -6,14 +6,14 @@ use Prim.Native.Nat.{ℕ, zero, suc, _+_, _-_, _*_, _%_, _≤_, _<_}
 use native.Mathlib.Omega.{arith}
 use lib.Dec.{eqb}
 use lib.IntN.{ℤ, pos, negsuc}
-use lib.ListN.{length, take, drop, length-take, length-append}
+use lib.ListN.{length, take, drop, length-append}
 use lib.Seq.{take-nil, drop-nil, take-append-seam, drop-append-seam, length-take-le}
 use Rattle.io.specs.Counts.{clamped}
 use Rattle.rules.specs.declared.Book.{Book}
 use Rattle.rules.specs.Bytes.{wordsIn, strayIn, saysEnd, saysFailed}
 use Rattle.rules.specs.Book.{fresh, sound}
-use Rattle.rules.specs.Run.{Ran, runOf, runRest, stopped}
-use Rattle.rules.specs.Text.{linesText, ranOf, closingText, printedOf, PrintedAt}
+use Rattle.rules.specs.Run.{Ran, runRest, stopped}
+use Rattle.rules.specs.Text.{linesText, ranOf, closingText, printedOf}
 use Rattle.laws.proofs.Sound.{sound-parts}
 use Rattle.tape.proofs.Run.{run-start}
 use Rattle.feeding.proofs.WordLaws.{tailIn, words-append, words-tail, words-length, words-from, stray-from}

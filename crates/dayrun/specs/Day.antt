@@ -5,7 +5,6 @@ use mathlib.Core.List.{List}
 use Prim.Native.Nat.{ℕ, _+_, _-_, _≤_, _<_}
 use lib.ListN.{length, take, drop}
 use Rattle.rules.specs.Book.{sound}
-use Rattle.rules.specs.Run.{Ran}
 use Rattle.rules.specs.Text.{linesText, ranOf, printedOf, PrintedAt}
 use Rattle.feeding.specs.declared.Words.{Words}
 use Rattle.feeding.specs.Fed.{Fed}

@@ -8,7 +8,7 @@ use parts::Place;
 use rules::Book;
 ghost use mathlib.Core.Path.{_≡_};
 ghost use mathlib.Core.Bool.{true, false};
-ghost use Prim.Native.Nat.{_+_, _≤_, _<_, _^_};
+ghost use Prim.Native.Nat.{_+_, _<_, _^_};
 ghost use lib.ListN.{length};
 ghost use Rattle.dayrun.specs.Day.{Buffers, Standing, Stepped, Shown, Played, Whole};
 

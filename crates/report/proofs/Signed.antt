@@ -2,14 +2,14 @@
 use mathlib.Core.Path.{_≡_, refl, sym, ap, _∙_}
 use mathlib.Core.Bool.{true, false}
 use mathlib.Core.List.{_∷_}
-use Prim.Native.Nat.{ℕ, suc, _+_, _-_, _<_, _≤_, _^_}
+use Prim.Native.Nat.{ℕ, _-_, _≤_}
 use native.Mathlib.Omega.{arith}
 use borrow.Author.Tests.{ltb-true}
 use lib.Dec.{T}
 use lib.IntN.{ℤ, pos, negsuc, natAbs}
 use lib.Signed.{ltZ, nonNeg}
 use mir.Syntax.{Width, w64}
-use mir.Val.{Fits, SFits, toZ, ofZ, bits, hbits}
+use mir.Val.{Fits, SFits, toZ, ofZ, bits}
 use mir.ValLaws.{toZ-ofZ, half-full}
 use Rattle.rules.specs.Measures.{owedOf}
 use Rattle.rules.specs.Text.{decimal, signed}

@@ -5,10 +5,6 @@ use lib.Seq.{length-take-le}
 use borrow.Author.Needs.{needs}
 use Rattle.feeding.proofs.next.Statement.{statement}
 use Rattle.feeding.proofs.next.Tie as tie
-use Rattle.feeding.proofs.next.Reads as reads
-use Rattle.feeding.proofs.next.Lts as lts
-use Rattle.feeding.proofs.decode.Reads as decode-reads
-use Rattle.feeding.proofs.refill.Reads as refill-reads
 
 -- src/input.rt:87:24
 slice-aggregate-decode : tie.Need-slice-aggregate-decode
@@ -21,7 +17,7 @@ decode-requires c κs =
     let r = c .before .before .before .before .refill in
     let s = c .before .before .before .before .before .before .before .before in
     let e = length-take-le (r .result .end) (r .last .0) (r .ensures .fits) in
-    omega (arith, e, r .ensures .fits, s .pre .2)
+    omega (arith, e, r .ensures .fits, s .pre .1)
 
 pub next-spec : {M : Type 1} → statement M
 next-spec =

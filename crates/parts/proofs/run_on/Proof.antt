@@ -1,6 +1,5 @@
 -- The columns are the book's own, so they have its lengths; the book behind the run is put together of them again.
 use mathlib.Core.Path.{_≡_, refl, sym, ap, _∙_}
-use native.Mathlib.Omega.{arith}
 use Rattle.rules.specs.Book.{sound}
 use Rattle.book.specs.declared.State.{State}
 use Rattle.book.specs.Scan.{Lengths}

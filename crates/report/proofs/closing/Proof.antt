@@ -1,5 +1,4 @@
 -- The entries' lines, and the charges' behind them.
-use native.Mathlib.Omega.{arith}
 use Rattle.rules.specs.Text.{closingText}
 use Rattle.report.proofs.Texts.{added-then}
 use borrow.Author.Needs.{needs}

@@ -1,5 +1,4 @@
 -- By the two cases.
-use borrow.Author.Needs.{needs}
 use Rattle.turns.proofs.is_enough.Statement.{statement}
 use Rattle.turns.proofs.is_enough.Tie as tie
 

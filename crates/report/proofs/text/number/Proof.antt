@@ -1,11 +1,8 @@
 -- The digits in the buffer are the number's, and at most twenty.
 use mathlib.Core.Path.{_≡_, ap, _∙_}
-use mathlib.Core.List.{List}
-use Prim.Native.Nat.{_≤_}
 use native.Mathlib.Omega.{arith}
 use lib.ListN.{length, take}
 use Rattle.rules.specs.Text.{decimal}
-use Rattle.report.specs.Added.{Added}
 use Rattle.report.proofs.Texts.{decimal-length, decimal-digits, added-as}
 use borrow.Author.Needs.{needs}
 use Rattle.report.proofs.text.number.Statement.{statement}

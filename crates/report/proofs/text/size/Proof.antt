@@ -1,5 +1,4 @@
 -- A negative number z is −1 − k with k = −1 − z, which fits; its size is k + 1.
-use mathlib.Core.Path.{_∙_}
 use native.Mathlib.Omega.{arith}
 use mir.Syntax.{w64}
 use Rattle.book.proofs.Signs.{owed-flip, Flipped}
