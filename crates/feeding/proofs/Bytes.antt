@@ -8,8 +8,8 @@ use native.Mathlib.Numerals.{add-one}
 use borrow.Author.Tests.{le-ltb, eq-eqb, ne-eqb, eqb-true, eqb-false}
 use lib.Dec.{eqb}
 use lib.IntN.{ℤ, pos, negsuc}
-use lib.ListN.{length, getD, set, take, drop, length-drop}
-use lib.Seq.{drop-cons, take-suc, take-suc-set, getD-drop, drop-drop, drop-set-lt, length-take-le, take-append-seam, take-add}
+use lib.ListN.{length, getD, set, take, drop, length-drop, length-append}
+use lib.Seq.{drop-cons, take-suc-set, length-take-le, take-append-seam, take-length, take-add}
 use lib.Signed.{ltZ}
 use mir.Syntax.{w64}
 use mir.Val.{SFits, toZ, ofZ}
@@ -63,34 +63,12 @@ decode-ends bytes words all n h q =
     ∙ ap (λ (l : List ℕ). take n words ++ l) (sym (words-none (drop (4 * n) bytes) (rw length-drop (omega arith))))
     ∙ q
 
-kept-at : (l l₀ : List ℕ) (i start : ℕ) → drop i l ≡ drop i l₀ → getD l (start + i) 0 ≡ getD l₀ (start + i) 0
-kept-at l l₀ i start d =
-    let e : start + i ≡ i + start = omega arith in
-    ap (λ (k : ℕ). getD l k 0) e
-    ∙ sym (getD-drop i l start 0)
-    ∙ ap (λ (m : List ℕ). getD m start 0) d
-    ∙ getD-drop i l₀ start 0
-    ∙ ap (λ (k : ℕ). getD l₀ k 0) (sym e)
-
--- a turn of the move: what is moved stands in front, what is not stays
-pub shift-front : (bytes₀ bytes : List ℕ) (start i : ℕ) → start + i < length bytes → length bytes ≡ length bytes₀ →
-    take i bytes ≡ take i (drop start bytes₀) → drop i bytes ≡ drop i bytes₀ →
-    take (i + 1) (set bytes i (getD bytes (start + i) 0)) ≡ take (i + 1) (drop start bytes₀)
-shift-front bytes₀ bytes start i h l q d =
-    let same : getD bytes (start + i) 0 ≡ getD (drop start bytes₀) i 0 =
-    kept-at bytes bytes₀ i start d ∙ sym (getD-drop start bytes₀ i 0) in
-    rw (add-one i)
-    (take-suc-set bytes i (getD bytes (start + i) 0) (omega arith)
-    ∙ ap (λ (k : List ℕ). k ++ (getD bytes (start + i) 0 ∷ [])) q
-    ∙ ap (λ (x : ℕ). take i (drop start bytes₀) ++ (x ∷ [])) same
-    ∙ sym (take-suc (drop start bytes₀) i 0 (rw length-drop (omega arith))))
-
-pub shift-rest : (bytes₀ bytes : List ℕ) (i x : ℕ) → drop i bytes ≡ drop i bytes₀ → drop (i + 1) (set bytes i x) ≡ drop (i + 1) bytes₀
-shift-rest bytes₀ bytes i x d =
-    drop-set-lt (i + 1) bytes i x (omega arith)
-    ∙ sym (drop-drop 1 i bytes)
-    ∙ ap (drop 1) d
-    ∙ drop-drop 1 i bytes₀
+-- bytes that were copied to the front stand there
+pub copied : (part tail all : List ℕ) (n m : ℕ) → n ≡ length part → m ≡ length part → all ≡ take m part ++ tail → take n all ≡ part
+copied part tail all n m e d h =
+    ap (take n) (h ∙ ap (λ (l : List ℕ). l ++ tail) (ap (λ (k : ℕ). take k part) d ∙ take-length part))
+    ∙ ap (λ (k : ℕ). take k (part ++ tail)) e
+    ∙ take-append-seam part tail
 
 -- What a read answered
 
@@ -111,22 +89,21 @@ says-end (pos k) n room h e =
 says-end (negsuc k) n room h e = refl
 
 -- bytes that came behind those that were kept
-pub refilled : (before shifted back : List ℕ) (start end room : ℕ) (said : ℤ) (r : Fill) → end - start ≤ length shifted →
-    length (take (end - start) shifted ++ back) ≡ length before → room ≡ length before - (end - start) → end - start ≤ length before →
-    take (end - start) shifted ≡ take (end - start) (drop start before) → Took said (end - start) room r →
-    Refilled before (take (end - start) shifted ++ back) start end r
-refilled before shifted back start end room said r h l m w k t₀ =
-    let left = end - start in
+pub refilled : (before shifted back : List ℕ) (start left room : ℕ) (said : ℤ) (r : Fill) → left ≤ length shifted →
+    length (take left shifted ++ back) ≡ length before → room ≡ length before - left →
+    take left shifted ≡ take left (drop start before) → Took said left room r → Refilled before (take left shifted ++ back) start left r
+refilled before shifted back start left room said r h l m k t₀ =
     let after = take left shifted ++ back in
     let t = subst (λ (j : ℕ). Took said left j r) m t₀ in
     let n = clamped said (length before - left) in
     let few = clamped-le said (length before - left) in
-    let seam = ap (λ (j : ℕ). take j after) (sym (length-take-le left shifted h)) ∙ take-append-seam (take left shifted) back in
+    let size = length-take-le left shifted h in
+    let seam = ap (λ (j : ℕ). take j after) (sym size) ∙ take-append-seam (take left shifted) back in
     record {
       said = said;
       came = take n (drop left after);
       took = t;
-      fits = omega (arith, t .end, few);
+      fits = omega (arith, t .end, few, size, length-append (take left shifted) back);
       many = length-take-le n (drop left after) (omega (arith, length-drop left after, few));
       filled = ap (λ (j : ℕ). take j after) (t .end) ∙ take-add left n after ∙ ap (λ (j : List ℕ). j ++ take n (drop left after)) (seam ∙ k);
     }

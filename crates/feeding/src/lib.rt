@@ -4,7 +4,7 @@ ghost use mathlib.Core.Path.{_≡_};
 ghost use Prim.Native.Nat.{_+_, _-_, _*_, _≤_, _<_, _^_};
 ghost use lib.ListN.{length, getD, take, drop};
 ghost use Rattle.rules.specs.Bytes.{wordOf};
-ghost use Rattle.feeding.specs.Fed.{Decoded, Took, Refilled, Fed};
+ghost use Rattle.feeding.specs.Fed.{Decoded, Few, Took, Refilled, Fed};
 
 // Where the bytes in the buffer end, whether the input has ended, and whether the read failed.
 pub struct Fill {
@@ -45,16 +45,15 @@ fn decode(bytes: &[u8], words: &mut [u32]) -> usize
     n
 }
 
-// The bytes from `start` on go to the front, `left` of them.
-fn shift(bytes: &mut [u8], start: usize, left: usize)
-    requires { ⌜ start + left ≤ length (now bytes) ⌝ }
-    ensures { λ _. ⌜ take left (now (bytes .exit)) ≡ take left (drop start (now (bytes .entry))) ⌝ }
+// The bytes from `start` to `end`, fewer than seventeen words and a stray, go to the front.
+fn shift(buffer: &mut [u8], start: usize, end: usize) -> usize
+    requires { ⌜ Few start end (now buffer) ⌝ }
+    ensures { λ r. ⌜ (r ≡ end - start) × (take (end - start) (now (buffer .exit)) ≡ take (end - start) (drop start (now (buffer .entry)))) ⌝ }
 {
-    let mut i = 0;
-    while i < left {
-        bytes[i] = bytes[start + i];
-        i += 1;
-    }
+    let mut kept = [0u8; 68];
+    let left = bytes::copy(&buffer[start..end], &mut kept);
+    bytes::copy(&kept[..left], buffer);
+    left
 }
 
 // What a read answered: behind the bytes left come as many as it says. There is room for a byte, so an
@@ -74,14 +73,13 @@ fn took(got: isize, left: usize, room: &[u8]) -> Fill
 }
 
 // The bytes not yet used go to the front, and one read fills up behind them.
-fn refill(bytes: &mut [u8], start: usize, end: usize) -> Fill
-    requires { ⌜ (start ≤ end) × (end ≤ length (now bytes)) × (end - start < length (now bytes)) ⌝ }
-    ensures { λ r. ⌜ Refilled (now (bytes .entry)) (now (bytes .exit)) start end r ⌝ }
+fn refill(buffer: &mut [u8], start: usize, end: usize) -> Fill
+    requires { ⌜ Few start end (now buffer) ⌝ }
+    ensures { λ r. ⌜ Refilled (now (buffer .entry)) (now (buffer .exit)) start (end - start) r ⌝ }
 {
-    let left = end - start;
-    shift(bytes, start, left);
-    let got = libc::read(libc::STDIN_FILENO, &mut bytes[left..]);
-    took(got, left, &bytes[left..])
+    let left = shift(buffer, start, end);
+    let got = libc::read(libc::STDIN_FILENO, &mut buffer[left..]);
+    took(got, left, &buffer[left..])
 }
 
 // The words in the buffer: how many, where their bytes end, and whether the input has ended or could not
@@ -94,13 +92,13 @@ pub struct Words {
 }
 
 // The words of the bytes not yet used and of those that one more read gives.
-pub fn next(bytes: &mut [u8], words: &mut [u32], start: usize, end: usize) -> Words
-    requires { ⌜ (start ≤ end) × (end ≤ length (now bytes)) × (end - start < length (now bytes)) × (length (now bytes) ≤ 4 * length (now words)) ⌝ }
-    ensures { λ r. ⌜ Fed (now (bytes .entry)) (now (bytes .exit)) (now (words .exit)) start end r ⌝ }
+pub fn next(buffer: &mut [u8], words: &mut [u32], start: usize, end: usize) -> Words
+    requires { ⌜ Few start end (now buffer) × (length (now buffer) ≤ 4 * length (now words)) ⌝ }
+    ensures { λ r. ⌜ Fed (now (buffer .entry)) (now (buffer .exit)) (now (words .exit)) start end r ⌝ }
 {
-    let f = refill(bytes, start, end);
+    let f = refill(buffer, start, end);
     let filled = f.end;
-    let count = decode(&bytes[..filled], words);
+    let count = decode(&buffer[..filled], words);
     Words {
         count,
         end: filled,

@@ -8,25 +8,29 @@ use native.Mathlib.Nat.{pow-suc}
 use borrow.Author.Tests.{lt-ltb, le-ltb, eq-eqb, ne-eqb}
 use lib.Dec.{ltb, eqb}
 use lib.IntN.{ℤ, pos, natAbs}
-use lib.ListN.{length, getD, set, take, drop, length-append}
-use lib.Seq.{take-suc, take-suc-set, drop-cons}
+use lib.ListN.{length, getD, take, drop, length-append}
+use lib.Seq.{drop-cons, length-take-le, take-length, take-append-seam}
 use Rattle.io.specs.Digits.{digits, glyph, Fewest}
 use Rattle.rules.specs.Run.{chargeLinesFrom}
 use Rattle.laws.proofs.Basics.{byTest, either}
 use Rattle.rules.specs.Text.{digitsUpTo, decimal, chargeText, chargesText, yenOf}
 use Rattle.report.specs.Added.{Added}
 
--- one byte more of a part
-pub byte-more : (text₀ text part : List ℕ) (at i : ℕ) → i < length part → at + i < length text →
-    take (at + i) text ≡ take at text₀ ++ take i part →
-    take (at + (i + 1)) (set text (at + i) (getD part i 0)) ≡ take at text₀ ++ take (i + 1) part
-byte-more text₀ text part at i h g e =
-    let s : at + (i + 1) ≡ suc (at + i) = omega arith in
-    rw (s, add-one i)
-    (take-suc-set text (at + i) (getD part i 0) g
-    ∙ ap (λ (l : List ℕ). l ++ (getD part i 0 ∷ [])) e
-    ∙ append-assoc (take at text₀) (take i part) (getD part i 0 ∷ [])
-    ∙ ap (λ (l : List ℕ). take at text₀ ++ l) (sym (take-suc part i 0 h)))
+-- a part copied behind the first `at` bytes
+pub added-behind : (text part last tail rest : List ℕ) (at n m : ℕ) → at ≤ length text → n ≡ length part → m ≡ length part → last ≡ take m part ++ tail →
+    Added (length part) text (take at text ++ (last ++ rest)) at (at + n) part
+added-behind text part last tail rest at n m h e d b =
+    let front = take at text ++ part in
+    let size : at + n ≡ length front = omega (arith, e, length-append (take at text) part, length-take-le at text h) in
+    let whole : take m part ≡ part = ap (λ (k : ℕ). take k part) d ∙ take-length part in
+    let back : last ++ rest ≡ part ++ (tail ++ rest) = ap (λ (l : List ℕ). l ++ rest) (b ∙ ap (λ (l : List ℕ). l ++ tail) whole) ∙ append-assoc part tail rest in
+    record {
+      few = omega arith;
+      ends = omega arith;
+      front = ap (λ (k : ℕ). take k (take at text ++ (last ++ rest))) size
+          ∙ ap (take (length front)) (ap (λ (l : List ℕ). take at text ++ l) back ∙ sym (append-assoc (take at text) part (tail ++ rest)))
+          ∙ take-append-seam front (tail ++ rest);
+    }
 
 pub added-none : (t : List ℕ) (a : ℕ) → Added 0 t t a a []
 added-none t a = record { few = omega arith; ends = omega arith; front = sym (append-nil (take a t)) }

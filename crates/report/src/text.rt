@@ -15,12 +15,7 @@ fn put(text: &mut [u8], at: usize, part: &[u8]) -> usize
     requires { ⌜ at + length (now part) ≤ length (now text) ⌝ }
     ensures { λ r. ⌜ Added (length (now (part .entry))) (now (text .entry)) (now (text .exit)) at r (now (part .entry)) ⌝ }
 {
-    let mut i = 0;
-    while i < part.len() {
-        text[at + i] = part[i];
-        i += 1;
-    }
-    at + i
+    at + bytes::copy(part, &mut text[at..])
 }
 
 // A number's decimal digits.

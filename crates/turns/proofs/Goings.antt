@@ -37,25 +37,16 @@ use Rattle.turns.specs.Going.{Begins, rollsOf, Priced, Stepped, enough, 
 -- The answer to the instruction that some words begin with
 
 -- a roll's prices are read out of its words, and no other instruction has any
-pub priced-roll : (ws lent prices : List ℕ) (x : Instruction) → Begins ws x → rollsOf x ≡ true → length lent ≡ 16 →
-    prices ≡ sets lent 0 (pricesOf ws) → Priced ws x prices
-priced-roll ws lent prices (instruction.Roll d r) g t h p =
-    λ out. ap (λ (ps : List ℕ). callOf (instruction.Roll d r) ps out) (p ∙ roll-prices ws lent d r (g .count) (g .read) h)
-priced-roll ws lent prices (instruction.Trade i f t x) g e h p = λ out. refl
-priced-roll ws lent prices (instruction.Deliver i a x) g e h p = λ out. refl
-priced-roll ws lent prices (instruction.Resolve i a x) g e h p = λ out. refl
-priced-roll ws lent prices (instruction.PairOff i a) g e h p = λ out. refl
-priced-roll ws lent prices instruction.Close g e h p = λ out. refl
-priced-roll ws lent prices instruction.Cutoff g e h p = λ out. refl
-
-pub priced-other : (ws prices : List ℕ) (x : Instruction) → rollsOf x ≡ false → Priced ws x prices
-priced-other ws prices (instruction.Roll d r) e = absurd (let k : _≡_ {A = ℕ} 0 1 = cc in omega arith)
-priced-other ws prices (instruction.Trade i f t x) e = λ out. refl
-priced-other ws prices (instruction.Deliver i a x) e = λ out. refl
-priced-other ws prices (instruction.Resolve i a x) e = λ out. refl
-priced-other ws prices (instruction.PairOff i a) e = λ out. refl
-priced-other ws prices instruction.Close e = λ out. refl
-priced-other ws prices instruction.Cutoff e = λ out. refl
+pub priced : (ws lent prices : List ℕ) (x : Instruction) → Begins ws x → length lent ≡ 16 → (rollsOf x ≡ true → prices ≡ sets lent 0 (pricesOf ws)) →
+    Priced ws x prices
+priced ws lent prices (instruction.Roll d r) g h p =
+    λ out. ap (λ (ps : List ℕ). callOf (instruction.Roll d r) ps out) (p refl ∙ roll-prices ws lent d r (g .count) (g .read) h)
+priced ws lent prices (instruction.Trade i f t x) g h p = λ out. refl
+priced ws lent prices (instruction.Deliver i a x) g h p = λ out. refl
+priced ws lent prices (instruction.Resolve i a x) g h p = λ out. refl
+priced ws lent prices (instruction.PairOff i a) g h p = λ out. refl
+priced ws lent prices instruction.Close g h p = λ out. refl
+priced ws lent prices instruction.Cutoff g h p = λ out. refl
 
 -- number, count and book are those of the run
 pub run-answer : (b b′ : Book) (t : Turn) (ws prices out : List ℕ) (x : Instruction) → Priced ws x prices → outputWords ≤ length out →

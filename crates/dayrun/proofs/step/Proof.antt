@@ -12,7 +12,10 @@ use Rattle.dayrun.proofs.step.Tie as tie
 next-requires : tie.Need-next-requires
 next-requires c κs =
     let s = c .before .before .before .before .before .before in
-    (s .pre .1 .order, search needs, let k = s .pre .1 .few (s .pre .2) in omega (arith, s .pre .0 .input), omega (arith, s .pre .0 .input, s .pre .0 .tape))
+    let b = s .pre .0 in (
+      record { order = s .pre .1 .order; within = omega (arith, s .pre .1 .within, b .input); few = s .pre .1 .few (s .pre .2); room = omega (arith, b .input) },
+      omega (arith, b .input, b .tape),
+    )
 
 slice-aggregate-part : tie.Need-slice-aggregate-part
 slice-aggregate-part c = let n = c .before .before .before .before .before .next in sym (length-take-le (n .result .count) (n .last .1 .0) (n .ensures .decoded .fits))

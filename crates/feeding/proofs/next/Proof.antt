@@ -17,7 +17,7 @@ decode-requires c κs =
     let r = c .before .before .before .before .refill in
     let s = c .before .before .before .before .before .before .before .before in
     let e = length-take-le (r .result .end) (r .last .0) (r .ensures .fits) in
-    omega (arith, e, r .ensures .fits, s .pre .2)
+    omega (arith, e, r .ensures .fits, s .pre .1)
 
 pub next-spec : {M : Type 1} → statement M
 next-spec =

@@ -1,9 +1,10 @@
 -- One read behind the bytes that were kept leaves those as they are.
+use mathlib.Core.Path.{sym, ap, subst, _∙_}
 use mathlib.Core.List.{_++_}
-use Prim.Native.Nat.{_-_}
-use native.Mathlib.Omega.{arith}
-use lib.ListN.{length, drop}
+use Prim.Native.Nat.{ℕ, _-_}
+use lib.ListN.{length, take, drop}
 use denote.Ref.{now}
+use Rattle.feeding.specs.Fed.{Refilled}
 use Rattle.feeding.proofs.Bytes.{refilled}
 use borrow.Author.Needs.{needs}
 use Rattle.feeding.proofs.refill.Statement.{statement}
@@ -13,17 +14,17 @@ returns : tie.Need-returns
 returns c =
     let a = c .before .before .before .before .before .before .before .before .before .before .before .before in
     let k = c .before .before .before .before .before .before .before .before .before .shift in
-    let left = a .args .end - a .args .start in
+    let left = k .result in
     let shifted = k .last .0 in
+    let front = ap (λ (n : ℕ). take n shifted) (k .ensures .0) ∙ k .ensures .1 ∙ ap (λ (n : ℕ). take n (drop (a .args .start) (now (a .args .buffer)))) (sym (k .ensures .0)) in
     let back = c .before .before .before .before .before .read .last .1 .0 ++ drop (length shifted - left) (drop left shifted) in
-    refilled (now (a .args .bytes)) shifted back (a .args .start) (a .args .end) _ _ (c .took .result)
-    (search needs) (search needs) (search needs) (omega arith) (k .ensures) (c .took .ensures)
+    subst (λ (n : ℕ). Refilled (now (a .args .buffer)) (take left shifted ++ back) (a .args .start) n (c .took .result)) (k .ensures .0)
+    (refilled (now (a .args .buffer)) shifted back (a .args .start) left _ _ (c .took .result) (search needs) (search needs) (search needs) front (c .took .ensures))
 
 pub refill-spec : {M : Type 1} → statement M
 refill-spec =
     tie.close
     (tie.spec
-    (λ c. search needs)
     (λ c κs. search needs)
     (λ c. search needs)
     (λ c. search needs)
