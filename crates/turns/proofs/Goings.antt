@@ -18,8 +18,7 @@ use Rattle.rules.specs.declared.Name.the-variants.{Tape}
 use Rattle.rules.specs.declared.Read.the-variants.{Instr, Refused}
 use Rattle.rules.specs.Measures.{outputWords}
 use Rattle.rules.specs.Book.{sound}
-use Rattle.rules.specs.Calls.{Answer}
-use Rattle.rules.specs.Tally.{Call, called}
+use Rattle.rules.specs.Calls.{Call, Answer, called}
 use Rattle.rules.specs.Tape.{readOf, pricesOf}
 use Rattle.rules.specs.Run.{Ran, callOf, nameOf, line, anyOutput, answerOf, ended, stopped, afterLine, runRest}
 use Rattle.rules.specs.Text.{lineText, linesText}
@@ -30,11 +29,17 @@ use Rattle.tape.proofs.Run.{run-ended, run-refused, run-instruction, not-ended,
 use Rattle.tape.proofs.Sized.{read-sized}
 use Rattle.tape.proofs.Window.{read-append, prices-append}
 use Rattle.running.specs.declared.Turn.{Turn}
-use Rattle.running.specs.Turns.{TurnIs}
+use Rattle.running.specs.Turns.{Gives}
 use Rattle.turns.specs.declared.Step.{Step}
 use Rattle.turns.specs.Going.{Begins, rollsOf, Priced, Stepped, enough, strayText, Follows, Goes, onward, Went}
 
 -- The answer to the instruction that some words begin with
+
+-- number, count and book are an answer's
+pub record Says (d : Answer) (t : Turn) (b : Book) : Type 0 where
+  pub refusal : t .refusal ≡ d .refusal
+  pub count : t .count ≡ d .count
+  pub book : b ≡ d .book
 
 -- a roll's prices are read out of its words, and no other instruction has any
 pub priced : (ws lent prices : List ℕ) (x : Instruction) → Begins ws x → length lent ≡ 16 → (rollsOf x ≡ true → prices ≡ sets lent 0 (pricesOf ws)) →
@@ -50,8 +55,8 @@ priced ws lent prices instruction.Cutoff g h p = λ out. refl
 
 -- number, count and book are those of the run
 pub run-answer : (b b′ : Book) (t : Turn) (ws prices out : List ℕ) (x : Instruction) → Priced ws x prices → outputWords ≤ length out →
-    TurnIs (called b (callOf x prices out)) t b′ → TurnIs (answerOf b x ws) t b′
-run-answer b b′ t ws prices out x p room i =
+    (lent : List ℕ) → Gives b (callOf x prices out) t b′ out lent → Says (answerOf b x ws) t b′
+run-answer b b′ t ws prices out x p room lent i =
     let a = answer-lent b out room x ws in
     record {
       refusal = i .refusal ∙ ap (λ (k : Call). called b k .refusal) (p out) ∙ a .refusal;
@@ -60,7 +65,7 @@ run-answer b b′ t ws prices out x p room i =
     }
 
 -- which keeps the book sound
-pub answer-sound : (b b′ : Book) (t : Turn) (x : Instruction) (ws : List ℕ) → Sizes b → sound b ≡ true → TurnIs (answerOf b x ws) t b′ → sound b′ ≡ true
+pub answer-sound : (b b′ : Book) (t : Turn) (x : Instruction) (ws : List ℕ) → Sizes b → sound b ≡ true → Says (answerOf b x ws) t b′ → sound b′ ≡ true
 unfolding answerOf
 answer-sound b b′ t x ws z h i = ap sound (i .book) ∙ called-sound b (callOf x (pricesOf ws) anyOutput) z h
 

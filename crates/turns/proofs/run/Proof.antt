@@ -12,6 +12,7 @@ use Rattle.tape.proofs.Sized.{read-sized}
 use Rattle.book.specs.States.{bookIn, Ready}
 use Rattle.turns.proofs.Goings.{Going, going-starts, going-again, going-refused, going-ends, rest-part, rest-enough}
 use lib.ListN as list
+use Rattle.tape.proofs.Sized.{same-read}
 use borrow.Author.Needs.{needs}
 use Rattle.turns.proofs.run.Statement.{statement}
 use Rattle.turns.proofs.run.Tie as tie
@@ -46,7 +47,7 @@ sure c =
 begins : (c : tie.After-found Inv-loop μ-loop) → let l = c .before .before .before .before .before .before in readOf (rest l) ≡ Instr (c .found .given .0 .0) (c .found .given .0 .1 .0)
 begins c =
     let l = c .before .before .before .before .before .before in
-    ap readOf (sym (rest-part (now (start l .args .words)) (l .loop .at))) ∙ sym (c .before .before .read .ensures) ∙ c .found .given .1
+    ap readOf (sym (rest-part (now (start l .args .words)) (l .loop .at))) ∙ sym (same-read _ _ (c .before .before .read .ensures)) ∙ c .found .given .1
 
 sized : (c : tie.After-found Inv-loop μ-loop) → let l = c .before .before .before .before .before .before in let n = c .found .given .0 .1 .0 in (1 ≤ n) × (l .loop .at + n ≤ list.length (now (start l .args .words)))
 sized c =
@@ -79,7 +80,7 @@ returns c =
     let r = c .before .before .before .before .before .before .before in
     going-refused (now (a .words)) (a .last) (a .stray) (a .index) _ _ (l .loop .text) _ (l .loop .at) (l .loop .end) (l .loop .inv .3)
     (f .refusal-of .result) (c .before .before .line .result) (sure (c .before .before .before .before .before .before .before .before .before))
-    (ap readOf (sym (rest-part (now (a .words)) (l .loop .at))) ∙ sym (r .read .ensures) ∙ f .before .enum-told .given .1
+    (ap readOf (sym (rest-part (now (a .words)) (l .loop .at))) ∙ sym (same-read _ _ (r .read .ensures)) ∙ f .before .enum-told .given .1
     ∙ ap Refused (sym (f .refusal-of .ensures ∙ ap refusalOf (f .before .enum-told .given .1))))
     (c .before .before .line .ensures) (l .loop .inv .0 .sound)
 
@@ -88,7 +89,7 @@ turn-requires c κs =
     let f = c .before .before .before .before .before .before .before .before .before .before .before .before in
     let l = c .before .before .before .before .before .before .before .before .before .before .before .before .before .before .before .before .before .before .loop in
     let s = c .before .before .before .before .before .before .before .before .before .before .before .before .before .before .before .before .before .before .before .before .before .before .before .before .before .before .before .before in (
-      record { count = f .found .given .0 .1 .0; read = sym (f .before .before .read .ensures) ∙ f .found .given .1 },
+      record { count = f .found .given .0 .1 .0; read = sym (same-read _ _ (f .before .before .read .ensures)) ∙ f .found .given .1 },
       l .inv .0,
       omega (arith, l .inv .3 .short, l .inv .3 .within, l .inv .2, s .pre .1),
     )

@@ -2,6 +2,7 @@
 use native.Mathlib.Omega.{arith}
 use denote.Ref.{now}
 use Rattle.rules.specs.declared.Book.{Book}
+use Rattle.laws.proofs.Answers.{has-room}
 use Rattle.book.specs.States.{bookIn}
 use Rattle.report.proofs.Texts.{added-as}
 use Rattle.turns.proofs.Goings.{run-answer, answer-sound, same-line}
@@ -16,7 +17,9 @@ book s =
 
 answer-requires : tie.Need-answer-requires
 answer-requires c κs =
-    c .before .before .before .before .before .before .before .before .before .before .before .before .before .before .before .before .before .before .before .before .before .before .pre .1
+    let s = c .before .before .before .before .before .before .before .before .before .before .before .before .before .before .before .before .before .before .before .before .before .before in
+    let r = s .pre .1 in
+    (record { lengths = r .lengths; sound = r .sound }, has-room (s .args .x) _ (now (s .args .out)) (r .room))
 
 line-requires : tie.Need-line-requires
 line-requires c κs =
@@ -29,7 +32,7 @@ returns c =
     let t = c .before .before .before .before .before .before .before .before .before .before .before .before .before .before .before .before .before .before .before .before .before .before .answer in
     let p = c .before .before .before .before .before .before .before .before .before .before .before .before .before .before .before .before .before .before .before .before .before .before .before .before .before .before .before .before .before .before .before .before .before .before .prices-of in
     let l = s .pre .1 .lengths in
-    let i = run-answer (book s) _ (t .result) (now (a .words)) _ (now (a .out)) (a .x) (p .ensures) (s .pre .1 .room) (t .ensures) in
+    let i = run-answer (book s) _ (t .result) (now (a .words)) _ (now (a .out)) (a .x) (p .ensures) (s .pre .1 .room) _ (t .ensures) in
     record {
       printed = added-as 72 72 _ _ _ _ _ _ (omega arith)
           (same-line (a .index) _ _ _ _ _ _ (c .before .before .before .name-of .ensures) (i .refusal) (i .count)) (c .before .before .line .ensures);
