@@ -109,11 +109,11 @@ joined-starts n k mi mf mt mx md is fs ts xs ds h held =
     let e : n + 0 ≡ n = omega arith in
     record { some = omega arith; most = h; held = rw e held; there = rw e (sym (append-nil (entries n is fs ts xs ds))) }
 
-module _ (es : List Entry) (n j k : ℕ) (mi mf mt mx md is fs ts xs ds : List ℕ) (s : Joined es n j k mi mf mt mx md is fs ts xs ds) where
-  pub joined-more : (is′ fs′ ts′ xs′ ds′ : List ℕ) → j < k →
+module _ {es : List Entry} {n j k : ℕ} {mi mf mt mx md is fs ts xs ds : List ℕ} (s : Joined es n j k mi mf mt mx md is fs ts xs ds) where
+  pub joined-more : {is′ fs′ ts′ xs′ ds′ : List ℕ} → j < k →
       Kept (entries (n + j) is fs ts xs ds ++ (entryAt j mi mf mt mx md ∷ [])) (n + j + 1) is′ fs′ ts′ xs′ ds′ →
       Joined es n (j + 1) k mi mf mt mx md is′ fs′ ts′ xs′ ds′
-  joined-more is′ fs′ ts′ xs′ ds′ h q =
+  joined-more {is′} {fs′} {ts′} {xs′} {ds′} h q =
       let es₀ = entries (n + j) is fs ts xs ds in
       let e = entryAt j mi mf mt mx md in
       let l : length (es₀ ++ (e ∷ [])) ≡ n + j + 1 = sym (q .count) in

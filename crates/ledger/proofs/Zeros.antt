@@ -99,11 +99,11 @@ sweep-starts n is fs ts xs ds held =
           };
     }
 
-module _ (es : List Entry) (n k w : ℕ) (is fs ts xs ds : List ℕ) where
+module _ {es : List Entry} {n k w : ℕ} {is fs ts xs ds : List ℕ} where
   pub sweep-can : Sweep es n k w is fs ts xs ds → k < n → (k < 2048) × (w ≤ k) × Whole is fs ts xs ds
   sweep-can s h = (omega (arith, s .holds .most), s .holds .behind, each-column (λ g c q. q .whole) (s .holds .columns))
 
-  module _ (r : ℕ) (is′ fs′ ts′ xs′ ds′ : List ℕ) (m : MovedUp k w r is fs ts xs ds is′ fs′ ts′ xs′ ds′) where
+  module _ {r : ℕ} {is′ fs′ ts′ xs′ ds′ : List ℕ} (m : MovedUp k w r is fs ts xs ds is′ fs′ ts′ xs′ ds′) where
     sweep-step : (pre rest : List Entry) → SweepOf es pre rest n k w is fs ts xs ds → k < n → Sweep es n (k + 1) r is′ fs′ ts′ xs′ ds′
     sweep-step pre [] s h = absurd (omega (arith, s .count))
     sweep-step pre (e ∷ rest) s h =
@@ -160,9 +160,9 @@ module _ (es : List Entry) (n k w : ℕ) (is fs ts xs ds : List ℕ) where
   sweep-unused s h = (omega (arith, s .holds .behind, s .holds .count), end-unused (s .pre) (s .rest) (s .holds) h)
 
   end-kept : (pre rest : List Entry) → SweepOf es pre rest n k w is fs ts xs ds → n ≤ k →
-      (is′ fs′ ts′ xs′ ds′ : List ℕ) → Cleared w is fs ts xs ds is′ fs′ ts′ xs′ ds′ → Kept (withoutZeros es) w is′ fs′ ts′ xs′ ds′
-  end-kept pre (e ∷ rest) s h is′ fs′ ts′ xs′ ds′ c = absurd (omega (arith, s .count))
-  end-kept pre [] s h is′ fs′ ts′ xs′ ds′ c =
+      {is′ fs′ ts′ xs′ ds′ : List ℕ} → Cleared w is fs ts xs ds is′ fs′ ts′ xs′ ds′ → Kept (withoutZeros es) w is′ fs′ ts′ xs′ ds′
+  end-kept pre (e ∷ rest) s h c = absurd (omega (arith, s .count))
+  end-kept pre [] s h c =
       let m : withoutZeros es ≡ pre = s .stays ∙ append-nil pre in
       rw m (record {
         count = s .keeps;
@@ -176,5 +176,5 @@ module _ (es : List Entry) (n k w : ℕ) (is fs ts xs ds : List ℕ) where
       })
 
   pub sweep-ends : Sweep es n k w is fs ts xs ds → n ≤ k →
-      (is′ fs′ ts′ xs′ ds′ : List ℕ) → Cleared w is fs ts xs ds is′ fs′ ts′ xs′ ds′ → Kept (withoutZeros es) w is′ fs′ ts′ xs′ ds′
-  sweep-ends s h is′ fs′ ts′ xs′ ds′ c = end-kept (s .pre) (s .rest) (s .holds) h is′ fs′ ts′ xs′ ds′ c
+      {is′ fs′ ts′ xs′ ds′ : List ℕ} → Cleared w is fs ts xs ds is′ fs′ ts′ xs′ ds′ → Kept (withoutZeros es) w is′ fs′ ts′ xs′ ds′
+  sweep-ends s h c = end-kept (s .pre) (s .rest) (s .holds) h c

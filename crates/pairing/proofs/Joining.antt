@@ -25,15 +25,15 @@ zeros-held =
       columns = record { issues = refl; froms = refl; tos = refl; lotss = refl; dayss = refl };
     }
 
-module _ (p : Pairing) (n : ℕ) (r : Made) (is fs ts xs ds mi mf mt mx md : List ℕ) (m : WasMade p n r is fs ts xs ds mi mf mt mx md)
-    (w : ℕ) (is′ fs′ ts′ xs′ ds′ : List ℕ) (q : Kept (withoutZeros (entries n is fs ts xs ds)) w is′ fs′ ts′ xs′ ds′) where
+module _ {p : Pairing} {n : ℕ} {r : Made} {is fs ts xs ds mi mf mt mx md : List ℕ} (m : WasMade p n r is fs ts xs ds mi mf mt mx md)
+    {w : ℕ} {is′ fs′ ts′ xs′ ds′ : List ℕ} (q : Kept (withoutZeros (entries n is fs ts xs ds)) w is′ fs′ ts′ xs′ ds′) where
   pub join-few : w + r .more ≤ 2048
   join-few = omega (arith, q .count, m .few, m .held .most)
 
   pub join-held : Held w is′ fs′ ts′ xs′ ds′
   join-held = kept-held (withoutZeros (entries n is fs ts xs ds)) w is′ fs′ ts′ xs′ ds′ q (omega (arith, q .count, join-few))
 
-  module _ (i₃ f₃ t₃ x₃ d₃ : List ℕ) (k : Kept (entries w is′ fs′ ts′ xs′ ds′ ++ entries (r .more) mi mf mt mx md) (w + r .more) i₃ f₃ t₃ x₃ d₃) where
+  module _ {i₃ f₃ t₃ x₃ d₃ : List ℕ} (k : Kept (entries w is′ fs′ ts′ xs′ ds′ ++ entries (r .more) mi mf mt mx md) (w + r .more) i₃ f₃ t₃ x₃ d₃) where
     pub joined : WasPaired p (record { steps = r .steps; cancelled = r .cancelled; count = w + r .more }) i₃ f₃ t₃ x₃ d₃
     joined =
         let e = kept-entries (withoutZeros (entries n is fs ts xs ds)) w is′ fs′ ts′ xs′ ds′ q in

@@ -50,7 +50,7 @@ pub record Done (p : Pairing) (es : List Entry) (steps cancelled : ℕ) : Type 0
   pub left : p .ledger ≡ es
 
 -- where no step is left
-module _ (today i a : ℕ) (es₀ es ys : List Entry) (n t f steps cancelled : ℕ) (s : SoFar today i a es₀ es ys n t f steps cancelled) where
+module _ {today i a : ℕ} {es₀ es ys : List Entry} {n t f steps cancelled : ℕ} (s : SoFar today i a es₀ es ys n t f steps cancelled) where
   abbrev ledger : List Entry
   ledger = withoutZeros es ++ ys
 

@@ -34,6 +34,16 @@ pub record Turns (today i a : ℕ) (es₀ : List Entry) (n t f k steps cancelled
   pub issue : i < 16
   pub made : SoFar today i a es₀ (entries n is fs ts xs ds) (entries k mi mf mt mx md) n t f steps cancelled
 
+-- the places of the first entry to the account and of the first from it, where there are both
+pub record Both (n i a t f : ℕ) (is fs ts xs : List ℕ) : Type 0 where
+  pub to : t ≡ nextIn n is ts xs i a
+  pub from : f ≡ nextIn n is fs xs i a
+  pub someTo : t ≡ n → ⊥
+  pub someFrom : f ≡ n → ⊥
+
+below : {x n : ℕ} → x ≤ n → (x ≡ n → ⊥) → x < n
+below h k = omega arith
+
 -- sound entries are not at 0
 zeros-none : (es : List Entry) → Every SoundEntry es → withoutZeros es ≡ es
 zeros-none [] ss = refl
@@ -67,7 +77,7 @@ turns-start today i a n is fs ts xs ds mi mf mt mx md p h =
           };
     }
 
-module _ (today i a : ℕ) (es₀ : List Entry) (n t f k steps cancelled : ℕ) (is fs ts xs ds mi mf mt mx md : List ℕ)
+module _ {today i a : ℕ} {es₀ : List Entry} {n t f k steps cancelled : ℕ} {is fs ts xs ds mi mf mt mx md : List ℕ}
     (s : Turns today i a es₀ n t f k steps cancelled is fs ts xs ds mi mf mt mx md) where
   abbrev es : List Entry
   es = entries n is fs ts xs ds
@@ -109,20 +119,20 @@ module _ (today i a : ℕ) (es₀ : List Entry) (n t f k steps cancelled : ℕ) 
         more = s .more;
       }
 
-  pub ends-in : (t₁ : ℕ) → t₁ ≡ nextIn n is ts xs i a → t₁ ≡ n →
+  pub ends-in : {t₁ : ℕ} → t₁ ≡ nextIn n is ts xs i a → t₁ ≡ n →
       WasMade (pairing today i a es₀) n (record { steps = steps; cancelled = cancelled; more = k }) is fs ts xs ds mi mf mt mx md
-  ends-in t₁ e h =
-      was-made (none-in today i a es₀ es ys n t f steps cancelled (s .made)
+  ends-in e h =
+      was-made (none-in (s .made)
       (omega (arith, e, h, next-to n is fs ts xs ds i a, entries-length n is fs ts xs ds)))
 
-  pub ends-out : (f₁ : ℕ) → f₁ ≡ nextIn n is fs xs i a → f₁ ≡ n →
+  pub ends-out : {f₁ : ℕ} → f₁ ≡ nextIn n is fs xs i a → f₁ ≡ n →
       WasMade (pairing today i a es₀) n (record { steps = steps; cancelled = cancelled; more = k }) is fs ts xs ds mi mf mt mx md
-  ends-out f₁ e h =
-      was-made (none-out today i a es₀ es ys n t f steps cancelled (s .made)
+  ends-out e h =
+      was-made (none-out (s .made)
       (omega (arith, e, h, next-from n is fs ts xs ds i a, entries-length n is fs ts xs ds)))
 
   -- both are there, at places t₁ and f₁
-  module _ (t₁ f₁ : ℕ) (et : t₁ ≡ nextIn n is ts xs i a) (ef : f₁ ≡ nextIn n is fs xs i a) (nt : t₁ ≡ n → ⊥) (nf : f₁ ≡ n → ⊥) where
+  module _ {t₁ f₁ : ℕ} (b : Both n i a t₁ f₁ is fs ts xs) where
     abbrev T : ℕ
     T = placeOf (isLeft (isTo i a)) es
 
@@ -130,22 +140,22 @@ module _ (today i a : ℕ) (es₀ : List Entry) (n t f k steps cancelled : ℕ) 
     F = placeOf (isLeft (isFrom i a)) es
 
     isT : t₁ ≡ T
-    isT = et ∙ next-to n is fs ts xs ds i a
+    isT = b .to ∙ next-to n is fs ts xs ds i a
 
     isF : f₁ ≡ F
-    isF = ef ∙ next-from n is fs ts xs ds i a
-
-    ht : T < length es
-    ht = omega (arith, isT, place-most (isLeft (isTo i a)) es, entries-length n is fs ts xs ds)
-
-    hf : F < length es
-    hf = omega (arith, isF, place-most (isLeft (isFrom i a)) es, entries-length n is fs ts xs ds)
+    isF = b .from ∙ next-from n is fs ts xs ds i a
 
     inT : T < n
-    inT = omega (arith, ht, entries-length n is fs ts xs ds)
+    inT = below (omega (arith, place-most (isLeft (isTo i a)) es, entries-length n is fs ts xs ds)) (λ e. b .someTo (isT ∙ e))
+
+    ht : T < length es
+    ht = omega (arith, inT, entries-length n is fs ts xs ds)
 
     inF : F < n
-    inF = omega (arith, hf, entries-length n is fs ts xs ds)
+    inF = below (omega (arith, place-most (isLeft (isFrom i a)) es, entries-length n is fs ts xs ds)) (λ e. b .someFrom (isF ∙ e))
+
+    hf : F < length es
+    hf = omega (arith, inF, entries-length n is fs ts xs ds)
 
     atT : getD es T noEntry ≡ entryAt T is fs ts xs ds
     atT = entry-at n is fs ts xs ds T inT
@@ -159,9 +169,9 @@ module _ (today i a : ℕ) (es₀ : List Entry) (n t f k steps cancelled : ℕ) 
 
     pub turn-room : k < 2048
     turn-room =
-        omega (arith, step-room today i a es₀ es ys n t f steps cancelled (s .made) (s .issue) ht hf, entries-length k mi mf mt mx md, s .held .most)
+        omega (arith, step-room (s .made) (s .issue) ht hf, entries-length k mi mf mt mx md, s .held .most)
 
-    module _ (m : ℕ) (xs′ : List ℕ) (b₀ : BothFell t₁ f₁ m xs xs′) where
+    module _ {m : ℕ} {xs′ : List ℕ} (b₀ : BothFell t₁ f₁ m xs xs′) where
       fallen : BothFell T F m xs xs′
       fallen = subst (λ j. BothFell T j m xs xs′) isF (subst (λ j. BothFell j f₁ m xs xs′) isT b₀)
 
@@ -170,19 +180,19 @@ module _ (today i a : ℕ) (es₀ : List Entry) (n t f k steps cancelled : ℕ) 
 
       pub turn-small : (m ≤ 20000000) × (steps < 4096) × (cancelled ≤ 81920000000)
       turn-small =
-          let h = step-less today i a es₀ es ys n t f steps cancelled (s .made) (s .issue) ht hf in (
-            omega (arith, smaller, step-small today i a es₀ es ys n t f steps cancelled (s .made) (s .issue) ht hf),
+          let h = step-less (s .made) (s .issue) ht hf in (
+            omega (arith, smaller, step-small (s .made) (s .issue) ht hf),
             omega (arith, h, s .made .spent),
             omega (arith, s .made .most, s .made .spent),
           )
 
-      module _ (k′ : ℕ) (mi′ mf′ mt′ mx′ md′ : List ℕ)
+      module _ {k′ : ℕ} {mi′ mf′ mt′ mx′ md′ : List ℕ}
           (q : Kept (ys ++ appended today i (getD fs t₁ 0) (getD ts f₁ 0) m) k′ mi′ mf′ mt′ mx′ md′) where
         abbrev after : List Entry
-        after = es₂ today i a es₀ es ys n t f steps cancelled (s .made) (s .issue) ht hf
+        after = es₂ (s .made) (s .issue) ht hf
 
         abbrev added : List Entry
-        added = ys ++ new today i a es₀ es ys n t f steps cancelled (s .made) (s .issue) ht hf
+        added = ys ++ new (s .made) (s .issue) ht hf
 
         lots-now : xs′ ≡ set (set xs F (getD es F noEntry .lots - min (getD es T noEntry .lots) (getD es F noEntry .lots))) T (getD es T noEntry .lots - min (getD es T noEntry .lots) (getD es F noEntry .lots))
         lots-now = fallen .lots ∙ rw (← smaller, atT, atF)
@@ -204,11 +214,11 @@ module _ (today i a : ℕ) (es₀ : List Entry) (n t f k steps cancelled : ℕ) 
 
         -- one step less is left
         pub turn-less : inAndOut i a (standing n k′ is fs ts xs′ ds mi′ mf′ mt′ mx′ md′) < inAndOut i a (standing n k is fs ts xs ds mi mf mt mx md)
-        turn-less = rw (entries-now, more-now) (omega (arith, step-less today i a es₀ es ys n t f steps cancelled (s .made) (s .issue) ht hf))
+        turn-less = rw (entries-now, more-now) (omega (arith, step-less (s .made) (s .issue) ht hf))
 
         pub turns-more : Turns today i a es₀ n t₁ f₁ k′ (steps + 1) (cancelled + m) is fs ts xs′ ds mi′ mf′ mt′ mx′ md′
         turns-more =
-            let r = so-far-more today i a es₀ es ys n t f steps cancelled (s .made) (s .issue) ht hf in
+            let r = so-far-more (s .made) (s .issue) ht hf in
             record {
               held =
                   rw lots-now

@@ -116,7 +116,7 @@ meets-starts i a x n is fs ts xs ds o h =
           ∙ ap (λ m. words rs ++ drop m o) z);
     }
 
-module _ (i a x₀ : ℕ) (es₀ : List Entry) (n k r x : ℕ) (is fs ts xs ds o₀ o : List ℕ)
+module _ {i a x₀ : ℕ} {es₀ : List Entry} {n k r x : ℕ} {is fs ts xs ds o₀ o : List ℕ}
     (s : Meets i a x₀ es₀ n k r x is fs ts xs ds o₀ o) where
   abbrev es : List Entry
   es = entries n is fs ts xs ds
@@ -138,9 +138,9 @@ module _ (i a x₀ : ℕ) (es₀ : List Entry) (n k r x : ℕ) (is fs ts xs ds o
         }
 
     -- one entry further
-    pub meets-more : (t : Turn) (xs′ o′ : List ℕ) → WasMet i a x k r t (entryAt k is fs ts xs ds) xs xs′ o o′ →
+    pub meets-more : {t : Turn} {xs′ o′ : List ℕ} → WasMet i a x k r t (entryAt k is fs ts xs ds) xs xs′ o o′ →
         Meets i a x₀ es₀ n (k + 1) (t .records) (t .left) is fs ts xs′ ds o₀ o′
-    meets-more t xs′ o′ w₀ =
+    meets-more {t} {xs′} {o′} w₀ =
         let p = isFrom i a in
         let e = getD es k noEntry in
         let m = metBy p x e in
@@ -176,9 +176,9 @@ module _ (i a x₀ : ℕ) (es₀ : List Entry) (n k r x : ℕ) (is fs ts xs ds o
         })
 
   -- behind the last entry, without those at 0
-  pub meets-end : n ≤ k → (w : ℕ) (is′ fs′ ts′ xs′ ds′ : List ℕ) → Kept (withoutZeros es) w is′ fs′ ts′ xs′ ds′ →
+  pub meets-end : n ≤ k → {w : ℕ} {is′ fs′ ts′ xs′ ds′ : List ℕ} → Kept (withoutZeros es) w is′ fs′ ts′ xs′ ds′ →
       Resolved es₀ i a x₀ (record { entries = w; records = r }) is′ fs′ ts′ xs′ ds′ o₀ o
-  meets-end h w is′ fs′ ts′ xs′ ds′ q =
+  meets-end h q =
       let p = isFrom i a in
       let l : length es ≤ k = omega (arith, entries-length n is fs ts xs ds) in
       let m : meet p x₀ es₀ ≡ withoutZeros es = s .meets ∙ ap withoutZeros (meets-ends p k x es l) in

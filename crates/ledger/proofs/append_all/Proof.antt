@@ -21,10 +21,10 @@ append-requires : tie.Need-append-requires Inv-loop μ-loop
 append-requires c κs = (omega (arith, c .before .before .before .before .before .before .before .before .before .before .before .loop .inv .most, c .before .before .before .before .before .before .before .before .before .before .loop-test .taken), c .before .before .before .before .before .before .before .before .before .before .before .loop .inv .held)
 
 loop-again : tie.Need-loop-again Inv-loop μ-loop
-loop-again c = joined-more _ _ _ _ _ _ _ _ _ _ _ _ _ _ (c .before .before .before .before .before .before .before .before .before .before .before .before .before .before .before .before .before .before .before .before .before .before .loop .inv) _ _ _ _ _ (c .before .before .before .before .before .before .before .before .before .before .before .before .before .before .before .before .before .before .before .before .before .loop-test .taken) (c .before .before .before .before .before .before .before .before .before .before .append .ensures)
+loop-again c = joined-more (c .before .before .before .before .before .before .before .before .before .before .before .before .before .before .before .before .before .before .before .before .before .before .loop .inv) (c .before .before .before .before .before .before .before .before .before .before .before .before .before .before .before .before .before .before .before .before .before .loop-test .taken) (c .before .before .before .before .before .before .before .before .before .before .append .ensures)
 
 returns : tie.Need-returns Inv-loop μ-loop
-returns c = joined-ends _ _ _ _ _ _ _ _ _ _ _ _ _ _ (c .before .loop .inv) (c .loop-test .left)
+returns c = joined-ends (c .before .loop .inv) (c .loop-test .left)
 
 pub append-all-spec : {M : Type 1} → statement M
 append-all-spec =

@@ -17,16 +17,16 @@ loop-holds : tie.Need-loop-holds Inv-loop μ-loop
 loop-holds c = sweep-starts _ _ _ _ _ _ (c .before .before .before .before .before .pre)
 
 move-up-requires : tie.Need-move-up-requires Inv-loop μ-loop
-move-up-requires c κs = sweep-can _ _ _ _ _ _ _ _ _ (c .before .before .before .before .before .before .loop .inv) (c .before .before .before .before .before .loop-test .taken)
+move-up-requires c κs = sweep-can (c .before .before .before .before .before .before .loop .inv) (c .before .before .before .before .before .loop-test .taken)
 
 loop-again : tie.Need-loop-again Inv-loop μ-loop
-loop-again c = sweep-more _ _ _ _ _ _ _ _ _ _ _ _ _ _ _ (c .before .before .before .before .before .before .before .before .before .before .move-up .ensures) (c .before .before .before .before .before .before .before .before .before .before .before .before .before .before .before .before .before .loop .inv) (c .before .before .before .before .before .before .before .before .before .before .before .before .before .before .before .before .loop-test .taken)
+loop-again c = sweep-more (c .before .before .before .before .before .before .before .before .before .before .move-up .ensures) (c .before .before .before .before .before .before .before .before .before .before .before .before .before .before .before .before .before .loop .inv) (c .before .before .before .before .before .before .before .before .before .before .before .before .before .before .before .before .loop-test .taken)
 
 clear-requires : tie.Need-clear-requires Inv-loop μ-loop
-clear-requires c κs = sweep-unused _ _ _ _ _ _ _ _ _ (c .before .before .before .before .before .before .loop .inv) (c .before .before .before .before .before .loop-test .left)
+clear-requires c κs = sweep-unused (c .before .before .before .before .before .before .loop .inv) (c .before .before .before .before .before .loop-test .left)
 
 returns : tie.Need-returns Inv-loop μ-loop
-returns c = sweep-ends _ _ _ _ _ _ _ _ _ (c .before .before .before .before .before .before .before .before .before .before .before .before .before .before .before .before .before .loop .inv) (c .before .before .before .before .before .before .before .before .before .before .before .before .before .before .before .before .loop-test .left) _ _ _ _ _ (c .before .before .before .before .before .before .before .before .before .before .clear .ensures)
+returns c = sweep-ends (c .before .before .before .before .before .before .before .before .before .before .before .before .before .before .before .before .before .loop .inv) (c .before .before .before .before .before .before .before .before .before .before .before .before .before .before .before .before .loop-test .left) (c .before .before .before .before .before .before .before .before .before .before .clear .ensures)
 
 pub remove-zeros-spec : {M : Type 1} → statement M
 remove-zeros-spec =
