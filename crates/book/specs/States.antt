@@ -11,9 +11,8 @@ use Rattle.rules.specs.declared.Book.{Book}
 use Rattle.rules.specs.declared.Phase.{Phase}
 use Rattle.rules.specs.declared.Phase.the-variants.{Taking}
 use Rattle.rules.specs.Measures.{outputWords}
-use Rattle.rules.specs.Book.{bookOf, sound}
+use Rattle.rules.specs.Book.{bookOf, sound, Lengths}
 use Rattle.book.specs.declared.State.{State}
-use Rattle.book.specs.Scan.{Lengths}
 
 -- Setters: nobody else writes a state out field by field
 

@@ -13,7 +13,7 @@ use Rattle.rules.specs.declared.Book.{Book}
 use Rattle.rules.specs.declared.Entry.{Entry}
 use Rattle.rules.specs.Measures.{mostEntries}
 use Rattle.rules.specs.Ledger.{entry}
-use Rattle.rules.specs.Book.{all, headOr0, entries, ledgerOf, isZero, daysSound, column, withLedger}
+use Rattle.rules.specs.Book.{all, headOr0, entries, ledgerOf, isZero, daysSound, column, withLedger, LedgerLengths}
 use Rattle.laws.proofs.Basics.{and-left, and-right, all-replicate, Every, each-at}
 use Rattle.laws.proofs.Sound.{SoundEntry, SoundLedger, SoundBook}
 
@@ -157,14 +157,6 @@ column-back : (f : Entry → ℕ) (es : List Entry) (n : ℕ) (xs : List ℕ) �
 column-back f es n xs l m h q z =
     rw (m, l, ← q) (firsts-zeros n xs (omega arith) z)
 
--- five columns of 2,048, as a book's fields are
-pub record FullColumns (is fs ts xs ds : List ℕ) : Type 0 where
-  pub issues : length is ≡ mostEntries
-  pub froms : length fs ≡ mostEntries
-  pub tos : length ts ≡ mostEntries
-  pub lots : length xs ≡ mostEntries
-  pub days : length ds ≡ mostEntries
-
 pub record ColumnsBack (es : List Entry) (is fs ts xs ds : List ℕ) : Type 0 where
   pub issues : column (λ e. e .issue) es ≡ is
   pub froms : column (λ e. e .from) es ≡ fs
@@ -173,7 +165,7 @@ pub record ColumnsBack (es : List Entry) (is fs ts xs ds : List ℕ) : Type 0 wh
   pub days : column (λ e. e .day) es ≡ ds
 
 pub columns-back : (today n : ℕ) (is fs ts xs ds : List ℕ) → SoundLedger today n is fs ts xs ds →
-    FullColumns is fs ts xs ds → ColumnsBack (entries n is fs ts xs ds) is fs ts xs ds
+    LedgerLengths is fs ts xs ds → ColumnsBack (entries n is fs ts xs ds) is fs ts xs ds
 columns-back today n is fs ts xs ds s c =
     let es = entries n is fs ts xs ds in
     let r = first-entries n is fs ts xs ds in

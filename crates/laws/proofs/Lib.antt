@@ -25,3 +25,4 @@ pub mod Answers
 pub mod Charges
 pub mod Kept
 pub mod Called
+pub mod Scans

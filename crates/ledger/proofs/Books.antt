@@ -2,10 +2,10 @@
 use mathlib.Core.Path.{_≡_, sym}
 use mathlib.Core.Bool.{true}
 use Rattle.rules.specs.declared.Book.{Book}
-use Rattle.rules.specs.Book.{all, entrySound, ledgerOf, sound}
+use Rattle.rules.specs.Book.{all, entrySound, ledgerOf, sound, LedgerLengths}
 use Rattle.laws.proofs.Basics.{each-map}
 use Rattle.laws.proofs.Sound.{SoundEntry, sound-parts, parts-entry, each-all}
-use Rattle.laws.proofs.Ledger.{FullColumns, columns-back}
+use Rattle.laws.proofs.Ledger.{columns-back}
 use Rattle.ledger.specs.Columns.{Whole, Held}
 
 module _ (b : Book) (s : sound b ≡ true) where
@@ -13,7 +13,7 @@ module _ (b : Book) (s : sound b ≡ true) where
       Held (b .count) (b .issues) (b .froms) (b .tos) (b .lots) (b .days)
   book-held w =
       let g = sound-parts b s in
-      let full : FullColumns (b .issues) (b .froms) (b .tos) (b .lots) (b .days) =
+      let full : LedgerLengths (b .issues) (b .froms) (b .tos) (b .lots) (b .days) =
       record { issues = w .issues; froms = w .froms; tos = w .tos; lots = w .lotss; days = w .dayss } in
       let back = columns-back (b .day) (b .count) (b .issues) (b .froms) (b .tos) (b .lots) (b .days) (g .ledger) full in
       record {

@@ -12,7 +12,7 @@ ghost use Rattle.rules.specs.Book.{entries};
 ghost use Rattle.ledger.specs.Columns.{Stored, Copied, Unused, Cleared, withoutZeros, MovedUp, whole, held, before, kept, changed};
 
 // An entry at a place, whatever stood there.
-pub fn store(
+fn store(
     issues: &mut [u8],
     froms: &mut [u8],
     tos: &mut [u8],
@@ -133,7 +133,7 @@ pub fn left_of(issue: u8, from: u8, to: u8, lots: u32, day: u16, m: u32) -> u32
 }
 
 // Places from w on are 0. Those from `count` on are so already.
-pub fn clear(
+fn clear(
     w: usize,
     count: usize,
     issues: &mut [u8],

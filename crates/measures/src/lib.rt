@@ -62,7 +62,7 @@ fn halved(x: u64) -> u64
 }
 
 // The value of lots at a price, in yen, rounded down.
-pub fn value_of(lots: u32, price: u32) -> u64
+fn value_of(lots: u32, price: u32) -> u64
     requires { ⌜ Priced lots price ⌝ }
     ensures { λ r. ⌜ ValueIs lots price r ⌝ }
 {

@@ -9,7 +9,7 @@ use lib.Dec.{T}
 use lib.IntN.{ℤ, pos, negsuc, natAbs}
 use lib.Signed.{ltZ, nonNeg}
 use mir.Syntax.{Width, w64}
-use mir.Val.{Fits, SFits, toZ, ofZ, bits}
+use mir.Val.{Fits, SFits, toZ, ofZ}
 use mir.ValLaws.{toZ-ofZ, half-full}
 use Rattle.rules.specs.Measures.{owedOf}
 use Rattle.rules.specs.Text.{decimal, signed}

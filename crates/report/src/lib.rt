@@ -5,9 +5,8 @@ use rules::Book;
 ghost use mathlib.Core.List.{[], _∷_};
 ghost use Prim.Native.Nat.{_+_, _*_, _≤_};
 ghost use lib.ListN.{length};
-ghost use Rattle.rules.specs.Book.{entries};
+ghost use Rattle.rules.specs.Book.{entries, LedgerLengths};
 ghost use Rattle.rules.specs.Run.{chargeLinesFrom};
-ghost use Rattle.book.specs.Scan.{LedgerLengths};
 ghost use Rattle.rules.specs.Text.{failsText, chargesText, closingText};
 ghost use Rattle.report.specs.Added.{Added};
 

@@ -1,4 +1,5 @@
 -- The book: its views, when it is sound, its setters, the fresh book.
+use mathlib.Core.Path.{_≡_}
 use mathlib.Core.Bool.{Bool, true, false, cond, not, _&&_}
 use mathlib.Core.List.{List, [], _∷_, _++_, map, tail}
 use Prim.Native.Nat.{ℕ, zero, suc, _+_, _-_, _*_}
@@ -201,6 +202,24 @@ withLedger b es =
     bookOf (b .day) (b .phase) (b .nets) (b .delivered) (b .charges) (length es)
     (column (λ e. e .issue) es) (column (λ e. e .from) es) (column (λ e. e .to) es) (column (λ e. e .lots) es)
     (column (λ e. e .day) es)
+
+-- Lengths: those of a book's columns
+
+pub record CellLengths (ns : List ℤ) (ds : List ℕ) : Type 0 where
+  pub nets : length ns ≡ cellCount
+  pub delivered : length ds ≡ cellCount
+
+pub record LedgerLengths (is fs ts xs ds : List ℕ) : Type 0 where
+  pub issues : length is ≡ mostEntries
+  pub froms : length fs ≡ mostEntries
+  pub tos : length ts ≡ mostEntries
+  pub lots : length xs ≡ mostEntries
+  pub days : length ds ≡ mostEntries
+
+pub record Lengths (ns : List ℤ) (ds : List ℕ) (cs : List ℤ) (is fs ts xs es : List ℕ) : Type 0 where
+  pub cells : CellLengths ns ds
+  pub charges : length cs ≡ accountCount
+  pub ledger : LedgerLengths is fs ts xs es
 
 -- a fresh book is day 0, Taking, all zero, ledger empty
 abbrev pub fresh : Book

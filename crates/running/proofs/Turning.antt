@@ -12,15 +12,13 @@ use Rattle.rules.specs.declared.Book.{Book}
 use Rattle.rules.specs.declared.Phase.the-variants.{Settling, Cut}
 use Rattle.rules.specs.Measures.{outputWords}
 use Rattle.rules.specs.Ledger.{pairing, charged}
-use Rattle.rules.specs.Book.{entries, sound}
+use Rattle.rules.specs.Book.{entries, sound, LedgerLengths}
 use Rattle.rules.specs.Records.{words, over}
 use Rattle.rules.specs.Questions.{firstNo, askOutput}
 use Rattle.rules.specs.Calls.{Call, Trade, Close, Deliver, Cutoff, Resolve, PairOff, Roll, Effect, lentTo, HasRoom, ownAsks, effect, called, tradedNets}
 use Rattle.laws.proofs.Answers.{said-yes, own-first, refused-as, accepted-as}
-use Rattle.laws.proofs.Ledger.{FullColumns}
 use Rattle.ledger.specs.Columns.{Whole}
 use Rattle.book.specs.declared.State.{State}
-use Rattle.book.specs.Scan.{LedgerLengths}
 use Rattle.book.specs.States.{withPhase, withEntries, nextDay}
 use Rattle.delivery.specs.Deliver.{Delivered}
 use Rattle.cutoff.specs.declared.Counts.{Counts as CutCounts}
@@ -128,8 +126,5 @@ rolled-on s s′ nets delivered charges is fs ts xs days rate prices nets′ del
     record { count = refl; cancelled = refl; book = rw (e, c, n, d); out = refl }
 
 -- the lengths of the ledger's columns, as others ask for them
-pub full : (is fs ts xs ds : List ℕ) → LedgerLengths is fs ts xs ds → FullColumns is fs ts xs ds
-full is fs ts xs ds l = record { issues = l .issues; froms = l .froms; tos = l .tos; lots = l .lots; days = l .days }
-
 pub whole : (is fs ts xs ds : List ℕ) → LedgerLengths is fs ts xs ds → Whole is fs ts xs ds
 whole is fs ts xs ds l = record { issues = l .issues; froms = l .froms; tos = l .tos; lotss = l .lots; dayss = l .days }

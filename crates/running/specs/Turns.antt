@@ -10,11 +10,10 @@ use denote.Ref.{now}
 use Rattle.rules.specs.declared.Book.{Book}
 use Rattle.rules.specs.declared.Instruction.{Instruction}
 use Rattle.rules.specs.Measures.{outputWords}
-use Rattle.rules.specs.Book.{sound}
+use Rattle.rules.specs.Book.{sound, CellLengths, LedgerLengths}
 use Rattle.rules.specs.Calls.{Call, Trade, Close, Deliver, Cutoff, Resolve, PairOff, Roll, Answer, called}
 use Rattle.rules.specs.Run.{callOf}
 use Rattle.book.specs.declared.State.{State}
-use Rattle.book.specs.Scan.{CellLengths, LedgerLengths}
 use Rattle.book.specs.States.{bookIn, Lent, Column, Columns}
 use Rattle.running.specs.declared.Turn.{Turn}
 

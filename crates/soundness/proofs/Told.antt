@@ -6,12 +6,11 @@ use lib.Dec.{eqb}
 use lib.ListN.{length}
 use borrow.Author.Tests.{eqb-true}
 use Rattle.rules.specs.declared.Book.{Book}
-use Rattle.rules.specs.Book.{all, sound}
+use Rattle.rules.specs.Book.{all, sound, Lengths}
 use Rattle.laws.proofs.Basics.{Every, and-left, and-right}
 use Rattle.laws.proofs.Sound.{all-each}
-use Rattle.book.specs.Scan.{Lengths}
 use Rattle.soundness.specs.Sound.{lengths, lengthsRight, soundIn}
-use Rattle.soundness.proofs.ScanLaws.{and-true}
+use Rattle.laws.proofs.Scans.{and-true}
 
 -- the eight tests as they are put together in the code
 eight : (a b c d e f g h : Bool) →

@@ -9,8 +9,8 @@ ghost use Prim.Native.Nat.{_≤_};
 ghost use lib.ListN.{length};
 ghost use Rattle.rules.specs.Measures.{dueOf, owedOf};
 ghost use Rattle.rules.specs.Ledger.{entry};
-ghost use Rattle.rules.specs.Book.{all, isZero, entries, entrySound, sound as soundOf, bookOf};
-ghost use Rattle.book.specs.Scan.{rowSound, netsSound, deliveredSound, entriesSound, unusedZero, ledgerSound, chargesSound, RowLengths, CellLengths, LedgerLengths, Lengths};
+ghost use Rattle.rules.specs.Book.{all, isZero, entries, entrySound, sound as soundOf, bookOf, CellLengths, LedgerLengths, Lengths};
+ghost use Rattle.soundness.specs.Scan.{rowSound, netsSound, deliveredSound, entriesSound, unusedZero, ledgerSound, chargesSound, RowLengths};
 
 // Is each net of an issue in bounds, are they in balance, and is no more delivered than owed?
 fn row_sound<'a>(net: &'a [i32], delivered: &'a [u32]) -> bool

@@ -1,8 +1,7 @@
 -- The columns are the book's own, so they have its lengths; the book behind the run is put together of them again.
 use mathlib.Core.Path.{_≡_, refl, sym, ap, _∙_}
-use Rattle.rules.specs.Book.{sound}
+use Rattle.rules.specs.Book.{sound, Lengths}
 use Rattle.book.specs.declared.State.{State}
-use Rattle.book.specs.Scan.{Lengths}
 use Rattle.book.specs.States.{bookIn}
 use Rattle.turns.proofs.Goings.{went-as}
 use borrow.Author.Needs.{needs}

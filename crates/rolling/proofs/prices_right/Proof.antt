@@ -7,7 +7,7 @@ use denote.Ref.{now}
 use lib.ListN.{length, drop}
 use Rattle.rules.specs.Book.{all}
 use Rattle.rules.specs.Questions.{priceRight}
-use Rattle.book.proofs.ScanLaws.{all-more, all-end}
+use Rattle.laws.proofs.Scans.{all-more, all-end}
 use borrow.Author.Needs.{needs}
 use Rattle.rolling.proofs.prices_right.Statement.{statement}
 use Rattle.rolling.proofs.prices_right.Tie as tie

@@ -9,7 +9,7 @@ use Rattle.book.specs.Cells.{SoundCells}
 use Rattle.units.proofs.Cells.{sound-cells}
 use Rattle.cutoff.proofs.Books.{can-cut-all}
 use Rattle.running.specs.Turns.{butCharges}
-use Rattle.running.proofs.Turning.{room-out, turn-no, turn-yes, was-cut, full}
+use Rattle.running.proofs.Turning.{room-out, turn-no, turn-yes, was-cut}
 use borrow.Author.Needs.{needs}
 use Rattle.running.proofs.cutoff.Statement.{statement}
 use Rattle.running.proofs.cutoff.Tie as tie
@@ -48,7 +48,7 @@ cutoff-in-requires c κs =
     let a = s .args in
     let b = within s (s .pre .2 .rest) in
     can-cut-all b (sound-parts b (s .pre .2 .sound)) (now (a .out)) (cells s)
-    (full (now (a .issues)) (now (a .froms)) (now (a .tos)) (now (a .lots)) (now (a .days)) (s .pre .1)) (s .pre .3)
+    (s .pre .1) (s .pre .3)
     (sym (k .before .cutoff-asks .ensures (a .s .day)) ∙ k .if1 .left)
 
 returns-2 : tie.Need-returns-2

@@ -1,5 +1,5 @@
 -- In another phase there is nothing to test.
-use Rattle.book.specs.Scan.{deliveredSound}
+use Rattle.soundness.specs.Scan.{deliveredSound}
 use borrow.Author.Needs.{needs}
 use Rattle.soundness.proofs.scan.delivered_sound.Statement.{statement}
 use Rattle.soundness.proofs.scan.delivered_sound.Tie as tie

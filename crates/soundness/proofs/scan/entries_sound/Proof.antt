@@ -5,7 +5,7 @@ use Prim.Native.Nat.{_-_, _≤_}
 use native.Mathlib.Omega.{arith}
 use denote.Ref.{now}
 use Rattle.rules.specs.Book.{entries}
-use Rattle.book.specs.Scan.{entriesSound}
+use Rattle.soundness.specs.Scan.{entriesSound}
 use Rattle.soundness.proofs.ScanLaws.{restOfLedger, ledger-more, ledger-end}
 use borrow.Author.Needs.{needs}
 use Rattle.soundness.proofs.scan.entries_sound.Statement.{statement}

@@ -1,7 +1,7 @@
 -- The count is tested first, and lies within the columns where the rest is.
 use borrow.Author.Tests.{le-leb, lt-leb}
 use Rattle.rules.specs.Measures.{mostEntries}
-use Rattle.book.specs.Scan.{ledgerSound}
+use Rattle.soundness.specs.Scan.{ledgerSound}
 use borrow.Author.Needs.{needs}
 use Rattle.soundness.proofs.scan.ledger_sound.Statement.{statement}
 use Rattle.soundness.proofs.scan.ledger_sound.Tie as tie

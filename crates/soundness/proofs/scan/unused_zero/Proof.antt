@@ -6,7 +6,7 @@ use Prim.Native.Nat.{ℕ, _-_}
 use denote.Ref.{now}
 use lib.ListN.{length, take, drop}
 use Rattle.rules.specs.Book.{all, isZero}
-use Rattle.book.specs.Scan.{unusedZero}
+use Rattle.soundness.specs.Scan.{unusedZero}
 use Rattle.soundness.proofs.ScanLaws.{rest-all}
 use borrow.Author.Needs.{needs}
 use Rattle.soundness.proofs.scan.unused_zero.Statement.{statement}

@@ -47,20 +47,3 @@ chargesSound today cs = balanced cs && all (withinSize (mostCharge * today)) cs
 pub record RowLengths (ns : List ℤ) (ds : List ℕ) : Type 0 where
   pub nets : length ns ≡ 64
   pub delivered : length ds ≡ 64
-
--- and of the book's columns
-pub record CellLengths (ns : List ℤ) (ds : List ℕ) : Type 0 where
-  pub nets : length ns ≡ 1024
-  pub delivered : length ds ≡ 1024
-
-pub record LedgerLengths (is fs ts xs ds : List ℕ) : Type 0 where
-  pub issues : length is ≡ 2048
-  pub froms : length fs ≡ 2048
-  pub tos : length ts ≡ 2048
-  pub lots : length xs ≡ 2048
-  pub days : length ds ≡ 2048
-
-pub record Lengths (ns : List ℤ) (ds : List ℕ) (cs : List ℤ) (is fs ts xs es : List ℕ) : Type 0 where
-  pub cells : CellLengths ns ds
-  pub charges : length cs ≡ 64
-  pub ledger : LedgerLengths is fs ts xs es
