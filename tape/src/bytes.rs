@@ -2,8 +2,9 @@
 
 /// The whole words of a tape, and the 1 to 3 bytes after them if there are any.
 pub fn split(tape: &[u8]) -> (Vec<u32>, &[u8]) {
-    let (words, stray) = tape.as_chunks::<4>();
-    (words.iter().map(|&bytes| u32::from_le_bytes(bytes)).collect(), stray)
+    let words = tape.chunks_exact(4);
+    let stray = words.remainder();
+    (words.map(|word| u32::from_le_bytes([word[0], word[1], word[2], word[3]])).collect(), stray)
 }
 
 /// The bytes of words.

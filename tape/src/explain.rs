@@ -4,14 +4,9 @@
 //! charged; here it is put into sentences.
 
 use crate::bytes::split;
-use crate::refusals::meaning;
-use library::trial::{open, PairOffAnswer, UnitAnswer};
-use library::{desk, tape, trial};
-use reference::book::{Book, Entry, Phase, ISSUES};
-use reference::tape::Instruction;
+use library::calls::{self, Answer, Unit};
+use library::{desk, tape, Book, Entry, Instruction, Refusal, ISSUES, OUTPUT_WORDS};
 
-/// The words of the output that is lent to a call.
-const OUTPUT: usize = 4_096;
 /// The kind of the record of a fail; the others are handovers.
 const FAIL: u32 = 12;
 
@@ -44,8 +39,8 @@ pub fn explain(tape: &[u8]) -> String {
                 telling.instruction(at, &instruction, &tape::prices(&words[at..]));
                 at += count;
             }
-            Err(number) => {
-                telling.line(&format!("word {at}: reading ends, {}", refused(number)));
+            Err(refusal) => {
+                telling.line(&format!("word {at}: reading ends, {refusal}"));
                 break;
             }
         }
@@ -60,7 +55,7 @@ impl Telling {
         Telling {
             book: Book::fresh(),
             text: "Day 0\n".to_string(),
-            output: vec![0; OUTPUT],
+            output: vec![0; OUTPUT_WORDS],
             handed: [(0, 0); ISSUES],
         }
     }
@@ -78,43 +73,22 @@ impl Telling {
     /// Makes the call of an instruction and tells what it did, or why it was refused.
     fn instruction(&mut self, at: usize, instruction: &Instruction, prices: &[u32]) {
         let before = self.book.clone();
-        let answer = self.call(instruction, prices);
+        let answer = calls::call(&mut self.book, instruction, prices, &mut self.output);
         let sentence = sentence(instruction);
-        if answer.number != 0 {
-            self.line(&format!("word {at}: {sentence}: {}", refused(answer.number)));
+        if let Some(refusal) = Refusal::of(answer.refusal) {
+            self.line(&format!("word {at}: {sentence}: {refusal}"));
             return;
         }
         self.line(&format!("word {at}: {sentence}"));
         match *instruction {
             Instruction::Trade { .. } => {}
             Instruction::Close => self.closed(),
-            Instruction::Deliver { issue, .. } => self.delivered(issue, answer.steps),
-            Instruction::Cutoff => self.cut(answer.steps),
-            Instruction::Resolve { .. } => self.resolved(answer.steps),
+            Instruction::Deliver { issue, .. } => self.delivered(issue, answer.count),
+            Instruction::Cutoff => self.cut(answer.count),
+            Instruction::Resolve { .. } => self.resolved(answer.count),
             Instruction::PairOff { issue, .. } => self.paired(&answer, issue),
             Instruction::Roll { days, rate } => self.rolled(&before, days, rate, prices),
         }
-    }
-
-    /// Makes the call of an instruction; the steps are its records, but for pair-off.
-    fn call(&mut self, instruction: &Instruction, prices: &[u32]) -> PairOffAnswer {
-        let (book, output) = (&mut self.book, &mut self.output);
-        let answer = match *instruction {
-            Instruction::Trade { issue, from, to, lots } => {
-                open::trade(book, issue, from, to, lots)
-            }
-            Instruction::Close => open::close(book),
-            Instruction::Deliver { issue, account, lots } => {
-                open::deliver(book, issue, account, lots, output)
-            }
-            Instruction::Cutoff => open::cutoff(book, output),
-            Instruction::Resolve { issue, account, lots } => {
-                open::resolve(book, issue, account, lots, output)
-            }
-            Instruction::PairOff { issue, account } => return open::pair_off(book, issue, account),
-            Instruction::Roll { days, rate } => open::roll(book, days, rate, prices),
-        };
-        PairOffAnswer { number: answer.number, steps: answer.count, lots: 0 }
     }
 
     /// The records that the last call wrote.
@@ -123,8 +97,8 @@ impl Telling {
     }
 
     /// The k-th unit of an issue, if there is one.
-    fn unit(&mut self, issue: u32, k: u32) -> Option<UnitAnswer> {
-        Some(trial::unit(&mut self.book, issue, k)).filter(|unit| unit.found == 1)
+    fn unit(&self, issue: u32, k: u32) -> Option<Unit> {
+        calls::unit(&self.book, issue, k).unit
     }
 
     /// The issues' units in their order.
@@ -137,7 +111,7 @@ impl Telling {
                 while self.unit(issue, k) == Some(unit) {
                     k += 1;
                 }
-                let UnitAnswer { account, lots, .. } = unit;
+                let Unit { account, lots } = unit;
                 self.detail(&units_line(issue, first, k - 1, account, lots));
             }
         }
@@ -151,7 +125,7 @@ impl Telling {
             self.detail(&format!("unit {k} is handed to account {to}: {}", lots_of(lots)));
         }
         let (k, handed) = self.handed[issue as usize];
-        let stock = self.book.delivered_total(issue as usize) - handed;
+        let stock = self.book.delivered_total(issue) - handed;
         if stock > 0 {
             if let Some(unit) = self.unit(issue, k) {
                 let (account, lots) = (unit.account, lots_of(unit.lots));
@@ -200,11 +174,11 @@ impl Telling {
     }
 
     /// The steps of a pair-off, and the issue's entries after it.
-    fn paired(&mut self, answer: &PairOffAnswer, issue: u32) {
-        let (steps, lots) = (answer.steps, grouped(answer.lots.into()));
+    fn paired(&mut self, answer: &Answer, issue: u32) {
+        let (steps, lots) = (answer.count, grouped(answer.cancelled.into()));
         self.detail(&format!("{steps} steps, {lots} lots cancelled"));
         let entries: Vec<Entry> =
-            self.book.entries().filter(|e| u32::from(e.issue) == issue).collect();
+            self.book.ledger().filter(|e| u32::from(e.issue) == issue).collect();
         for entry in entries {
             self.detail(&format!("in the ledger: {}", entry_line(&entry)));
         }
@@ -212,7 +186,7 @@ impl Telling {
 
     /// The charge on each entry, and each account's charges; then the next day begins.
     fn rolled(&mut self, before: &Book, days: u32, rate: u32, prices: &[u32]) {
-        for entry in before.entries() {
+        for entry in before.ledger() {
             let price = prices[usize::from(entry.issue)];
             let (_, yen) = desk::charge(entry.lots, price, days, rate);
             let Entry { issue, from, to, lots, .. } = entry;
@@ -227,13 +201,9 @@ impl Telling {
 
     /// The phase, the ledger and the charges at the end.
     fn end(&mut self) {
-        let phase = match self.book.phase {
-            Phase::Taking => "Taking",
-            Phase::Settling => "Settling",
-            Phase::Cut => "Cut",
-        };
+        let phase = self.book.phase.name().unwrap_or("no phase");
         self.text.push_str(&format!("\nAt the end: day {}, {phase}\n", self.book.day));
-        let entries = self.book.ledger();
+        let entries: Vec<Entry> = self.book.ledger().collect();
         self.line(&format!("ledger: {} fail entries", entries.len()));
         for entry in entries {
             self.detail(&entry_line(&entry));
@@ -297,11 +267,6 @@ fn entry_line(entry: &Entry) -> String {
     format!("issue {issue}: account {from} owes account {to} {}, since day {day}", lots_of(lots))
 }
 
-/// A refusal with its meaning.
-fn refused(number: u32) -> String {
-    format!("refused by {number}: {}", meaning(number))
-}
-
 /// Lots with their measure.
 fn lots_of(lots: u32) -> String {
     format!("{} lot{}", grouped(lots.into()), if lots == 1 { "" } else { "s" })
@@ -312,7 +277,7 @@ fn grouped(number: i128) -> String {
     let digits = number.unsigned_abs().to_string();
     let mut text = String::new();
     for (at, digit) in digits.chars().enumerate() {
-        if at > 0 && (digits.len() - at).is_multiple_of(3) {
+        if at > 0 && (digits.len() - at) % 3 == 0 {
             text.push(',');
         }
         text.push(digit);

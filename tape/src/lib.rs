@@ -2,5 +2,4 @@
 
 pub mod bytes;
 pub mod explain;
-pub mod refusals;
 pub mod text;

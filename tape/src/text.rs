@@ -4,10 +4,7 @@
 //! tape has a text form, damaged ones too.
 
 use crate::bytes::split;
-use crate::refusals::meaning;
-use library::tape;
-use reference::book::ISSUES;
-use reference::tape::Instruction;
+use library::{tape, Instruction, Refusal, ISSUES, WRITER_WORDS};
 
 /// The instructions' forms, for errors.
 const FORMS: &str = "trade ISSUE FROM TO LOTS, close, deliver ISSUE ACCOUNT LOTS, cutoff, \
@@ -45,18 +42,18 @@ fn line_bytes(name: &str, arguments: &[&str], before: usize) -> Result<Vec<u8>, 
     if name == "byte" {
         return Ok(vec![raw::<u8>(arguments, 2)?]);
     }
-    if !before.is_multiple_of(4) {
+    if before % 4 != 0 {
         return Err(format!("`{name}` cannot follow `byte`: single bytes end a tape"));
     }
     if name == "word" {
         return Ok(raw::<u32>(arguments, 8)?.to_le_bytes().to_vec());
     }
     let (instruction, prices) = instruction_of(name, arguments)?;
-    let mut words = [0; 1 + ISSUES];
+    let mut words = [0; WRITER_WORDS];
     let answer = tape::write(&instruction, &prices, &mut words);
-    match answer.number {
-        0 => Ok(crate::bytes::join(&words[..answer.count])),
-        number => Err(format!("the writer refuses it, number {number}: {}", meaning(number))),
+    match Refusal::of(answer.refusal) {
+        None => Ok(crate::bytes::join(&words[..answer.count])),
+        Some(refusal) => Err(format!("the writer says: {refusal}")),
     }
 }
 
@@ -144,14 +141,14 @@ pub fn of_tape(tape: &[u8]) -> String {
                 text.push('\n');
                 at += count;
             }
-            Err(number) => {
-                text.push_str(&ended(at, number));
+            Err(refusal) => {
+                text.push_str(&ended(at, refusal));
                 break;
             }
         }
     }
     if at == words.len() && !stray.is_empty() {
-        text.push_str(&ended(at, 13));
+        text.push_str(&ended(at, Refusal::TapeEnds));
     }
     text.extend(words[at..].iter().map(|word| format!("word {word:08x}\n")));
     text.extend(stray.iter().map(|byte| format!("byte {byte:02x}\n")));
@@ -159,8 +156,9 @@ pub fn of_tape(tape: &[u8]) -> String {
 }
 
 /// The comment where reading ends.
-fn ended(at: usize, number: u32) -> String {
-    format!("# reading ends at word {at}, number {number}: {}\n", meaning(number))
+fn ended(at: usize, refusal: Refusal) -> String {
+    let (number, meaning) = (refusal.number(), refusal.meaning());
+    format!("# reading ends at word {at}, number {number}: {meaning}\n")
 }
 
 /// The line of an instruction, with the prices of a roll.
