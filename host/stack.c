@@ -1,7 +1,9 @@
 /* stack: how much stack each function of the library uses, measured on a thread whose stack was
  * painted before. Each call is made on a day with nets in all issues and accounts and a ledger of
  * many fails, so that it goes its whole way. Fails where one uses more than DAY_STACK_BYTES. */
-#define _GNU_SOURCE
+#ifndef _GNU_SOURCE
+#define _POSIX_C_SOURCE 200809L
+#endif
 #include <pthread.h>
 #include <stdio.h>
 
