@@ -4,6 +4,8 @@
 //! charged; here it is put into sentences.
 
 use crate::bytes::split;
+use crate::measure::{grouped, lots_of};
+use crate::why::why;
 use library::calls::{self, Answer, Unit};
 use library::{desk, tape, Book, Entry, Instruction, Refusal, ISSUES, OUTPUT_WORDS};
 
@@ -76,7 +78,8 @@ impl Telling {
         let answer = calls::call(&mut self.book, instruction, prices, &mut self.output);
         let sentence = sentence(instruction);
         if let Some(refusal) = Refusal::of(answer.refusal) {
-            self.line(&format!("word {at}: {sentence}: {refusal}"));
+            let why = why(&self.book, instruction, refusal);
+            self.line(&format!("word {at}: {sentence}: {why}"));
             return;
         }
         self.line(&format!("word {at}: {sentence}"));
@@ -265,37 +268,4 @@ fn units_line(issue: u32, first: u32, last: u32, account: u32, lots: u32) -> Str
 fn entry_line(entry: &Entry) -> String {
     let Entry { issue, from, to, lots, day } = *entry;
     format!("issue {issue}: account {from} owes account {to} {}, since day {day}", lots_of(lots))
-}
-
-/// Lots with their measure.
-fn lots_of(lots: u32) -> String {
-    format!("{} lot{}", grouped(lots.into()), if lots == 1 { "" } else { "s" })
-}
-
-/// A number with a comma before every three digits.
-fn grouped(number: i128) -> String {
-    let digits = number.unsigned_abs().to_string();
-    let mut text = String::new();
-    for (at, digit) in digits.chars().enumerate() {
-        if at > 0 && (digits.len() - at) % 3 == 0 {
-            text.push(',');
-        }
-        text.push(digit);
-    }
-    if number < 0 {
-        text.insert(0, '-');
-    }
-    text
-}
-
-#[cfg(test)]
-mod tests {
-    use super::grouped;
-
-    #[test]
-    fn numbers_are_grouped() {
-        let numbers = [0, 12, 123, 1_234, -123_456, 1_234_567];
-        let texts = ["0", "12", "123", "1,234", "-123,456", "1,234,567"];
-        assert_eq!(numbers.map(grouped), texts);
-    }
 }

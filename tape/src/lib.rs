@@ -1,5 +1,11 @@
-//! Tapes for people: a text form of the words, and what a tape does, day by day.
+//! Tapes for people: a text form of the words, what the book refuses, what a tape does day by day.
 
 pub mod bytes;
+pub mod check;
 pub mod explain;
+pub mod fault;
+pub mod input;
+pub mod measure;
+pub mod run;
 pub mod text;
+pub mod why;

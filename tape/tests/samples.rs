@@ -19,7 +19,7 @@ fn samples() -> Vec<PathBuf> {
 /// The words of a sample.
 fn tape_of(sample: &Path) -> Vec<u8> {
     let lines = fs::read_to_string(sample).expect("a sample in text form");
-    text::to_tape(&lines).unwrap_or_else(|error| panic!("{}: {error}", sample.display()))
+    text::to_tape(&lines).unwrap_or_else(|faults| panic!("{}: {faults:?}", sample.display()))
 }
 
 #[test]
@@ -30,6 +30,13 @@ fn each_sample_prints_what_is_stored() {
         let printed = reference::run::run(&tape_of(&sample));
         assert_eq!(printed, expected.expect("the stored output"), "{}", sample.display());
     }
+}
+
+#[test]
+fn the_settled_days_are_stored_as_words_too() {
+    let sample = Path::new(env!("CARGO_MANIFEST_DIR")).join("../tapes/p5-to-p9.txt");
+    let words = fs::read(sample.with_extension("tape")).expect("the words of the settled days");
+    assert_eq!(tape_of(&sample), words);
 }
 
 #[test]

@@ -5,7 +5,7 @@
 //! runs one tape alone.
 
 use std::path::{Path, PathBuf};
-use std::process::ExitCode;
+use std::process::{Command, ExitCode};
 use std::time::Instant;
 use std::{fs, iter};
 use tape::{bytes, text};
@@ -24,12 +24,15 @@ const LARGE: u32 = 400_000;
 /// The most words of a tape that is shown.
 const MOST_SHOWN: usize = 400;
 /// The program's own options.
-const OWN: [&str; 4] = ["--program", "--reference", "--large", "--samples"];
+const OWN: [&str; 5] = ["--program", "--reference", "--tool", "--large", "--samples"];
+/// Where the tool is otherwise.
+const TOOL: &str = "build/release/tape";
 
-/// The two programs.
+/// The two programs, and the tool that runs the first.
 struct Programs {
     program: String,
     reference: String,
+    tool: String,
 }
 
 fn main() -> ExitCode {
@@ -50,6 +53,7 @@ fn run(options: Options) -> Result<String, String> {
     let programs = Programs {
         program: options.own_or("--program", PROGRAM).to_string(),
         reference: options.own_or("--reference", REFERENCE).to_string(),
+        tool: options.own_or("--tool", TOOL).to_string(),
     };
     both_there(&programs.program, &programs.reference)?;
     if let Some(words) = &options.replay {
@@ -86,7 +90,8 @@ impl Programs {
             let read = |path: &Path| {
                 fs::read_to_string(path).map_err(|error| format!("{}: {error}", path.display()))
             };
-            let tape = text::to_tape(&read(sample)?).map_err(|error| format!("{name}: {error}"))?;
+            let tape =
+                text::to_tape(&read(sample)?).map_err(|faults| format!("{name}: {faults:?}"))?;
             let expected = read(&sample.with_extension("expected"))?;
             for program in [&self.reference, &self.program] {
                 let printed = run_program(program, &tape)?.output;
@@ -95,8 +100,29 @@ impl Programs {
                     return Err(format!("{name}\n  stored: {stored}\n  {program}: {told}"));
                 }
             }
+            self.by_tool(sample, &expected)?;
         }
         Ok(samples.len())
+    }
+
+    /// Runs a sample through `tape run`: the stored lines, and status 0 only where the whole tape is
+    /// read.
+    fn by_tool(&self, sample: &Path, expected: &str) -> Result<(), String> {
+        let mut run = Command::new(&self.tool);
+        let run = run.args(["run", "--program", &self.program]).arg(sample);
+        let output =
+            run.output().map_err(|error| format!("{} cannot be run: {error}", self.tool))?;
+        let name = sample.display();
+        if output.stdout != expected.as_bytes() {
+            let [stored, told] = first_difference(expected.as_bytes(), &output.stdout);
+            return Err(format!("{name}\n  stored: {stored}\n  tape run: {told}"));
+        }
+        let whole = !expected.contains(" tape ");
+        let (status, said) = (output.status, String::from_utf8_lossy(&output.stderr));
+        if output.status.success() != whole || said.is_empty() != whole {
+            return Err(format!("{name}: tape run ended with {status} and said {said:?}"));
+        }
+        Ok(())
     }
 
     /// Runs small random tapes.
