@@ -2,10 +2,13 @@
 
 pub mod bytes;
 pub mod check;
-pub mod explain;
+pub mod facts;
 pub mod fault;
 pub mod input;
 pub mod measure;
 pub mod run;
+pub mod story;
+pub mod telling;
 pub mod text;
+pub mod units;
 pub mod why;

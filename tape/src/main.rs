@@ -3,30 +3,36 @@
 use std::fs::File;
 use std::io::{self, Read, Write};
 use std::process::ExitCode;
+use std::str::FromStr;
 use std::{env, fs};
 use tape::input::{self, Input};
 use tape::run::Ran;
-use tape::{bytes, check, explain, run, text};
+use tape::telling::{self, Form, Only};
+use tape::{bytes, check, run, text};
 
 const USAGE: &str = "\
 tape write [--hex] [TEXT [TAPE]]     turns the text form into the words of a tape
 tape read [--hex] [TAPE [TEXT]]      turns the words of a tape into the text form
 tape check [--hex] [DAY]             says what the book will refuse, line by line
 tape run [--hex] [DAY [LINES]]       runs dayrun on a tape
-tape explain [--hex] [DAY [TEXT]]    runs a tape and tells what it does, day by day
+tape explain [--hex] [--json | --html] [--issue N] [--account N] [--day N] [DAY [TEXT]]
+                                     runs a tape and tells what it does, day by day
 tape --help, tape --version
 DAY is a tape in text form or as words. A file that is not named, or named `-`, is standard input or
 output. With --hex the words are hexadecimal numbers in text. --program PATH names dayrun for `run`,
-which is target/bin/dayrun otherwise. docs/TAPE.md explains the text form.
+which is target/bin/dayrun otherwise. explain tells only what is of an issue, an account or a day,
+as text, as JSON (one object a line) or as one page of HTML. docs/TAPE.md explains the text form.
 Status: 0 done; 1 the book refuses something (check), or the tape was not read to its end or its
 lines not written (run); 2 the words of the command, a file or a text are wrong.";
 
 /// What the command line asks for.
-#[derive(Debug, PartialEq, Eq)]
+#[derive(Debug, Default, PartialEq, Eq)]
 struct Command {
     name: String,
     hex: bool,
     program: Option<String>,
+    form: Form,
+    only: Only,
     input: String,
     output: String,
 }
@@ -70,12 +76,17 @@ fn told(words: &[String]) -> Option<String> {
 /// Reads the command line.
 fn command(words: Vec<String>) -> Result<Command, String> {
     let mut names = Vec::new();
-    let (mut hex, mut program) = (false, None);
+    let mut command = Command::default();
     let mut words = words.into_iter();
     while let Some(word) = words.next() {
         match word.as_str() {
-            "--hex" => hex = true,
-            "--program" => program = Some(words.next().ok_or("--program needs a path")?),
+            "--hex" => command.hex = true,
+            "--json" => command.form = Form::Json,
+            "--html" => command.form = Form::Html,
+            "--program" => command.program = Some(words.next().ok_or("--program needs a path")?),
+            "--issue" => command.only.issue = Some(number(&word, words.next())?),
+            "--account" => command.only.account = Some(number(&word, words.next())?),
+            "--day" => command.only.day = Some(number(&word, words.next())?),
             option if option.starts_with('-') && option != "-" => {
                 return Err(format!("there is no option {option}; use\n{USAGE}"));
             }
@@ -87,7 +98,14 @@ fn command(words: Vec<String>) -> Result<Command, String> {
         return Err(format!("say what to do, and at most {} files:\n{USAGE}", most - 1));
     }
     let file = |at: usize| names.get(at).cloned().unwrap_or_else(|| "-".to_string());
-    Ok(Command { name: file(0), hex, program, input: file(1), output: file(2) })
+    (command.name, command.input, command.output) = (file(0), file(1), file(2));
+    Ok(command)
+}
+
+/// The number of an option.
+fn number<T: FromStr>(option: &str, word: Option<String>) -> Result<T, String> {
+    let word = word.ok_or_else(|| format!("{option} needs a number"))?;
+    word.parse().map_err(|_| format!("{option} needs a number in range, not {word:?}"))
 }
 
 /// Does what the command says.
@@ -95,7 +113,7 @@ fn obey(command: &Command) -> Result<Ended, String> {
     match command.name.as_str() {
         "write" => put(&command.output, &write(command)?)?,
         "read" => put(&command.output, read(command)?.as_bytes())?,
-        "explain" => put(&command.output, explain::explain(&day_of(command)?.tape).as_bytes())?,
+        "explain" => explain(command)?,
         "check" => return check(command),
         "run" => return run(command),
         other => return Err(format!("there is no `tape {other}`; use\n{USAGE}")),
@@ -145,17 +163,27 @@ fn check(command: &Command) -> Result<Ended, String> {
     Ok(if refused == 0 { Ended::Well } else { Ended::Badly })
 }
 
+/// Tells what the day does.
+fn explain(command: &Command) -> Result<(), String> {
+    let tape = day_of(command)?.tape;
+    let told = telling::explain(&tape, command.form, command.only, &mut output(command)?);
+    told.map_err(|error| format!("cannot write {}: {error}", command.output))
+}
+
+/// The output that is named.
+fn output(command: &Command) -> Result<Box<dyn Write>, String> {
+    if command.output == "-" {
+        return Ok(Box::new(io::stdout().lock()));
+    }
+    let file = File::create(&command.output);
+    let file = file.map_err(|error| format!("cannot write {}: {error}", command.output))?;
+    Ok(Box::new(file))
+}
+
 /// Runs the program on the day.
 fn run(command: &Command) -> Result<Ended, String> {
     let tape = day_of(command)?.tape;
-    let program = command.program.as_deref();
-    let ran = if command.output == "-" {
-        run::run(program, &tape, &mut io::stdout().lock())?
-    } else {
-        let file = File::create(&command.output);
-        let mut file = file.map_err(|error| format!("cannot write {}: {error}", command.output))?;
-        run::run(program, &tape, &mut file)?
-    };
+    let ran = run::run(command.program.as_deref(), &tape, &mut output(command)?)?;
     if let Ran::NotWhole(why) = ran {
         eprintln!("tape: {why}");
         return Ok(Ended::Badly);

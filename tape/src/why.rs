@@ -1,6 +1,6 @@
 //! Why the book refuses an instruction: the question that it answers 'no', and the numbers behind it.
 
-use crate::measure::lots_of;
+use crate::measure::Lots;
 use library::{Book, Instruction, Refusal};
 
 /// The refusal with what the book says about it, in one sentence.
@@ -23,11 +23,11 @@ fn behind(book: &Book, instruction: &Instruction, refusal: Refusal) -> Option<St
             Some(format!("account {from} stands at {from_net}, account {to} at {to_net}"))
         }
         (Refusal::Owed, Instruction::Deliver { issue, account, .. }) => {
-            let owed = lots_of(owed_today(book, issue, account));
+            let owed = Lots(owed_today(book, issue, account));
             Some(format!("account {account} still owes {owed} of issue {issue} today"))
         }
         (Refusal::Owed, Instruction::Resolve { issue, account, .. }) => {
-            let owed = lots_of(owed_in_ledger(book, issue, account));
+            let owed = Lots(owed_in_ledger(book, issue, account));
             Some(format!("account {account} owes {owed} of issue {issue} in the ledger"))
         }
         (Refusal::Room, _) => Some(format!("it has {} entries before the cutoff", book.entries)),
