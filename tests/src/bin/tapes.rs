@@ -4,17 +4,19 @@
 //! `--reference PATH` name the programs; `--large N` is the number of large tapes. `--replay FILE`
 //! runs one tape alone.
 
+use std::fs::File;
 use std::path::{Path, PathBuf};
-use std::process::{Command, ExitCode};
-use std::time::Instant;
+use std::process::{Command, ExitCode, Stdio};
+use std::time::{Duration, Instant};
 use std::{fs, iter};
 use tape::{bytes, text};
 use tests::options::{number, Options};
 use tests::programs::{both_there, run as run_program, PROGRAM, REFERENCE};
-use tests::random_tapes::{day_tape, small_tape};
+use tests::random_tapes::{day_tape, small_tape, words_of};
 use tests::report::save_case;
 use tests::rng::Rng;
 use tests::shrink::shrink;
+use tests::steps::Call;
 
 /// The random tapes of the default run.
 const DEFAULT_CASES: u64 = 6_000;
@@ -23,6 +25,11 @@ const DEFAULT_LARGE: &str = "3";
 const LARGE: u32 = 400_000;
 /// The most words of a tape that is shown.
 const MOST_SHOWN: usize = 400;
+/// The trades that `tape explain` is timed on, how often, and how many times the program's time it
+/// may take.
+const TRADES: u32 = 1_000_000;
+const RUNS: u32 = 5;
+const MOST_TIMES: f64 = 5.0;
 /// The program's own options.
 const OWN: [&str; 5] = ["--program", "--reference", "--tool", "--large", "--samples"];
 /// Where the tool is otherwise.
@@ -66,6 +73,7 @@ fn run(options: Options) -> Result<String, String> {
     let large: u64 = number("--large", Some(options.own_or("--large", DEFAULT_LARGE).to_string()))?;
     programs.random(&options)?;
     programs.large(&options, large)?;
+    programs.explaining()?;
     let (seed, cases) = (options.seed, options.cases);
     Ok(format!("{samples} samples, {cases} tapes and {large} large ones agree (seed {seed})"))
 }
@@ -154,6 +162,29 @@ impl Programs {
         Ok(())
     }
 
+    /// `tape explain` on a million trades takes at most five times as long as the program.
+    fn explaining(&self) -> Result<(), String> {
+        let mut rng = Rng::new(11);
+        let mut words = Vec::new();
+        for _ in 0..TRADES {
+            let from = rng.range(0, 63);
+            let to = (from + rng.range(1, 63)) % 64;
+            let call =
+                Call::Trade { issue: rng.range(0, 15), from, to, lots: rng.range(1, 100_000) };
+            words.extend(words_of(&call).expect("a trade fits a tape"));
+        }
+        let file = save_tape(&bytes::join(&words))?;
+        let program = quickest(&mut Command::new(&self.program), &file)?;
+        let tool = quickest(Command::new(&self.tool).arg("explain"), &file)?;
+        fs::remove_file(&file).map_err(|error| format!("{}: {error}", file.display()))?;
+        let times = tool.as_secs_f64() / program.as_secs_f64();
+        eprintln!("tape explain takes {times:.1} times as long as the program on {TRADES} trades");
+        if times > MOST_TIMES {
+            return Err(format!("tape explain takes {times:.1} times the program's time"));
+        }
+        Ok(())
+    }
+
     /// Compares on a tape; a mismatch is shrunk, shown and kept.
     fn check(&self, seed: u64, tape: &[u8]) -> Result<usize, String> {
         self.compare(tape).map_err(|told| {
@@ -164,6 +195,29 @@ impl Programs {
             format!("seed {seed}\n{}\n  {kept}", report(&short, &told))
         })
     }
+}
+
+/// Keeps a tape in a file, to be read as standard input.
+fn save_tape(tape: &[u8]) -> Result<PathBuf, String> {
+    let file = std::env::temp_dir().join(format!("million-trades-{}.tape", std::process::id()));
+    fs::write(&file, tape).map_err(|error| format!("{}: {error}", file.display()))?;
+    Ok(file)
+}
+
+/// The quickest of some runs of a command on a tape.
+fn quickest(command: &mut Command, tape: &Path) -> Result<Duration, String> {
+    let mut times = Vec::new();
+    for _ in 0..RUNS {
+        let input = File::open(tape).map_err(|error| format!("{}: {error}", tape.display()))?;
+        let start = Instant::now();
+        let status = command.stdin(input).stdout(Stdio::null()).status();
+        let status = status.map_err(|error| format!("{command:?} cannot be run: {error}"))?;
+        times.push(start.elapsed());
+        if !status.success() {
+            return Err(format!("{command:?} ended with {status}"));
+        }
+    }
+    Ok(times.into_iter().min().unwrap_or_default())
 }
 
 /// The samples in text form of a folder.
