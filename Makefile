@@ -28,8 +28,10 @@ day:
 	@scripts/day.sh '$(TAPE)'
 
 libraries: $(LIBRARIES)
+	@:
 
 hosts: $(HOSTS)
+	@:
 
 $(BUILD)/%: host/%.c host/settlement_day.h $(LIBRARIES)
 	@mkdir -p $(BUILD)

@@ -9,6 +9,7 @@ cd "$(dirname "$0")/.."
 printf '%s, run by the proved program target/bin/dayrun:\n' "$1"
 status=0
 build/release/tape run "$1" || status=$?
+[ "$status" -lt 2 ] || exit "$status"
 printf '\nThe same day, told:\n'
 build/release/tape explain "$1"
 exit "$status"
