@@ -137,3 +137,62 @@ impl Default for Book {
         Book::fresh()
     }
 }
+
+#[cfg(test)]
+mod tests {
+    use super::*;
+    use crate::{calls, Refusal};
+
+    /// A book of the largest numbers everywhere.
+    fn damaged() -> Book {
+        Book {
+            day: u16::MAX,
+            phase: Phase(u32::MAX),
+            entries: usize::MAX,
+            nets: [i32::MIN; PLACES],
+            delivered: [u32::MAX; PLACES],
+            charges: [i64::MIN; ACCOUNTS],
+            issues: [u8::MAX; ENTRIES],
+            froms: [u8::MAX; ENTRIES],
+            tos: [u8::MAX; ENTRIES],
+            lots: [u32::MAX; ENTRIES],
+            days: [u16::MAX; ENTRIES],
+        }
+    }
+
+    #[test]
+    fn a_damaged_book_can_be_looked_at() {
+        let book = damaged();
+        assert_eq!(book.ledger().count(), ENTRIES);
+        assert_eq!(book.delivered_total(15), 64 * u64::from(u32::MAX));
+        assert_eq!((book.net(15, 63), book.net(16, 0), book.net(0, 64)), (i32::MIN, 0, 0));
+        assert_eq!((book.delivered(u32::MAX, 0), book.delivered_total(u32::MAX)), (0, 0));
+        assert_eq!((book.entry(ENTRIES), book.entry(usize::MAX)), (None, None));
+        assert_eq!(book.phase.name(), None);
+    }
+
+    #[test]
+    fn a_damaged_book_is_refused_and_stays_as_it_was() {
+        let (mut book, mut out) = (damaged(), [7; crate::OUTPUT_WORDS]);
+        assert!(!calls::sound(&book));
+        assert_eq!(calls::unit(&book, 0, 0).refusal, Refusal::Book.number());
+        let answers = [
+            calls::trade(&mut book, 0, 1, 2, 3),
+            calls::close(&mut book),
+            calls::deliver(&mut book, 0, 1, 2, &mut out),
+            calls::cutoff(&mut book, &mut out),
+            calls::resolve(&mut book, 0, 1, 2, &mut out),
+            calls::pair_off(&mut book, 0, 1),
+            calls::roll(&mut book, 1, 300, &[100_000; 16]),
+        ];
+        assert!(answers.iter().all(|answer| answer.refused() == Some(Refusal::Book)));
+        assert!(book == damaged() && out == [7; crate::OUTPUT_WORDS]);
+    }
+
+    #[test]
+    fn a_fresh_book_is_sound_and_its_places_are_its_own() {
+        assert!(calls::sound(&Book::default()));
+        assert_eq!((place(0, 0), place(15, 63), place(1, 0)), (Some(0), Some(1_023), Some(64)));
+        assert_eq!((place(16, 0), place(0, 64), place(u32::MAX, u32::MAX)), (None, None, None));
+    }
+}
