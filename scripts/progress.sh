@@ -9,7 +9,7 @@ cd "$(dirname "$0")/.."
 
 log=$1
 shift
-waiting=60 # seconds without a line after which it is said what is being proved
+waiting=${PROGRESS_SECONDS:-60} # seconds without a line after which it is said what is being proved
 
 # The crates of these names and all that they depend on, in no order; of no name, all.
 needed() {
@@ -98,23 +98,25 @@ show() { # LINE
 # What is being proved now: crates whose output does not have rt's last word yet.
 still() {
     local busy
-    busy=$(grep -L '^rt: ' target/log/*.out target/must-fail/*/*.out 2>/dev/null |
+    busy=$({ grep -L '^rt: ' target/log/*.out target/must-fail/*/*.out 2>/dev/null || true; } |
         sed 's,^target/log/,,; s,^target/must-fail/,,; s,\.out$,,' | tr '\n' ' ')
     [ -z "$busy" ] || printf '   %d s: at work on %s\n' $((SECONDS - first)) "$busy"
 }
 
 : >"$log"
+part='' # of a line whose end has not come yet
 while true; do
     status=0
     IFS= read -r -t "$waiting" line || status=$?
-    if [ "$status" -eq 0 ]; then
-        printf '%s\n' "$line" >>"$log"
-        show "$line"
-    elif [ "$status" -gt 128 ]; then
-        [ -z "$line" ] || printf '%s' "$line" >>"$log"
+    part=$part$line
+    if [ "$status" -gt 128 ]; then
         still
-    else
-        [ -z "$line" ] || { printf '%s\n' "$line" >>"$log"; show "$line"; }
-        break
+        continue
     fi
+    if [ "$status" -eq 0 ] || [ -n "$part" ]; then
+        printf '%s\n' "$part" >>"$log"
+        show "$part"
+    fi
+    part=''
+    [ "$status" -eq 0 ] || break
 done
