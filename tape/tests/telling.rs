@@ -236,6 +236,8 @@ fn html_is_one_page_with_nothing_from_elsewhere() {
         "<h2>Day 1, issue 3</h2>",
         "units 0–1 of account 2, 100,000 lots each, 200,000 lots in all: 200,000 lots handed, 0 lots",
         "units 5 of account 2, 50,000 lots each, 50,000 lots in all: 45,000 lots handed, 5,000 lots f",
+        "<span class=\"handed\" style=\"flex-grow:45000\"></span><span class=\"partly\" \
+         style=\"flex-grow:5000\">",
         "<span class=\"failed\" style=\"flex-grow:50000\">",
         "<h3>Ledger of fails</h3>",
         "<td>-226,026</td>",

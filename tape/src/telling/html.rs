@@ -25,6 +25,8 @@ struct Units {
     account: u32,
     lots: u32,
     handed: u64,
+    /// What the unit that was handed in part lacks; all of it is failed.
+    partly: u64,
     failed: u64,
 }
 
@@ -41,15 +43,18 @@ impl Page {
         match fact {
             Fact::Units { issue, first, last, account, lots, .. } => {
                 let (first, last, account, lots) = (*first, *last, *account, *lots);
-                let units = Units { first, last, account, lots, handed: 0, failed: 0 };
+                let units = Units { first, last, account, lots, handed: 0, partly: 0, failed: 0 };
                 self.bars.entry((day, *issue)).or_default().push(units);
             }
             Fact::Handed { issue, first, last, lots, .. } => {
                 let all = u64::from(last - first + 1) * u64::from(*lots);
                 self.at(day, *issue, *first, |units| units.handed += all);
             }
-            Fact::Partly { issue, unit, lots, .. } => {
-                self.at(day, *issue, *unit, |units| units.handed += u64::from(*lots));
+            Fact::Partly { issue, unit, lots, lacks, .. } => {
+                self.at(day, *issue, *unit, |units| {
+                    units.handed += u64::from(*lots);
+                    units.partly += u64::from(*lacks);
+                });
             }
             Fact::Fails { issue, lots, first, .. } => {
                 self.at(day, *issue, *first, |units| units.failed += u64::from(*lots));
@@ -92,7 +97,8 @@ impl Page {
         for ((day, issue), bar) in &self.bars {
             let all: u64 = bar.iter().map(Units::all).sum();
             writeln!(out, "<h2>Day {day}, issue {issue}</h2>")?;
-            writeln!(out, "<p>{} due in {} units</p>", Face(all), count(bar))?;
+            let (units, s) = (count(bar), if count(bar) == 1 { "" } else { "s" });
+            writeln!(out, "<p>{} due in {units} unit{s}</p>", Face(all))?;
             writeln!(out, "<div class=\"bar\">")?;
             bar.iter().try_for_each(|units| segment(out, units))?;
             writeln!(out, "</div>")?;
@@ -150,16 +156,19 @@ fn count(bar: &[Units]) -> u32 {
     bar.last().map_or(0, |units| units.last + 1)
 }
 
-/// The part of a bar that like units have: handed, failed, and what is neither yet.
+/// The part of a bar that like units have: handed, lacking in a unit that was handed in part, failed
+/// whole, and what is neither yet.
 fn segment(out: &mut impl Write, units: &Units) -> io::Result<()> {
-    let Units { first, last, account, lots, handed, failed } = *units;
+    let Units { first, last, account, lots, handed, partly, failed } = *units;
     let open = units.all().saturating_sub(handed + failed);
     let names = if first == last { format!("{first}") } else { format!("{first}–{last}") };
     let (each, of) = (Lots(lots.into()), Lots(units.all()));
     write!(out, "<div class=\"units\" style=\"flex-grow:{}\" ", units.all())?;
     write!(out, "title=\"units {names} of account {account}, {each} each, {of} in all: ")?;
     write!(out, "{} handed, {} failed, {} open\">", Lots(handed), Lots(failed), Lots(open))?;
-    for (class, part) in [("handed", handed), ("failed", failed), ("open", open)] {
+    let whole = failed.saturating_sub(partly);
+    for (class, part) in [("handed", handed), ("partly", partly), ("failed", whole), ("open", open)]
+    {
         if part > 0 {
             write!(out, "<span class=\"{class}\" style=\"flex-grow:{part}\"></span>")?;
         }
@@ -201,6 +210,7 @@ body { font: 15px sans-serif; margin: 2em; color: #222; }
 .units b { position: absolute; left: 0; right: 0; top: 1em; text-align: center; font-weight: normal; }
 .units span { flex-basis: 0; }
 .handed { background: #8cc63f; }
+.partly { background: #f0a030; }
 .failed { background: #e05a4e; }
 .open { background: #d0d0d0; }
 table { border-collapse: collapse; }
@@ -209,6 +219,6 @@ th, td { padding: 2px 10px; border: 1px solid #bbb; text-align: right; }
 </head>
 <body>
 <h1>Settlement day</h1>
-<p>Units in their order; each part is an account's, as wide as its lots. Green: handed over. Red:
-failed. Grey: neither yet. A part with green and red was handed in part.</p>
+<p>Units in their order; each part is an account's, as wide as its lots. Green: handed over. Orange:
+what a unit lacks that was handed in part, and failed. Red: failed whole. Grey: neither yet.</p>
 ";
