@@ -1,19 +1,22 @@
 # The commands of the settlement-day book. `make help` lists them.
 
 BUILD := build
-LIBRARIES := $(foreach name,desk entries trial,target/staticlib/lib$(name).a)
-HOST := $(BUILD)/measures
-CFLAGS := -std=c11 -O2 -Wall -Wextra -Werror
+LIBRARIES := $(foreach name,desk entries exports,target/staticlib/lib$(name).a)
+HOSTS := $(BUILD)/measures $(BUILD)/day $(BUILD)/stack
+CFLAGS := -std=c11 -O2 -Wall -Wextra -Wpedantic -Werror
+CXXFLAGS := -std=c++17 -Wall -Wextra -Wpedantic -Werror
 CRATE_FILES := crates.txt $(shell find crates -name '*.rt' -o -name '*.antt')
 
-.PHONY: help test run host libraries clean
+.PHONY: help test run day libraries hosts clean
 
 help:
-	@echo 'make test        prove every crate from nothing, then run every test; the last line is the verdict'
-	@echo 'make run         run the settled day P5 to P9 and show it'
-	@echo 'make libraries   build the static libraries, target/staticlib/lib*.a'
-	@echo 'make host        build the host in C, build/measures'
-	@echo 'make clean       remove everything that was built'
+	@echo 'make test            prove every crate from nothing, then run every test; the last line is the verdict'
+	@echo 'make run             run the settled day P5 to P9 and show it'
+	@echo 'make day TAPE=file   run a tape, in its text form or as words, and show it'
+	@echo 'make libraries       build the static libraries, target/staticlib/lib*.a'
+	@echo 'make hosts           build the hosts in C: build/measures, build/day and build/stack'
+	@echo 'make clean           remove everything that was built'
+	@echo 'The proved program is target/bin/dayrun, the tool for tapes build/release/tape.'
 
 test:
 	@scripts/test.sh
@@ -21,17 +24,23 @@ test:
 run:
 	@scripts/run.sh
 
+day:
+	@scripts/day.sh '$(TAPE)'
+
 libraries: $(LIBRARIES)
+	@:
 
-host: $(HOST)
+hosts: $(HOSTS)
+	@:
 
-$(HOST): host/measures.c host/day_measures.h target/staticlib/libdesk.a
+$(BUILD)/%: host/%.c host/settlement_day.h $(LIBRARIES)
 	@mkdir -p $(BUILD)
-	gcc $(CFLAGS) -o $@ host/measures.c target/staticlib/libdesk.a
+	g++ $(CXXFLAGS) -fsyntax-only -x c++ $<
+	gcc $(CFLAGS) -pthread -o $@ $< $(LIBRARIES)
 
 target/staticlib/lib%.a: $(CRATE_FILES)
 	@scripts/tools.sh rt gcc
-	rt staticlib $*
+	@scripts/library.sh $*
 
 clean:
 	rm -rf $(BUILD) target

@@ -7,7 +7,7 @@
 #include <stdlib.h>
 #include <string.h>
 
-#include "day_measures.h"
+#include "settlement_day.h"
 
 enum status { DONE = 0, REFUSED = 1, BAD_USE = 2, NOT_WRITTEN = 3 };
 
@@ -21,10 +21,10 @@ struct range {
 
 /* The numbers of a charge in the order of the command; a value takes the first two. */
 static const struct range ranges[] = {
-    {"LOTS", 1, 20000000, DAY_LOTS_REFUSED},
-    {"PRICE", 1, 200000, DAY_TERMS_REFUSED},
-    {"DAYS", 1, 12, DAY_TERMS_REFUSED},
-    {"RATE", 0, 10000, DAY_TERMS_REFUSED},
+    {"LOTS", 1, DAY_MOST_LOTS, DAY_REFUSED_LOTS},
+    {"PRICE", 1, DAY_MOST_PRICE, DAY_REFUSED_TERMS},
+    {"DAYS", 1, DAY_MOST_DAYS, DAY_REFUSED_TERMS},
+    {"RATE", 0, DAY_MOST_RATE, DAY_REFUSED_TERMS},
 };
 
 enum { VALUE_NUMBERS = 2, CHARGE_NUMBERS = 4 };

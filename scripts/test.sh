@@ -1,6 +1,6 @@
 #!/usr/bin/env bash
 # The one test command. It proves every crate from nothing and then runs the tests of what was
-# built from them. The last line is the prover's verdict, or says which test failed.
+# built from them. The last line, and no other, is the prover's verdict, or says which test failed.
 set -euo pipefail
 cd "$(dirname "$0")/.."
 
@@ -11,22 +11,29 @@ step() { # NAME COMMAND..
     "$@" || { printf 'tests failed: %s\n' "$name"; exit 1; }
 }
 
-step 'tools' scripts/tools.sh rt make gcc cargo
-mkdir -p build
+# Proves all crates from nothing and tries the must-fail edits; the log keeps the verdict.
+proofs() {
+    rt ci 2>&1 | scripts/progress.sh build/proofs.log
+}
 
-printf '== proofs\n'
-rt ci 2>&1 | tee build/proofs.log
+step 'tools' scripts/tools.sh rt make gcc g++ cargo rustc
+step 'what is shown of the proofs' scripts/test-progress.sh
+mkdir -p build
+step 'proofs' proofs
 verdict=$(tail -n 1 build/proofs.log)
 [[ $verdict =~ ^[0-9]+\ passed,\ 0\ failed$ ]] || { echo 'tests failed: no verdict on the proofs'; exit 1; }
 
 step 'the libraries' make --no-print-directory libraries
-step 'the host in C' make --no-print-directory host
-step 'what the host prints' scripts/test-host.sh build/measures
+step 'the hosts in C' make --no-print-directory hosts
+step 'what the host of value and charge prints' scripts/test-host.sh build/measures
+step 'what the host of the book prints' scripts/test-day-host.sh build/day
+step 'the stack that a call needs' build/stack
 step 'the tests in Rust' cargo test --release --offline
 step 'the test programs' cargo build --release --offline
 step 'value and charge beside the second engine' build/release/measures
 step 'entries beside the second engine' build/release/entries
 step 'the calls beside the second engine' build/release/calls
 step 'the program beside the second engine' build/release/tapes
+step 'the program where input or output fails' build/release/failures
 
 printf '%s\n' "$verdict"

@@ -1,14 +1,11 @@
-//! The desk's library, as its host program sees it.
+//! Value and charge of lots, as the desk's host program fetches them.
 
-extern "C" {
-    fn day_value(lots: u32, price: u32, yen: *mut u64) -> u32;
-    fn day_charge(lots: u32, price: u32, days: u32, rate: u32, yen: *mut u64) -> u32;
-}
+use crate::declarations::{day_charge, day_value};
 
 /// No answer holds so many yen: what is left if the library writes none.
 const NOT_WRITTEN: u64 = u64::MAX;
 
-/// The library's value of lots at a price: (refusal number, yen).
+/// The value of lots at a price: (refusal number, yen).
 pub fn value(lots: u32, price: u32) -> (u32, u64) {
     let mut yen = NOT_WRITTEN;
     // SAFETY: the library writes one u64 through the reference, which lives until after the call.
@@ -16,7 +13,7 @@ pub fn value(lots: u32, price: u32) -> (u32, u64) {
     (number, yen)
 }
 
-/// The library's charge on lots at a price for days at a rate: (refusal number, yen).
+/// The charge on lots at a price for days at a rate: (refusal number, yen).
 pub fn charge(lots: u32, price: u32, days: u32, rate: u32) -> (u32, u64) {
     let mut yen = NOT_WRITTEN;
     // SAFETY: the library writes one u64 through the reference, which lives until after the call.

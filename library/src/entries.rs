@@ -1,6 +1,6 @@
-//! Entries kept as structs, as a host sees them: one met in a lent slice.
+//! Entries kept as structs: one met in a lent slice.
 
-use reference::book;
+use crate::declarations::entry_meet;
 
 /// A fail entry, laid out as in C.
 #[repr(C)]
@@ -11,17 +11,6 @@ pub struct Entry {
     pub to: u8,
     pub lots: u32,
     pub day: u16,
-}
-
-impl From<book::Entry> for Entry {
-    fn from(entry: book::Entry) -> Entry {
-        let book::Entry { issue, from, to, lots, day } = entry;
-        Entry { issue, from, to, lots, day }
-    }
-}
-
-extern "C" {
-    fn entry_meet(entries: *mut Entry, length: usize, at: usize, lots: u32) -> u32;
 }
 
 /// Lowers the lots of the entry at a place by at most so many, and answers how many were met; where

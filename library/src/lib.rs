@@ -1,6 +1,44 @@
-//! The proved library, called safely: the desk's value and charge, entries met, the calls on a book, the tape.
+//! The proved library, called safely from Rust: a book and the calls on it, the tape's reader and
+//! writer, value and charge, entries met.
+//!
+//! ```
+//! use library::{calls, Book, Instruction, OUTPUT_WORDS};
+//!
+//! let mut book = Book::fresh();
+//! let mut out = [0; OUTPUT_WORDS];
+//! assert_eq!(calls::trade(&mut book, 0, 1, 2, 3).refusal, 0);
+//! assert_eq!(calls::close(&mut book).refusal, 0);
+//! let answer = calls::call(&mut book, &Instruction::Cutoff, &[], &mut out);
+//! assert_eq!((answer.refusal, answer.count), (0, 1));
+//! ```
+//!
+//! A book may hold any numbers: one that is not sound is refused by 2. Nothing here stops a program,
+//! whatever the book, the numbers and the words are; `raw` takes columns of any length too.
 
+mod book;
+pub mod calls;
+mod declarations;
 pub mod desk;
 pub mod entries;
+mod instruction;
+pub mod raw;
+mod refusal;
 pub mod tape;
-pub mod trial;
+
+pub use book::{place, Book, Phase};
+pub use entries::Entry;
+pub use instruction::{Fields, Instruction};
+pub use refusal::Refusal;
+
+/// Issues 0 to 15.
+pub const ISSUES: usize = 16;
+/// Netting accounts 0 to 63.
+pub const ACCOUNTS: usize = 64;
+/// The places of nets and of delivered lots: one for each issue and account.
+pub const PLACES: usize = ISSUES * ACCOUNTS;
+/// The most fail entries of the ledger.
+pub const ENTRIES: usize = 2_048;
+/// The words that the output of deliver, cutoff and resolve has at the least.
+pub const OUTPUT_WORDS: usize = 4_096;
+/// The words that the output of the tape writer has at the least.
+pub const WRITER_WORDS: usize = 17;

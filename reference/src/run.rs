@@ -7,10 +7,12 @@ use crate::tape::{self, Instruction};
 
 /// Runs a tape on a fresh book and gives all that `dayrun` prints.
 pub fn run(tape: &[u8]) -> String {
-    let (words, stray) = tape.as_chunks::<4>();
-    let words: Vec<u32> = words.iter().map(|&bytes| u32::from_le_bytes(bytes)).collect();
+    let words = tape.chunks_exact(4);
+    let stray = !words.remainder().is_empty();
+    let word = |bytes: &[u8]| u32::from_le_bytes([bytes[0], bytes[1], bytes[2], bytes[3]]);
+    let words: Vec<u32> = words.map(word).collect();
     let mut book = Book::fresh();
-    let mut text = run_words(&words, !stray.is_empty(), &mut book);
+    let mut text = run_words(&words, stray, &mut book);
     text.push_str(&ledger_lines(&book));
     text.push_str(&charge_lines(&book));
     text

@@ -1,9 +1,12 @@
 //! The bytes of a tape: little-endian words, and what is left of a last one that is not whole.
 
+use crate::fault::{words_of, Fault};
+
 /// The whole words of a tape, and the 1 to 3 bytes after them if there are any.
 pub fn split(tape: &[u8]) -> (Vec<u32>, &[u8]) {
-    let (words, stray) = tape.as_chunks::<4>();
-    (words.iter().map(|&bytes| u32::from_le_bytes(bytes)).collect(), stray)
+    let words = tape.chunks_exact(4);
+    let stray = words.remainder();
+    (words.map(|word| u32::from_le_bytes([word[0], word[1], word[2], word[3]])).collect(), stray)
 }
 
 /// The bytes of words.
@@ -22,18 +25,25 @@ pub fn to_hex(tape: &[u8]) -> Result<String, String> {
     Ok(words.iter().map(|word| format!("{word:08x}\n")).collect())
 }
 
-/// The bytes of hexadecimal words with spaces or line ends between them; `#` begins a comment.
-pub fn of_hex(text: &str) -> Result<Vec<u8>, String> {
-    let mut tape = Vec::new();
+/// The bytes of hexadecimal words with spaces or line ends between them, or everything that is wrong
+/// with them; `#` begins a comment.
+pub fn of_hex(text: &str) -> Result<Vec<u8>, Vec<Fault>> {
+    let (mut tape, mut faults) = (Vec::new(), Vec::new());
     for (number, line) in (1..).zip(text.lines()) {
-        for word in line.split('#').next().unwrap_or_default().split_whitespace() {
-            let word = u32::from_str_radix(word, 16).map_err(|_| {
-                format!("line {number}: {word:?} is not a word: write up to 8 hexadecimal digits")
-            })?;
-            tape.extend(word.to_le_bytes());
+        for word in words_of(line, number) {
+            match u32::from_str_radix(word.text, 16) {
+                Ok(read) => tape.extend(read.to_le_bytes()),
+                Err(_) => faults.push(word.fault(format!(
+                    "{:?} is not a word: write up to 8 hexadecimal digits",
+                    word.text
+                ))),
+            }
         }
     }
-    Ok(tape)
+    if faults.is_empty() {
+        return Ok(tape);
+    }
+    Err(faults)
 }
 
 #[cfg(test)]
@@ -50,7 +60,9 @@ mod tests {
     fn hexadecimal_words() {
         let tape = of_hex("10042000 80000003 # a trade\n50000000\n").unwrap();
         assert_eq!(to_hex(&tape).unwrap(), "10042000\n80000003\n50000000\n");
-        assert!(of_hex("5\nx\n").unwrap_err().starts_with("line 2: \"x\""));
+        let faults = of_hex("5\n 6 x\n123456789").unwrap_err();
+        let places: Vec<(usize, usize)> = faults.iter().map(|f| (f.line, f.column)).collect();
+        assert_eq!(places, [(2, 4), (3, 1)]);
         assert!(to_hex(&[1]).is_err());
     }
 }

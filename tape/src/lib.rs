@@ -1,6 +1,14 @@
-//! Tapes for people: a text form of the words, and what a tape does, day by day.
+//! Tapes for people: a text form of the words, what the book refuses, what a tape does day by day.
 
 pub mod bytes;
-pub mod explain;
-pub mod refusals;
+pub mod check;
+pub mod facts;
+pub mod fault;
+pub mod input;
+pub mod measure;
+pub mod run;
+pub mod story;
+pub mod telling;
 pub mod text;
+pub mod units;
+pub mod why;

@@ -3,11 +3,9 @@
 //! `word HEX` and `byte HEX` put one word or one last byte on the tape as it is, so that every
 //! tape has a text form, damaged ones too.
 
-use crate::bytes::split;
-use crate::refusals::meaning;
-use library::tape;
-use reference::book::ISSUES;
-use reference::tape::Instruction;
+use crate::bytes::{join, split};
+use crate::fault::{words_of, Fault, Word};
+use library::{tape, Instruction, Refusal, ISSUES, WRITER_WORDS};
 
 /// The instructions' forms, for errors.
 const FORMS: &str = "trade ISSUE FROM TO LOTS, close, deliver ISSUE ACCOUNT LOTS, cutoff, \
@@ -26,64 +24,93 @@ const DAYS: Field = ("days", 15);
 const RATE: Field = ("rate", (1 << 14) - 1);
 const PRICE: Field = ("price", (1 << 18) - 1);
 
-/// The bytes of a tape in text form; an error names the line and what to do.
-pub fn to_tape(text: &str) -> Result<Vec<u8>, String> {
-    let mut tape = Vec::new();
-    for (number, line) in (1..).zip(text.lines()) {
-        let words: Vec<&str> =
-            line.split('#').next().unwrap_or_default().split_whitespace().collect();
-        if let Some((name, arguments)) = words.split_first() {
-            let bytes = line_bytes(name, arguments, tape.len());
-            tape.extend(bytes.map_err(|error| format!("line {number}: {error}"))?);
-        }
-    }
-    Ok(tape)
+/// What one line of a text puts on the tape.
+#[derive(Clone, Debug, PartialEq, Eq)]
+pub struct Line {
+    /// The line's number, from 1.
+    pub number: usize,
+    /// The column at which it begins, from 1.
+    pub column: usize,
+    pub bytes: Vec<u8>,
 }
 
-/// The bytes of one line that stands after so many bytes.
-fn line_bytes(name: &str, arguments: &[&str], before: usize) -> Result<Vec<u8>, String> {
-    if name == "byte" {
-        return Ok(vec![raw::<u8>(arguments, 2)?]);
+/// The bytes of a tape in text form, or everything that is wrong with it.
+pub fn to_tape(text: &str) -> Result<Vec<u8>, Vec<Fault>> {
+    Ok(lines_of(text)?.into_iter().flat_map(|line| line.bytes).collect())
+}
+
+/// The lines of a text that put something on the tape, or everything that is wrong with it. A
+/// byte-order mark before the first line is passed over.
+pub fn lines_of(text: &str) -> Result<Vec<Line>, Vec<Fault>> {
+    let text = text.strip_prefix('\u{feff}').unwrap_or(text);
+    let (mut lines, mut faults) = (Vec::new(), Vec::new());
+    let mut ended = false;
+    for (number, line) in (1..).zip(text.lines()) {
+        let words = words_of(line, number);
+        let Some((name, arguments)) = words.split_first() else { continue };
+        match line_bytes(name, arguments, ended) {
+            Ok(bytes) => {
+                ended = name.text == "byte";
+                lines.push(Line { number, column: name.column, bytes });
+            }
+            Err(more) => faults.extend(more),
+        }
     }
-    if !before.is_multiple_of(4) {
-        return Err(format!("`{name}` cannot follow `byte`: single bytes end a tape"));
+    if faults.is_empty() {
+        return Ok(lines);
     }
-    if name == "word" {
-        return Ok(raw::<u32>(arguments, 8)?.to_le_bytes().to_vec());
+    Err(faults)
+}
+
+/// The bytes of one line; after a single byte only single bytes can stand.
+fn line_bytes(name: &Word, arguments: &[Word], ended: bool) -> Result<Vec<u8>, Vec<Fault>> {
+    if name.text == "byte" {
+        return Ok(vec![raw::<u8>(name, arguments, 2).map_err(|fault| vec![fault])?]);
+    }
+    if ended {
+        let what = format!("`{}` cannot follow `byte`: single bytes end a tape", name.text);
+        return Err(vec![name.fault(what)]);
+    }
+    if name.text == "word" {
+        let word = raw::<u32>(name, arguments, 8).map_err(|fault| vec![fault])?;
+        return Ok(word.to_le_bytes().to_vec());
     }
     let (instruction, prices) = instruction_of(name, arguments)?;
-    let mut words = [0; 1 + ISSUES];
+    let mut words = [0; WRITER_WORDS];
     let answer = tape::write(&instruction, &prices, &mut words);
-    match answer.number {
-        0 => Ok(crate::bytes::join(&words[..answer.count])),
-        number => Err(format!("the writer refuses it, number {number}: {}", meaning(number))),
+    match Refusal::of(answer.refusal) {
+        None => Ok(join(&words[..answer.count])),
+        Some(refusal) => Err(vec![name.fault(format!("the writer says: {refusal}"))]),
     }
 }
 
 /// The one hexadecimal number of `word` or `byte`.
-fn raw<T: TryFrom<u32>>(arguments: &[&str], digits: usize) -> Result<T, String> {
-    let wanted = || format!("one hexadecimal number of up to {digits} digits is wanted");
-    let [word] = arguments else { return Err(wanted()) };
-    let number = u32::from_str_radix(word, 16).map_err(|_| wanted())?;
-    T::try_from(number).map_err(|_| wanted())
+fn raw<T: TryFrom<u32>>(name: &Word, arguments: &[Word], digits: usize) -> Result<T, Fault> {
+    let wanted = format!("one hexadecimal number of up to {digits} digits is wanted");
+    let [word] = arguments else {
+        return Err(arguments.get(1).unwrap_or(name).fault(wanted));
+    };
+    let number =
+        u32::from_str_radix(word.text, 16).ok().and_then(|number| T::try_from(number).ok());
+    number.ok_or_else(|| word.fault(wanted))
 }
 
 /// The instruction of a line, with the prices of a roll.
-fn instruction_of(name: &str, words: &[&str]) -> Result<(Instruction, Vec<u32>), String> {
+fn instruction_of(name: &Word, words: &[Word]) -> Result<(Instruction, Vec<u32>), Vec<Fault>> {
     let take = |fields: &[Field]| numbers(name, fields, words);
-    let instruction = match name {
+    let instruction = match name.text {
         "trade" => {
             let numbers = take(&[ISSUE, FROM, TO, LOTS])?;
-            let [issue, from, to, lots] = numbers[..] else { unreachable!("four numbers") };
+            let (issue, from, to, lots) = (numbers[0], numbers[1], numbers[2], numbers[3]);
             Instruction::Trade { issue, from, to, lots }
         }
-        "deliver" | "resolve" => {
+        "deliver" => {
             let numbers = take(&[ISSUE, ACCOUNT, LOTS])?;
-            let [issue, account, lots] = numbers[..] else { unreachable!("three numbers") };
-            match name {
-                "deliver" => Instruction::Deliver { issue, account, lots },
-                _ => Instruction::Resolve { issue, account, lots },
-            }
+            Instruction::Deliver { issue: numbers[0], account: numbers[1], lots: numbers[2] }
+        }
+        "resolve" => {
+            let numbers = take(&[ISSUE, ACCOUNT, LOTS])?;
+            Instruction::Resolve { issue: numbers[0], account: numbers[1], lots: numbers[2] }
         }
         "pair-off" => {
             let numbers = take(&[ISSUE, ACCOUNT])?;
@@ -91,45 +118,82 @@ fn instruction_of(name: &str, words: &[&str]) -> Result<(Instruction, Vec<u32>),
         }
         "close" => take(&[]).map(|_| Instruction::Close)?,
         "cutoff" => take(&[]).map(|_| Instruction::Cutoff)?,
-        "roll" => return roll_of(words),
-        _ => return Err(format!("there is no instruction {name:?}: write one of {FORMS}")),
+        "roll" => return roll_of(name, words),
+        other => {
+            let what = format!("there is no instruction {other:?}: write one of {FORMS}");
+            return Err(vec![name.fault(what)]);
+        }
     };
     Ok((instruction, Vec::new()))
 }
 
 /// A roll: days, rate, and sixteen prices or one for all issues.
-fn roll_of(words: &[&str]) -> Result<(Instruction, Vec<u32>), String> {
+fn roll_of(name: &Word, words: &[Word]) -> Result<(Instruction, Vec<u32>), Vec<Fault>> {
     let sixteen = words.len() == 2 + ISSUES;
     let mut fields = vec![DAYS, RATE];
     fields.extend([PRICE; ISSUES].iter().take(if sixteen { ISSUES } else { 1 }));
     if words.len() != fields.len() {
-        return Err(format!(
+        let what = format!(
             "roll takes days, rate and sixteen prices (issue 0 first), or one price for all \
              issues; here are {} numbers",
             words.len()
-        ));
+        );
+        return Err(vec![name.fault(what)]);
     }
-    let numbers = numbers("roll", &fields, words)?;
+    let numbers = numbers(name, &fields, words)?;
     let prices = if sixteen { numbers[2..].to_vec() } else { vec![numbers[2]; ISSUES] };
     Ok((Instruction::Roll { days: numbers[0], rate: numbers[1] }, prices))
 }
 
-/// The numbers of an instruction, each of which must fit its bits.
-fn numbers(name: &str, fields: &[Field], words: &[&str]) -> Result<Vec<u32>, String> {
+/// The numbers of an instruction, each of which must fit its bits; all that do not are told.
+fn numbers(name: &Word, fields: &[Field], words: &[Word]) -> Result<Vec<u32>, Vec<Fault>> {
     if words.len() != fields.len() {
         let names: Vec<&str> = fields.iter().map(|(field, _)| *field).collect();
         let takes = if names.is_empty() { "no numbers".to_string() } else { names.join(", ") };
-        return Err(format!("{name} takes {takes}; here are {} numbers", words.len()));
+        let what = format!("{} takes {takes}; here are {} numbers", name.text, words.len());
+        return Err(vec![name.fault(what)]);
     }
-    fields.iter().zip(words).map(|(&field, word)| number(field, word)).collect()
+    let (mut numbers, mut faults) = (Vec::new(), Vec::new());
+    for (&field, word) in fields.iter().zip(words) {
+        match number(field, word) {
+            Ok(number) => numbers.push(number),
+            Err(fault) => faults.push(fault),
+        }
+    }
+    if faults.is_empty() {
+        return Ok(numbers);
+    }
+    Err(faults)
 }
 
 /// One number of an instruction.
-fn number((name, most): Field, word: &str) -> Result<u32, String> {
-    let number: Option<u32> = word.parse().ok();
+fn number((name, most): Field, word: &Word) -> Result<u32, Fault> {
+    let Some(digits) = digits_of(word.text) else {
+        let what = format!(
+            "{name} {:?} is not a number: write digits alone, or with `,` or `_` before every three",
+            word.text
+        );
+        return Err(word.fault(what));
+    };
+    let number: Option<u32> = digits.parse().ok();
     number.filter(|&number| number <= most).ok_or_else(|| {
-        format!("{name} {word:?} does not fit its bits: write a number from 0 to {most}")
+        let what = format!(
+            "{name} {:?} does not fit its bits: write a number from 0 to {most}",
+            word.text
+        );
+        word.fault(what)
     })
+}
+
+/// The digits of a number that may have `,` or `_` before every three of them; none where it has
+/// anything else.
+fn digits_of(word: &str) -> Option<String> {
+    let groups: Vec<&str> = word.split([',', '_']).collect();
+    let digits = groups.concat();
+    let grouped = groups.len() == 1
+        || (1..=3).contains(&groups[0].len()) && groups[1..].iter().all(|group| group.len() == 3);
+    let all_digits = !digits.is_empty() && digits.bytes().all(|byte| byte.is_ascii_digit());
+    (grouped && all_digits).then_some(digits)
 }
 
 /// The text form of a tape; where reading ends, a comment says so and the rest stands as it is.
@@ -144,14 +208,14 @@ pub fn of_tape(tape: &[u8]) -> String {
                 text.push('\n');
                 at += count;
             }
-            Err(number) => {
-                text.push_str(&ended(at, number));
+            Err(refusal) => {
+                text.push_str(&ended(at, refusal));
                 break;
             }
         }
     }
     if at == words.len() && !stray.is_empty() {
-        text.push_str(&ended(at, 13));
+        text.push_str(&ended(at, Refusal::TapeEnds));
     }
     text.extend(words[at..].iter().map(|word| format!("word {word:08x}\n")));
     text.extend(stray.iter().map(|byte| format!("byte {byte:02x}\n")));
@@ -159,8 +223,9 @@ pub fn of_tape(tape: &[u8]) -> String {
 }
 
 /// The comment where reading ends.
-fn ended(at: usize, number: u32) -> String {
-    format!("# reading ends at word {at}, number {number}: {}\n", meaning(number))
+fn ended(at: usize, refusal: Refusal) -> String {
+    let (number, meaning) = (refusal.number(), refusal.meaning());
+    format!("# reading ends at word {at}, number {number}: {meaning}\n")
 }
 
 /// The line of an instruction, with the prices of a roll.
@@ -215,25 +280,44 @@ mod tests {
     }
 
     #[test]
-    fn errors_name_the_line_and_what_to_do() {
-        for (text, error) in [
-            ("close\nsell 1 2", "line 2: there is no instruction \"sell\": write one of trade"),
-            ("trade 1 2 3", "line 1: trade takes issue, from, to, lots; here are 3 numbers"),
-            ("\n\nclose 1", "line 3: close takes no numbers; here are 1 numbers"),
-            (
-                "deliver 16 0 1",
-                "line 1: issue \"16\" does not fit its bits: write a number from 0 to 15",
-            ),
-            ("deliver 0 x 1", "line 1: account \"x\" does not fit"),
-            ("trade 0 1 2 268435456", "line 1: lots \"268435456\" does not fit"),
-            ("roll 1 2", "line 1: roll takes days, rate and sixteen prices"),
-            ("roll 16 2 3", "line 1: days \"16\" does not fit"),
-            ("word 123456789", "line 1: one hexadecimal number of up to 8 digits"),
-            ("byte 100", "line 1: one hexadecimal number of up to 2 digits"),
-            ("byte 1\nclose", "line 2: `close` cannot follow `byte`"),
-        ] {
-            let told = to_tape(text).unwrap_err();
-            assert!(told.starts_with(error), "{text}: {told}");
+    fn separators_and_a_byte_order_mark_are_taken() {
+        let plain = to_tape("trade 0 1 2 20000000\r\nclose\r\n").unwrap();
+        assert_eq!(to_tape("\u{feff}trade 0 1 2 20,000,000\nclose").unwrap(), plain);
+        assert_eq!(to_tape("trade 0 1 2 20_000_000\nclose").unwrap(), plain);
+        for wrong in ["2,0000", "20,00", ",200", "1,", "0,1,2", "+5", "-1", "1.5", "0x10", ""] {
+            assert_eq!(digits_of(wrong), None, "{wrong}");
         }
+    }
+
+    #[test]
+    fn errors_name_line_and_column_and_what_to_do() {
+        for (text, place, error) in [
+            ("close\nsell 1 2", (2, 1), "there is no instruction \"sell\": write one of trade"),
+            ("  trade 1 2 3", (1, 3), "trade takes issue, from, to, lots; here are 3 numbers"),
+            ("\n\nclose 1", (3, 1), "close takes no numbers; here are 1 numbers"),
+            ("deliver 16 0 1", (1, 9), "issue \"16\" does not fit its bits: write a number from 0"),
+            ("deliver 0 x 1", (1, 11), "account \"x\" is not a number: write digits alone"),
+            ("trade 0 1 2 268435456", (1, 13), "lots \"268435456\" does not fit"),
+            ("trade 0 1 2 99999999999", (1, 13), "lots \"99999999999\" does not fit"),
+            ("roll 1 2", (1, 1), "roll takes days, rate and sixteen prices"),
+            ("roll 16 2 3", (1, 6), "days \"16\" does not fit"),
+            ("word 123456789", (1, 6), "one hexadecimal number of up to 8 digits"),
+            ("word", (1, 1), "one hexadecimal number of up to 8 digits"),
+            ("byte 100", (1, 6), "one hexadecimal number of up to 2 digits"),
+            ("byte 1\nclose", (2, 1), "`close` cannot follow `byte`"),
+        ] {
+            let faults = to_tape(text).unwrap_err();
+            assert_eq!(faults.len(), 1, "{text}: {faults:?}");
+            assert_eq!((faults[0].line, faults[0].column), place, "{text}");
+            assert!(faults[0].what.starts_with(error), "{text}: {}", faults[0]);
+        }
+    }
+
+    #[test]
+    fn all_errors_are_told() {
+        let faults = to_tape("trade 16 64 2 x\nclose\nsell\nroll 1 2 3 4\n").unwrap_err();
+        let places: Vec<(usize, usize)> = faults.iter().map(|f| (f.line, f.column)).collect();
+        assert_eq!(places, [(1, 7), (1, 10), (1, 15), (3, 1), (4, 1)]);
+        assert_eq!(faults[3].in_file("day.txt").split(": ").next(), Some("day.txt:3:1"));
     }
 }

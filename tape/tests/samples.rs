@@ -2,7 +2,7 @@
 
 use std::fs;
 use std::path::{Path, PathBuf};
-use tape::{explain, text};
+use tape::{telling, text};
 
 /// The samples in text form.
 fn samples() -> Vec<PathBuf> {
@@ -19,7 +19,7 @@ fn samples() -> Vec<PathBuf> {
 /// The words of a sample.
 fn tape_of(sample: &Path) -> Vec<u8> {
     let lines = fs::read_to_string(sample).expect("a sample in text form");
-    text::to_tape(&lines).unwrap_or_else(|error| panic!("{}: {error}", sample.display()))
+    text::to_tape(&lines).unwrap_or_else(|faults| panic!("{}: {faults:?}", sample.display()))
 }
 
 #[test]
@@ -33,6 +33,13 @@ fn each_sample_prints_what_is_stored() {
 }
 
 #[test]
+fn the_settled_days_are_stored_as_words_too() {
+    let sample = Path::new(env!("CARGO_MANIFEST_DIR")).join("../tapes/p5-to-p9.txt");
+    let words = fs::read(sample.with_extension("tape")).expect("the words of the settled days");
+    assert_eq!(tape_of(&sample), words);
+}
+
+#[test]
 fn each_sample_is_read_back() {
     for sample in samples() {
         let tape = tape_of(&sample);
@@ -43,7 +50,7 @@ fn each_sample_is_read_back() {
 #[test]
 fn each_sample_is_explained() {
     for sample in samples() {
-        let told = explain::explain(&tape_of(&sample));
+        let told = telling::explained(&tape_of(&sample));
         assert!(told.starts_with("Day 0\n") && told.contains("\nAt the end: day "), "{told}");
     }
 }
@@ -51,7 +58,7 @@ fn each_sample_is_explained() {
 #[test]
 fn the_settled_days_are_told() {
     let sample = Path::new(env!("CARGO_MANIFEST_DIR")).join("../tapes/p5-to-p9.txt");
-    let told = explain::explain(&tape_of(&sample));
+    let told = telling::explained(&tape_of(&sample));
     for line in [
         "issue 0: units 0 to 1 are account 2's, 100,000 lots each",
         "issue 0: unit 5 is account 2's, 50,000 lots",

@@ -55,7 +55,7 @@ impl Case {
         }
         let told = |engine| format!("number {}, by the paper {number} ({engine})", answer.number);
         let case = text_of(&self.all_steps());
-        Err(Mismatch { case, reference: told("second engine"), library: told("open") })
+        Err(Mismatch { case, reference: told("second engine"), library: told("library") })
     }
 
     /// The shrunk case of a difference.

@@ -1,7 +1,8 @@
 //! Both engines on the same steps: answers, whole books and every word of the output compared.
 
-use crate::steps::{entry_at, Call, Step};
-use library::trial::{self, in_place, open};
+use crate::convert::{library_book, same_numbers};
+use crate::steps::{Call, Step};
+use library::raw;
 use reference::book::{place, Book, ACCOUNTS, ENTRIES, ISSUES};
 use reference::calls;
 
@@ -10,76 +11,66 @@ const MARGIN: usize = 8;
 
 /// An answer in plain numbers: the refusal number and every other number, 0 where there is none.
 ///
-/// For `sound` the number is 1 or 0. For `unit` the others are found, account and lots; for
-/// deliver, cutoff and resolve the count of records; for pair-off steps and lots.
+/// For `sound` the number is 1 or 0. For `unit` the others are found, account and lots; for the
+/// calls the count (for pair-off, of steps) and the lots cancelled.
 #[derive(Clone, Copy, Debug, PartialEq, Eq)]
 pub struct Answer {
     pub number: u32,
     pub others: [u64; 3],
 }
 
-/// The second engine's book and the library's, and a third for the library's calls in place.
+/// The second engine's book and the library's.
 pub struct Engines {
     pub reference: Book,
     /// The second engine's book as it was before the last step.
     pub before: Book,
-    library: Book,
-    in_place: Book,
-    sound: bool,
+    library: library::Book,
     /// How many calls were compared.
     pub compared: u64,
 }
 
 impl Engines {
-    /// All books fresh.
+    /// Both books fresh.
     pub fn new() -> Engines {
         Engines::of(&Book::fresh())
     }
 
-    /// All books as this one.
+    /// Both books as this one.
     pub fn of(book: &Book) -> Engines {
         Engines {
             reference: book.clone(),
             before: book.clone(),
-            library: book.clone(),
-            in_place: book.clone(),
-            sound: book.sound(),
+            library: library_book(book),
             compared: 0,
         }
     }
 
-    /// Makes one step on all books; what differs is told in a line for each engine.
+    /// Makes one step on both books; what differs is told in a line for each engine.
     pub fn run(&mut self, step: &Step) -> Result<Answer, [String; 2]> {
         self.before.clone_from(&self.reference);
         match step {
             Step::Set(edit) => {
                 edit.apply(&mut self.reference);
-                edit.apply(&mut self.library);
-                edit.apply(&mut self.in_place);
-                self.sound = self.reference.sound();
-                Ok(Answer { number: 0, others: [0; 3] })
+                self.library = library_book(&self.reference);
+                Ok(plain(0, [0; 3]))
             }
             Step::Call(call) => self.call(call),
         }
     }
 
-    /// Puts a call to the second engine and to both forms of the library's.
+    /// Puts a call to both engines. A refusal leaves book and output as they came, and 0 in every
+    /// other number.
     fn call(&mut self, call: &Call) -> Result<Answer, [String; 2]> {
         self.compared += 1;
-        let mut output = lent(call);
+        let (mut output, mut other) = (lent(call), lent(call));
         let answer = by_reference(&mut self.reference, call, inner(&mut output));
-        let expected = (answer, &self.reference, output.as_slice());
-        if answer.number != 0 && *call != Call::Sound {
-            same("before the refused call", expected, (answer, &self.before, &lent(call)))?;
-        }
-        let mut other = lent(call);
         let library = by_library(&mut self.library, call, inner(&mut other));
-        same("open", expected, (library, &self.library, &other))?;
-        if self.sound && !matches!(call, Call::Sound | Call::Unit { .. }) {
-            let mut other = lent(call);
-            let library = by_library_in_place(&mut self.in_place, call, inner(&mut other));
-            same("in place", expected, (library, &self.in_place, &other))?;
+        let came = (library, &self.library, other.as_slice());
+        if *call == Call::Sound || answer.number != 0 {
+            let nothing = plain(answer.number, [0; 3]);
+            same("as the call came", (nothing, &self.before, &lent(call)), came)?;
         }
+        same("library", (answer, &self.reference, &output), came)?;
         Ok(answer)
     }
 }
@@ -114,14 +105,14 @@ fn inner(output: &mut [u32]) -> &mut [u32] {
 fn same(
     form: &str,
     (answer, book, output): (Answer, &Book, &[u32]),
-    (answer2, book2, output2): (Answer, &Book, &[u32]),
+    (answer2, book2, output2): (Answer, &library::Book, &[u32]),
 ) -> Result<(), [String; 2]> {
     let tell = |one: String, other: String| Err([one, format!("{other} ({form})")]);
     if answer != answer2 {
         return tell(answer_text(answer), answer_text(answer2));
     }
-    if book != book2 {
-        let [one, other] = book_difference(book, book2);
+    if !same_numbers(book, book2) {
+        let [one, other] = book_difference(&library_book(book), book2);
         return tell(one, other);
     }
     if let Some(at) = (0..output.len()).find(|&at| output[at] != output2[at]) {
@@ -138,11 +129,11 @@ fn answer_text(answer: Answer) -> String {
 }
 
 /// The first field in which two books differ.
-pub fn book_difference(one: &Book, other: &Book) -> [String; 2] {
-    let both = |tell: &dyn Fn(&Book) -> String| [tell(one), tell(other)];
+pub fn book_difference(one: &library::Book, other: &library::Book) -> [String; 2] {
+    let both = |tell: &dyn Fn(&library::Book) -> String| [tell(one), tell(other)];
     let differs = |texts: &[String; 2]| texts[0] != texts[1];
     let header =
-        both(&|book| format!("day {}, phase {:?}, {} entries", book.day, book.phase, book.count));
+        both(&|book| format!("day {}, {:?}, {} entries", book.day, book.phase, book.entries));
     if differs(&header) {
         return header;
     }
@@ -162,8 +153,8 @@ pub fn book_difference(one: &Book, other: &Book) -> [String; 2] {
             return texts;
         }
     }
-    let at = (0..ENTRIES).find(|&at| entry_at(one, at) != entry_at(other, at)).unwrap_or(0);
-    both(&|book| format!("entry {at}: {:?}", entry_at(book, at)))
+    let at = (0..ENTRIES).find(|&at| one.entry(at) != other.entry(at)).unwrap_or(0);
+    both(&|book| format!("entry {at}: {:?}", book.entry(at)))
 }
 
 /// The second engine's answer.
@@ -220,46 +211,28 @@ pub fn by_reference_on_sound(book: &mut Book, call: &Call, out: &mut [u32]) -> A
     }
 }
 
-/// The library's answer to an open call or question.
-pub fn by_library(book: &mut Book, call: &Call, out: &mut [u32]) -> Answer {
-    match *call {
-        Call::Sound => plain(trial::sound(book), [0; 3]),
+/// The library's answer.
+pub fn by_library(book: &mut library::Book, call: &Call, out: &mut [u32]) -> Answer {
+    let answer = match *call {
+        Call::Sound => return plain(raw::sound(&book.columns()), [0; 3]),
         Call::Unit { issue, k } => {
-            let unit = trial::unit(book, issue, k);
-            plain(unit.number, [unit.found.into(), unit.account.into(), unit.lots.into()])
+            let unit = raw::unit(&book.columns(), issue, k);
+            let others = [unit.found.into(), unit.account.into(), unit.lots.into()];
+            return plain(unit.refusal, others);
         }
-        Call::Trade { issue, from, to, lots } => recorded(open::trade(book, issue, from, to, lots)),
-        Call::Close => recorded(open::close(book)),
+        Call::Trade { issue, from, to, lots } => library::calls::trade(book, issue, from, to, lots),
+        Call::Close => library::calls::close(book),
         Call::Deliver { issue, account, lots, .. } => {
-            recorded(open::deliver(book, issue, account, lots, out))
+            library::calls::deliver(book, issue, account, lots, out)
         }
-        Call::Cutoff { .. } => recorded(open::cutoff(book, out)),
+        Call::Cutoff { .. } => library::calls::cutoff(book, out),
         Call::Resolve { issue, account, lots, .. } => {
-            recorded(open::resolve(book, issue, account, lots, out))
+            library::calls::resolve(book, issue, account, lots, out)
         }
-        Call::PairOff { issue, account } => paired(open::pair_off(book, issue, account)),
-        Call::Roll { days, rate, ref prices } => recorded(open::roll(book, days, rate, prices)),
-    }
-}
-
-/// The answer of the library's call in place; questions have the open form alone.
-pub fn by_library_in_place(book: &mut Book, call: &Call, out: &mut [u32]) -> Answer {
-    match *call {
-        Call::Sound | Call::Unit { .. } => by_library(book, call, out),
-        Call::Trade { issue, from, to, lots } => {
-            recorded(in_place::trade(book, issue, from, to, lots))
-        }
-        Call::Close => recorded(in_place::close(book)),
-        Call::Deliver { issue, account, lots, .. } => {
-            recorded(in_place::deliver(book, issue, account, lots, out))
-        }
-        Call::Cutoff { .. } => recorded(in_place::cutoff(book, out)),
-        Call::Resolve { issue, account, lots, .. } => {
-            recorded(in_place::resolve(book, issue, account, lots, out))
-        }
-        Call::PairOff { issue, account } => paired(in_place::pair_off(book, issue, account)),
-        Call::Roll { days, rate, ref prices } => recorded(in_place::roll(book, days, rate, prices)),
-    }
+        Call::PairOff { issue, account } => library::calls::pair_off(book, issue, account),
+        Call::Roll { days, rate, ref prices } => library::calls::roll(book, days, rate, prices),
+    };
+    plain(answer.refusal, [answer.count as u64, answer.cancelled, 0])
 }
 
 /// An answer of these numbers.
@@ -270,14 +243,4 @@ fn plain(number: u32, others: [u64; 3]) -> Answer {
 /// The second engine's answer with its count.
 fn counted(answer: calls::Answer) -> Answer {
     plain(answer.number, [answer.count.into(), 0, 0])
-}
-
-/// The library's answer with its count of records.
-fn recorded(answer: trial::Answer) -> Answer {
-    plain(answer.number, [answer.count as u64, 0, 0])
-}
-
-/// The library's answer to pair-off.
-fn paired(answer: trial::PairOffAnswer) -> Answer {
-    plain(answer.number, [answer.steps as u64, answer.lots, 0])
 }

@@ -2,6 +2,7 @@
 
 pub mod books;
 pub mod case;
+pub mod convert;
 pub mod engines;
 pub mod options;
 pub mod programs;

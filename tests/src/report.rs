@@ -44,7 +44,7 @@ impl fmt::Display for Mismatch {
 
 /// Prints to standard error how many cases have agreed so far, once in 500,000.
 pub fn progress(agreed: u64, cases: u64) {
-    if agreed > 0 && agreed.is_multiple_of(PROGRESS_STEP) {
+    if agreed > 0 && agreed % PROGRESS_STEP == 0 {
         eprintln!("{agreed} of {cases} cases agree");
     }
 }

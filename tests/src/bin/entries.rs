@@ -3,10 +3,11 @@
 //! Every combination of a few lots, lengths and places, then random cases. `--replay` takes the
 //! place, the lots asked and then the lots of the entries.
 
-use library::entries::{self, Entry};
+use library::{entries, Entry};
 use reference::book;
 use std::fmt;
 use std::process::ExitCode;
+use tests::convert::library_entry;
 use tests::options::{number, Options};
 use tests::report::{progress, Mismatch};
 use tests::rng::Rng;
@@ -45,10 +46,10 @@ impl Case {
     /// Puts the case to both: the answer and every entry are compared.
     fn compare(&self) -> Result<(), Mismatch> {
         let mut model = self.entries();
-        let mut lent: Vec<Entry> = model.iter().map(|&entry| entry.into()).collect();
+        let mut lent: Vec<Entry> = model.iter().copied().map(library_entry).collect();
         let expected = model.get_mut(self.at).map_or(0, |entry| entry.meet(self.asked));
         let met = entries::meet(&mut lent, self.at, self.asked);
-        let after: Vec<Entry> = model.into_iter().map(Entry::from).collect();
+        let after: Vec<Entry> = model.into_iter().map(library_entry).collect();
         Mismatch::of(self, (expected, after), (met, lent))
     }
 
@@ -79,7 +80,7 @@ fn edges() -> Vec<Case> {
     slices.extend(EDGES.iter().flat_map(|&one| EDGES.iter().map(move |&two| vec![one, two])));
     let mut cases = Vec::new();
     for lots in slices {
-        for at in [0, 1, 2, usize::MAX] {
+        for at in [0, 1, 2, 1 << 32, usize::MAX] {
             cases.extend(EDGES.iter().map(|&asked| Case { at, asked, lots: lots.clone() }));
         }
     }

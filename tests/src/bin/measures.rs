@@ -5,6 +5,7 @@
 
 use library::desk;
 use reference::measures::{self, MOST_DAYS, MOST_LOTS, MOST_PRICE, MOST_RATE};
+use std::collections::BTreeSet;
 use std::fmt;
 use std::process::ExitCode;
 use tests::options::{number, Options};
@@ -12,6 +13,9 @@ use tests::report::{progress, Mismatch};
 use tests::rng::Rng;
 
 const DEFAULT_CASES: u64 = 3_000_000;
+/// The numbers that value and charge can answer, by the paper; 0 is done.
+const NUMBERS: [(&str, u32); 6] =
+    [("value", 0), ("value", 7), ("value", 11), ("charge", 0), ("charge", 7), ("charge", 11)];
 /// Lots and prices with odd products, whose value is rounded.
 const ODD: [u32; 3] = [3, 49_999, 99_999];
 
@@ -96,8 +100,14 @@ fn run(options: Options) -> Result<String, String> {
         return replay(Case::parse(words)?);
     }
     let with_seed = |mismatch: Mismatch| format!("seed {}\n{mismatch}", options.seed);
-    let edges = compare_edges().map_err(with_seed)?;
+    let mut met = BTreeSet::new();
+    let edges = compare_edges(&mut met).map_err(with_seed)?;
     eprintln!("{edges} combinations of edges agree");
+    for (name, number) in NUMBERS {
+        if !met.contains(&(name, number)) {
+            return Err(format!("the edges never met: {name} answers {number}"));
+        }
+    }
     compare_random(options.seed, options.cases).map_err(with_seed)?;
     let Options { seed, cases, .. } = options;
     let agreed = edges + cases;
@@ -111,24 +121,32 @@ fn replay(case: Case) -> Result<String, String> {
     Ok(format!("measures: 1 case agrees: {case} gives number {number}, {yen} yen"))
 }
 
-/// Puts every combination of edges; gives their number.
-fn compare_edges() -> Result<u64, Mismatch> {
+/// Puts every combination of edges and notes the numbers met; gives how many there are.
+fn compare_edges(met: &mut BTreeSet<(&'static str, u32)>) -> Result<u64, Mismatch> {
     let mut agreed = 0;
     for lots in edges(MOST_LOTS, &ODD) {
         for price in edges(MOST_PRICE, &ODD) {
-            Case::Value { lots, price }.compare()?;
-            agreed += 1 + compare_charge_edges(lots, price)?;
+            let value = Case::Value { lots, price };
+            value.compare()?;
+            met.insert(("value", value.library().0));
+            agreed += 1 + compare_charge_edges(lots, price, met)?;
         }
     }
     Ok(agreed)
 }
 
 /// Puts every combination of edges of days and rate with these lots and this price.
-fn compare_charge_edges(lots: u32, price: u32) -> Result<u64, Mismatch> {
+fn compare_charge_edges(
+    lots: u32,
+    price: u32,
+    met: &mut BTreeSet<(&'static str, u32)>,
+) -> Result<u64, Mismatch> {
     let mut agreed = 0;
     for days in edges(MOST_DAYS, &[]) {
         for rate in edges(MOST_RATE, &ODD) {
-            Case::Charge { lots, price, days, rate }.compare()?;
+            let charge = Case::Charge { lots, price, days, rate };
+            charge.compare()?;
+            met.insert(("charge", charge.library().0));
             agreed += 1;
         }
     }

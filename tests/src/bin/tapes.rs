@@ -4,17 +4,19 @@
 //! `--reference PATH` name the programs; `--large N` is the number of large tapes. `--replay FILE`
 //! runs one tape alone.
 
+use std::fs::File;
 use std::path::{Path, PathBuf};
-use std::process::ExitCode;
-use std::time::Instant;
+use std::process::{Command, ExitCode, Stdio};
+use std::time::{Duration, Instant};
 use std::{fs, iter};
 use tape::{bytes, text};
 use tests::options::{number, Options};
 use tests::programs::{both_there, run as run_program, PROGRAM, REFERENCE};
-use tests::random_tapes::{day_tape, small_tape};
+use tests::random_tapes::{day_tape, small_tape, words_of};
 use tests::report::save_case;
 use tests::rng::Rng;
 use tests::shrink::shrink;
+use tests::steps::Call;
 
 /// The random tapes of the default run.
 const DEFAULT_CASES: u64 = 6_000;
@@ -23,13 +25,21 @@ const DEFAULT_LARGE: &str = "3";
 const LARGE: u32 = 400_000;
 /// The most words of a tape that is shown.
 const MOST_SHOWN: usize = 400;
+/// The trades that `tape explain` is timed on, how often, and how many times the program's time it
+/// may take.
+const TRADES: u32 = 1_000_000;
+const RUNS: u32 = 5;
+const MOST_TIMES: f64 = 5.0;
 /// The program's own options.
-const OWN: [&str; 4] = ["--program", "--reference", "--large", "--samples"];
+const OWN: [&str; 5] = ["--program", "--reference", "--tool", "--large", "--samples"];
+/// Where the tool is otherwise.
+const TOOL: &str = "build/release/tape";
 
-/// The two programs.
+/// The two programs, and the tool that runs the first.
 struct Programs {
     program: String,
     reference: String,
+    tool: String,
 }
 
 fn main() -> ExitCode {
@@ -50,6 +60,7 @@ fn run(options: Options) -> Result<String, String> {
     let programs = Programs {
         program: options.own_or("--program", PROGRAM).to_string(),
         reference: options.own_or("--reference", REFERENCE).to_string(),
+        tool: options.own_or("--tool", TOOL).to_string(),
     };
     both_there(&programs.program, &programs.reference)?;
     if let Some(words) = &options.replay {
@@ -62,6 +73,7 @@ fn run(options: Options) -> Result<String, String> {
     let large: u64 = number("--large", Some(options.own_or("--large", DEFAULT_LARGE).to_string()))?;
     programs.random(&options)?;
     programs.large(&options, large)?;
+    programs.explaining()?;
     let (seed, cases) = (options.seed, options.cases);
     Ok(format!("{samples} samples, {cases} tapes and {large} large ones agree (seed {seed})"))
 }
@@ -86,7 +98,8 @@ impl Programs {
             let read = |path: &Path| {
                 fs::read_to_string(path).map_err(|error| format!("{}: {error}", path.display()))
             };
-            let tape = text::to_tape(&read(sample)?).map_err(|error| format!("{name}: {error}"))?;
+            let tape =
+                text::to_tape(&read(sample)?).map_err(|faults| format!("{name}: {faults:?}"))?;
             let expected = read(&sample.with_extension("expected"))?;
             for program in [&self.reference, &self.program] {
                 let printed = run_program(program, &tape)?.output;
@@ -95,8 +108,29 @@ impl Programs {
                     return Err(format!("{name}\n  stored: {stored}\n  {program}: {told}"));
                 }
             }
+            self.by_tool(sample, &expected)?;
         }
         Ok(samples.len())
+    }
+
+    /// Runs a sample through `tape run`: the stored lines, and status 0 only where the whole tape is
+    /// read.
+    fn by_tool(&self, sample: &Path, expected: &str) -> Result<(), String> {
+        let mut run = Command::new(&self.tool);
+        let run = run.args(["run", "--program", &self.program]).arg(sample);
+        let output =
+            run.output().map_err(|error| format!("{} cannot be run: {error}", self.tool))?;
+        let name = sample.display();
+        if output.stdout != expected.as_bytes() {
+            let [stored, told] = first_difference(expected.as_bytes(), &output.stdout);
+            return Err(format!("{name}\n  stored: {stored}\n  tape run: {told}"));
+        }
+        let whole = !expected.contains(" tape ");
+        let (status, said) = (output.status, String::from_utf8_lossy(&output.stderr));
+        if output.status.success() != whole || said.is_empty() != whole {
+            return Err(format!("{name}: tape run ended with {status} and said {said:?}"));
+        }
+        Ok(())
     }
 
     /// Runs small random tapes.
@@ -128,6 +162,29 @@ impl Programs {
         Ok(())
     }
 
+    /// `tape explain` on a million trades takes at most five times as long as the program.
+    fn explaining(&self) -> Result<(), String> {
+        let mut rng = Rng::new(11);
+        let mut words = Vec::new();
+        for _ in 0..TRADES {
+            let from = rng.range(0, 63);
+            let to = (from + rng.range(1, 63)) % 64;
+            let call =
+                Call::Trade { issue: rng.range(0, 15), from, to, lots: rng.range(1, 100_000) };
+            words.extend(words_of(&call).expect("a trade fits a tape"));
+        }
+        let file = save_tape(&bytes::join(&words))?;
+        let program = quickest(&mut Command::new(&self.program), &file)?;
+        let tool = quickest(Command::new(&self.tool).arg("explain"), &file)?;
+        fs::remove_file(&file).map_err(|error| format!("{}: {error}", file.display()))?;
+        let times = tool.as_secs_f64() / program.as_secs_f64();
+        eprintln!("tape explain takes {times:.1} times as long as the program on {TRADES} trades");
+        if times > MOST_TIMES {
+            return Err(format!("tape explain takes {times:.1} times the program's time"));
+        }
+        Ok(())
+    }
+
     /// Compares on a tape; a mismatch is shrunk, shown and kept.
     fn check(&self, seed: u64, tape: &[u8]) -> Result<usize, String> {
         self.compare(tape).map_err(|told| {
@@ -138,6 +195,29 @@ impl Programs {
             format!("seed {seed}\n{}\n  {kept}", report(&short, &told))
         })
     }
+}
+
+/// Keeps a tape in a file, to be read as standard input.
+fn save_tape(tape: &[u8]) -> Result<PathBuf, String> {
+    let file = std::env::temp_dir().join(format!("million-trades-{}.tape", std::process::id()));
+    fs::write(&file, tape).map_err(|error| format!("{}: {error}", file.display()))?;
+    Ok(file)
+}
+
+/// The quickest of some runs of a command on a tape.
+fn quickest(command: &mut Command, tape: &Path) -> Result<Duration, String> {
+    let mut times = Vec::new();
+    for _ in 0..RUNS {
+        let input = File::open(tape).map_err(|error| format!("{}: {error}", tape.display()))?;
+        let start = Instant::now();
+        let status = command.stdin(input).stdout(Stdio::null()).status();
+        let status = status.map_err(|error| format!("{command:?} cannot be run: {error}"))?;
+        times.push(start.elapsed());
+        if !status.success() {
+            return Err(format!("{command:?} ended with {status}"));
+        }
+    }
+    Ok(times.into_iter().min().unwrap_or_default())
 }
 
 /// The samples in text form of a folder.

@@ -1,8 +1,9 @@
 //! Each call on an empty book, on a busy one and on one with a full ledger.
 
-use crate::timing::{columns, make, times, Form, COLUMNS};
+use crate::timing::{columns, times, COLUMNS};
 use reference::book::{Book, Entry, Phase, ENTRIES};
 use tests::books::{move_lots, two_of, MENU};
+use tests::engines::by_reference;
 use tests::rng::Rng;
 use tests::steps::Call;
 
@@ -13,7 +14,7 @@ const BUSY_ENTRIES: usize = 1_000;
 pub fn run(rounds: usize) {
     println!("\n### Calls, in nanoseconds\n");
     println!("| call | book | answer | {COLUMNS} |");
-    println!("|---|---|--:|--:|--:|--:|--:|");
+    println!("|---|---|--:|--:|--:|--:|");
     for (name, entries) in [("empty", None), ("busy", Some(BUSY_ENTRIES)), ("full", Some(ENTRIES))]
     {
         for (phase, call) in measured_calls() {
@@ -24,7 +25,7 @@ pub fn run(rounds: usize) {
             if matches!(call, Call::Cutoff { .. }) && name == "full" {
                 leave_room(&mut book);
             }
-            let answer = make(Form::ReferenceOpen, &mut book.clone(), &call, &mut [0; 4_096]);
+            let answer = by_reference(&mut book.clone(), &call, &mut [0; 4_096]);
             let times = columns(times(&book, &call, rounds));
             println!("| {} | {name} | {} | {times} |", call.name(), answer.number);
         }

@@ -16,7 +16,7 @@ pub fn run(rounds: usize) {
 fn table(title: &str, grows: &str) {
     println!("\n### {title}, in nanoseconds\n");
     println!("| call | {grows} | {COLUMNS} |");
-    println!("|---|--:|--:|--:|--:|--:|");
+    println!("|---|--:|--:|--:|--:|");
 }
 
 /// Prints a line of a table.

@@ -27,7 +27,7 @@ pub fn run(seed: u64, cases: u64) -> Result<u64, Failure> {
             eprintln!("lists: {} of {cases} lists agree", at + 1);
         }
     }
-    let met = coverage.report().map_err(Failure::NotMet)?;
+    let met = coverage.report().map_err(Failure::Told)?;
     eprintln!("lists: met so often\n{met}");
     Ok(compared)
 }

@@ -1,10 +1,11 @@
 //! `calls`: the library's calls beside those of the second engine, on the same cases.
 //!
 //! Every answer, the whole book and every word of the output are compared. Parts: lists, refusals,
-//! damage, units, markets and tape; `--part NAME` runs one of them. `--replay CASE` runs one case,
+//! damage, lent, units, markets and tape; `--part NAME` runs one of them. `--replay CASE` runs one case,
 //! as a mismatch prints it; CASE may also be a file that holds it.
 
 mod damage;
+mod lent;
 mod lists;
 mod markets;
 mod refusals;
@@ -24,9 +25,10 @@ const DEFAULT_CASES: u64 = 1_500;
 /// A part: its name, and what runs it with seed and cases and gives the calls compared.
 type Part = (&'static str, fn(u64, u64) -> Result<u64, Failure>);
 /// All parts, in the order in which they run.
-const PARTS: [Part; 6] = [
+const PARTS: [Part; 7] = [
     ("refusals", refusals::run),
     ("damage", damage::run),
+    ("lent", lent::run),
     ("tape", tape::run),
     ("units", units::run),
     ("markets", markets::run),
@@ -36,8 +38,8 @@ const PARTS: [Part; 6] = [
 /// Why a part failed.
 pub enum Failure {
     Mismatch(Mismatch),
-    /// Something that was to be met was not.
-    NotMet(String),
+    /// An answer is not the paper's, or something that was to be met was not.
+    Told(String),
 }
 
 impl From<Mismatch> for Failure {
@@ -86,7 +88,7 @@ fn run_part(
 ) -> Result<u64, String> {
     let start = Instant::now();
     let compared = part(options.seed, options.cases).map_err(|failure| match failure {
-        Failure::NotMet(what) => format!("part {name}, seed {}\n{what}", options.seed),
+        Failure::Told(what) => format!("part {name}, seed {}\n{what}", options.seed),
         Failure::Mismatch(mismatch) => {
             let saved = save_case("calls", options.seed, &mismatch.case);
             format!("part {name}, seed {}\n{mismatch}\n  {saved}", options.seed)

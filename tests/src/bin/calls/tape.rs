@@ -4,10 +4,13 @@
 //! and one past, outputs of every length at the edge, random words; written and read back both ways.
 
 use crate::Failure;
-use library::tape::{self as library_tape, fields_of, Fields, ReadAnswer, WriteAnswer};
+use library::raw::{self, ReadAnswer, WriteAnswer};
+use library::{Fields, Instruction as LibraryInstruction};
 use reference::book::ISSUES;
 use reference::tape::{self, Instruction};
+use std::collections::BTreeMap;
 use std::fmt::Display;
+use tests::convert::{library_instruction, reference_instruction};
 use tests::engines::pattern;
 use tests::report::Mismatch;
 use tests::rng::Rng;
@@ -17,20 +20,34 @@ const MOST_WORDS: usize = 20;
 /// The lengths of the writer's output.
 const OUTPUTS: [usize; 6] = [0, 1, 16, 17, 18, 40];
 
+/// The numbers that reader and writer can answer, by the paper; 0 is done.
+const NUMBERS: [(&str, [u32; 3]); 2] = [("read", [0, 13, 14]), ("write", [0, 1, 15])];
+
+/// How many answers were compared, and which numbers were met how often.
+#[derive(Default)]
+struct Compared {
+    answers: u64,
+    met: BTreeMap<(&'static str, u32), u64>,
+}
+
 /// Runs all words and fields; gives the answers compared.
 pub fn run(seed: u64, cases: u64) -> Result<u64, Failure> {
-    let mut compared = 0;
+    let mut compared = Compared::default();
     for words in whole_instructions() {
-        compared += read_turned(&words)? + read_cut(&words)?;
+        compared.read_turned(&words)?;
+        compared.read_cut(&words)?;
     }
-    compared += read_heads()? + write_edges()?;
+    compared.read_heads()?;
+    compared.write_edges()?;
+    compared.write_no_kind()?;
     for at in 0..20 * cases {
         let mut rng = Rng::of_case(seed ^ 0x7461_7065, at);
-        compared += compare_read(&random_words(&mut rng))?;
+        compared.read(&random_words(&mut rng))?;
         let (fields, prices) = random_fields(&mut rng);
-        compared += compare_write(&fields, &prices, *rng.pick(&OUTPUTS))?;
+        compared.write(&fields, &prices, *rng.pick(&OUTPUTS))?;
     }
-    Ok(compared)
+    compared.all_met().map_err(Failure::Told)?;
+    Ok(compared.answers)
 }
 
 /// Reads or writes one replayed case.
@@ -39,16 +56,168 @@ pub fn replay(text: &str) -> Result<String, String> {
     let number = |word: &str| u32::from_str_radix(word, if name == "read" { 16 } else { 10 });
     let words: Result<Vec<u32>, _> = rest.split_whitespace().map(number).collect();
     let words = words.map_err(|_| format!("`{rest}` has a word that is not a number"))?;
+    let mut compared = Compared::default();
     match name {
-        "read" => compare_read(&words),
+        "read" => compared.read(&words),
         "write" if words.len() >= 6 => {
             let fields = [words[0], words[1], words[2], words[3], words[4]];
-            compare_write(&fields, &words[6..], words[5] as usize)
+            compared.write(&fields, &words[6..], words[5] as usize)
         }
         _ => return Err("--replay takes: read WORDS, or write FIELDS OUT PRICES".to_string()),
     }
     .map(|_| "the case agrees".to_string())
     .map_err(|mismatch| mismatch.to_string())
+}
+
+impl Compared {
+    /// Counts an answer with its number.
+    fn note(&mut self, name: &'static str, number: u32) {
+        self.answers += 1;
+        *self.met.entry((name, number)).or_default() += 1;
+    }
+
+    /// Every number of reader and writer was met; an error names those that were not.
+    fn all_met(&self) -> Result<(), String> {
+        let pairs = NUMBERS.iter().flat_map(|(name, all)| all.iter().map(move |&no| (*name, no)));
+        let missing: Vec<String> = pairs
+            .filter(|pair| !self.met.contains_key(pair))
+            .map(|(name, number)| format!("{name}: answers {number}"))
+            .collect();
+        if missing.is_empty() {
+            return Ok(());
+        }
+        Err(format!("never met:\n  {}", missing.join("\n  ")))
+    }
+
+    /// Reads the words with each single bit of each word turned.
+    fn read_turned(&mut self, words: &[u32]) -> Result<(), Mismatch> {
+        for at in 0..words.len() {
+            for bit in 0..32 {
+                let mut turned = words.to_vec();
+                turned[at] ^= 1 << bit;
+                self.read(&turned)?;
+                self.read_cut(&turned[..=at])?;
+            }
+        }
+        Ok(())
+    }
+
+    /// Reads every part of the words that begins with the first.
+    fn read_cut(&mut self, words: &[u32]) -> Result<(), Mismatch> {
+        (0..=words.len()).try_for_each(|end| self.read(&words[..end]))
+    }
+
+    /// Reads every head of every kind with no bit and with each bit alone, before words of each
+    /// kind.
+    fn read_heads(&mut self) -> Result<(), Mismatch> {
+        for kind in 0..16_u32 {
+            for bits in (0..28).map(|bit| 1 << bit).chain([0, (1 << 28) - 1]) {
+                let head = kind << 28 | bits;
+                self.read(&[head])?;
+                for next in 0..16_u32 {
+                    let mut words = vec![next << 28; MOST_WORDS];
+                    words[0] = head;
+                    self.read(&words)?;
+                }
+            }
+        }
+        Ok(())
+    }
+
+    /// Writes every instruction with each field at its limits and one past, to outputs of every
+    /// length.
+    fn write_edges(&mut self) -> Result<(), Mismatch> {
+        for kind in 1..=7 {
+            for field in 1..5 {
+                for number in edge_numbers() {
+                    let mut fields = used_fields(kind);
+                    fields[field] = if fields[field] == 0 { 0 } else { number };
+                    for out in OUTPUTS {
+                        self.write(&fields, &[7; 16], out)?;
+                    }
+                }
+            }
+        }
+        for prices in edge_prices() {
+            for out in OUTPUTS {
+                self.write(&used_fields(7), &prices, out)?;
+                self.write(&used_fields(1), &prices, out)?;
+            }
+        }
+        Ok(())
+    }
+
+    /// Writes kinds that are none, to outputs of every length.
+    fn write_no_kind(&mut self) -> Result<(), Mismatch> {
+        for kind in [0, 8, 9, 10, 11, 12, 15, 16, 17, 256, 257, 1 << 28, 1 << 31, u32::MAX] {
+            for numbers in [0, 1] {
+                for out in OUTPUTS {
+                    self.write(&[kind, numbers, numbers, numbers, numbers], &[7; 16], out)?;
+                }
+            }
+        }
+        Ok(())
+    }
+
+    /// Reads with both readers, prices too, 0 where a word is missing; writes back what was read.
+    fn read(&mut self, words: &[u32]) -> Result<(), Mismatch> {
+        let answer = raw::read(words);
+        let expected = match tape::read(words) {
+            Ok((instruction, count)) => {
+                let fields = library_instruction(&instruction).fields();
+                ReadAnswer { refusal: 0, fields, count }
+            }
+            Err(refusal) => ReadAnswer { refusal, fields: [0; 5], count: 0 },
+        };
+        let case = format!("read {}", listed(words.iter().map(|word| format!("{word:08x}"))));
+        Mismatch::of(&case, expected, answer)?;
+        self.note("read", answer.refusal);
+        let prices = raw::prices(words);
+        let mut expected = tape::prices(words);
+        expected.resize(ISSUES, 0);
+        Mismatch::of(&case, expected, prices.to_vec())?;
+        if answer.refusal != 0 {
+            return Ok(());
+        }
+        let mut written = vec![0; 17];
+        let wrote = raw::write(&answer.fields, &prices, &mut written);
+        Mismatch::of(&case, WriteAnswer { refusal: 0, count: answer.count }, wrote)?;
+        Mismatch::of(&case, &words[..answer.count], &written[..answer.count])
+    }
+
+    /// Writes with both writers, and reads back what was written. A refusal leaves the output as it
+    /// came.
+    fn write(&mut self, fields: &Fields, prices: &[u32], out: usize) -> Result<(), Mismatch> {
+        let (mut reference, mut library) = (pattern(out + 2), pattern(out + 2));
+        let expected = by_reference(fields, prices, &mut reference[1..=out]);
+        let answer = raw::write(fields, prices, &mut library[1..=out]);
+        let case = format!("write {} {out} {}", listed(fields), listed(prices));
+        Mismatch::of(&case, expected, answer)?;
+        Mismatch::of(&case, &reference, &library)?;
+        self.note("write", answer.refusal);
+        if answer.refusal != 0 {
+            Mismatch::of(&case, 0, answer.count)?;
+            return Mismatch::of(&case, &pattern(out + 2), &library);
+        }
+        let back = raw::read(&library[1..=answer.count]);
+        Mismatch::of(&case, ReadAnswer { refusal: 0, fields: *fields, count: answer.count }, back)
+    }
+}
+
+/// The second engine's writer; a kind that is none is refused by 15, after question 1.
+fn by_reference(fields: &Fields, prices: &[u32], out: &mut [u32]) -> WriteAnswer {
+    let Some(instruction) = LibraryInstruction::of_fields(*fields) else {
+        return WriteAnswer { refusal: if out.len() < 17 { 1 } else { 15 }, count: 0 };
+    };
+    let answer = tape::write(&reference_instruction(&instruction), prices, out);
+    WriteAnswer { refusal: answer.number, count: answer.count as usize }
+}
+
+/// Numbers at the limits of the fields' bits and one past, 0 and 1.
+fn edge_numbers() -> Vec<u32> {
+    let ends = [4, 6, 14, 18, 28, 32].map(|bits| (1_u64 << bits) as u32);
+    let near = |end: u32| [end.wrapping_sub(1), end, end.wrapping_add(1)];
+    ends.into_iter().flat_map(near).chain([0, 1, 1 << 31]).collect()
 }
 
 /// Every instruction with fields at both ends, as words, and two words after it.
@@ -76,67 +245,6 @@ fn whole_instructions() -> Vec<Vec<u32>> {
         }
     }
     all
-}
-
-/// Reads the words with each single bit of each word turned.
-fn read_turned(words: &[u32]) -> Result<u64, Mismatch> {
-    let mut compared = 0;
-    for at in 0..words.len() {
-        for bit in 0..32 {
-            let mut turned = words.to_vec();
-            turned[at] ^= 1 << bit;
-            compared += compare_read(&turned)? + read_cut(&turned[..=at])?;
-        }
-    }
-    Ok(compared)
-}
-
-/// Reads every part of the words that begins with the first.
-fn read_cut(words: &[u32]) -> Result<u64, Mismatch> {
-    (0..=words.len()).try_fold(0, |compared, end| Ok(compared + compare_read(&words[..end])?))
-}
-
-/// Reads every head of every kind with no bit and with each bit alone, before words of each kind.
-fn read_heads() -> Result<u64, Mismatch> {
-    let mut compared = 0;
-    for kind in 0..16_u32 {
-        for bits in (0..28).map(|bit| 1 << bit).chain([0, (1 << 28) - 1]) {
-            let head = kind << 28 | bits;
-            compared += compare_read(&[head])?;
-            for next in 0..16_u32 {
-                let mut words = vec![next << 28; MOST_WORDS];
-                words[0] = head;
-                compared += compare_read(&words)?;
-            }
-        }
-    }
-    Ok(compared)
-}
-
-/// Writes every instruction with each field at its limits and one past, to outputs of every length.
-fn write_edges() -> Result<u64, Mismatch> {
-    let mut compared = 0;
-    for kind in 1..=7 {
-        for field in 1..5 {
-            for bits in [4, 6, 14, 18, 28, 32] {
-                let end = (1_u64 << bits) as u32;
-                for number in [0, 1, end.wrapping_sub(1), end, end.wrapping_add(1), 1 << 31] {
-                    let mut fields = used_fields(kind);
-                    fields[field] = if fields[field] == 0 { 0 } else { number };
-                    for out in OUTPUTS {
-                        compared += compare_write(&fields, &[7; 16], out)?;
-                    }
-                }
-            }
-        }
-    }
-    for prices in edge_prices() {
-        for out in OUTPUTS {
-            compared += compare_write(&used_fields(7), &prices, out)?;
-            compared += compare_write(&used_fields(1), &prices, out)?;
-        }
-    }
-    Ok(compared)
 }
 
 /// An instruction of a kind with 1 in every field that it has.
@@ -196,62 +304,6 @@ fn random_fields(rng: &mut Rng) -> (Fields, Vec<u32>) {
     let length = if rng.chance(9, 10) { 16 } else { rng.range(0, 20) };
     let low = rng.range(13, 15);
     (fields, (0..length).map(|_| rng.next_u32() >> low).collect())
-}
-
-/// Reads with both readers, prices too, 0 where a word is missing; writes back what was read.
-fn compare_read(words: &[u32]) -> Result<u64, Mismatch> {
-    let answer = library_tape::read_fields(words);
-    let expected = match tape::read(words) {
-        Ok((instruction, count)) => {
-            ReadAnswer { number: 0, fields: fields_of(&instruction), count }
-        }
-        Err(number) => ReadAnswer { number, fields: [0; 5], count: 0 },
-    };
-    let case = format!("read {}", listed(words.iter().map(|word| format!("{word:08x}"))));
-    Mismatch::of(&case, expected, answer)?;
-    let prices = library_tape::prices(words);
-    let mut expected = tape::prices(words);
-    expected.resize(ISSUES, 0);
-    Mismatch::of(&case, expected, prices.to_vec())?;
-    if answer.number != 0 {
-        return Ok(2);
-    }
-    let mut written = vec![0; 17];
-    let wrote = library_tape::write_fields(&answer.fields, &prices, &mut written);
-    Mismatch::of(&case, WriteAnswer { number: 0, count: answer.count }, wrote)?;
-    Mismatch::of(&case, &words[..answer.count], &written[..answer.count])?;
-    Ok(3)
-}
-
-/// Writes with both writers, and reads back what was written.
-fn compare_write(fields: &Fields, prices: &[u32], out: usize) -> Result<u64, Mismatch> {
-    let (mut reference, mut library) = (pattern(out + 2), pattern(out + 2));
-    let expected = tape::write(&instruction_of(*fields), prices, &mut reference[1..=out]);
-    let answer = library_tape::write_fields(fields, prices, &mut library[1..=out]);
-    let expected = WriteAnswer { number: expected.number, count: expected.count as usize };
-    let case = format!("write {} {out} {}", listed(fields), listed(prices));
-    Mismatch::of(&case, expected, answer)?;
-    Mismatch::of(&case, &reference, &library)?;
-    if answer.number != 0 {
-        Mismatch::of(&case, &pattern(out + 2), &library)?;
-        return Ok(1);
-    }
-    let back = library_tape::read_fields(&library[1..=answer.count]);
-    Mismatch::of(&case, ReadAnswer { number: 0, fields: *fields, count: answer.count }, back)?;
-    Ok(2)
-}
-
-/// The instruction of fields.
-fn instruction_of([kind, a, b, c, d]: Fields) -> Instruction {
-    match kind {
-        1 => Instruction::Trade { issue: a, from: b, to: c, lots: d },
-        2 => Instruction::Deliver { issue: a, account: b, lots: c },
-        3 => Instruction::Resolve { issue: a, account: b, lots: c },
-        4 => Instruction::PairOff { issue: a, account: b },
-        5 => Instruction::Close,
-        6 => Instruction::Cutoff,
-        _ => Instruction::Roll { days: a, rate: b },
-    }
 }
 
 /// Words with spaces between them.

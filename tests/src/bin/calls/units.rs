@@ -1,10 +1,11 @@
 //! Part units: the unit question on random nets with many ties, beside units stored one by one.
 
 use crate::Failure;
-use library::trial::{self, UnitAnswer};
+use library::raw::{self, UnitAnswer};
 use reference::book::{Book, Phase};
 use reference::units::units;
 use tests::books::{move_lots, two_of, MENU};
+use tests::convert::{library_book, same_numbers};
 use tests::report::Mismatch;
 use tests::rng::Rng;
 use tests::steps::{steps_to, text_of, Call, Step};
@@ -18,8 +19,7 @@ pub fn run(seed: u64, cases: u64) -> Result<u64, Failure> {
     for at in 0..cases {
         let mut rng = Rng::of_case(seed ^ 0x756e_6974, at);
         let issue = rng.range(0, 15);
-        let mut book = random_nets(&mut rng, issue);
-        compared += ask_all(&mut book, issue)?;
+        compared += ask_all(&random_nets(&mut rng, issue), issue)?;
     }
     Ok(compared)
 }
@@ -42,21 +42,21 @@ fn random_nets(rng: &mut Rng, issue: u32) -> Book {
 }
 
 /// Asks every k up to the number of units, two more, and some far beyond.
-fn ask_all(book: &mut Book, issue: u32) -> Result<u64, Mismatch> {
+fn ask_all(book: &Book, issue: u32) -> Result<u64, Mismatch> {
+    let asked_book = library_book(book);
     let units = units(book.nets_of(issue as usize));
     let asked = (0..units.len() as u32 + 2).chain(BEYOND);
     let mut compared = 0;
     for k in asked {
         let expected = units.get(k as usize).map_or(none(), |unit| UnitAnswer {
-            number: 0,
+            refusal: 0,
             found: 1,
             account: unit.account,
             lots: unit.lots,
         });
-        let before = book.clone();
-        let answer = trial::unit(book, issue, k);
-        if answer != expected || *book != before {
-            let mut steps = steps_to(&before);
+        let answer = raw::unit(&asked_book.columns(), issue, k);
+        if answer != expected || !same_numbers(book, &asked_book) {
+            let mut steps = steps_to(book);
             steps.push(Step::Call(Call::Unit { issue, k }));
             let [reference, library] = [expected, answer].map(|answer| format!("{answer:?}"));
             return Err(Mismatch { case: text_of(&steps), reference, library });
@@ -68,5 +68,5 @@ fn ask_all(book: &mut Book, issue: u32) -> Result<u64, Mismatch> {
 
 /// The answer 'none'.
 fn none() -> UnitAnswer {
-    UnitAnswer { number: 0, found: 0, account: 0, lots: 0 }
+    UnitAnswer { refusal: 0, found: 0, account: 0, lots: 0 }
 }

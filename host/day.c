@@ -1,0 +1,145 @@
+/* day: the settled day P5 to P9 run through the library, as a host in C runs its book. Prints the
+ * units in their order, each delivery with what was handed over, a refused delivery, the fails of the
+ * cutoff and the charges of the roll. */
+#include <inttypes.h>
+#include <stdio.h>
+
+#include "settlement_day.h"
+
+enum status { DONE = 0, NOT_AS_EXPECTED = 1, NOT_WRITTEN = 3 };
+
+static const uint32_t ISSUE = 0;
+
+/* The book and its output are static: together they are 43 kilobytes. */
+static struct day_book book;
+static uint32_t out[DAY_OUT_WORDS];
+
+/* Tells a call that was not done. */
+static int done(const char *call, struct day_answer answer)
+{
+    if (answer.refusal == DAY_DONE) {
+        return 1;
+    }
+    fprintf(stderr, "day: %s is refused by %" PRIu32 ": %s\n", call, answer.refusal,
+            day_refusal_text(answer.refusal));
+    return 0;
+}
+
+/* P5: the trades that make the nets. */
+static int take_trades(void)
+{
+    return done("trade", day_book_trade(&book, ISSUE, 4, 1, 230000)) &&
+           done("trade", day_book_trade(&book, ISSUE, 5, 2, 250000)) &&
+           done("trade", day_book_trade(&book, ISSUE, 5, 3, 150000)) &&
+           done("close", day_book_close(&book));
+}
+
+/* P5: the units of the issue in their order. */
+static int show_units(void)
+{
+    for (uint32_t k = 0;; k++) {
+        struct day_unit_answer unit = day_book_unit(&book, ISSUE, k);
+        if (unit.refusal != DAY_DONE) {
+            return 0;
+        }
+        if (!unit.found) {
+            return 1;
+        }
+        printf("unit %" PRIu32 ": account %" PRIu32 ", %" PRIu32 " lots\n", k, unit.account,
+               unit.lots);
+    }
+}
+
+/* The records that the last call wrote. */
+static void show_records(size_t count)
+{
+    for (size_t at = 0; at < count; at++) {
+        struct day_record record = day_record_at(out, at);
+        if (record.kind == DAY_FAIL) {
+            printf("  account %" PRIu32 " fails account %" PRIu32 ": %" PRIu32 " lots\n",
+                   record.from, record.to, record.lots);
+        } else {
+            printf("  handed to account %" PRIu32 ": %" PRIu32 " lots\n", record.to, record.lots);
+        }
+    }
+}
+
+/* P6, P7: a delivery and what it hands over. */
+static int deliver(uint32_t account, uint32_t lots)
+{
+    struct day_answer answer = day_book_deliver(&book, ISSUE, account, lots, out);
+    if (!done("deliver", answer)) {
+        return 0;
+    }
+    printf("account %" PRIu32 " delivers %" PRIu32 " lots: %zu units\n", account, lots,
+           answer.count);
+    show_records(answer.count);
+    return 1;
+}
+
+/* A delivery of more than is owed: refused, and nothing is changed. */
+static int deliver_too_much(void)
+{
+    struct day_answer answer = day_book_deliver(&book, ISSUE, 5, 55001, out);
+    printf("account 5 delivers 55001 lots: refused by %" PRIu32 ", %s\n", answer.refusal,
+           day_refusal_text(answer.refusal));
+    return answer.refusal == DAY_REFUSED_OWED && answer.count == 0;
+}
+
+/* P8: the cutoff, its partial handover and its fails. */
+static int cut(void)
+{
+    struct day_answer answer = day_book_cutoff(&book, out);
+    if (!done("cutoff", answer)) {
+        return 0;
+    }
+    printf("cutoff: %zu records\n", answer.count);
+    show_records(answer.count);
+    return 1;
+}
+
+/* The charge on each entry of the ledger, as the roll lays it. */
+static int show_charges_on_entries(uint32_t days, uint32_t rate, uint32_t price)
+{
+    for (size_t at = 0; at < book.entries; at++) {
+        uint64_t yen = 0;
+        if (day_charge(book.lots[at], price, days, rate, &yen) != DAY_DONE) {
+            return 0;
+        }
+        printf("account %d owes account %d %" PRIu32 " lots since day %d: %" PRIu64 " yen\n",
+               book.froms[at], book.tos[at], book.lots[at], book.days[at], yen);
+    }
+    return 1;
+}
+
+/* P9: the roll, and the charges of the accounts. */
+static int roll(uint32_t days, uint32_t rate, uint32_t price)
+{
+    uint32_t prices[DAY_ISSUES];
+    for (size_t issue = 0; issue < DAY_ISSUES; issue++) {
+        prices[issue] = price;
+    }
+    if (!show_charges_on_entries(days, rate, price) ||
+        !done("roll", day_book_roll(&book, days, rate, prices))) {
+        return 0;
+    }
+    printf("day %d, phase %" PRIu32 "\n", book.day, book.phase);
+    for (size_t account = 0; account < DAY_ACCOUNTS; account++) {
+        if (book.charges[account] != 0) {
+            printf("account %zu: %" PRId64 " yen\n", account, book.charges[account]);
+        }
+    }
+    return day_book_sound(&book) == 1;
+}
+
+int main(void)
+{
+    day_book_fresh(&book);
+    int as_expected = take_trades() && show_units() && deliver(5, 345000) && deliver(4, 200000) &&
+                      deliver_too_much() && cut() && roll(1, 300, 100000);
+    if (fflush(stdout) != 0 || ferror(stdout)) {
+        perror("day: the lines could not be written");
+        return NOT_WRITTEN;
+    }
+    return as_expected ? DONE : NOT_AS_EXPECTED;
+}

@@ -1,0 +1,363 @@
+/* The settlement-day book for hosts in C and C++.
+ *
+ * The functions are in three static libraries, which `make libraries` makes:
+ *
+ *     target/staticlib/libexports.a   day_sound day_unit day_call day_read day_prices day_write
+ *     target/staticlib/libdesk.a      day_value day_charge
+ *     target/staticlib/libentries.a   entry_meet
+ *
+ * Each is proved to answer as the rules say for every number and every book, damaged ones too.
+ * What the host has to see to: a pointer is valid for the length given beside it, also where the
+ * length is 0 (give the address of anything, not a null pointer), and of the memory that a function
+ * may write nothing overlaps. The structs and helpers at the end see to that by themselves.
+ *
+ * Nothing is allocated, printed or kept between calls: calls on different books can be made at the
+ * same time. A call needs at most DAY_STACK_BYTES of stack; more than a small thread may have, so
+ * look at the stacks of your threads (host/stack.c measures it). */
+#ifndef SETTLEMENT_DAY_H
+#define SETTLEMENT_DAY_H
+
+#include <stddef.h>
+#include <stdint.h>
+#include <string.h>
+
+#ifdef __cplusplus
+extern "C" {
+#endif
+
+/* ---- sizes */
+
+#define DAY_ISSUES 16u      /* issues 0 to 15 */
+#define DAY_ACCOUNTS 64u    /* netting accounts 0 to 63 */
+#define DAY_PLACES 1024u    /* nets and delivered lots: issue i and account a stand at i * 64 + a */
+#define DAY_ENTRIES 2048u   /* the most fail entries of the ledger */
+#define DAY_OUT_WORDS 4096u /* the output of deliver, cutoff and resolve has at least so many words */
+#define DAY_TAPE_WORDS 17u  /* the output of day_write has at least so many words */
+#define DAY_STACK_BYTES 65536u /* the most stack that a call needs */
+
+/* The place of an issue and an account, both in range, in nets and delivered lots. */
+#define DAY_PLACE(issue, account) ((size_t)(issue) * DAY_ACCOUNTS + (size_t)(account))
+
+/* ---- numbers of the rules */
+
+#define DAY_MOST_LOTS 20000000u /* of a trade, a delivery, a fail entry; of a net to either side */
+#define DAY_UNIT_LOTS 100000u   /* a full unit; a lot is 50,000 yen face */
+#define DAY_MOST_PRICE 200000u  /* prices are thousandths of a yen per 100 yen face, from 1 */
+#define DAY_MOST_DAYS 12u       /* days of a roll, from 1 */
+#define DAY_MOST_RATE 10000u    /* rates are hundredths of a percent a year, from 0 */
+#define DAY_LAST_DAY 65535u     /* the last day, which does not roll */
+
+/* ---- phases of the day; any other number is a damaged book */
+
+#define DAY_TAKING 0u   /* trades are taken */
+#define DAY_SETTLING 1u /* lots are delivered and handed over */
+#define DAY_CUT 2u      /* what did not come is failed; the day can roll */
+
+/* ---- kinds of instructions, with their numbers a, b, c, d (0 where there is none) */
+
+#define DAY_TRADE 1u    /* issue, from, to, lots: from's net falls, to's rises; in Taking */
+#define DAY_DELIVER 2u  /* issue, account, lots: units are handed over in order; in Settling */
+#define DAY_RESOLVE 3u  /* issue, account, lots: the account's fails are met; any phase */
+#define DAY_PAIR_OFF 4u /* issue, account: fails to it and from it cancel; any phase */
+#define DAY_CLOSE 5u    /* Taking to Settling */
+#define DAY_CUTOFF 6u   /* what has not come is failed; Settling to Cut */
+#define DAY_ROLL 7u     /* days, rate (prices beside it): fails are charged; Cut to the next Taking */
+
+/* ---- kinds of the records in an output; each record is two words (day_record_at reads one) */
+
+#define DAY_HANDOVER 10u /* the house hands lots to an account; from is unused */
+#define DAY_RESOLVED 11u /* from hands lots to an account in a resolve */
+#define DAY_FAIL 12u     /* from fails an account */
+
+/* ---- refusals: the number of the first question answered 'no'; nothing is changed then */
+
+#define DAY_DONE 0u
+#define DAY_REFUSED_OUTPUT 1u   /* the output has fewer than 4,096 words (writer: 17) */
+#define DAY_REFUSED_BOOK 2u     /* the book is not sound, or a column has another length */
+#define DAY_REFUSED_PHASE 3u    /* the call belongs to another phase */
+#define DAY_REFUSED_ISSUE 4u    /* the issue is above 15 */
+#define DAY_REFUSED_ACCOUNT 5u  /* an account is above 63 */
+#define DAY_REFUSED_SAME 6u     /* from and to are the same account */
+#define DAY_REFUSED_LOTS 7u     /* lots are not 1 to 20,000,000 */
+#define DAY_REFUSED_NET 8u      /* a net would pass 20,000,000 lots to one side */
+#define DAY_REFUSED_OWED 9u     /* the account does not owe that many lots */
+#define DAY_REFUSED_ROOM 10u    /* the ledger would have more than 2,048 entries */
+#define DAY_REFUSED_TERMS 11u   /* price, days or rate out of range, or prices are not sixteen */
+#define DAY_REFUSED_LAST 12u    /* the day is 65,535 */
+#define DAY_REFUSED_TAPE 13u    /* the tape ends before the instruction does */
+#define DAY_REFUSED_WORD 14u    /* a kind or unused bits are wrong; a kind that is none of 1 to 7 */
+#define DAY_REFUSED_BITS 15u    /* a number does not fit its bits (writer) */
+
+/* ---- the libraries' functions
+ *
+ * A book goes in as three numbers and eight columns. A column, the prices, the words and an output
+ * are a pointer and a length in this order: nets and delivered 1,024 each, charges 64, the ledger's
+ * five columns 2,048 each. A column of another length is a damaged book. The number returned, but
+ * for day_sound's, is the refusal's, 0 where it is done. */
+
+/* 1 where the book is sound, else 0. */
+uint32_t day_sound(uint16_t day, uint32_t phase, size_t entries,
+                   const int32_t *nets, size_t nets_length,
+                   const uint32_t *delivered, size_t delivered_length,
+                   const int64_t *charges, size_t charges_length,
+                   const uint8_t *issues, size_t issues_length,
+                   const uint8_t *froms, size_t froms_length,
+                   const uint8_t *tos, size_t tos_length,
+                   const uint32_t *lots, size_t lots_length,
+                   const uint16_t *days, size_t days_length);
+
+/* The k-th unit of an issue, k from 0: 1, account, lots; or 0, 0, 0 where there is none. */
+uint32_t day_unit(uint16_t day, uint32_t phase, size_t entries,
+                  const int32_t *nets, size_t nets_length,
+                  const uint32_t *delivered, size_t delivered_length,
+                  const int64_t *charges, size_t charges_length,
+                  const uint8_t *issues, size_t issues_length,
+                  const uint8_t *froms, size_t froms_length,
+                  const uint8_t *tos, size_t tos_length,
+                  const uint32_t *lots, size_t lots_length,
+                  const uint16_t *days, size_t days_length,
+                  uint32_t issue, uint32_t k, uint32_t answer[3]);
+
+/* The call of an instruction, made in place on any book. Only deliver, cutoff and resolve use the
+ * output, and only roll the prices. count is that of the records written (for pair-off, of the
+ * steps), cancelled pair-off's lots; both are 0 on a refusal. */
+uint32_t day_call(uint32_t kind, uint32_t a, uint32_t b, uint32_t c, uint32_t d,
+                  const uint32_t *prices, size_t prices_length,
+                  uint16_t *day, uint32_t *phase, size_t *entries,
+                  int32_t *nets, size_t nets_length,
+                  uint32_t *delivered, size_t delivered_length,
+                  int64_t *charges, size_t charges_length,
+                  uint8_t *issues, size_t issues_length,
+                  uint8_t *froms, size_t froms_length,
+                  uint8_t *tos, size_t tos_length,
+                  uint32_t *lots, size_t lots_length,
+                  uint16_t *days, size_t days_length,
+                  uint32_t *out, size_t out_length, size_t *count, uint64_t *cancelled);
+
+/* Reads the instruction that begins at the first word: kind, a, b, c, d and its count of words;
+ * all 0 on a refusal (13, 14). */
+uint32_t day_read(const uint32_t *words, size_t words_length, uint32_t instruction[5],
+                  size_t *count);
+
+/* The prices in the words after a roll's head, 0 where a word is missing. */
+void day_prices(const uint32_t *words, size_t words_length, uint32_t prices[16]);
+
+/* Writes an instruction, with the prices of a roll; count is that of the words written, 0 on a
+ * refusal (1, 15). */
+uint32_t day_write(uint32_t kind, uint32_t a, uint32_t b, uint32_t c, uint32_t d,
+                   const uint32_t *prices, size_t prices_length,
+                   uint32_t *out, size_t out_length, size_t *count);
+
+/* The value of lots at a price, in yen rounded down; 0 yen on a refusal (7, 11). */
+uint32_t day_value(uint32_t lots, uint32_t price, uint64_t *yen);
+
+/* The charge on that value, in yen rounded down, for days at a rate; 0 yen on a refusal (7, 11). */
+uint32_t day_charge(uint32_t lots, uint32_t price, uint32_t days, uint32_t rate, uint64_t *yen);
+
+/* A fail entry kept as a struct. */
+struct day_entry {
+    uint8_t issue;
+    uint8_t from;
+    uint8_t to;
+    uint32_t lots;
+    uint16_t day;
+};
+
+/* Lowers the lots of the entry at a place by at most so many, and answers how many were met; 0 where
+ * there is no such entry. */
+uint32_t entry_meet(struct day_entry *entries, size_t length, size_t at, uint32_t lots);
+
+/* ---- a book as a struct, and the calls on it */
+
+struct day_book {
+    uint16_t day;
+    uint32_t phase;
+    size_t entries; /* of the ledger's columns, so many are used */
+    int32_t nets[DAY_PLACES];
+    uint32_t delivered[DAY_PLACES];
+    int64_t charges[DAY_ACCOUNTS];
+    uint8_t issues[DAY_ENTRIES];
+    uint8_t froms[DAY_ENTRIES];
+    uint8_t tos[DAY_ENTRIES];
+    uint32_t lots[DAY_ENTRIES];
+    uint16_t days[DAY_ENTRIES];
+};
+
+/* A call's answer. */
+struct day_answer {
+    uint32_t refusal;   /* 0 where it is done */
+    size_t count;       /* records written; for pair-off, steps */
+    uint64_t cancelled; /* pair-off's lots */
+};
+
+/* A unit: the account that it is due to and its lots, if it was found. */
+struct day_unit_answer {
+    uint32_t refusal;
+    uint32_t found;
+    uint32_t account;
+    uint32_t lots;
+};
+
+/* A record of an output. */
+struct day_record {
+    uint32_t kind;
+    uint32_t issue;
+    uint32_t from;
+    uint32_t to;
+    uint32_t lots;
+};
+
+/* Makes the book fresh: day 0, Taking, all zero, ledger empty. */
+static inline void day_book_fresh(struct day_book *book)
+{
+    memset(book, 0, sizeof *book);
+}
+
+/* 1 where the book is sound, else 0. */
+static inline uint32_t day_book_sound(const struct day_book *book)
+{
+    return day_sound(book->day, book->phase, book->entries, book->nets, DAY_PLACES,
+                     book->delivered, DAY_PLACES, book->charges, DAY_ACCOUNTS,
+                     book->issues, DAY_ENTRIES, book->froms, DAY_ENTRIES, book->tos, DAY_ENTRIES,
+                     book->lots, DAY_ENTRIES, book->days, DAY_ENTRIES);
+}
+
+/* The k-th unit of an issue, k from 0. */
+static inline struct day_unit_answer day_book_unit(const struct day_book *book, uint32_t issue,
+                                                   uint32_t k)
+{
+    struct day_unit_answer unit;
+    uint32_t answer[3] = {0, 0, 0};
+    unit.refusal = day_unit(book->day, book->phase, book->entries, book->nets, DAY_PLACES,
+                            book->delivered, DAY_PLACES, book->charges, DAY_ACCOUNTS,
+                            book->issues, DAY_ENTRIES, book->froms, DAY_ENTRIES,
+                            book->tos, DAY_ENTRIES, book->lots, DAY_ENTRIES,
+                            book->days, DAY_ENTRIES, issue, k, answer);
+    unit.found = answer[0];
+    unit.account = answer[1];
+    unit.lots = answer[2];
+    return unit;
+}
+
+/* The call of an instruction, with prices and an output of these lengths. */
+static inline struct day_answer day_book_call(struct day_book *book, uint32_t kind, uint32_t a,
+                                              uint32_t b, uint32_t c, uint32_t d,
+                                              const uint32_t *prices, size_t prices_length,
+                                              uint32_t *out, size_t out_length)
+{
+    struct day_answer answer;
+    answer.count = 0;
+    answer.cancelled = 0;
+    answer.refusal = day_call(kind, a, b, c, d, prices, prices_length, &book->day, &book->phase,
+                              &book->entries, book->nets, DAY_PLACES,
+                              book->delivered, DAY_PLACES, book->charges, DAY_ACCOUNTS,
+                              book->issues, DAY_ENTRIES, book->froms, DAY_ENTRIES,
+                              book->tos, DAY_ENTRIES, book->lots, DAY_ENTRIES,
+                              book->days, DAY_ENTRIES, out, out_length, &answer.count,
+                              &answer.cancelled);
+    return answer;
+}
+
+/* A call that uses neither prices nor output. */
+static inline struct day_answer day_book_plain(struct day_book *book, uint32_t kind, uint32_t a,
+                                               uint32_t b, uint32_t c, uint32_t d)
+{
+    uint32_t none = 0;
+    uint32_t unused = 0;
+    return day_book_call(book, kind, a, b, c, d, &none, 0, &unused, 0);
+}
+
+/* A call that writes records to the output. */
+static inline struct day_answer day_book_written(struct day_book *book, uint32_t kind, uint32_t a,
+                                                 uint32_t b, uint32_t c,
+                                                 uint32_t out[DAY_OUT_WORDS])
+{
+    uint32_t none = 0;
+    return day_book_call(book, kind, a, b, c, 0, &none, 0, out, DAY_OUT_WORDS);
+}
+
+static inline struct day_answer day_book_trade(struct day_book *book, uint32_t issue, uint32_t from,
+                                               uint32_t to, uint32_t lots)
+{
+    return day_book_plain(book, DAY_TRADE, issue, from, to, lots);
+}
+
+static inline struct day_answer day_book_close(struct day_book *book)
+{
+    return day_book_plain(book, DAY_CLOSE, 0, 0, 0, 0);
+}
+
+static inline struct day_answer day_book_deliver(struct day_book *book, uint32_t issue,
+                                                 uint32_t account, uint32_t lots,
+                                                 uint32_t out[DAY_OUT_WORDS])
+{
+    return day_book_written(book, DAY_DELIVER, issue, account, lots, out);
+}
+
+static inline struct day_answer day_book_cutoff(struct day_book *book, uint32_t out[DAY_OUT_WORDS])
+{
+    return day_book_written(book, DAY_CUTOFF, 0, 0, 0, out);
+}
+
+static inline struct day_answer day_book_resolve(struct day_book *book, uint32_t issue,
+                                                 uint32_t account, uint32_t lots,
+                                                 uint32_t out[DAY_OUT_WORDS])
+{
+    return day_book_written(book, DAY_RESOLVE, issue, account, lots, out);
+}
+
+static inline struct day_answer day_book_pair_off(struct day_book *book, uint32_t issue,
+                                                  uint32_t account)
+{
+    return day_book_plain(book, DAY_PAIR_OFF, issue, account, 0, 0);
+}
+
+static inline struct day_answer day_book_roll(struct day_book *book, uint32_t days, uint32_t rate,
+                                              const uint32_t prices[DAY_ISSUES])
+{
+    uint32_t unused = 0;
+    return day_book_call(book, DAY_ROLL, days, rate, 0, 0, prices, DAY_ISSUES, &unused, 0);
+}
+
+/* The record at a place of an output, 0 the first. */
+static inline struct day_record day_record_at(const uint32_t *out, size_t at)
+{
+    struct day_record record;
+    uint32_t head = out[2 * at];
+    record.kind = head >> 28;
+    record.issue = (head >> 24) & 15u;
+    record.from = (head >> 18) & 63u;
+    record.to = (head >> 12) & 63u;
+    record.lots = out[2 * at + 1] & 0x0fffffffu;
+    return record;
+}
+
+/* What a refusal says, for people. */
+static inline const char *day_refusal_text(uint32_t refusal)
+{
+    switch (refusal) {
+    case DAY_DONE: return "done";
+    case DAY_REFUSED_OUTPUT: return "the output has too few words";
+    case DAY_REFUSED_BOOK: return "the book is not sound";
+    case DAY_REFUSED_PHASE: return "this is not the call's phase";
+    case DAY_REFUSED_ISSUE: return "the issue is above 15";
+    case DAY_REFUSED_ACCOUNT: return "an account is above 63";
+    case DAY_REFUSED_SAME: return "from and to are the same account";
+    case DAY_REFUSED_LOTS: return "lots are not 1 to 20,000,000";
+    case DAY_REFUSED_NET: return "a net would pass 20,000,000 lots to one side";
+    case DAY_REFUSED_OWED: return "the account does not owe that many lots";
+    case DAY_REFUSED_ROOM: return "the ledger would have more than 2,048 entries";
+    case DAY_REFUSED_TERMS: return "price, days or rate is out of range";
+    case DAY_REFUSED_LAST: return "the day is 65,535, the last one";
+    case DAY_REFUSED_TAPE: return "the tape ends before the instruction does";
+    case DAY_REFUSED_WORD: return "a word's kind or its unused bits are wrong";
+    case DAY_REFUSED_BITS: return "a number does not fit its bits";
+    default: return "no refusal of the rules";
+    }
+}
+
+#ifdef __cplusplus
+}
+#endif
+
+#endif

@@ -1,0 +1,132 @@
+/* stack: how much stack each function of the library uses, measured on a thread whose stack was
+ * painted before. Each call is made on a day with nets in all issues and accounts and a ledger of
+ * many fails, so that it goes its whole way. Fails where one uses more than DAY_STACK_BYTES. */
+#ifndef _GNU_SOURCE
+#define _POSIX_C_SOURCE 200809L
+#endif
+#include <pthread.h>
+#include <stdio.h>
+
+#include "settlement_day.h"
+
+enum { STACK = 1 << 20, PAINT = 0xa5 };
+
+static unsigned char stack[STACK] __attribute__((aligned(4096)));
+static struct day_book book;
+static uint32_t out[DAY_OUT_WORDS];
+static uint32_t words[DAY_TAPE_WORDS];
+static uint32_t prices[DAY_ISSUES];
+static uint32_t refusal;
+
+/* In every issue account 0 buys from all others. */
+static void make_trades(void)
+{
+    for (uint32_t issue = 0; issue < DAY_ISSUES; issue++) {
+        for (uint32_t other = 1; other < DAY_ACCOUNTS; other++) {
+            refusal |= day_book_trade(&book, issue, other, 0, 999 + other).refusal;
+        }
+    }
+}
+
+/* The next day account 0 sells to all others and fails, so that it has fails both ways. */
+static void make_next_day(void)
+{
+    for (uint32_t issue = 0; issue < DAY_ISSUES; issue++) {
+        for (uint32_t other = 1; other < DAY_ACCOUNTS; other++) {
+            refusal |= day_book_trade(&book, issue, 0, other, 1001 + other).refusal;
+        }
+    }
+    refusal |= day_book_close(&book).refusal | day_book_cutoff(&book, out).refusal;
+}
+
+static void make_sound(void) { refusal |= day_book_sound(&book) != 1; }
+static void make_unit(void) { refusal |= day_book_unit(&book, 15, 0).refusal; }
+static void make_close(void) { refusal |= day_book_close(&book).refusal; }
+static void make_deliver(void) { refusal |= day_book_deliver(&book, 15, 62, 500, out).refusal; }
+static void make_cutoff(void) { refusal |= day_book_cutoff(&book, out).refusal; }
+static void make_resolve(void) { refusal |= day_book_resolve(&book, 15, 62, 400, out).refusal; }
+static void make_pair_off(void) { refusal |= day_book_pair_off(&book, 15, 0).count < 63; }
+static void make_roll(void) { refusal |= day_book_roll(&book, 12, 10000, prices).refusal; }
+
+static void make_write(void)
+{
+    size_t count;
+    refusal |= day_write(DAY_ROLL, 1, 300, 0, 0, prices, DAY_ISSUES, words, DAY_TAPE_WORDS, &count);
+}
+
+static void make_read(void)
+{
+    uint32_t instruction[5];
+    size_t count;
+    refusal |= day_read(words, DAY_TAPE_WORDS, instruction, &count);
+    day_prices(words, DAY_TAPE_WORDS, prices);
+}
+
+static void make_charge(void)
+{
+    uint64_t yen;
+    refusal |= day_charge(20000000, 200000, 12, 10000, &yen);
+    refusal |= day_value(20000000, 200000, &yen);
+}
+
+static void make_nothing(void) {}
+
+struct measured {
+    const char *name;
+    void (*make)(void);
+};
+
+/* In the order in which a day makes them; the first is what a thread uses by itself. */
+static const struct measured measures[] = {
+    {"nothing", make_nothing},    {"trade", make_trades},          {"unit", make_unit},
+    {"close", make_close},        {"deliver", make_deliver},       {"sound", make_sound},
+    {"cutoff", make_cutoff},      {"resolve", make_resolve},       {"roll", make_roll},
+    {"a day", make_next_day},     {"pair-off", make_pair_off},     {"write", make_write},
+    {"read", make_read},          {"value and charge", make_charge},
+};
+
+static void *run(void *make)
+{
+    ((const struct measured *)make)->make();
+    return NULL;
+}
+
+/* The bytes of the painted stack that a run on it changed, from the deepest on; 0 where it failed. */
+static size_t used(const struct measured *measured)
+{
+    pthread_attr_t attributes;
+    pthread_t thread;
+    size_t at = 0;
+    memset(stack, PAINT, STACK);
+    if (pthread_attr_init(&attributes) != 0 ||
+        pthread_attr_setstack(&attributes, stack, STACK) != 0 ||
+        pthread_create(&thread, &attributes, run, (void *)measured) != 0 ||
+        pthread_join(thread, NULL) != 0) {
+        return 0;
+    }
+    while (at < STACK && stack[at] == PAINT) {
+        at++;
+    }
+    return STACK - at;
+}
+
+int main(void)
+{
+    int good = 1;
+    size_t thread_alone = used(&measures[0]);
+    for (size_t issue = 0; issue < DAY_ISSUES; issue++) {
+        prices[issue] = 99999;
+    }
+    day_book_fresh(&book);
+    for (size_t i = 1; i < sizeof measures / sizeof measures[0]; i++) {
+        size_t all = used(&measures[i]);
+        size_t bytes = all > thread_alone ? all - thread_alone : 0;
+        int within = thread_alone != 0 && all != 0 && bytes <= DAY_STACK_BYTES;
+        printf("%-16s %zu bytes of stack%s\n", measures[i].name, bytes, within ? "" : ": too many");
+        good = good && within;
+    }
+    if (refusal != 0) {
+        puts("a call was refused, so it did not go its whole way");
+    }
+    return good && refusal == 0 ? 0 : 1;
+}

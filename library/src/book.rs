@@ -1,0 +1,198 @@
+//! The book: day, phase, nets, delivered lots, charges and the ledger of fails, in plain columns.
+
+use crate::raw::{Columns, ColumnsMut};
+use crate::{Entry, ACCOUNTS, ENTRIES, PLACES};
+
+/// The phase of the day as its number; any number can be held, and one above 2 is damage.
+#[derive(Clone, Copy, Debug, PartialEq, Eq)]
+pub struct Phase(pub u32);
+
+impl Phase {
+    pub const TAKING: Phase = Phase(0);
+    pub const SETTLING: Phase = Phase(1);
+    pub const CUT: Phase = Phase(2);
+
+    /// Its name, if it is one of the three.
+    pub fn name(self) -> Option<&'static str> {
+        match self {
+            Phase::TAKING => Some("Taking"),
+            Phase::SETTLING => Some("Settling"),
+            Phase::CUT => Some("Cut"),
+            _ => None,
+        }
+    }
+}
+
+/// A book in plain columns; nets and delivered lots stand at issue × 64 + account.
+///
+/// Every field can be set to any number. The calls change it only where it is sound.
+#[derive(Clone, Debug, PartialEq, Eq)]
+pub struct Book {
+    pub day: u16,
+    pub phase: Phase,
+    /// The number of fail entries, which are the first of the ledger's five columns.
+    pub entries: usize,
+    pub nets: [i32; PLACES],
+    pub delivered: [u32; PLACES],
+    pub charges: [i64; ACCOUNTS],
+    pub issues: [u8; ENTRIES],
+    pub froms: [u8; ENTRIES],
+    pub tos: [u8; ENTRIES],
+    pub lots: [u32; ENTRIES],
+    pub days: [u16; ENTRIES],
+}
+
+/// The place of an issue and account in the columns of nets and delivered lots, if both are in range.
+pub fn place(issue: u32, account: u32) -> Option<usize> {
+    let (issue, account) = (issue as usize, account as usize);
+    (issue < crate::ISSUES && account < ACCOUNTS).then_some(issue * ACCOUNTS + account)
+}
+
+impl Book {
+    /// A fresh book: day 0, Taking, all zero, ledger empty.
+    pub fn fresh() -> Book {
+        Book {
+            day: 0,
+            phase: Phase::TAKING,
+            entries: 0,
+            nets: [0; PLACES],
+            delivered: [0; PLACES],
+            charges: [0; ACCOUNTS],
+            issues: [0; ENTRIES],
+            froms: [0; ENTRIES],
+            tos: [0; ENTRIES],
+            lots: [0; ENTRIES],
+            days: [0; ENTRIES],
+        }
+    }
+
+    /// An account's net in an issue; 0 where one of them is out of range.
+    pub fn net(&self, issue: u32, account: u32) -> i32 {
+        place(issue, account).map_or(0, |at| self.nets[at])
+    }
+
+    /// The lots that an account delivered today in an issue; 0 where one of them is out of range.
+    pub fn delivered(&self, issue: u32, account: u32) -> u32 {
+        place(issue, account).map_or(0, |at| self.delivered[at])
+    }
+
+    /// The lots delivered today in an issue, all accounts together.
+    pub fn delivered_total(&self, issue: u32) -> u64 {
+        (0..ACCOUNTS as u32).map(|account| u64::from(self.delivered(issue, account))).sum()
+    }
+
+    /// The used entries of the ledger, in order; of a count above 2,048, the 2,048 there are.
+    pub fn ledger(&self) -> impl Iterator<Item = Entry> + '_ {
+        (0..self.entries.min(ENTRIES)).filter_map(|at| self.entry(at))
+    }
+
+    /// The entry at a place of the ledger, used or not, if there is such a place.
+    pub fn entry(&self, at: usize) -> Option<Entry> {
+        Some(Entry {
+            issue: *self.issues.get(at)?,
+            from: *self.froms.get(at)?,
+            to: *self.tos.get(at)?,
+            lots: *self.lots.get(at)?,
+            day: *self.days.get(at)?,
+        })
+    }
+
+    /// The book's columns, to be read.
+    pub fn columns(&self) -> Columns<'_> {
+        Columns {
+            day: self.day,
+            phase: self.phase.0,
+            entries: self.entries,
+            nets: &self.nets,
+            delivered: &self.delivered,
+            charges: &self.charges,
+            issues: &self.issues,
+            froms: &self.froms,
+            tos: &self.tos,
+            lots: &self.lots,
+            days: &self.days,
+        }
+    }
+
+    /// The book's columns, to be changed.
+    pub fn columns_mut(&mut self) -> ColumnsMut<'_> {
+        ColumnsMut {
+            day: &mut self.day,
+            phase: &mut self.phase.0,
+            entries: &mut self.entries,
+            nets: &mut self.nets,
+            delivered: &mut self.delivered,
+            charges: &mut self.charges,
+            issues: &mut self.issues,
+            froms: &mut self.froms,
+            tos: &mut self.tos,
+            lots: &mut self.lots,
+            days: &mut self.days,
+        }
+    }
+}
+
+impl Default for Book {
+    fn default() -> Book {
+        Book::fresh()
+    }
+}
+
+#[cfg(test)]
+mod tests {
+    use super::*;
+    use crate::{calls, Refusal};
+
+    /// A book of the largest numbers everywhere.
+    fn damaged() -> Book {
+        Book {
+            day: u16::MAX,
+            phase: Phase(u32::MAX),
+            entries: usize::MAX,
+            nets: [i32::MIN; PLACES],
+            delivered: [u32::MAX; PLACES],
+            charges: [i64::MIN; ACCOUNTS],
+            issues: [u8::MAX; ENTRIES],
+            froms: [u8::MAX; ENTRIES],
+            tos: [u8::MAX; ENTRIES],
+            lots: [u32::MAX; ENTRIES],
+            days: [u16::MAX; ENTRIES],
+        }
+    }
+
+    #[test]
+    fn a_damaged_book_can_be_looked_at() {
+        let book = damaged();
+        assert_eq!(book.ledger().count(), ENTRIES);
+        assert_eq!(book.delivered_total(15), 64 * u64::from(u32::MAX));
+        assert_eq!((book.net(15, 63), book.net(16, 0), book.net(0, 64)), (i32::MIN, 0, 0));
+        assert_eq!((book.delivered(u32::MAX, 0), book.delivered_total(u32::MAX)), (0, 0));
+        assert_eq!((book.entry(ENTRIES), book.entry(usize::MAX)), (None, None));
+        assert_eq!(book.phase.name(), None);
+    }
+
+    #[test]
+    fn a_damaged_book_is_refused_and_stays_as_it_was() {
+        let (mut book, mut out) = (damaged(), [7; crate::OUTPUT_WORDS]);
+        assert!(!calls::sound(&book));
+        assert_eq!(calls::unit(&book, 0, 0).refusal, Refusal::Book.number());
+        let answers = [
+            calls::trade(&mut book, 0, 1, 2, 3),
+            calls::close(&mut book),
+            calls::deliver(&mut book, 0, 1, 2, &mut out),
+            calls::cutoff(&mut book, &mut out),
+            calls::resolve(&mut book, 0, 1, 2, &mut out),
+            calls::pair_off(&mut book, 0, 1),
+            calls::roll(&mut book, 1, 300, &[100_000; 16]),
+        ];
+        assert!(answers.iter().all(|answer| answer.refused() == Some(Refusal::Book)));
+        assert!(book == damaged() && out == [7; crate::OUTPUT_WORDS]);
+    }
+
+    #[test]
+    fn a_fresh_book_is_sound_and_its_places_are_its_own() {
+        assert!(calls::sound(&Book::default()));
+        assert_eq!((place(0, 0), place(15, 63), place(1, 0)), (Some(0), Some(1_023), Some(64)));
+        assert_eq!((place(16, 0), place(0, 64), place(u32::MAX, u32::MAX)), (None, None, None));
+    }
+}

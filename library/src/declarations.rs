@@ -1,0 +1,122 @@
+//! The functions of the static libraries, declared in this one place.
+//!
+//! A column, the prices, the words and an output are a pointer and a length, in this order.
+//! `host/settlement_day.h` has the same declarations for C.
+
+use crate::Entry;
+
+// libdesk.a
+extern "C" {
+    pub fn day_value(lots: u32, price: u32, yen: *mut u64) -> u32;
+    pub fn day_charge(lots: u32, price: u32, days: u32, rate: u32, yen: *mut u64) -> u32;
+}
+
+// libentries.a
+extern "C" {
+    pub fn entry_meet(entries: *mut Entry, length: usize, at: usize, lots: u32) -> u32;
+}
+
+// libexports.a
+extern "C" {
+    pub fn day_sound(
+        day: u16,
+        phase: u32,
+        entries: usize,
+        nets: *const i32,
+        nets_length: usize,
+        delivered: *const u32,
+        delivered_length: usize,
+        charges: *const i64,
+        charges_length: usize,
+        issues: *const u8,
+        issues_length: usize,
+        froms: *const u8,
+        froms_length: usize,
+        tos: *const u8,
+        tos_length: usize,
+        lots: *const u32,
+        lots_length: usize,
+        days: *const u16,
+        days_length: usize,
+    ) -> u32;
+
+    pub fn day_unit(
+        day: u16,
+        phase: u32,
+        entries: usize,
+        nets: *const i32,
+        nets_length: usize,
+        delivered: *const u32,
+        delivered_length: usize,
+        charges: *const i64,
+        charges_length: usize,
+        issues: *const u8,
+        issues_length: usize,
+        froms: *const u8,
+        froms_length: usize,
+        tos: *const u8,
+        tos_length: usize,
+        lots: *const u32,
+        lots_length: usize,
+        days: *const u16,
+        days_length: usize,
+        issue: u32,
+        k: u32,
+        answer: *mut [u32; 3],
+    ) -> u32;
+
+    pub fn day_call(
+        kind: u32,
+        a: u32,
+        b: u32,
+        c: u32,
+        d: u32,
+        prices: *const u32,
+        prices_length: usize,
+        day: *mut u16,
+        phase: *mut u32,
+        entries: *mut usize,
+        nets: *mut i32,
+        nets_length: usize,
+        delivered: *mut u32,
+        delivered_length: usize,
+        charges: *mut i64,
+        charges_length: usize,
+        issues: *mut u8,
+        issues_length: usize,
+        froms: *mut u8,
+        froms_length: usize,
+        tos: *mut u8,
+        tos_length: usize,
+        lots: *mut u32,
+        lots_length: usize,
+        days: *mut u16,
+        days_length: usize,
+        out: *mut u32,
+        out_length: usize,
+        count: *mut usize,
+        cancelled: *mut u64,
+    ) -> u32;
+
+    pub fn day_read(
+        words: *const u32,
+        words_length: usize,
+        instruction: *mut [u32; 5],
+        count: *mut usize,
+    ) -> u32;
+
+    pub fn day_prices(words: *const u32, words_length: usize, prices: *mut [u32; 16]);
+
+    pub fn day_write(
+        kind: u32,
+        a: u32,
+        b: u32,
+        c: u32,
+        d: u32,
+        prices: *const u32,
+        prices_length: usize,
+        out: *mut u32,
+        out_length: usize,
+        count: *mut usize,
+    ) -> u32;
+}

@@ -1,0 +1,209 @@
+//! The library's functions over columns of any length and plain numbers, nothing turned into types.
+//!
+//! A book whose columns have other lengths than 1,024, 64 and 2,048, or whose phase is above 2, is
+//! damaged: the library refuses it by 2.
+
+use crate::declarations::{day_call, day_prices, day_read, day_sound, day_unit, day_write};
+use crate::{Fields, ISSUES};
+
+/// What stands in a count before the library writes it: no answer has it.
+const NOT_WRITTEN: usize = usize::MAX;
+
+/// A book as it is lent to a question: three numbers and eight columns, of any length.
+#[derive(Clone, Copy, Debug, PartialEq, Eq)]
+pub struct Columns<'a> {
+    pub day: u16,
+    pub phase: u32,
+    pub entries: usize,
+    pub nets: &'a [i32],
+    pub delivered: &'a [u32],
+    pub charges: &'a [i64],
+    pub issues: &'a [u8],
+    pub froms: &'a [u8],
+    pub tos: &'a [u8],
+    pub lots: &'a [u32],
+    pub days: &'a [u16],
+}
+
+/// A book as it is lent to a call, which may change it.
+#[derive(Debug, PartialEq, Eq)]
+pub struct ColumnsMut<'a> {
+    pub day: &'a mut u16,
+    pub phase: &'a mut u32,
+    pub entries: &'a mut usize,
+    pub nets: &'a mut [i32],
+    pub delivered: &'a mut [u32],
+    pub charges: &'a mut [i64],
+    pub issues: &'a mut [u8],
+    pub froms: &'a mut [u8],
+    pub tos: &'a mut [u8],
+    pub lots: &'a mut [u32],
+    pub days: &'a mut [u16],
+}
+
+/// A call's answer: the refusal's number, 0 where it is done, the count of records (for pair-off,
+/// of steps) and pair-off's lots cancelled.
+#[derive(Clone, Copy, Debug, PartialEq, Eq)]
+pub struct Answer {
+    pub refusal: u32,
+    pub count: usize,
+    pub cancelled: u64,
+}
+
+/// The unit question's answer: the refusal's number, then 1, account and lots, or three zeros.
+#[derive(Clone, Copy, Debug, PartialEq, Eq)]
+pub struct UnitAnswer {
+    pub refusal: u32,
+    pub found: u32,
+    pub account: u32,
+    pub lots: u32,
+}
+
+/// The reader's answer: the refusal's number, the instruction's fields and its count of words.
+#[derive(Clone, Copy, Debug, PartialEq, Eq)]
+pub struct ReadAnswer {
+    pub refusal: u32,
+    pub fields: Fields,
+    pub count: usize,
+}
+
+/// The writer's answer: the refusal's number and the count of words.
+#[derive(Clone, Copy, Debug, PartialEq, Eq)]
+pub struct WriteAnswer {
+    pub refusal: u32,
+    pub count: usize,
+}
+
+/// Is the book sound? 1 if it is, 0 if not.
+pub fn sound(book: &Columns) -> u32 {
+    // SAFETY: each column is given with its length and lives through the call, which reads it alone.
+    unsafe {
+        day_sound(
+            book.day,
+            book.phase,
+            book.entries,
+            book.nets.as_ptr(),
+            book.nets.len(),
+            book.delivered.as_ptr(),
+            book.delivered.len(),
+            book.charges.as_ptr(),
+            book.charges.len(),
+            book.issues.as_ptr(),
+            book.issues.len(),
+            book.froms.as_ptr(),
+            book.froms.len(),
+            book.tos.as_ptr(),
+            book.tos.len(),
+            book.lots.as_ptr(),
+            book.lots.len(),
+            book.days.as_ptr(),
+            book.days.len(),
+        )
+    }
+}
+
+/// The k-th unit of an issue, k from 0.
+pub fn unit(book: &Columns, issue: u32, k: u32) -> UnitAnswer {
+    let mut answer = [u32::MAX; 3];
+    // SAFETY: each column is given with its length and lives through the call, which reads it alone;
+    // the answer has the three words that are written.
+    let refusal = unsafe {
+        day_unit(
+            book.day,
+            book.phase,
+            book.entries,
+            book.nets.as_ptr(),
+            book.nets.len(),
+            book.delivered.as_ptr(),
+            book.delivered.len(),
+            book.charges.as_ptr(),
+            book.charges.len(),
+            book.issues.as_ptr(),
+            book.issues.len(),
+            book.froms.as_ptr(),
+            book.froms.len(),
+            book.tos.as_ptr(),
+            book.tos.len(),
+            book.lots.as_ptr(),
+            book.lots.len(),
+            book.days.as_ptr(),
+            book.days.len(),
+            issue,
+            k,
+            &mut answer,
+        )
+    };
+    let [found, account, lots] = answer;
+    UnitAnswer { refusal, found, account, lots }
+}
+
+/// The call of an instruction given by its fields, made in place on any book.
+pub fn call(book: &mut ColumnsMut, fields: &Fields, prices: &[u32], out: &mut [u32]) -> Answer {
+    let [kind, a, b, c, d] = *fields;
+    let (mut count, mut cancelled) = (NOT_WRITTEN, u64::MAX);
+    // SAFETY: columns, prices and output are given with their lengths, live through the call, and
+    // none of those that it may write overlaps another: each is a reference of its own.
+    let refusal = unsafe {
+        day_call(
+            kind,
+            a,
+            b,
+            c,
+            d,
+            prices.as_ptr(),
+            prices.len(),
+            book.day,
+            book.phase,
+            book.entries,
+            book.nets.as_mut_ptr(),
+            book.nets.len(),
+            book.delivered.as_mut_ptr(),
+            book.delivered.len(),
+            book.charges.as_mut_ptr(),
+            book.charges.len(),
+            book.issues.as_mut_ptr(),
+            book.issues.len(),
+            book.froms.as_mut_ptr(),
+            book.froms.len(),
+            book.tos.as_mut_ptr(),
+            book.tos.len(),
+            book.lots.as_mut_ptr(),
+            book.lots.len(),
+            book.days.as_mut_ptr(),
+            book.days.len(),
+            out.as_mut_ptr(),
+            out.len(),
+            &mut count,
+            &mut cancelled,
+        )
+    };
+    Answer { refusal, count, cancelled }
+}
+
+/// Reads the instruction that begins at the first word.
+pub fn read(words: &[u32]) -> ReadAnswer {
+    let (mut fields, mut count) = ([u32::MAX; 5], NOT_WRITTEN);
+    // SAFETY: the words are given with their length, and the fields have the five that are written.
+    let refusal = unsafe { day_read(words.as_ptr(), words.len(), &mut fields, &mut count) };
+    ReadAnswer { refusal, fields, count }
+}
+
+/// The prices in the words after a roll's head, issue 0 first, 0 where a word is missing.
+pub fn prices(words: &[u32]) -> [u32; ISSUES] {
+    let mut prices = [u32::MAX; ISSUES];
+    // SAFETY: the words are given with their length, and there are sixteen prices to write.
+    unsafe { day_prices(words.as_ptr(), words.len(), &mut prices) };
+    prices
+}
+
+/// Writes an instruction given by its fields, with the prices of a roll.
+pub fn write(fields: &Fields, prices: &[u32], out: &mut [u32]) -> WriteAnswer {
+    let [kind, a, b, c, d] = *fields;
+    let mut count = NOT_WRITTEN;
+    let (words, length) = (out.as_mut_ptr(), out.len());
+    // SAFETY: prices and output are given with their lengths and live through the call.
+    let refusal = unsafe {
+        day_write(kind, a, b, c, d, prices.as_ptr(), prices.len(), words, length, &mut count)
+    };
+    WriteAnswer { refusal, count }
+}

@@ -1,0 +1,120 @@
+//! The refusals: the number of each, what it says, and what to do about it.
+
+use std::fmt;
+
+/// Why a call, a question, the reader or the writer refused; the numbers are the paper's.
+#[derive(Clone, Copy, Debug, PartialEq, Eq, PartialOrd, Ord)]
+pub enum Refusal {
+    /// 1: the lent output has fewer than 4,096 words (deliver, cutoff, resolve) or 17 (writer).
+    Output = 1,
+    /// 2: the book is not sound: it was changed by something other than the calls.
+    Book = 2,
+    /// 3: the call belongs to another phase of the day.
+    Phase = 3,
+    /// 4: the issue is above 15.
+    Issue = 4,
+    /// 5: an account is above 63.
+    Account = 5,
+    /// 6: from and to are the same account.
+    SameAccount = 6,
+    /// 7: lots are not 1 to 20,000,000.
+    Lots = 7,
+    /// 8: a net would pass 20,000,000 lots to one side.
+    Net = 8,
+    /// 9: the account does not owe that many lots, today (deliver) or in the ledger (resolve).
+    Owed = 9,
+    /// 10: the ledger would have more than 2,048 entries.
+    Room = 10,
+    /// 11: days are not 1 to 12, the rate is above 10,000, or prices are not sixteen of 1 to 200,000.
+    Terms = 11,
+    /// 12: the day is 65,535, the last one.
+    LastDay = 12,
+    /// 13: the tape ends before the instruction does.
+    TapeEnds = 13,
+    /// 14: a word's kind or its unused bits are wrong.
+    Word = 14,
+    /// 15: a number does not fit its bits.
+    Bits = 15,
+}
+
+impl Refusal {
+    /// All refusals, by their numbers.
+    pub const ALL: [Refusal; 15] = [
+        Refusal::Output,
+        Refusal::Book,
+        Refusal::Phase,
+        Refusal::Issue,
+        Refusal::Account,
+        Refusal::SameAccount,
+        Refusal::Lots,
+        Refusal::Net,
+        Refusal::Owed,
+        Refusal::Room,
+        Refusal::Terms,
+        Refusal::LastDay,
+        Refusal::TapeEnds,
+        Refusal::Word,
+        Refusal::Bits,
+    ];
+
+    /// The refusal of a number; none for 0, which is done, and above 15.
+    pub fn of(number: u32) -> Option<Refusal> {
+        Refusal::ALL.into_iter().find(|refusal| refusal.number() == number)
+    }
+
+    /// Its number.
+    pub fn number(self) -> u32 {
+        self as u32
+    }
+
+    /// What it says, in a few words.
+    pub fn meaning(self) -> &'static str {
+        match self {
+            Refusal::Output => "the output has too few words",
+            Refusal::Book => "the book is not sound",
+            Refusal::Phase => "this is not the call's phase",
+            Refusal::Issue => "the issue is above 15",
+            Refusal::Account => "an account is above 63",
+            Refusal::SameAccount => "from and to are the same account",
+            Refusal::Lots => "lots are not 1 to 20,000,000",
+            Refusal::Net => "a net would pass 20,000,000 lots to one side",
+            Refusal::Owed => "the account does not owe that many lots",
+            Refusal::Room => "the ledger would have more than 2,048 entries",
+            Refusal::Terms => {
+                "days are not 1 to 12, the rate is above 10,000, or prices are not sixteen of 1 to \
+                 200,000"
+            }
+            Refusal::LastDay => "the day is 65,535, the last one",
+            Refusal::TapeEnds => "the tape ends before the instruction does",
+            Refusal::Word => "a word's kind or its unused bits are wrong",
+            Refusal::Bits => "a number does not fit its bits",
+        }
+    }
+}
+
+impl fmt::Display for Refusal {
+    fn fmt(&self, text: &mut fmt::Formatter) -> fmt::Result {
+        write!(text, "refused by {}: {}", self.number(), self.meaning())
+    }
+}
+
+#[cfg(test)]
+mod tests {
+    use super::Refusal;
+
+    #[test]
+    fn numbers_are_one_to_fifteen_in_order() {
+        let numbers: Vec<u32> = Refusal::ALL.into_iter().map(Refusal::number).collect();
+        assert_eq!(numbers, (1..=15).collect::<Vec<u32>>());
+        assert_eq!(Refusal::of(9), Some(Refusal::Owed));
+        assert_eq!([0, 16, u32::MAX].map(Refusal::of), [None; 3]);
+    }
+
+    #[test]
+    fn each_meaning_is_its_own() {
+        for one in Refusal::ALL {
+            let same = Refusal::ALL.into_iter().filter(|other| other.meaning() == one.meaning());
+            assert_eq!(same.count(), 1, "{one}");
+        }
+    }
+}

@@ -1,0 +1,35 @@
+#!/usr/bin/env bash
+# Tests what scripts/progress.sh shows of the prover's lines, and what it keeps.
+set -euo pipefail
+cd "$(dirname "$0")/.."
+
+log=$(mktemp)
+trap 'rm -f "$log"' EXIT
+said='logic=proved functions=3
+rt: rules proved (6 s)
+a.antt:3:4: note: large solution: `_` was filled in
+a.antt:5:6: error: this is not proved
+rt: laws NOT PROVED (exit 1, 4 s)
+rt: must-fail rules/one: refused, as it must be (first at a.antt:1:2; 5 s)
+rt: FAILED: laws
+7 passed, 1 failed'
+shown=$(printf '%s' "$said" | scripts/progress.sh "$log")
+
+expect() { # GREP-WORDS..
+    grep -q "$@" <<<"$shown" || { printf 'not shown: %s\n%s\n' "$*" "$shown"; exit 1; }
+}
+refuse() { # PATTERN
+    ! grep -q "$1" <<<"$shown" || { printf 'shown: %s\n%s\n' "$1" "$shown"; exit 1; }
+}
+
+expect '^To be proved: [0-9]* crates, and [0-9]* wrong edits to be refused; about '
+expect '^proved 1 of [0-9]*: rules (6 s); about [0-9]* minutes to come$'
+expect '^refused 1 of [0-9]*: rules/one (5 s)$'
+expect -Fx 'a.antt:5:6: error: this is not proved'
+expect -Fx 'rt: laws NOT PROVED (exit 1, 4 s)'
+expect -Fx 'rt: FAILED: laws'
+refuse ' passed, '
+refuse 'large solution'
+refuse 'logic='
+[ "$(cat "$log")" = "$said" ] || { echo 'the log is not what was said'; exit 1; }
+echo 'what is shown of the proofs: as it must be'

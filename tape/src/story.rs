@@ -1,0 +1,316 @@
+//! A tape run on a fresh book, and its facts told one after another.
+//!
+//! The library reads the words, makes the calls, and answers which unit is which and what is
+//! charged. A trade that nothing speaks against is booked here, so that a tape of a million trades
+//! takes no longer than it must; every other instruction is put to the library, refused trades too.
+
+use crate::bytes::split;
+use crate::facts::{Fact, Terms};
+use crate::units::{runs, ties, Run, Walk};
+use crate::why::{owed_today, why};
+use library::calls::{self, Answer};
+use library::{desk, place, tape, Book, Entry, Instruction, Phase, ACCOUNTS, ISSUES, OUTPUT_WORDS};
+use std::io;
+
+/// The kind of the record of a fail; the others are handovers.
+const FAIL: u32 = 12;
+/// The most lots of a trade, and of a net to either side.
+const MOST_LOTS: u32 = 20_000_000;
+
+/// What is done with each fact, with the day that it is of.
+pub type Sink<'a> = dyn FnMut(u16, &Fact) -> io::Result<()> + 'a;
+
+/// A tape as it runs.
+struct Story<'a> {
+    book: Book,
+    output: Vec<u32>,
+    /// For each issue, today's handovers from the house: their number and lots.
+    handed: [(u32, u64); ISSUES],
+    sink: &'a mut Sink<'a>,
+}
+
+/// A record that a call wrote.
+#[derive(Clone, Copy)]
+struct Record {
+    kind: u32,
+    issue: u32,
+    from: u32,
+    to: u32,
+    lots: u32,
+}
+
+/// Runs a tape and tells its facts.
+pub fn tell<'a>(tape: &[u8], sink: &'a mut Sink<'a>) -> io::Result<()> {
+    let (words, stray) = split(tape);
+    let mut story = Story {
+        book: Book::fresh(),
+        output: vec![0; OUTPUT_WORDS],
+        handed: [(0, 0); ISSUES],
+        sink,
+    };
+    story.fact(&Fact::Day { day: 0 })?;
+    let mut at = 0;
+    while at < words.len() || !stray.is_empty() {
+        match tape::read(&words[at..]) {
+            Ok((instruction, count)) => {
+                story.instruction(at, &instruction, &words[at..])?;
+                at += count;
+            }
+            Err(refusal) => {
+                story.fact(&Fact::ReadingEnds { word: at, refusal })?;
+                break;
+            }
+        }
+    }
+    story.end()
+}
+
+impl Story<'_> {
+    /// Tells a fact of today.
+    fn fact(&mut self, fact: &Fact) -> io::Result<()> {
+        (self.sink)(self.book.day, fact)
+    }
+
+    /// Makes the call of an instruction and tells what it did, or why it was refused.
+    fn instruction(
+        &mut self,
+        word: usize,
+        instruction: &Instruction,
+        words: &[u32],
+    ) -> io::Result<()> {
+        let instruction = *instruction;
+        if traded(&mut self.book, &instruction) {
+            return self.fact(&Fact::Instruction { word, instruction, refusal: None });
+        }
+        let roll = matches!(instruction, Instruction::Roll { .. });
+        let prices = if roll { tape::prices(words) } else { [0; ISSUES] };
+        let entries: Vec<Entry> = if roll { self.book.ledger().collect() } else { Vec::new() };
+        let answer = calls::call(&mut self.book, &instruction, &prices, &mut self.output);
+        let refusal =
+            answer.refused().map(|refusal| (refusal, why(&self.book, &instruction, refusal)));
+        let refused = refusal.is_some();
+        let told = Fact::Instruction { word, instruction, refusal };
+        if let (Instruction::Roll { days, rate }, false) = (instruction, refused) {
+            return self.rolled(&told, &entries, days, rate, &prices);
+        }
+        self.fact(&told)?;
+        if refused {
+            return Ok(());
+        }
+        match instruction {
+            Instruction::Close => self.closed(),
+            Instruction::Deliver { issue, account, .. } => {
+                self.delivered(issue, account, answer.count)
+            }
+            Instruction::Cutoff => self.cut(answer.count),
+            Instruction::Resolve { .. } => self.resolved(answer.count),
+            Instruction::PairOff { issue, account } => self.paired(&answer, issue, account),
+            Instruction::Trade { .. } | Instruction::Roll { .. } => Ok(()),
+        }
+    }
+
+    /// The records that the last call wrote.
+    fn records(&self, count: usize) -> Vec<Record> {
+        self.output.chunks_exact(2).take(count).map(|words| record(words[0], words[1])).collect()
+    }
+
+    /// The issues' units in their order, their ties, and what each deliverer owes.
+    fn closed(&mut self) -> io::Result<()> {
+        self.handed = [(0, 0); ISSUES];
+        for issue in 0..ISSUES as u32 {
+            let runs = runs(&self.book, issue);
+            for run in &runs {
+                let Run { first, account, lots, due, .. } = *run;
+                self.fact(&Fact::Units { issue, first, last: run.last(), account, lots, due })?;
+            }
+            for tie in ties(&runs) {
+                let full = tie[0].full();
+                let lots = if full { tie[0].due } else { tie[0].lots };
+                let accounts = tie.iter().map(|run| run.account).collect();
+                self.fact(&Fact::Tie { issue, full, lots, accounts })?;
+            }
+            for account in 0..ACCOUNTS as u32 {
+                self.owes(issue, account, 1)?;
+            }
+        }
+        Ok(())
+    }
+
+    /// What an account still owes, if it is at least so much.
+    fn owes(&mut self, issue: u32, account: u32, least: u64) -> io::Result<()> {
+        let lots = owed_today(&self.book, issue, account);
+        if lots < least {
+            return Ok(());
+        }
+        self.fact(&Fact::Owes { issue, account, lots })
+    }
+
+    /// What was handed over, the stock that waits for the next unit, and what is still owed.
+    fn delivered(&mut self, issue: u32, account: u32, count: usize) -> io::Result<()> {
+        let records = self.records(count);
+        for like in records.chunk_by(|one, next| (one.to, one.lots) == (next.to, next.lots)) {
+            let first = self.handed[issue as usize].0;
+            like.iter().for_each(|record| self.hand(record));
+            let last = self.handed[issue as usize].0 - 1;
+            let Record { to, lots, .. } = like[0];
+            self.fact(&Fact::Handed { issue, first, last, account: to, lots })?;
+        }
+        let (unit, handed) = self.handed[issue as usize];
+        let stock = self.book.delivered_total(issue).saturating_sub(handed);
+        if stock > 0 {
+            if let Some(next) = calls::unit(&self.book, issue, unit).unit {
+                let (account, lots) = (next.account, next.lots);
+                self.fact(&Fact::Waits { issue, stock, unit, account, lots })?;
+            }
+        }
+        self.owes(issue, account, 0)
+    }
+
+    /// Counts a handover from the house.
+    fn hand(&mut self, record: &Record) {
+        let (units, lots) = &mut self.handed[record.issue as usize];
+        *units += 1;
+        *lots += u64::from(record.lots);
+    }
+
+    /// The remaining stock and the fails, issue by issue, with the units that they belong to.
+    fn cut(&mut self, count: usize) -> io::Result<()> {
+        let records = self.records(count);
+        for of_issue in records.chunk_by(|one, next| one.issue == next.issue) {
+            let issue = of_issue[0].issue;
+            let mut walk = Walk::from(runs(&self.book, issue), self.handed[issue as usize].0);
+            for &Record { kind, from, to, lots, .. } in of_issue {
+                let (first, last) = walk.take(lots);
+                let fact = if kind == FAIL {
+                    Fact::Fails { issue, from, to, lots, first, last }
+                } else {
+                    Fact::Partly { issue, unit: first, account: to, lots, lacks: walk.lacks() }
+                };
+                self.fact(&fact)?;
+            }
+        }
+        if records.iter().all(|record| record.kind != FAIL) {
+            self.fact(&Fact::NothingFails)?;
+        }
+        Ok(())
+    }
+
+    /// Who received what in a resolve.
+    fn resolved(&mut self, count: usize) -> io::Result<()> {
+        for Record { issue, from, to, lots, .. } in self.records(count) {
+            self.fact(&Fact::Resolved { issue, from, to, lots })?;
+        }
+        Ok(())
+    }
+
+    /// The steps of a pair-off, and the issue's entries after it.
+    fn paired(&mut self, answer: &Answer, issue: u32, account: u32) -> io::Result<()> {
+        let Answer { count: steps, cancelled, .. } = *answer;
+        self.fact(&Fact::Paired { issue, account, steps, cancelled })?;
+        let entries: Vec<Entry> =
+            self.book.ledger().filter(|entry| u32::from(entry.issue) == issue).collect();
+        for Entry { from, to, lots, day: since, .. } in entries {
+            self.fact(&Fact::Left { issue, from: from.into(), to: to.into(), lots, since })?;
+        }
+        Ok(())
+    }
+
+    /// The roll and the charge on each entry, still of the day that ends; then the next day begins.
+    fn rolled(
+        &mut self,
+        told: &Fact,
+        entries: &[Entry],
+        days: u32,
+        rate: u32,
+        prices: &[u32; ISSUES],
+    ) -> io::Result<()> {
+        let ended = self.book.day - 1;
+        (self.sink)(ended, told)?;
+        for &Entry { issue, from, to, lots, .. } in entries {
+            let price = prices[usize::from(issue) % ISSUES];
+            let (_, value) = desk::value(lots, price);
+            let (_, yen) = desk::charge(lots, price, days, rate);
+            let terms = Terms { issue: issue.into(), price, days, rate };
+            let fact = Fact::Charge { terms, from: from.into(), to: to.into(), lots, value, yen };
+            (self.sink)(ended, &fact)?;
+        }
+        self.fact(&Fact::Day { day: self.book.day })
+    }
+
+    /// The phase, the ledger and the charges at the end.
+    fn end(&mut self) -> io::Result<()> {
+        let phase = self.book.phase.name().unwrap_or("no phase");
+        let entries: Vec<Entry> = self.book.ledger().collect();
+        let charges: Vec<(u32, i64)> =
+            (0..).zip(self.book.charges).filter(|(_, yen)| *yen != 0).collect();
+        self.fact(&Fact::End { phase, entries: entries.len(), charged: charges.len() })?;
+        for Entry { issue, from, to, lots, day: since } in entries {
+            let (issue, from, to) = (issue.into(), from.into(), to.into());
+            self.fact(&Fact::Entry { issue, from, to, lots, since })?;
+        }
+        for (account, yen) in charges {
+            self.fact(&Fact::Charged { account, yen })?;
+        }
+        Ok(())
+    }
+}
+
+/// Books a trade that nothing speaks against on a book that is sound; answers whether it did.
+fn traded(book: &mut Book, instruction: &Instruction) -> bool {
+    let Instruction::Trade { issue, from, to, lots } = *instruction else { return false };
+    let (Some(low), Some(high)) = (place(issue, from), place(issue, to)) else { return false };
+    if book.phase != Phase::TAKING || low == high || lots == 0 || lots > MOST_LOTS {
+        return false;
+    }
+    let (most, lots) = (MOST_LOTS as i32, lots as i32);
+    let (fallen, risen) = (book.nets[low] - lots, book.nets[high] + lots);
+    if fallen < -most || risen > most {
+        return false;
+    }
+    book.nets[low] = fallen;
+    book.nets[high] = risen;
+    true
+}
+
+/// The record of a head and a lots word.
+fn record(head: u32, lots: u32) -> Record {
+    Record {
+        kind: head >> 28,
+        issue: head >> 24 & 15,
+        from: head >> 18 & 63,
+        to: head >> 12 & 63,
+        lots: lots & 0x0fff_ffff,
+    }
+}
+
+#[cfg(test)]
+mod tests {
+    use super::*;
+
+    #[test]
+    fn a_trade_booked_here_is_the_library_s() {
+        let mut numbers = 1_u64;
+        let mut next = |limit: u32| {
+            numbers =
+                numbers.wrapping_mul(0x5851_f42d_4c95_7f2d).wrapping_add(0x1405_7b7e_f767_814f);
+            (numbers >> 33) as u32 % limit
+        };
+        let (mut here, mut by_library) = (Book::fresh(), Book::fresh());
+        let (mut booked, mut put) = (0, 0);
+        for step in 0..3_000 {
+            let lots = [0, 1, 100_000, MOST_LOTS, MOST_LOTS + 1, next(MOST_LOTS)][next(6) as usize];
+            let trade = Instruction::Trade { issue: next(17), from: next(6), to: next(65), lots };
+            if step % 500 == 499 {
+                let phase = Phase([0, 1, 2][next(3) as usize]);
+                (here.phase, by_library.phase) = (phase, phase);
+            }
+            let answer = calls::call(&mut by_library, &trade, &[], &mut []);
+            assert_eq!(traded(&mut here, &trade), answer.refusal == 0, "{trade:?}");
+            assert!(here == by_library, "{trade:?}");
+            booked += u32::from(answer.refusal == 0);
+            put += u32::from(answer.refusal != 0);
+        }
+        assert!(booked > 100 && put > 100, "{booked} booked, {put} refused");
+        assert!(!traded(&mut here, &Instruction::Close));
+    }
+}

@@ -1,0 +1,224 @@
+//! The facts as one page of HTML: for each day and issue its units in order as a bar, and the
+//! ledger and the charges as tables. The page holds all that it needs and no script.
+
+use crate::facts::Fact;
+use crate::measure::{Face, Grouped, Lots};
+use std::collections::BTreeMap;
+use std::io::{self, Write};
+
+/// What is noted for the page.
+#[derive(Default)]
+pub struct Page {
+    /// The units of each day and issue.
+    bars: BTreeMap<(u16, u32), Vec<Units>>,
+    refused: Vec<(u16, usize, String)>,
+    charges: Vec<(u16, Fact)>,
+    end: Option<(u16, &'static str)>,
+    ledger: Vec<Fact>,
+    charged: Vec<Fact>,
+}
+
+/// Like units of an account, and what became of their lots.
+struct Units {
+    first: u32,
+    last: u32,
+    account: u32,
+    lots: u32,
+    handed: u64,
+    /// What the unit that was handed in part lacks; all of it is failed.
+    partly: u64,
+    failed: u64,
+}
+
+impl Units {
+    /// The lots of all of them.
+    fn all(&self) -> u64 {
+        u64::from(self.last - self.first + 1) * u64::from(self.lots)
+    }
+}
+
+impl Page {
+    /// Notes a fact.
+    pub fn note(&mut self, day: u16, fact: &Fact) {
+        match fact {
+            Fact::Units { issue, first, last, account, lots, .. } => {
+                let (first, last, account, lots) = (*first, *last, *account, *lots);
+                let units = Units { first, last, account, lots, handed: 0, partly: 0, failed: 0 };
+                self.bars.entry((day, *issue)).or_default().push(units);
+            }
+            Fact::Handed { issue, first, last, lots, .. } => {
+                let all = u64::from(last - first + 1) * u64::from(*lots);
+                self.at(day, *issue, *first, |units| units.handed += all);
+            }
+            Fact::Partly { issue, unit, lots, lacks, .. } => {
+                self.at(day, *issue, *unit, |units| {
+                    units.handed += u64::from(*lots);
+                    units.partly += u64::from(*lacks);
+                });
+            }
+            Fact::Fails { issue, lots, first, .. } => {
+                self.at(day, *issue, *first, |units| units.failed += u64::from(*lots));
+            }
+            Fact::Instruction { word, instruction, refusal: Some((_, why)) } => {
+                self.refused.push((day, *word, format!("{}: {why}", instruction.name())));
+            }
+            Fact::ReadingEnds { word, refusal } => {
+                self.refused.push((day, *word, format!("reading ends, {refusal}")));
+            }
+            Fact::Charge { .. } => self.charges.push((day, fact.clone())),
+            Fact::End { phase, .. } => self.end = Some((day, phase)),
+            Fact::Entry { .. } => self.ledger.push(fact.clone()),
+            Fact::Charged { .. } => self.charged.push(fact.clone()),
+            _ => {}
+        }
+    }
+
+    /// Changes the units of a day and issue that a unit is among.
+    fn at(&mut self, day: u16, issue: u32, unit: u32, change: impl FnOnce(&mut Units)) {
+        let bar = self.bars.get_mut(&(day, issue));
+        let found = bar.and_then(|bar| bar.iter_mut().find(|units| units.last >= unit));
+        if let Some(units) = found {
+            change(units);
+        }
+    }
+
+    /// Writes the page.
+    pub fn write(&self, out: &mut impl Write) -> io::Result<()> {
+        out.write_all(HEAD.as_bytes())?;
+        self.bars(out)?;
+        self.charges(out)?;
+        self.refusals(out)?;
+        self.closing(out)?;
+        writeln!(out, "</body>\n</html>")
+    }
+
+    /// A bar for each day and issue.
+    fn bars(&self, out: &mut impl Write) -> io::Result<()> {
+        for ((day, issue), bar) in &self.bars {
+            let all: u64 = bar.iter().map(Units::all).sum();
+            writeln!(out, "<h2>Day {day}, issue {issue}</h2>")?;
+            let (units, s) = (count(bar), if count(bar) == 1 { "" } else { "s" });
+            writeln!(out, "<p>{} due in {units} unit{s}</p>", Face(all))?;
+            writeln!(out, "<div class=\"bar\">")?;
+            bar.iter().try_for_each(|units| segment(out, units))?;
+            writeln!(out, "</div>")?;
+        }
+        Ok(())
+    }
+
+    /// The charges that rolls laid on entries.
+    fn charges(&self, out: &mut impl Write) -> io::Result<()> {
+        let rows = self.charges.iter().map(|(day, fact)| {
+            let Fact::Charge { terms, from, to, lots, value, yen } = fact else { return vec![] };
+            let numbers = [u64::from(*day), terms.issue.into(), (*from).into(), (*to).into()];
+            let more = [u64::from(*lots), terms.price.into(), *value, terms.days.into()];
+            let last = [terms.rate.into(), *yen];
+            [&numbers[..], &more, &last].concat().into_iter().map(i128::from).collect()
+        });
+        let heads =
+            ["day", "issue", "from", "to", "lots", "price", "value", "days", "rate", "charge, yen"];
+        table(out, "Charges on fails", &heads, &rows.collect::<Vec<_>>())
+    }
+
+    /// The instructions that were refused.
+    fn refusals(&self, out: &mut impl Write) -> io::Result<()> {
+        if self.refused.is_empty() {
+            return Ok(());
+        }
+        writeln!(out, "<h2>Refused</h2>\n<ul>")?;
+        for (day, word, why) in &self.refused {
+            writeln!(out, "<li>day {day}, word {word}: {}</li>", escaped(why))?;
+        }
+        writeln!(out, "</ul>")
+    }
+
+    /// Ledger and charges at the end.
+    fn closing(&self, out: &mut impl Write) -> io::Result<()> {
+        if let Some((day, phase)) = self.end {
+            writeln!(out, "<h2>At the end: day {day}, {phase}</h2>")?;
+        }
+        let ledger = self.ledger.iter().map(|fact| {
+            let Fact::Entry { issue, from, to, lots, since } = *fact else { return vec![] };
+            [issue, from, to, lots, since.into()].map(i128::from).to_vec()
+        });
+        let heads = ["issue", "from", "to", "lots", "since day"];
+        table(out, "Ledger of fails", &heads, &ledger.collect::<Vec<_>>())?;
+        let charged = self.charged.iter().map(|fact| {
+            let Fact::Charged { account, yen } = *fact else { return vec![] };
+            vec![i128::from(account), i128::from(yen)]
+        });
+        table(out, "Charges", &["account", "yen"], &charged.collect::<Vec<_>>())
+    }
+}
+
+/// How many units a bar has.
+fn count(bar: &[Units]) -> u32 {
+    bar.last().map_or(0, |units| units.last + 1)
+}
+
+/// The part of a bar that like units have: handed, lacking in a unit that was handed in part, failed
+/// whole, and what is neither yet.
+fn segment(out: &mut impl Write, units: &Units) -> io::Result<()> {
+    let Units { first, last, account, lots, handed, partly, failed } = *units;
+    let open = units.all().saturating_sub(handed + failed);
+    let names = if first == last { format!("{first}") } else { format!("{first}–{last}") };
+    let (each, of) = (Lots(lots.into()), Lots(units.all()));
+    write!(out, "<div class=\"units\" style=\"flex-grow:{}\" ", units.all())?;
+    write!(out, "title=\"units {names} of account {account}, {each} each, {of} in all: ")?;
+    write!(out, "{} handed, {} failed, {} open\">", Lots(handed), Lots(failed), Lots(open))?;
+    let whole = failed.saturating_sub(partly);
+    for (class, part) in [("handed", handed), ("partly", partly), ("failed", whole), ("open", open)]
+    {
+        if part > 0 {
+            write!(out, "<span class=\"{class}\" style=\"flex-grow:{part}\"></span>")?;
+        }
+    }
+    writeln!(out, "<b>{account}</b></div>")
+}
+
+/// A table of numbers, if it has rows.
+fn table(out: &mut impl Write, title: &str, heads: &[&str], rows: &[Vec<i128>]) -> io::Result<()> {
+    if rows.is_empty() {
+        return Ok(());
+    }
+    writeln!(out, "<h3>{title}</h3>\n<table>\n<tr>")?;
+    heads.iter().try_for_each(|head| writeln!(out, "<th>{head}</th>"))?;
+    writeln!(out, "</tr>")?;
+    for row in rows {
+        write!(out, "<tr>")?;
+        row.iter().try_for_each(|number| write!(out, "<td>{}</td>", Grouped(*number)))?;
+        writeln!(out, "</tr>")?;
+    }
+    writeln!(out, "</table>")
+}
+
+/// Text with the letters that HTML has a use for.
+fn escaped(text: &str) -> String {
+    text.replace('&', "&amp;").replace('<', "&lt;").replace('>', "&gt;")
+}
+
+/// The head of the page, with its colours.
+const HEAD: &str = "<!DOCTYPE html>
+<html lang=\"en\">
+<head>
+<meta charset=\"utf-8\">
+<title>Settlement day</title>
+<style>
+body { font: 15px sans-serif; margin: 2em; color: #222; }
+.bar { display: flex; height: 3em; border: 1px solid #888; }
+.units { display: flex; position: relative; min-width: 4px; border-right: 1px solid #fff; }
+.units b { position: absolute; left: 0; right: 0; top: 1em; text-align: center; font-weight: normal; }
+.units span { flex-basis: 0; }
+.handed { background: #8cc63f; }
+.partly { background: #f0a030; }
+.failed { background: #e05a4e; }
+.open { background: #d0d0d0; }
+table { border-collapse: collapse; }
+th, td { padding: 2px 10px; border: 1px solid #bbb; text-align: right; }
+</style>
+</head>
+<body>
+<h1>Settlement day</h1>
+<p>Units in their order; each part is an account's, as wide as its lots. Green: handed over. Orange:
+what a unit lacks that was handed in part, and failed. Red: failed whole. Grey: neither yet.</p>
+";

@@ -1,0 +1,174 @@
+//! The facts as JSON: one object a line, with `fact` and `day` first. docs/TAPE.md lists them.
+
+use crate::facts::Fact;
+use crate::measure::write_number;
+use library::{Instruction, Refusal};
+use std::io::{self, Write};
+
+/// Tells a fact.
+pub fn tell(out: &mut impl Write, day: u16, fact: &Fact) -> io::Result<()> {
+    out.write_all(b"{\"fact\":\"")?;
+    out.write_all(name(fact).as_bytes())?;
+    out.write_all(b"\"")?;
+    field(out, "day", day.into())?;
+    fields(out, fact)?;
+    out.write_all(b"}\n")
+}
+
+/// The name of a fact.
+fn name(fact: &Fact) -> &'static str {
+    match fact {
+        Fact::Day { .. } => "day",
+        Fact::Instruction { .. } => "instruction",
+        Fact::Units { .. } => "units",
+        Fact::Tie { .. } => "tie",
+        Fact::Owes { .. } => "owes",
+        Fact::Handed { .. } => "handed",
+        Fact::Waits { .. } => "waits",
+        Fact::Partly { .. } => "partly",
+        Fact::Fails { .. } => "fails",
+        Fact::NothingFails => "nothing-fails",
+        Fact::Resolved { .. } => "resolved",
+        Fact::Paired { .. } => "paired",
+        Fact::Left { .. } => "left",
+        Fact::Charge { .. } => "charge",
+        Fact::ReadingEnds { .. } => "reading-ends",
+        Fact::End { .. } => "end",
+        Fact::Entry { .. } => "entry",
+        Fact::Charged { .. } => "charged",
+    }
+}
+
+/// A field that is a number, without the cost of a format: a tape may have a million instructions.
+fn field(out: &mut impl Write, name: &str, value: u64) -> io::Result<()> {
+    out.write_all(b",\"")?;
+    out.write_all(name.as_bytes())?;
+    out.write_all(b"\":")?;
+    write_number(out, value)
+}
+
+/// A field that is a text without quotes, backslashes or line ends.
+fn text(out: &mut impl Write, name: &str, value: &str) -> io::Result<()> {
+    out.write_all(b",\"")?;
+    out.write_all(name.as_bytes())?;
+    out.write_all(b"\":\"")?;
+    out.write_all(value.as_bytes())?;
+    out.write_all(b"\"")
+}
+
+/// Fields that are numbers.
+fn numbers(out: &mut impl Write, fields: &[(&str, u64)]) -> io::Result<()> {
+    fields.iter().try_for_each(|(name, value)| field(out, name, *value))
+}
+
+/// A refusal's number and what it says.
+fn refused(out: &mut impl Write, refusal: Refusal, why: &str) -> io::Result<()> {
+    field(out, "refusal", refusal.number().into())?;
+    text(out, "why", why)
+}
+
+/// The fields of a fact after its day.
+fn fields(out: &mut impl Write, fact: &Fact) -> io::Result<()> {
+    let wide = u64::from;
+    match fact {
+        Fact::Day { .. } | Fact::NothingFails => Ok(()),
+        Fact::Instruction { word, instruction, refusal } => {
+            field(out, "word", *word as u64)?;
+            text(out, "call", instruction.name())?;
+            arguments(out, instruction)?;
+            match refusal {
+                Some((refusal, why)) => refused(out, *refusal, why),
+                None => field(out, "refusal", 0),
+            }
+        }
+        Fact::ReadingEnds { word, refusal } => {
+            field(out, "word", *word as u64)?;
+            refused(out, *refusal, refusal.meaning())
+        }
+        Fact::Units { issue, first, last, account, lots, due } => {
+            units(out, [*issue, *first, *last, *account, *lots])?;
+            field(out, "due", wide(*due))
+        }
+        Fact::Handed { issue, first, last, account, lots } => {
+            units(out, [*issue, *first, *last, *account, *lots])
+        }
+        Fact::Tie { issue, full, lots, accounts } => {
+            field(out, "issue", wide(*issue))?;
+            text(out, "of", if *full { "nets" } else { "small units" })?;
+            field(out, "lots", wide(*lots))?;
+            let accounts: Vec<String> = accounts.iter().map(u32::to_string).collect();
+            write!(out, ",\"accounts\":[{}]", accounts.join(","))
+        }
+        Fact::Owes { issue, account, lots } => {
+            numbers(out, &[("issue", wide(*issue)), ("account", wide(*account)), ("lots", *lots)])
+        }
+        Fact::Waits { issue, stock, unit, account, lots } => {
+            numbers(out, &[("issue", wide(*issue)), ("stock", *stock), ("unit", wide(*unit))])?;
+            numbers(out, &[("account", wide(*account)), ("lots", wide(*lots))])
+        }
+        Fact::Partly { issue, unit, account, lots, lacks } => {
+            numbers(out, &[("issue", wide(*issue)), ("unit", wide(*unit))])?;
+            numbers(out, &[("account", wide(*account)), ("lots", wide(*lots))])?;
+            field(out, "lacks", wide(*lacks))
+        }
+        Fact::Fails { issue, from, to, lots, first, last } => {
+            owed(out, [*issue, *from, *to, *lots])?;
+            numbers(out, &[("first", wide(*first)), ("last", wide(*last))])
+        }
+        Fact::Resolved { issue, from, to, lots } => owed(out, [*issue, *from, *to, *lots]),
+        Fact::Left { issue, from, to, lots, since }
+        | Fact::Entry { issue, from, to, lots, since } => {
+            owed(out, [*issue, *from, *to, *lots])?;
+            field(out, "since", (*since).into())
+        }
+        Fact::Paired { issue, account, steps, cancelled } => {
+            numbers(out, &[("issue", wide(*issue)), ("account", wide(*account))])?;
+            numbers(out, &[("steps", *steps as u64), ("cancelled", *cancelled)])
+        }
+        Fact::Charge { terms, from, to, lots, value, yen } => {
+            owed(out, [terms.issue, *from, *to, *lots])?;
+            numbers(out, &[("price", wide(terms.price)), ("value", *value)])?;
+            numbers(out, &[("days", wide(terms.days)), ("rate", wide(terms.rate)), ("yen", *yen)])
+        }
+        Fact::End { phase, entries, charged } => {
+            text(out, "phase", phase)?;
+            numbers(out, &[("entries", *entries as u64), ("charged", *charged as u64)])
+        }
+        Fact::Charged { account, yen } => {
+            field(out, "account", wide(*account))?;
+            write!(out, ",\"yen\":{yen}")
+        }
+    }
+}
+
+/// Units of an issue from the first to the last, alike.
+fn units(out: &mut impl Write, numbers: [u32; 5]) -> io::Result<()> {
+    let names = ["issue", "first", "last", "account", "lots"];
+    names.iter().zip(numbers).try_for_each(|(name, value)| field(out, name, value.into()))
+}
+
+/// Lots that one account owes or hands to another.
+fn owed(out: &mut impl Write, numbers: [u32; 4]) -> io::Result<()> {
+    let names = ["issue", "from", "to", "lots"];
+    names.iter().zip(numbers).try_for_each(|(name, value)| field(out, name, value.into()))
+}
+
+/// The numbers of an instruction.
+fn arguments(out: &mut impl Write, instruction: &Instruction) -> io::Result<()> {
+    let wide = u64::from;
+    match *instruction {
+        Instruction::Trade { issue, from, to, lots } => owed(out, [issue, from, to, lots]),
+        Instruction::Deliver { issue, account, lots }
+        | Instruction::Resolve { issue, account, lots } => numbers(
+            out,
+            &[("issue", wide(issue)), ("account", wide(account)), ("lots", wide(lots))],
+        ),
+        Instruction::PairOff { issue, account } => {
+            numbers(out, &[("issue", wide(issue)), ("account", wide(account))])
+        }
+        Instruction::Roll { days, rate } => {
+            numbers(out, &[("days", wide(days)), ("rate", wide(rate))])
+        }
+        Instruction::Close | Instruction::Cutoff => Ok(()),
+    }
+}

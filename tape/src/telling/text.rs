@@ -1,0 +1,206 @@
+//! The facts as sentences: a line for each instruction, and below it what it did.
+
+use crate::facts::Fact;
+use crate::measure::{write_grouped, write_number, Face, Grouped, Lots, Price, Rate};
+use library::Instruction;
+use std::io::{self, Write};
+
+/// Tells a fact.
+pub fn tell(out: &mut impl Write, day: u16, fact: &Fact) -> io::Result<()> {
+    match fact {
+        Fact::Day { day: 0 } => writeln!(out, "Day 0"),
+        Fact::Day { day } => writeln!(out, "\nDay {day}"),
+        Fact::Instruction { word, instruction: Instruction::Trade { .. }, refusal: None } => {
+            trade(out, *word, fact)
+        }
+        Fact::Instruction { word, instruction, refusal } => {
+            write!(out, "  word {word}: ")?;
+            sentence(out, instruction)?;
+            match refusal {
+                Some((_, why)) => writeln!(out, ": {why}"),
+                None => writeln!(out),
+            }
+        }
+        Fact::ReadingEnds { word, refusal } => {
+            writeln!(out, "  word {word}: reading ends, {refusal}")
+        }
+        Fact::End { phase, entries, charged } => {
+            writeln!(out, "\nAt the end: day {day}, {phase}")?;
+            writeln!(out, "  {entries} fail entries in the ledger, {charged} accounts with charges")
+        }
+        _ => {
+            write!(out, "      ")?;
+            detail(out, fact)?;
+            writeln!(out)
+        }
+    }
+}
+
+/// The line of a trade that was done, without the cost of a format: a tape may have a million.
+fn trade(out: &mut impl Write, word: usize, fact: &Fact) -> io::Result<()> {
+    let Fact::Instruction { instruction: Instruction::Trade { issue, from, to, lots }, .. } = fact
+    else {
+        return Ok(());
+    };
+    out.write_all(b"  word ")?;
+    write_number(out, word as u64)?;
+    out.write_all(b": trade: account ")?;
+    write_number(out, (*from).into())?;
+    out.write_all(b" sells account ")?;
+    write_number(out, (*to).into())?;
+    out.write_all(b" ")?;
+    write_grouped(out, (*lots).into())?;
+    out.write_all(if *lots == 1 { b" lot (" } else { b" lots (" })?;
+    write_grouped(out, u64::from(*lots) * 50_000)?;
+    out.write_all(b" yen face) of issue ")?;
+    write_number(out, (*issue).into())?;
+    out.write_all(b"\n")
+}
+
+/// What an instruction says.
+fn sentence(out: &mut impl Write, instruction: &Instruction) -> io::Result<()> {
+    match *instruction {
+        Instruction::Trade { issue, from, to, lots } => {
+            let lots = Face(lots.into());
+            write!(out, "trade: account {from} sells account {to} {lots} of issue {issue}")
+        }
+        Instruction::Deliver { issue, account, lots } => {
+            let lots = Face(lots.into());
+            write!(out, "deliver: account {account} delivers {lots} of issue {issue}")
+        }
+        Instruction::Resolve { issue, account, lots } => {
+            let lots = Face(lots.into());
+            write!(out, "resolve: account {account} hands over {lots} of issue {issue}")
+        }
+        Instruction::PairOff { issue, account } => {
+            write!(out, "pair-off: fails to and from account {account} in issue {issue}")
+        }
+        Instruction::Close => write!(out, "close"),
+        Instruction::Cutoff => write!(out, "cutoff"),
+        Instruction::Roll { days, rate } => {
+            write!(out, "roll: {} at {}", days_text(days), Rate(rate))
+        }
+    }
+}
+
+/// Something that an instruction did, or that stands in the book at the end.
+fn detail(out: &mut impl Write, fact: &Fact) -> io::Result<()> {
+    match fact {
+        Fact::Units { issue, first, last, account, lots, due } => {
+            let (units, is) = units_text(*first, *last);
+            let (lots, due) = (Lots((*lots).into()), Lots((*due).into()));
+            let each = if first == last { "" } else { " each" };
+            write!(out, "issue {issue}: {units} {is} account {account}'s, {lots}{each}, ")?;
+            write!(out, "of {due} due")
+        }
+        Fact::Tie { issue, full, lots, accounts } => {
+            let what =
+                if *full { "have the same net" } else { "have small units of the same size" };
+            let (names, lots) = (listed(accounts), Lots((*lots).into()));
+            write!(out, "issue {issue}: accounts {names} {what}, {lots}: the lower number is first")
+        }
+        Fact::Owes { issue, account, lots: 0 } => {
+            write!(out, "account {account} owes nothing more of issue {issue} today")
+        }
+        Fact::Owes { issue, account, lots } => {
+            write!(out, "account {account} still owes {} of issue {issue} today", Lots(*lots))
+        }
+        Fact::Handed { first, last, account, lots, .. } => {
+            let (units, is) = units_text(*first, *last);
+            let (lots, each) = (Face((*lots).into()), if first == last { "" } else { " each" });
+            write!(out, "{units} {is} handed to account {account}: {lots}{each}")
+        }
+        Fact::Waits { stock, unit, account, lots, .. } => {
+            let (stock, lots) = (Lots(*stock), Lots((*lots).into()));
+            write!(out, "{stock} wait for unit {unit} of account {account}, {lots}")
+        }
+        Fact::Partly { issue, unit, account, lots, lacks } => {
+            let (lots, lacks) = (Lots((*lots).into()), Lots((*lacks).into()));
+            write!(
+                out,
+                "issue {issue}: the remaining {lots} go to unit {unit} of account {account}"
+            )?;
+            write!(out, ", which still lacks {lacks} (a partial fail)")
+        }
+        Fact::Fails { issue, from, to, lots, first, last } => {
+            let (lots, (units, _)) = (Face((*lots).into()), units_text(*first, *last));
+            write!(out, "issue {issue}: account {from} fails account {to}: {lots}, of {units}")
+        }
+        Fact::NothingFails => write!(out, "nothing fails"),
+        Fact::Resolved { from, to, lots, .. } => {
+            write!(out, "account {from} hands to account {to}: {}", Face((*lots).into()))
+        }
+        Fact::Paired { steps, cancelled, .. } => {
+            write!(out, "{steps} steps, {} cancelled", Lots(*cancelled))
+        }
+        Fact::Left { issue, from, to, lots, since } => {
+            write!(out, "in the ledger: ")?;
+            entry(out, &[*issue, *from, *to, *lots], *since)
+        }
+        Fact::Entry { issue, from, to, lots, since } => {
+            entry(out, &[*issue, *from, *to, *lots], *since)
+        }
+        Fact::Charge { .. } => charge(out, fact),
+        Fact::Charged { account, yen } => {
+            write!(out, "account {account}: {} yen", Grouped((*yen).into()))
+        }
+        _ => Ok(()),
+    }
+}
+
+/// A charge, with the value, the price, the rate and the days behind it.
+fn charge(out: &mut impl Write, fact: &Fact) -> io::Result<()> {
+    let Fact::Charge { terms, from, to, lots, value, yen } = fact else { return Ok(()) };
+    let (yen, value) = (Grouped((*yen).into()), Grouped((*value).into()));
+    let (issue, lots) = (terms.issue, Lots((*lots).into()));
+    write!(out, "account {from} is charged {yen} yen for {lots} of issue {issue}, ")?;
+    write!(out, "which account {to} is given: value {value} yen at {}, ", Price(terms.price))?;
+    write!(out, "{} at {}", days_text(terms.days), Rate(terms.rate))
+}
+
+/// A fail entry of the ledger.
+fn entry(out: &mut impl Write, numbers: &[u32; 4], since: u16) -> io::Result<()> {
+    let [issue, from, to, lots] = *numbers;
+    let lots = Face(lots.into());
+    write!(out, "issue {issue}: account {from} owes account {to} {lots}, since day {since}")
+}
+
+/// Units from the first to the last, and the verb that follows them.
+fn units_text(first: u32, last: u32) -> (String, &'static str) {
+    if first == last {
+        return (format!("unit {first}"), "is");
+    }
+    (format!("units {first} to {last}"), "are")
+}
+
+/// Days with their measure.
+fn days_text(days: u32) -> String {
+    format!("{days} day{}", if days == 1 { "" } else { "s" })
+}
+
+/// Numbers with commas and a last 'and' between them.
+fn listed(numbers: &[u32]) -> String {
+    let names: Vec<String> = numbers.iter().map(u32::to_string).collect();
+    match names.split_last() {
+        Some((last, before)) if !before.is_empty() => format!("{} and {last}", before.join(", ")),
+        _ => names.join(""),
+    }
+}
+
+#[cfg(test)]
+mod tests {
+    use super::*;
+
+    #[test]
+    fn the_quick_line_of_a_trade_is_the_sentence() {
+        for lots in [0, 1, 2, 999, 1_000, 20_000_000, u32::MAX] {
+            let instruction = Instruction::Trade { issue: 15, from: 63, to: 0, lots };
+            let fact = Fact::Instruction { word: 1_234, instruction, refusal: None };
+            let (mut quick, mut slow) = (Vec::new(), b"  word 1234: ".to_vec());
+            tell(&mut quick, 0, &fact).unwrap();
+            sentence(&mut slow, &instruction).unwrap();
+            slow.push(b'\n');
+            assert_eq!(String::from_utf8(quick), String::from_utf8(slow));
+        }
+    }
+}

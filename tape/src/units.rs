@@ -1,0 +1,182 @@
+//! The units of an issue as runs of like ones, out of the library's answers, and a walk along them.
+
+use library::{calls, Book};
+
+/// The lots of a full unit.
+const FULL: u32 = 100_000;
+
+/// Like units one after another: of one account, of so many lots each.
+#[derive(Clone, Copy, Debug, PartialEq, Eq)]
+pub struct Run {
+    pub first: u32,
+    pub count: u32,
+    pub account: u32,
+    pub lots: u32,
+    /// The account's net.
+    pub due: u32,
+}
+
+impl Run {
+    /// The last unit of the run.
+    pub fn last(&self) -> u32 {
+        self.first + self.count - 1
+    }
+
+    /// Are these full units?
+    pub fn full(&self) -> bool {
+        self.lots == FULL
+    }
+
+    /// Is this run ranked equal to the next, so that the lower account came first?
+    fn ties(&self, next: &Run) -> bool {
+        let equal = if self.full() { self.due == next.due } else { self.lots == next.lots };
+        self.full() == next.full() && equal
+    }
+}
+
+/// The runs of an issue in order. An account's full units are net / 100,000, so that the library is
+/// asked once for each run.
+pub fn runs(book: &Book, issue: u32) -> Vec<Run> {
+    let mut runs = Vec::new();
+    let mut first = 0;
+    while let Some(unit) = calls::unit(book, issue, first).unit {
+        let due = book.net(issue, unit.account).max(0).unsigned_abs();
+        let count = if unit.lots == FULL { (due / FULL).max(1) } else { 1 };
+        runs.push(Run { first, count, account: unit.account, lots: unit.lots, due });
+        first += count;
+    }
+    runs
+}
+
+/// The groups of runs that are ranked equal, two or more each.
+pub fn ties(runs: &[Run]) -> Vec<&[Run]> {
+    runs.chunk_by(Run::ties).filter(|group| group.len() > 1).collect()
+}
+
+/// A walk along the units of an issue: the unit that is reached, and what it still lacks.
+pub struct Walk {
+    runs: Vec<Run>,
+    at: usize,
+    unit: u32,
+    lacks: u32,
+}
+
+impl Walk {
+    /// At the beginning of a unit.
+    pub fn from(runs: Vec<Run>, unit: u32) -> Walk {
+        let mut walk = Walk { runs, at: 0, unit, lacks: 0 };
+        walk.reach();
+        walk
+    }
+
+    /// The unit that is reached, with its account and lots, if there is one.
+    pub fn unit(&self) -> Option<(u32, u32, u32)> {
+        self.runs.get(self.at).map(|run| (self.unit, run.account, run.lots))
+    }
+
+    /// What the unit that is reached still lacks.
+    pub fn lacks(&self) -> u32 {
+        self.lacks
+    }
+
+    /// Goes on by so many lots; gives the first and the last unit that they are of.
+    pub fn take(&mut self, lots: u32) -> (u32, u32) {
+        let first = self.unit;
+        let mut last = first;
+        let mut left = lots;
+        while left > 0 && self.at < self.runs.len() {
+            let taken = left.min(self.lacks);
+            left -= taken;
+            self.lacks -= taken;
+            last = self.unit;
+            if self.lacks == 0 {
+                self.unit += 1;
+                self.reach();
+            }
+        }
+        (first, last)
+    }
+
+    /// Finds the run of the unit, which lacks all its lots.
+    fn reach(&mut self) {
+        while self.runs.get(self.at).is_some_and(|run| run.last() < self.unit) {
+            self.at += 1;
+        }
+        self.lacks = self.runs.get(self.at).map_or(0, |run| run.lots);
+    }
+}
+
+#[cfg(test)]
+mod tests {
+    use super::*;
+    use library::place;
+
+    fn book(nets: &[(u32, i32)]) -> Book {
+        let mut book = Book::fresh();
+        for &(account, net) in nets {
+            book.nets[place(0, account).unwrap()] = net;
+            book.nets[place(0, 63).unwrap()] -= net;
+        }
+        book
+    }
+
+    /// The runs of P5.
+    fn p5() -> Vec<Run> {
+        runs(&book(&[(1, 230_000), (2, 250_000), (3, 150_000)]), 0)
+    }
+
+    #[test]
+    fn the_runs_of_p5() {
+        let found: Vec<[u32; 4]> =
+            p5().iter().map(|run| [run.first, run.count, run.account, run.lots]).collect();
+        let expected = [
+            [0, 2, 2, 100_000],
+            [2, 2, 1, 100_000],
+            [4, 1, 3, 100_000],
+            [5, 1, 2, 50_000],
+            [6, 1, 3, 50_000],
+            [7, 1, 1, 30_000],
+        ];
+        assert_eq!(found, expected);
+    }
+
+    #[test]
+    fn every_unit_is_in_a_run() {
+        let book = book(&[(0, 20_000_000), (5, 1), (9, 100_000), (10, 300_001)]);
+        let runs = runs(&book, 0);
+        let mut k = 0;
+        for run in &runs {
+            for unit in run.first..=run.last() {
+                assert_eq!(unit, k);
+                let asked = calls::unit(&book, 0, k).unit.unwrap();
+                assert_eq!((asked.account, asked.lots), (run.account, run.lots));
+                k += 1;
+            }
+        }
+        assert_eq!(calls::unit(&book, 0, k).unit, None);
+    }
+
+    #[test]
+    fn ties_are_of_equal_nets_and_of_equal_small_units() {
+        let runs = runs(&book(&[(4, 250_000), (2, 250_000), (7, 50_000)]), 0);
+        let found: Vec<Vec<u32>> =
+            ties(&runs).iter().map(|tie| tie.iter().map(|run| run.account).collect()).collect();
+        assert_eq!(found, [vec![2, 4], vec![2, 4, 7]]);
+        let p5 = p5();
+        let found: Vec<u32> = ties(&p5).iter().map(|tie| tie[0].first).collect();
+        assert_eq!(found, [5]);
+    }
+
+    #[test]
+    fn a_walk_along_p5_after_five_units() {
+        let mut walk = Walk::from(p5(), 5);
+        assert_eq!(walk.unit(), Some((5, 2, 50_000)));
+        assert_eq!(walk.take(45_000), (5, 5));
+        assert_eq!(walk.lacks(), 5_000);
+        assert_eq!(walk.take(5_000), (5, 5));
+        assert_eq!(walk.take(25_000), (6, 6));
+        assert_eq!(walk.take(25_000 + 30_000), (6, 7));
+        assert_eq!(walk.unit(), None);
+        assert_eq!(Walk::from(p5(), 0).take(450_000), (0, 4));
+    }
+}
