@@ -209,7 +209,11 @@ played r index rest n o s =
       few = n;
       count = sound-parts _ o .ledger .count;
       came = s .came;
-      lines = λ e. ap length (g e .printed ∙ append-nil (s .text)) ∙ s .many;
+      ended = s .ended;
+      text = s .text;
+      many = s .many;
+      printed = record { part = λ more f. stands 0 [] (s .text) _ _ refl (s .run more f) };
+      lines = λ e. g e .printed ∙ append-nil (s .text);
       book = λ e. g e .book;
     }
 
@@ -228,7 +232,7 @@ module _ (e : End) (text : List ℕ) (q : Played e) (o : e .over ≡ true) (t : 
         printed = record {
           part = λ more f.
               ap (λ (l : List ℕ). take (length text) (drop (e .sent) (printedOf l))) (ap (λ (l : List ℕ). q .came ++ l) (f refl) ∙ append-nil (q .came))
-              ∙ ap (λ (n : ℕ). take (length text) (drop n (printedOf (q .came)))) (sym (q .lines o))
+              ∙ ap (λ (n : ℕ). take (length text) (drop n (printedOf (q .came)))) (sym (ap length (q .lines o) ∙ q .many))
               ∙ stands-in lines text [] (printedOf (q .came)) (printed-all ∙ ap (λ (l : List ℕ). lines ++ l) (sym (append-nil text)));
         };
       }
@@ -237,7 +241,7 @@ module _ (e : End) (text : List ℕ) (q : Played e) (o : e .over ≡ true) (t : 
   whole r c =
       record {
         came = q .came;
-        count = omega (arith, c, q .lines o, ap length printed-all, length-append (linesText (ranOf (q .came) .lines)) text);
+        count = omega (arith, c, ap length (q .lines o), q .many, ap length printed-all, length-append (linesText (ranOf (q .came) .lines)) text);
       }
 
 -- a part behind which the run goes on

@@ -45,12 +45,17 @@ pub record Shown (sent : ℕ) (text : List ℕ) : Type 0 where
   pub ended : Bool
   pub printed : PrintedAt came ended sent text
 
--- how a run ended: of the bytes that came, the length of its lines and its book, where it was over
+-- how a run ended: of the bytes that came, the text sent is what is printed first, whatever may still come; where the run was
+-- over it is all its lines, and the book is the run's
 pub record Played (r : End) : Type 0 where
   pub few : r .sent ≤ 11529215046068469760
   pub count : r .book .count ≤ 2048
   pub came : List ℕ
-  pub lines : r .over ≡ true → length (linesText (ranOf came .lines)) ≡ r .sent
+  pub ended : Bool
+  pub text : List ℕ
+  pub many : length text ≡ r .sent
+  pub printed : PrintedAt came ended 0 text
+  pub lines : r .over ≡ true → linesText (ranOf came .lines) ≡ text
   pub book : r .over ≡ true → ranOf came .book ≡ r .book
 
 -- all that is printed for the bytes that came, and no more

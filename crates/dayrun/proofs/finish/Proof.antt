@@ -36,9 +36,4 @@ pub finish-spec : {M : Type 1} → statement M
 finish-spec =
     tie.close
     (tie.spec
-    (λ c κs. search needs)
-    (λ c. search needs)
-    slice-aggregate-show
-    show-requires
-    (λ c. search needs)
-    returns)
+    (λ c κs. search needs) (λ c. search needs) slice-aggregate-show show-requires (λ c. search needs) returns)

@@ -112,21 +112,6 @@ pub play-spec : {M : Type 1} → statement M
 play-spec =
     tie.close
     (tie.spec
-    Inv-loop
-    μ-loop
-    (λ c κs. search needs)
-    loop-holds
-    (λ c. search needs)
-    step-requires
-    slice-reshare-prefix-show
-    slice-aggregate-show
-    show-requires
-    loop-less
-    loop-again
-    loop-less-2
-    loop-again-2
-    (λ c. search needs)
-    (λ c. search needs)
-    (λ c. search needs)
-    (λ c. search needs)
-    returns)
+    Inv-loop μ-loop (λ c κs. search needs) loop-holds (λ c. search needs) step-requires slice-reshare-prefix-show
+    slice-aggregate-show show-requires loop-less loop-again loop-less-2 loop-again-2 (λ c. search needs)
+    (λ c. search needs) (λ c. search needs) (λ c. search needs) returns)

@@ -23,10 +23,5 @@ pub next-spec : {M : Type 1} → statement M
 next-spec =
     tie.close
     (tie.spec
-    (λ c κs. search needs)
-    (λ c. search needs)
-    slice-aggregate-decode
-    decode-requires
-    (λ c. search needs)
-    (λ c. search needs)
-    (λ c. search needs))
+    (λ c κs. search needs) (λ c. search needs) slice-aggregate-decode decode-requires (λ c. search needs)
+    (λ c. search needs) (λ c. search needs))

@@ -44,17 +44,6 @@ pub run-on-spec : {M : Type 1} → statement M
 run-on-spec =
     tie.close
     (tie.spec
-    (λ c κs. search needs)
-    (λ c. search needs)
-    (λ c. search needs)
-    (λ c. search needs)
-    (λ c. search needs)
-    (λ c. search needs)
-    (λ c. search needs)
-    slice-aggregate-run-7
-    slice-aggregate-run-8
-    run-requires
-    (λ c κs. search needs)
-    (λ c. search needs)
-    (λ c. search needs)
-    returns)
+    (λ c κs. search needs) (λ c. search needs) (λ c. search needs) (λ c. search needs) (λ c. search needs)
+    (λ c. search needs) (λ c. search needs) slice-aggregate-run-7 slice-aggregate-run-8 run-requires
+    (λ c κs. search needs) (λ c. search needs) (λ c. search needs) returns)
