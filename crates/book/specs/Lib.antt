@@ -3,3 +3,4 @@ pub mod Rows
 pub mod Columns
 pub mod Scan
 pub mod States
+pub mod Cells

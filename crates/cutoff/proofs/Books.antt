@@ -1,42 +1,30 @@
 -- From a sound book to its columns and back: what the cutoff in place asks, and the book that its columns make.
-use mathlib.Core.Path.{_≡_, refl, sym}
-use mathlib.Core.Bool.{Bool, true, false}
+use mathlib.Core.Path.{_≡_, sym}
 use mathlib.Core.List.{List, [], _∷_, _++_}
 use Prim.Native.Nat.{ℕ, _+_, _≤_}
-use native.Mathlib.Omega.{arith}
 use lib.Dec.{leb}
 use lib.ListN.{length}
 use borrow.Author.Tests.{leb-true}
 use Rattle.rules.specs.declared.Book.{Book}
 use Rattle.rules.specs.declared.Phase.the-variants.{Cut}
 use Rattle.rules.specs.Measures.{mostEntries, outputWords}
-use Rattle.rules.specs.Book.{isSettling, ledgerOf, withDay, withPhase, withLedger}
-use Rattle.rules.specs.Questions.{ask, firstNo}
+use Rattle.rules.specs.Book.{isSettling, ledgerOf, bookOf, withPhase, withLedger}
+use Rattle.rules.specs.Questions.{firstNo, askEntries}
 use Rattle.rules.specs.Calls.{newEntries, cutoffAsks}
 use Rattle.laws.proofs.Sound.{SoundBook}
-use Rattle.laws.proofs.SoundRows.{sound-row}
 use Rattle.laws.proofs.Ledger.{FullColumns, columns-back}
 use Rattle.ledger.specs.Columns.{Held}
-use Rattle.book.specs.Columns.{withColumns}
+use Rattle.book.specs.Cells.{SoundCells}
+use Rattle.laws.proofs.Answers.{yes}
 use Rattle.cutoff.specs.declared.Counts.{Counts}
 use Rattle.cutoff.specs.Write.{Lent, lent}
-use Rattle.cutoff.specs.Issue.{SoundCells}
 use Rattle.cutoff.specs.All.{CanCutAll, WasCutAll}
 
 -- a book's columns with an output
 abbrev pub columnsOf : Book → List ℕ → Lent
 columnsOf b o = lent (b .issues) (b .froms) (b .tos) (b .lots) (b .days) o
 
--- where no question is answered 'no', the second is answered 'yes'
-both-yes : (m n : ℕ) (p q : Bool) → (m ≡ 0 → ⊥) → (n ≡ 0 → ⊥) → firstNo (ask m p ∷ ask n q ∷ []) ≡ 0 → q ≡ true
-both-yes m n true true h k e = refl
-both-yes m n true false h k e = absurd (k e)
-both-yes m n false q h k e = absurd (h e)
-
 module _ (b : Book) (s : SoundBook b) where
-  pub sound-cells : length (b .nets) ≡ 1024 → length (b .delivered) ≡ 1024 → SoundCells (b .nets) (b .delivered)
-  sound-cells n d = record { cells = n; both = d; small = s .size; rows = λ i h. sound-row b s n d i h }
-
   held-book : FullColumns (b .issues) (b .froms) (b .tos) (b .lots) (b .days) →
       Held (b .count) (b .issues) (b .froms) (b .tos) (b .lots) (b .days)
   held-book f =
@@ -59,17 +47,17 @@ module _ (b : Book) (s : SoundBook b) where
       CanCutAll (b .nets) (b .delivered) (b .day) (b .count) (columnsOf b o)
   can-cut-all o c f h q =
       let n = length (newEntries (b .day) (b .nets) (b .delivered)) in
+      let y3 = yes 2 (isSettling (b .phase)) (askEntries (b .count) n ∷ []) q in
       record {
         sound = c;
         held = held-book f;
-        most = leb-true (b .count + n) mostEntries
-            (both-yes 3 10 (isSettling (b .phase)) (leb (b .count + n) mostEntries) (λ e. omega arith) (λ e. omega arith) q);
+        most = leb-true (b .count + n) mostEntries (yes 9 (leb (b .count + n) mostEntries) [] (y3 .others) .first);
         room = h;
       }
 
 -- the columns make the definition's book
 pub made : (b : Book) (o : List ℕ) (r : Counts) (a : Lent) → WasCutAll (b .nets) (b .delivered) (b .day) (b .count) (columnsOf b o) r a →
-    withDay (withColumns b (r .entries) (a .issues) (a .froms) (a .tos) (a .lots) (a .days)) (b .day) Cut
+    bookOf (b .day) Cut (b .nets) (b .delivered) (b .charges) (r .entries) (a .issues) (a .froms) (a .tos) (a .lots) (a .days)
     ≡ withPhase (withLedger b (ledgerOf b ++ newEntries (b .day) (b .nets) (b .delivered))) Cut
 made b o r a w =
     let c = w .columns in

@@ -2,31 +2,35 @@
 use mathlib.Core.Path.{_≡_, refl, ap, sym, subst, _∙_}
 use mathlib.Core.Bool.{true, false}
 use mathlib.Core.List.{List, [], _++_}
-use Prim.Native.Nat.{ℕ, suc, _+_, _-_, _≤_, _<_}
+use Prim.Native.Nat.{ℕ, suc, _+_, _-_, _*_, _≤_, _<_}
 use native.Mathlib.Numerals.{add-one}
 use native.Mathlib.Omega.{arith}
-use lib.ListN.{length, drop, length-append, length-map}
-use lib.Seq.{sets, sets-eq}
+use lib.ListN.{length, length-append, length-map}
 use lib.IntN.{ℤ}
 use borrow.Author.Tests.{le-leb, lt-leb}
 use Rattle.rules.specs.declared.Phase.{Phase}
-use Rattle.rules.specs.Book.{isSettling}
-use Rattle.rules.specs.Records.{words, over}
-use Rattle.rules.specs.Calls.{failEntry, issueFails, issueEntries, issueRecords, newEntries, cutoffRecords}
+use Rattle.rules.specs.declared.Entry.{Entry}
+use Rattle.rules.specs.Measures.{outputWords}
+use Rattle.rules.specs.Book.{tab, isSettling}
+use Rattle.rules.specs.Records.{Rec}
+use Rattle.rules.specs.Calls.{joined, failEntry, issueFails, issueEntries, issueRecords, newEntries, cutoffRecords}
 use Rattle.laws.proofs.Cells.{length-row}
 use Rattle.laws.proofs.Room.{cutoff-room}
-use Rattle.laws.proofs.Records.{length-words}
+use Rattle.laws.proofs.SoundRows.{order-in}
+use Rattle.units.proofs.Cells.{sound-row}
 use Rattle.ledger.specs.Columns.{Columns}
 use Rattle.cutoff.specs.declared.Counts.{Counts}
 use Rattle.cutoff.specs.Write.{Lent, CanWrite, Wrote}
-use Rattle.cutoff.specs.All.{entriesFrom, recordsFrom, Counted, Asked, CanCutAll, WasCutAll}
-use Rattle.cutoff.proofs.Writing.{ledger-length}
+use Rattle.cutoff.specs.Issue.{countsOf, CanCut, WasCut}
+use Rattle.cutoff.specs.All.{Counted, Asked, CanCutAll, WasCutAll}
+use Rattle.cutoff.proofs.Writing.{ledger-length, behind, back, Laying, laying-starts, laying-can, laying-more, laying-ends}
 
--- words written from the front
-sets-front : (ws o : List ℕ) → length ws ≤ length o → sets o 0 ws ≡ over ws o
-sets-front ws o h =
-    let e : 0 + length ws ≡ length ws = omega arith in
-    sets-eq ws o 0 (omega arith) ∙ ap (λ k. ws ++ drop k o) e
+-- entries and records of m issues from issue i on
+unfoldable pub entriesFrom : ℕ → List ℤ → List ℕ → ℕ → ℕ → List Entry
+entriesFrom day nets delivered i m = joined (tab (issueEntries day nets delivered) i m)
+
+unfoldable pub recordsFrom : ℕ → List ℤ → List ℕ → ℕ → ℕ → List Rec
+recordsFrom day nets delivered i m = joined (tab (issueRecords day nets delivered) i m)
 
 module _ (day : ℕ) (nets : List ℤ) (delivered : List ℕ) where
   -- all issues are the definition's
@@ -80,32 +84,75 @@ module _ (phase : Phase) (old : ℕ) (nets : List ℤ) (delivered : List ℕ) wh
   pub all-yes : (n : ℕ) → isSettling phase ≡ true → Counted nets delivered n → old + n ≤ 2048 → Asked phase old nets delivered 0
   all-yes n e c h today = rw (e, ← c .count today, le-leb (old + n) 2048 h)
 
-module _ (nets : List ℤ) (delivered : List ℕ) (day n : ℕ) (a : Lent) where
-  -- there is room for all entries and records
-  pub can-write : CanCutAll nets delivered day n a → CanWrite (entriesFrom day nets delivered 0 16) (recordsFrom day nets delivered 0 16) n 0 a
-  can-write c =
-      rw (entries-all day nets delivered, records-all day nets delivered)
-      (record {
-        held = c .held;
-        most = c .most;
-        room = omega (
-          arith,
-          cutoff-room day nets delivered (λ i h. length-row nets i (c .sound .cells) h) (c .sound .rows),
-        );
-        output = c .room;
-      })
+module _ (nets : List ℤ) (delivered : List ℕ) (day n : ℕ) (a : Lent) (c : CanCutAll nets delivered day n a) where
+  room : 2 * length (cutoffRecords day nets delivered) ≤ outputWords
+  room =
+      cutoff-room day nets delivered (order-in nets) (λ i h. length-row nets i (c .sound .cells) h) (λ i h. sound-row nets delivered (c .sound) i h)
 
-  pub was-cut-all : (r : Counts) (b : Lent) → CanCutAll nets delivered day n a →
-      Wrote (entriesFrom day nets delivered 0 16) (recordsFrom day nets delivered 0 16) n 0 a (r .entries) (r .records) b →
-      WasCutAll nets delivered day n a r b
-  was-cut-all r b c p =
-      let new = newEntries day nets delivered in
-      let rs = cutoffRecords day nets delivered in
-      let q : Wrote new rs n 0 a (r .entries) (r .records) b = rw (entries-all day nets delivered, records-all day nets delivered) at p in
-      let few = cutoff-room day nets delivered (λ i h. length-row nets i (c .sound .cells) h) (c .sound .rows) in
+  -- there is room for all entries and records
+  can-write : CanWrite (entriesFrom day nets delivered 0 16) (recordsFrom day nets delivered 0 16) n a
+  can-write =
+      rw (entries-all day nets delivered, records-all day nets delivered)
+      (record { held = c .held; most = c .most; room = omega (arith, room, c .room) })
+
+  was-cut-all : (w n′ : ℕ) (b : Lent) → w ≡ length (recordsFrom day nets delivered 0 16) →
+      Wrote (entriesFrom day nets delivered 0 16) (recordsFrom day nets delivered 0 16) n a n′ b →
+      WasCutAll nets delivered day n a (countsOf n′ w) b
+  was-cut-all w n′ b e p =
+      let q : Wrote (newEntries day nets delivered) (cutoffRecords day nets delivered) n a n′ b =
+      rw (entries-all day nets delivered, records-all day nets delivered) at p in
       record {
-        entries = sym (ledger-length (r .entries) b) ∙ ap length (q .ledger);
+        entries = sym (ledger-length n′ b) ∙ ap length (q .ledger);
         columns = subst (λ es. Columns es (b .issues) (b .froms) (b .tos) (b .lots) (b .days)) (q .ledger) (q .held .columns);
-        records = omega (arith, q .records);
-        out = q .out ∙ sets-front (words rs) (a .out) (omega (arith, few, length-words rs, c .room));
+        records = e ∙ ap length (records-all day nets delivered);
+        out = q .out;
       }
+
+-- the cutoff of all issues is that of the issues from i on, behind m entries and w records
+abbrev pub LayingAll : List ℤ → List ℕ → ℕ → ℕ → Lent → ℕ → ℕ → ℕ → Lent → Type 0
+LayingAll nets delivered day n a i m w b =
+    Laying (entriesFrom day nets delivered 0 16) (entriesFrom day nets delivered i (16 - i))
+    (recordsFrom day nets delivered 0 16) (recordsFrom day nets delivered i (16 - i)) n a m w b
+
+-- issue i can be cut there, and then the issues behind it are left
+pub record Turn (nets : List ℤ) (delivered : List ℕ) (day n : ℕ) (a : Lent) (i m w : ℕ) (b : Lent) : Type 0 where
+  pub room : 2 * w ≤ length (b .out)
+  pub few : w + length (issueRecords day nets delivered i) ≤ 2048
+  pub can : CanCut nets delivered day i m (behind w b)
+  pub more : (r : Counts) (c : Lent) → WasCut nets delivered day i m (behind w b) r c →
+      LayingAll nets delivered day n a (i + 1) (r .entries) (w + r .records) (back w b c)
+
+module _ (nets : List ℤ) (delivered : List ℕ) (day n : ℕ) (a : Lent) (c : CanCutAll nets delivered day n a) where
+  pub starts : LayingAll nets delivered day n a 0 n 0 a
+  starts = laying-starts _ _ _ _ (can-write nets delivered day n a c)
+
+  module _ (i m w : ℕ) (b : Lent) (l : LayingAll nets delivered day n a i m w b) where
+    pub turn : i < 16 → Turn nets delivered day n a i m w b
+    turn h =
+        let es = issueEntries day nets delivered i in
+        let rs = issueRecords day nets delivered i in
+        let rest = entriesFrom day nets delivered (i + 1) (16 - (i + 1)) in
+        let left = recordsFrom day nets delivered (i + 1) (16 - (i + 1)) in
+        let all = entriesFrom day nets delivered 0 16 in
+        let recs = recordsFrom day nets delivered 0 16 in
+        let can = can-write nets delivered day n a c in
+        let k : Laying all (es ++ rest) recs (rs ++ left) n a m w b =
+        rw (entries-on day nets delivered i h, records-on day nets delivered i h) at l in
+        record {
+          room = omega (arith, k .records, k .same, can .room);
+          few = omega (
+            arith,
+            k .records,
+            length-append rs left,
+            ap length (records-all day nets delivered),
+            room nets delivered day n a c,
+          );
+          can = record { sound = c .sound; issue = h; write = laying-can all es rest recs rs left n m w a b k can };
+          more = λ r d v. rw (v .records) (laying-more all es rest recs rs left n m w a b k (r .entries) d can (v .wrote));
+        }
+
+    pub ends : 16 ≤ i → WasCutAll nets delivered day n a (countsOf m w) b
+    ends h =
+        let e = entries-none day nets delivered i h in
+        let f = records-none day nets delivered i h in
+        was-cut-all nets delivered day n a c w m b (omega (arith, l .records, ap length f)) (laying-ends _ _ _ _ _ _ _ _ _ e f l)

@@ -4,24 +4,15 @@ use mathlib.Core.List.{List, _++_}
 use Prim.Native.Nat.{ℕ, _+_, _≤_}
 use lib.ListN.{length}
 use lib.IntN.{ℤ}
-use Rattle.rules.specs.declared.Entry.{Entry}
 use Rattle.rules.specs.declared.Phase.{Phase}
 use Rattle.rules.specs.Measures.{mostEntries, outputWords}
-use Rattle.rules.specs.Book.{tab}
-use Rattle.rules.specs.Records.{Rec, words, over}
+use Rattle.rules.specs.Records.{words, over}
 use Rattle.rules.specs.Questions.{firstNo}
-use Rattle.rules.specs.Calls.{joined, issueEntries, issueRecords, newEntries, cutoffRecords, cutoffAsks}
+use Rattle.rules.specs.Calls.{newEntries, cutoffRecords, cutoffAsks}
+use Rattle.book.specs.Cells.{SoundCells}
 use Rattle.ledger.specs.Columns.{Columns}
 use Rattle.cutoff.specs.declared.Counts.{Counts}
 use Rattle.cutoff.specs.Write.{Lent, ledgerIn, HeldIn}
-use Rattle.cutoff.specs.Issue.{SoundCells}
-
--- entries and records of m issues from issue i on
-unfoldable pub entriesFrom : ℕ → List ℤ → List ℕ → ℕ → ℕ → List Entry
-entriesFrom day nets delivered i m = joined (tab (issueEntries day nets delivered) i m)
-
-unfoldable pub recordsFrom : ℕ → List ℤ → List ℕ → ℕ → ℕ → List Rec
-recordsFrom day nets delivered i m = joined (tab (issueRecords day nets delivered) i m)
 
 -- how many entries a cutoff makes, whatever the day
 pub record Counted (nets : List ℤ) (delivered : List ℕ) (r : ℕ) : Type 0 where

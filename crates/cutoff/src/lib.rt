@@ -1,35 +1,47 @@
 // Cutoff, issue by issue: the stock goes to the next unit (record 10), then the shortfalls are laid
 // against what the units lack, each overlap an entry of the ledger and a record (12).
+use rules::Entry;
 use rules::Phase;
 use units::Cursor;
 use units::Next;
 ghost use mathlib.Core.Path.{_≡_};
+ghost use mathlib.Core.List.{_∷_, []};
 ghost use Prim.Native.Nat.{_+_, _≤_, _<_};
 ghost use lib.ListN.{length};
+ghost use Rattle.rules.specs.Ledger.{entry};
 ghost use Rattle.rules.specs.Calls.{issueFails};
-ghost use Rattle.units.specs.Runs.{runsIn};
-ghost use Rattle.cutoff.specs.Write.{lent, Wrote};
-ghost use Rattle.cutoff.specs.Issue.{entryOf, failRecords, CanEnter, entriesOn, CanLay, CanHand, WasHanded, SoundCells, CanReady, IsReady, CanCut, WasCut};
+ghost use Rattle.book.specs.Cells.{SoundCells};
+ghost use Rattle.cutoff.specs.Write.{lending, lentBefore, lentAfter, failRecords, Wrote};
+ghost use Rattle.cutoff.specs.Issue.{countsOf, CanEnter, CanLay, WasLaid, CanHand, WasHanded, CanReady, IsReady, CanCut, WasCut};
 ghost use Rattle.cutoff.specs.All.{Counted, Asked, CanCutAll, WasCutAll};
 
-// One fail: its entry behind n others, its record behind w others.
+// The entry of a fail.
+fn fail(i: u8, f: u32, t: u32, x: u32, day: u16) -> Entry
+    requires { ⌜ (f < 64) × (t < 64) ⌝ }
+    ensures { λ r. ⌜ r ≡ entry i f t x day ⌝ }
+{
+    Entry {
+        issue: i,
+        from: f as u8,
+        to: t as u8,
+        lots: x,
+        day,
+    }
+}
+
+// One fail: its entry behind n others, its record at the front of the lent part of the output.
 fn enter(
     n: usize,
-    w: usize,
     issues: &mut [u8],
     froms: &mut [u8],
     tos: &mut [u8],
     lots: &mut [u32],
     days: &mut [u16],
     out: &mut [u32],
-    i: u8,
-    f: u32,
-    t: u32,
-    x: u32,
-    day: u16,
+    e: Entry,
 )
-    requires { ⌜ CanEnter i f t x day n w (lent (now issues) (now froms) (now tos) (now lots) (now days) (now out)) ⌝ }
-    ensures { λ _. ⌜ Wrote (entryOf i f t x day) (failRecords (entryOf i f t x day)) n w (lent (now (issues .entry)) (now (froms .entry)) (now (tos .entry)) (now (lots .entry)) (now (days .entry)) (now (out .entry))) (n + 1) (w + 1) (lent (now (issues .exit)) (now (froms .exit)) (now (tos .exit)) (now (lots .exit)) (now (days .exit)) (now (out .exit))) ⌝ }
+    requires { ⌜ CanEnter e n (lending issues froms tos lots days out) ⌝ }
+    ensures { λ _. ⌜ Wrote (e ∷ []) (failRecords (e ∷ [])) n (lentBefore issues froms tos lots days out) (n + 1) (lentAfter issues froms tos lots days out) ⌝ }
 {
     ledger::append(
         n,
@@ -38,25 +50,30 @@ fn enter(
         tos,
         lots,
         days,
-        i,
-        f as u8,
-        t as u8,
-        x,
-        day,
+        e.issue,
+        e.from,
+        e.to,
+        e.lots,
+        e.day,
     );
-    words::record_at(out, w, 12, i as u32, f, t, x);
+    words::record(out, 12, e.issue as u32, e.from as u32, e.to as u32, e.lots);
+}
+
+// An issue at its cutoff: how many words its units take, the cursor in front of its fails, and its stock.
+pub struct Ready {
+    pub n: usize,
+    pub cursor: Cursor,
+    pub stock: u32,
 }
 
 // Each overlap from a cursor on becomes an entry and a record; answers their number.
 fn lay(
     runs: &[u32],
-    k: usize,
     shorts: &[u32],
-    c: Cursor,
+    p: Ready,
     i: u8,
     day: u16,
     n: usize,
-    w: usize,
     issues: &mut [u8],
     froms: &mut [u8],
     tos: &mut [u8],
@@ -64,62 +81,52 @@ fn lay(
     days: &mut [u16],
     out: &mut [u32],
 ) -> usize
-    requires { ⌜ CanLay day i (now runs) k (now shorts) c n w (lent (now issues) (now froms) (now tos) (now lots) (now days) (now out)) ⌝ }
-    ensures { λ r. ⌜ Wrote (entriesOn day i (runsIn (now (runs .entry)) k) (now (shorts .entry)) c) (failRecords (entriesOn day i (runsIn (now (runs .entry)) k) (now (shorts .entry)) c)) n w (lent (now (issues .entry)) (now (froms .entry)) (now (tos .entry)) (now (lots .entry)) (now (days .entry)) (now (out .entry))) (n + r) (w + r) (lent (now (issues .exit)) (now (froms .exit)) (now (tos .exit)) (now (lots .exit)) (now (days .exit)) (now (out .exit))) ⌝ }
+    requires { ⌜ CanLay day i (now runs) (now shorts) p n (lending issues froms tos lots days out) ⌝ }
+    ensures { λ r. ⌜ WasLaid day i (now (runs .entry)) (now (shorts .entry)) p n (lentBefore issues froms tos lots days out) r (lentAfter issues froms tos lots days out) ⌝ }
 {
-    let mut cur = c;
+    let k = p.n;
+    let mut cur = p.cursor;
     let mut done: usize = 0;
     loop {
         let Next::Overlap(f, t, x, rest) = units::advance(runs, k, shorts, cur) else {
             return done;
         };
+        let e = fail(i, f, t, x, day);
         enter(
             n + done,
-            w + done,
             issues,
             froms,
             tos,
             lots,
             days,
-            out,
-            i,
-            f,
-            t,
-            x,
-            day,
+            &mut out[2 * done..],
+            e,
         );
         cur = rest;
         done += 1;
     }
 }
 
-// The stock's record, if the stock is not 0; answers the number of records behind which the next goes.
-fn hand_stock(out: &mut [u32], w: usize, i: u32, to: u32, lots: u32) -> usize
-    requires { ⌜ CanHand i to lots w (now out) ⌝ }
-    ensures { λ r. ⌜ WasHanded i to lots w r (now (out .entry)) (now (out .exit)) ⌝ }
+// The stock's record, if the stock is not 0, at the front of the lent part; answers how many records that is.
+fn hand_stock(out: &mut [u32], i: u32, to: u32, lots: u32) -> usize
+    requires { ⌜ CanHand i to lots (now out) ⌝ }
+    ensures { λ r. ⌜ WasHanded i to lots r (now (out .entry)) (now (out .exit)) ⌝ }
 {
     if lots == 0 {
-        return w;
+        return 0;
     }
-    words::record_at(out, w, 10, i, 0, to, lots);
-    w + 1
+    words::record(out, 10, i, 0, to, lots);
+    1
 }
 
-// An issue at its cutoff: the number of its runs, the cursor in front of its fails, and its stock.
-pub struct Ready {
-    pub n: usize,
-    pub cursor: Cursor,
-    pub stock: u32,
-}
-
-// An issue's runs and shortfalls into lent arrays, and where its delivered total ends.
+// An issue's units and shortfalls into lent arrays, and where its delivered total ends.
 fn prepare(nets: &[i32], delivered: &[u32], i: usize, runs: &mut [u32], shorts: &mut [u32]) -> Ready
     requires { ⌜ CanReady (now nets) (now delivered) i (now runs) (now shorts) ⌝ }
     ensures { λ r. ⌜ IsReady (now (nets .entry)) (now (delivered .entry)) i (now (runs .exit)) (now (shorts .exit)) r ⌝ }
 {
     let s = i * 64;
     let e = s + 64;
-    let n = units::prepare(&nets[s..e], runs);
+    let n = units::prepare(nets, i, runs);
     let d = book::total(&delivered[s..e]);
     book::shorts_of(&nets[s..e], &delivered[s..e], shorts);
     let p = units::start(runs, n, d);
@@ -131,20 +138,25 @@ fn prepare(nets: &[i32], delivered: &[u32], i: usize, runs: &mut [u32], shorts: 
     }
 }
 
-// How many entries the ledger has, and how many records the output.
+// How many entries the ledger has, and how many records were written.
 pub struct Counts {
     pub entries: usize,
     pub records: usize,
 }
 
-// The cutoff of one issue, behind n entries and w records; answers the numbers behind it.
+fn numbers(entries: usize, records: usize) -> Counts
+    ensures { λ r. ⌜ r ≡ countsOf entries records ⌝ }
+{
+    Counts { entries, records }
+}
+
+// The cutoff of one issue, its entries behind n others, its records at the front of the lent part.
 fn cut_issue(
     nets: &[i32],
     delivered: &[u32],
     i: usize,
     day: u16,
     n: usize,
-    w: usize,
     issues: &mut [u8],
     froms: &mut [u8],
     tos: &mut [u8],
@@ -152,35 +164,29 @@ fn cut_issue(
     days: &mut [u16],
     out: &mut [u32],
 ) -> Counts
-    requires { ⌜ CanCut (now nets) (now delivered) day i n w (lent (now issues) (now froms) (now tos) (now lots) (now days) (now out)) ⌝ }
-    ensures { λ r. ⌜ WasCut (now (nets .entry)) (now (delivered .entry)) day i n w (lent (now (issues .entry)) (now (froms .entry)) (now (tos .entry)) (now (lots .entry)) (now (days .entry)) (now (out .entry))) r (lent (now (issues .exit)) (now (froms .exit)) (now (tos .exit)) (now (lots .exit)) (now (days .exit)) (now (out .exit))) ⌝ }
+    requires { ⌜ CanCut (now nets) (now delivered) day i n (lending issues froms tos lots days out) ⌝ }
+    ensures { λ r. ⌜ WasCut (now (nets .entry)) (now (delivered .entry)) day i n (lentBefore issues froms tos lots days out) r (lentAfter issues froms tos lots days out) ⌝ }
 {
     let mut runs = [0u32; 128];
     let mut shorts = [0u32; 64];
     let p = prepare(nets, delivered, i, &mut runs, &mut shorts);
-    let k = p.n;
     let c = p.cursor;
-    let v = hand_stock(out, w, i as u32, c.to, p.stock);
+    let v = hand_stock(out, i as u32, c.to, p.stock);
     let m = lay(
         &runs,
-        k,
         &shorts,
-        c,
+        p,
         i as u8,
         day,
         n,
-        v,
         issues,
         froms,
         tos,
         lots,
         days,
-        out,
+        &mut out[2 * v..],
     );
-    Counts {
-        entries: n + m,
-        records: v + m,
-    }
+    numbers(n + m, v + m)
 }
 
 // How many fails an issue has.
@@ -238,8 +244,8 @@ pub fn cutoff_in<'a>(
     days: &mut [u16],
     out: &mut [u32],
 ) -> Counts
-    requires { ⌜ CanCutAll (now nets) (now delivered) day count (lent (now issues) (now froms) (now tos) (now lots) (now days) (now out)) ⌝ }
-    ensures { λ r. ⌜ WasCutAll (now (nets .entry)) (now (delivered .entry)) day count (lent (now (issues .entry)) (now (froms .entry)) (now (tos .entry)) (now (lots .entry)) (now (days .entry)) (now (out .entry))) r (lent (now (issues .exit)) (now (froms .exit)) (now (tos .exit)) (now (lots .exit)) (now (days .exit)) (now (out .exit))) ⌝ }
+    requires { ⌜ CanCutAll (now nets) (now delivered) day count (lending issues froms tos lots days out) ⌝ }
+    ensures { λ r. ⌜ WasCutAll (now (nets .entry)) (now (delivered .entry)) day count (lentBefore issues froms tos lots days out) r (lentAfter issues froms tos lots days out) ⌝ }
 {
     let mut i: usize = 0;
     let mut n = count;
@@ -251,20 +257,16 @@ pub fn cutoff_in<'a>(
             i,
             day,
             n,
-            w,
             issues,
             froms,
             tos,
             lots,
             days,
-            out,
+            &mut out[2 * w..],
         );
         n = k.entries;
-        w = k.records;
+        w += k.records;
         i += 1;
     }
-    Counts {
-        entries: n,
-        records: w,
-    }
+    numbers(n, w)
 }

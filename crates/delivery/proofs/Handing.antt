@@ -1,67 +1,74 @@
--- Units handed over one by one: what the k-th question finds is the k-th unit of the list.
+-- Units handed over one by one. What a loop keeps is said of what is left: all records from the start are the records
+-- that are left from here.
 use mathlib.Core.Path.{_≡_, refl, sym, ap, _∙_}
-use mathlib.Core.List.{List, [], _∷_, _++_, map, map-append}
-use Prim.Native.Nat.{ℕ, zero, suc, _+_, _*_, _/_, _%_, _≤_, _<_}
-use native.Mathlib.Numerals.{add-one}
+use mathlib.Core.List.{List, [], _∷_, map}
+use Prim.Native.Nat.{ℕ, suc, _+_, _-_, _*_, _≤_, _<_}
 use native.Mathlib.Omega.{arith}
-use lib.ListN.{length, take, drop, replicate, length-map, length-drop}
-use lib.Seq.{drop-drop, drop-nil, length-take-le}
-use Rattle.rules.specs.Measures.{unitLots}
-use Rattle.rules.specs.Units.{Part, part, put}
-use Rattle.rules.specs.Records.{Rec, handover}
-use Rattle.rules.specs.declared.Found.{Found}
-use Rattle.rules.specs.declared.Found.the-variants.{Unit, Nothing, Refused}
-use denote.Enum.Declared.{tagOf}
-use Rattle.rules.proofs.Found
-use Rattle.laws.proofs.Basics.{Every, each-append, each-replicate, each-put}
-use Rattle.units.specs.Runs.{partOf, runsIn, unitsOfRun, unitsOfRuns, unitsIn, foundOf}
-use Rattle.delivery.specs.Deliver.{handRecords}
+use lib.ListN.{length, take, drop, length-map, length-drop}
+use lib.Seq.{sets, length-sets, length-take-le}
+use Rattle.rules.specs.Units.{Part, part}
+use Rattle.rules.specs.Handover.{covered, handovers}
+use Rattle.rules.specs.Records.{handover, words, over}
+use Rattle.laws.proofs.Handover.{covered-grows, covered-le, handovers-length}
+use Rattle.laws.proofs.Records.{length-words}
+use Rattle.words.proofs.Stores.{sets-front}
+use Rattle.delivery.specs.Deliver.{handRecords, Served}
 
--- a unit that was found stands at its place
-found-take : (us : List Part) (m a x : ℕ) → Unit a x ≡ foundOf (drop m us) → take (suc m) us ≡ take m us ++ (part a x ∷ [])
-found-take [] m a x e = absurd (let f = e ∙ ap foundOf (drop-nil m) in let z : _≡_ {A = ℕ} 0 1 = cc in omega arith)
-found-take (u ∷ us) zero a x e =
-    let p : u .account ≡ a = cc in
-    let q : u .lots ≡ x = cc in
-    rw (← p, ← q)
-found-take (u ∷ us) (suc m) a x e = ap (λ l. u ∷ l) (found-take us m a x e)
+-- with `us` to come, `left` of them are still to be handed over, behind m records
+pub record Handing (i m left : ℕ) (us : List Part) (all o out : List ℕ) : Type 0 where
+  pub there : left ≤ length us
+  pub same : length out ≡ length o
+  pub output : over all o ≡ sets out (2 * m) (words (handRecords i left us))
 
--- one unit more is handed over
-pub hand-more : (us : List Part) (i c m a x : ℕ) → Unit a x ≡ foundOf (drop (c + m) us) →
-    handRecords us i c (m + 1) ≡ handRecords us i c m ++ (handover i (part a x) ∷ [])
-hand-more us i c m a x e =
-    rw (add-one, found-take (drop c us) m a x (e ∙ ap foundOf (sym (drop-drop m c us))), map-append)
+pub handing-starts : (i count : ℕ) (us : List Part) (o : List ℕ) → count ≤ length us → 2 * count ≤ length o →
+    Handing i 0 count us (words (handRecords i count us)) o o
+handing-starts i count us o h room =
+    let ws = words (handRecords i count us) in
+    let l : length ws ≤ length o =
+    omega (arith, length-words (handRecords i count us), length-map (take count us) (handover i), length-take-le count us h) in
+    record { there = h; same = refl; output = sym (sets-front ws o l) }
 
-pub hand-length : (us : List Part) (i c m : ℕ) → c + m ≤ length us → length (handRecords us i c m) ≡ m
-hand-length us i c m h =
-    length-map (take m (drop c us)) (handover i) ∙ length-take-le m (drop c us) (omega (arith, length-drop c us))
+module _ (i m left : ℕ) (us : List Part) (all o out : List ℕ) (h : Handing i m left us all o out) where
+  pub handing-more : (a x : ℕ) (vs : List Part) (new : List ℕ) → 0 < left → us ≡ part a x ∷ vs →
+      new ≡ sets out (2 * m) (words (handover i (part a x) ∷ [])) → Handing i (m + 1) (left - 1) vs all o new
+  handing-more a x vs new some e n =
+      let rest = words (handRecords i (left - 1) vs) in
+      let f : left ≡ suc (left - 1) = omega arith in
+      let g : 2 * (m + 1) ≡ suc (suc (2 * m)) = omega arith in
+      record {
+        there = omega (arith, h .there, ap length e);
+        same = ap length n ∙ length-sets out (2 * m) (words (handover i (part a x) ∷ [])) ∙ h .same;
+        output = h .output ∙ ap (λ k. sets out (2 * m) (words (handRecords i k us))) f
+            ∙ ap (λ l. sets out (2 * m) (words (handRecords i (suc (left - 1)) l))) e
+            ∙ sym (ap (λ k. sets new k rest) g ∙ ap (λ l. sets l (suc (suc (2 * m))) rest) n);
+      }
 
--- below the number of units there is one: what is found is neither none nor a refusal
-pub found-some : (us : List Part) (m : ℕ) (f : Found) → f ≡ foundOf (drop m us) → m < length us → tagOf Found.the-type f ≡ 0
-found-some [] m f e h = absurd (omega arith)
-found-some (u ∷ us) zero f e h = rw e
-found-some (u ∷ us) (suc m) f e h = found-some us m f e (omega arith)
+  pub handing-ends : left ≡ 0 → out ≡ over all o
+  handing-ends e = sym (rw e at (h .output))
 
-each-found : (P : Part → Type 0) (us : List Part) (m a x : ℕ) → Every P us → Unit a x ≡ foundOf (drop m us) → P (part a x)
-each-found P [] m a x ps e = absurd (let f = e ∙ ap foundOf (drop-nil m) in let z : _≡_ {A = ℕ} 0 1 = cc in omega arith)
-each-found P (u ∷ us) zero a x ps e =
-    let p : u .account ≡ a = cc in
-    let q : u .lots ≡ x = cc in
-    rw (← p, ← q) (ps .0)
-each-found P (u ∷ us) (suc m) a x ps e = each-found P us m a x (ps .1) e
+-- the units between two counts are those that the lots between two totals hand over
+pub record Counted (us vs : List Part) (d x before after : ℕ) : Type 0 where
+  pub up : before ≤ after
+  pub there : after - before ≤ length (drop before us)
+  pub number : after - before ≡ length (handovers vs d x)
+  pub same : take (after - before) (drop before us) ≡ handovers vs d x
 
-abbrev Coded : Part → Type 0
-Coded u = (u .account < 64) × (u .lots ≤ 100000)
+pub counted : (us vs : List Part) (d x before after : ℕ) → us ≡ vs → before ≡ covered us d → after ≡ covered us (d + x) →
+    Counted us vs d x before after
+unfolding handovers
+counted us vs d x before after e p q =
+    let grows = covered-grows us d x in
+    record {
+      up = omega arith;
+      there = omega (arith, length-drop before us, covered-le us (d + x));
+      number = omega (arith, handovers-length us d x, ap (λ l. length (handovers l d x)) e);
+      same = rw (p, q) (ap (λ l. handovers l d x) e);
+    }
 
-each-unit : (ks : List ℕ) → Every Coded (unitsOfRuns (map partOf ks))
-each-unit [] = tt
-each-unit (k ∷ ks) =
-    each-append Coded (unitsOfRun (partOf k)) (unitsOfRuns (map partOf ks))
-    (each-append Coded (replicate (k / 64 / 100000) (part (k % 64) 100000)) (put (k % 64) (k / 64 % 100000) [])
-    (each-replicate Coded (k / 64 / 100000) (part (k % 64) 100000) (omega arith, omega arith))
-    (each-put Coded (k % 64) (k / 64 % 100000) [] (λ h. (omega arith, omega arith)) tt))
-    (each-unit ks)
-
--- its account and lots fit a record
-pub found-fits : (runs : List ℕ) (n m a x : ℕ) → Unit a x ≡ foundOf (drop m (unitsIn runs n)) → (a < 64) × (x ≤ 100000)
-found-fits runs n m a x e = each-found Coded (unitsIn runs n) m a x (each-unit (take n runs)) e
+pub served : (us vs : List Part) (i d x before after : ℕ) (o new : List ℕ) → Counted us vs d x before after →
+    new ≡ over (words (handRecords i (after - before) (drop before us))) o → Served vs i d x o new (after - before)
+served us vs i d x before after o new k e =
+    record {
+      count = k .number ∙ sym (length-map (handovers vs d x) (handover i));
+      output = e ∙ ap (λ l. over (words (map (handover i) l)) o) (k .same);
+    }

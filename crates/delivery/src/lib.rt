@@ -1,35 +1,40 @@
 // deliver: an account's delivered lots rise, and the next units are handed over whole, in order.
-use rules::Found;
 use rules::Phase;
+use units::NextUnit;
 ghost use mathlib.Core.Path.{_≡_};
+ghost use lib.ListN.{drop};
 ghost use Rattle.rules.specs.Questions.{firstNo};
+ghost use Rattle.rules.specs.Book.{orderIn};
 ghost use Rattle.rules.specs.Calls.{deliverAsks};
 ghost use Rattle.rules.specs.Records.{words, over};
+ghost use Rattle.book.specs.Cells.{SoundCells};
 ghost use Rattle.units.specs.Runs.{unitsIn};
-ghost use Rattle.delivery.specs.Deliver.{CanHand, handRecords, CanServe, Served, CanAsk, CanDeliver, Delivered};
+ghost use Rattle.delivery.specs.Deliver.{CanHand, handRecords, CanServe, Served, CanDeliver, Delivered};
 
-// Hands over `count` units of n runs, from unit c on: one record each.
+// Hands over `count` units from unit c on: one record each.
 fn hand(runs: &[u32], n: usize, i: u32, c: u32, count: usize, out: &mut [u32])
     requires { ⌜ CanHand (now runs) n i c count (now out) ⌝ }
-    ensures { λ _. ⌜ now (out .exit) ≡ over (words (handRecords (unitsIn (now (runs .entry)) n) i c count)) (now (out .entry)) ⌝ }
+    ensures { λ _. ⌜ now (out .exit) ≡ over (words (handRecords i count (drop c (unitsIn (now (runs .entry)) n)))) (now (out .entry)) ⌝ }
 {
+    let mut seat = units::seek(c);
     let mut m: usize = 0;
     while m < count {
-        let Found::Unit(to, lots) = units::unit_at(runs, n, c + m as u32) else {
+        let NextUnit::Unit(to, lots, next) = units::next_unit(runs, n, seat) else {
             return;
         };
-        words::record_at(out, m, 10, i, 0, to, lots);
+        words::record(&mut out[2 * m..], 10, i, 0, to, lots);
+        seat = next;
         m += 1;
     }
 }
 
 // The units of an issue that x more lots hand over, where d were delivered before; answers their number.
-fn serve(nets: &[i32], d: u32, x: u32, i: u32, out: &mut [u32]) -> usize
-    requires { ⌜ CanServe (now nets) d x i (now out) ⌝ }
-    ensures { λ r. ⌜ Served (now (nets .entry)) d x i (now (out .entry)) (now (out .exit)) r ⌝ }
+fn serve(nets: &[i32], i: u32, d: u32, x: u32, out: &mut [u32]) -> usize
+    requires { ⌜ CanServe (now nets) i d x (now out) ⌝ }
+    ensures { λ r. ⌜ Served (orderIn (now (nets .entry)) i) i d x (now (out .entry)) (now (out .exit)) r ⌝ }
 {
     let mut runs = [0u32; 128];
-    let n = units::prepare(nets, &mut runs);
+    let n = units::prepare(nets, i as usize, &mut runs);
     let before = units::handover(&runs, n, d);
     let after = units::handover(&runs, n, d + x);
     let c = before.count;
@@ -55,7 +60,7 @@ pub fn deliver_in(
     let d = book::total(&delivered[s..e]);
     let at = s + a as usize;
     delivered[at] = delivered[at] + x;
-    serve(&nets[s..e], d, x, i, out)
+    serve(nets, i, d, x, out)
 }
 
 // Questions 3, 4, 5, 7 and 9 of a delivery: the number of the first 'no', 0 where there is none.
@@ -67,7 +72,7 @@ pub fn deliver_asks<'a>(
     a: u32,
     x: u32,
 ) -> u32
-    requires { ⌜ CanAsk (now nets) (now delivered) ⌝ }
+    requires { ⌜ SoundCells (now nets) (now delivered) ⌝ }
     ensures { λ r. ⌜ r ≡ firstNo (deliverAsks phase (now (nets .entry)) (now (delivered .entry)) i a x) ⌝ }
 {
     if !book::settling(phase) {

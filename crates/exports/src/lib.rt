@@ -56,6 +56,6 @@
 //   Writes an instruction, with the prices of a roll; count is that of the words written, 0 on a refusal.
 //   Refused by 1 (an output of fewer than 17 words) and 15, which is also the answer to a kind that is none
 //   of 1 to 7.
-pub mod fields;
 pub mod calls;
+pub mod fields;
 pub mod reading;

@@ -1,6 +1,7 @@
 // The unit question, on columns of any length and content.
 use book::State;
 use rules::Found;
+use units::NextUnit;
 ghost use mathlib.Core.Path.{_≡_};
 ghost use lib.ListN.{drop};
 ghost use Rattle.rules.specs.Book.{orderIn};
@@ -14,11 +15,13 @@ fn unit_of(nets: &[i32], i: usize, k: u32) -> Found
     requires { ⌜ CanOrder (now nets) i ⌝ }
     ensures { λ r. ⌜ r ≡ foundOf (drop k (orderIn (now (nets .entry)) i)) ⌝ }
 {
-    let s = i * 64;
-    let e = s + 64;
     let mut runs = [0u32; 128];
-    let n = units::prepare(&nets[s..e], &mut runs);
-    units::unit_at(&runs, n, k)
+    let n = units::prepare(nets, i, &mut runs);
+    let s = units::seek(k);
+    let NextUnit::Unit(a, x, _) = units::next_unit(&runs, n, s) else {
+        return Found::Nothing;
+    };
+    Found::Unit(a, x)
 }
 
 // The unit question, in any phase: the k-th unit of an issue, k from 0, or 'Nothing' exactly when k is

@@ -1,12 +1,12 @@
 -- One way to reason about every call: either all questions were answered 'yes' and it does what it does, or it was
 -- refused and nothing changed.
 use mathlib.Core.Path.{_≡_, refl, sym, ap, _∙_}
-use mathlib.Core.Bool.{Bool, true, false}
+use mathlib.Core.Bool.{Bool, true, false, false≢true}
 use mathlib.Core.List.{List, [], _∷_}
 use Prim.Native.Nat.{ℕ, zero, suc, _≤_, _<_}
 use native.Mathlib.Omega.{arith}
 use lib.Dec.{leb}
-use lib.ListN.{length}
+use lib.ListN.{length, getD, take}
 use borrow.Author.Tests.{le-leb, lt-leb, leb-true}
 use Rattle.rules.specs.declared.Book.{Book}
 use Rattle.rules.specs.declared.Instruction.{Instruction}
@@ -37,17 +37,41 @@ pub said-no : (n : ℕ) (b : Bool) (qs : List Question) → b ≡ false → firs
 said-no n true qs e = absurd (let o : _≡_ {A = ℕ} 0 1 = cc in omega arith)
 said-no n false qs e = refl
 
--- Either way
-
 -- every question answered 'yes'
 abbrev pub AllYes : List Question → Type 0
 AllYes [] = Unit {0}
 AllYes (ask n c ∷ qs) = (c ≡ true) × AllYes qs
 
 -- every question has a number
-abbrev Numbered : List Question → Type 0
+abbrev pub Numbered : List Question → Type 0
 Numbered [] = Unit {0}
 Numbered (ask n c ∷ qs) = (0 < n) × Numbered qs
+
+-- a question's number, and that it is answered 'no'
+abbrev numberOf : Question → ℕ
+numberOf (ask n c) = n
+
+abbrev isNo : Question → Type 0
+isNo (ask n c) = c ≡ false
+
+-- questions put in turn: the k-th is the first 'no' where those before it are answered 'yes'
+pub stops : (k : ℕ) (qs : List Question) → AllYes (take k qs) → isNo (getD qs k (ask 0 true)) → numberOf (getD qs k (ask 0 true)) ≡ firstNo qs
+stops zero [] y h = absurd (false≢true (sym h))
+stops zero (ask n c ∷ qs) y h = sym (said-no n c qs h)
+stops (suc k) [] y h = absurd (false≢true (sym h))
+stops (suc k) (ask m d ∷ qs) y h = stops k qs (y .1) h ∙ sym (said-yes m d qs (y .0))
+
+-- there is none where all are, and all are where there is none
+pub no-no : (qs : List Question) → AllYes qs → 0 ≡ firstNo qs
+no-no [] y = refl
+no-no (ask m d ∷ qs) y = no-no qs (y .1) ∙ sym (said-yes m d qs (y .0))
+
+pub all-yes : (qs : List Question) → Numbered qs → firstNo qs ≡ 0 → AllYes qs
+all-yes [] ks h = tt
+all-yes (ask m true ∷ qs) ks h = (refl, all-yes qs (ks .1) h)
+all-yes (ask m false ∷ qs) ks h = absurd (omega arith)
+
+-- Either way
 
 either-way : (P : Answer → Type 0) (qs : List Question) (b : Book) (out : List ℕ) (e : Effect) → Numbered qs →
     (AllYes qs → P (answer 0 b out e)) → ((r : ℕ) → P (answer (suc r) b out e)) → P (answer (firstNo qs) b out e)

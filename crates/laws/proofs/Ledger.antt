@@ -29,11 +29,11 @@ length-entries (suc n) is fs ts xs ds = ap suc (length-entries n _ _ _ _ _)
 pub length-ledger : (b : Book) → length (ledgerOf b) ≡ b .count
 length-ledger b = length-entries (b .count) (b .issues) (b .froms) (b .tos) (b .lots) (b .days)
 
-getD-tail : (xs : List ℕ) (k : ℕ) → getD (tail xs) k 0 ≡ getD xs (suc k) 0
+pub getD-tail : (xs : List ℕ) (k : ℕ) → getD (tail xs) k 0 ≡ getD xs (suc k) 0
 getD-tail [] k = refl
 getD-tail (x ∷ xs) k = refl
 
-getD-first : (xs : List ℕ) → headOr0 xs ≡ getD xs 0 0
+pub getD-first : (xs : List ℕ) → headOr0 xs ≡ getD xs 0 0
 getD-first [] = refl
 getD-first (x ∷ xs) = refl
 

@@ -6,8 +6,6 @@ pub mod Overlaps
 pub mod Fails
 pub mod Stretches
 pub mod Ranking
-pub mod Joins
-pub mod Runs
 pub mod Cutoff
 pub mod Orders
 pub mod Room

@@ -33,7 +33,7 @@ both-none a b h = byTest (bothAbove0 a b) (λ e. absurd (h (both-yes a b e .0) (
 pub appended-apart : (today i p q m : ℕ) → Every Apart (appended today i p q m)
 appended-apart today i p q m = byTest (eqb p q) (λ t. simp t tt) (λ t. simp t (eqb-false p q t, tt))
 
-appended-none : (r : Entry → Bool) (today i p q m : ℕ) → r (entry i p q m today) ≡ false → countOf r (appended today i p q m) ≡ 0
+pub appended-none : (r : Entry → Bool) (today i p q m : ℕ) → r (entry i p q m today) ≡ false → countOf r (appended today i p q m) ≡ 0
 appended-none r today i p q m h = either (λ l. countOf r l ≡ 0) (eqb p q) refl (rw h)
 
 pub stepped-apart : (today i a : ℕ) (es : List Entry) → Every Apart es → Every Apart (stepped today i a es)

@@ -100,12 +100,14 @@ module _ (xs : List ℕ) (us : List Part) (o : Order xs us) where
           byTest (leb unitLots (v .lots))
           (λ e. simp e (omega (arith, leb-true unitLots (v .lots) e, gaps vs (ps .1))))
           (λ e. simp e (omega (arith, gaps vs (ps .1))))
+
       same : (a : ℕ) (vs : List Part) → total (onAccount (ofSmall unitLots (λ v. 1)) a) vs ≡ total (ofSmall unitLots (isOf a)) vs
       same a [] = refl
       same a (v ∷ vs) =
           byTest (leb unitLots (v .lots))
           (λ e. byTest (eqb (v .account) a) (λ q. simp (e, q, zero-add) (same a vs)) (λ q. simp (e, q, zero-add) (same a vs)))
           (λ e. byTest (eqb (v .account) a) (λ q. simp (e, q) (ap (λ n. 1 + n) (same a vs))) (λ q. simp (e, q, zero-add) (same a vs)))
+
       ones : (k n : ℕ) → sum (tab (λ a. 1) k n) ≡ n
       ones k zero = refl
       ones k (suc n) = omega (arith, ones (suc k) n)

@@ -1,14 +1,17 @@
 -- A ledger's columns give the ledger back, and one more entry is one store in each column.
 use mathlib.Core.Path.{_≡_, refl, ap, sym, _∙_}
-use mathlib.Core.List.{List, [], _∷_, _++_, map, map-append, append-assoc, tail}
+use mathlib.Core.List.{List, [], _∷_, _++_, map, map-append, append-assoc, append-nil, tail}
 use Prim.Native.Nat.{ℕ, zero, suc, _+_, _-_, _≤_, _<_}
+use native.Mathlib.Numerals.{add-one}
 use native.Mathlib.Omega.{arith}
 use lib.ListN.{length, set, replicate, length-append, length-map, length-replicate}
 use lib.Seq.{set-at}
 use Rattle.rules.specs.declared.Entry.{Entry}
 use Rattle.rules.specs.Measures.{mostEntries}
-use Rattle.rules.specs.Book.{entries, column}
-use Rattle.ledger.specs.Columns.{Columns, Held, Stored, Kept}
+use Rattle.rules.specs.Ledger.{entry}
+use Rattle.rules.specs.Book.{headOr0, entries, column}
+use Rattle.laws.proofs.Ledger.{getD-first, getD-tail}
+use Rattle.ledger.specs.Columns.{entryAt, Columns, Held, Stored, Kept}
 use Rattle.ledger.proofs.Each.{each-column, each-pair}
 
 pub entries-length : (n : ℕ) (is fs ts xs ds : List ℕ) → length (entries n is fs ts xs ds) ≡ n
@@ -83,3 +86,54 @@ held-append n e i₀ f₀ t₀ x₀ d₀ i f t x d h held s =
       count = omega (arith, length-append es (e ∷ []));
       columns = each-pair (λ g c₀ c p q. q ∙ ap (λ k. set k n (g e)) p ∙ column-append g es n e l h) (held .columns) s;
     }
+
+-- One ledger behind another
+
+entries-more : (n : ℕ) (is fs ts xs ds : List ℕ) → entries (suc n) is fs ts xs ds ≡ entries n is fs ts xs ds ++ (entryAt n is fs ts xs ds ∷ [])
+entries-more zero is fs ts xs ds = rw (getD-first is, getD-first fs, getD-first ts, getD-first xs, getD-first ds)
+entries-more (suc n) is fs ts xs ds =
+    ap (λ l. entry (headOr0 is) (headOr0 fs) (headOr0 ts) (headOr0 xs) (headOr0 ds) ∷ l)
+    (entries-more n (tail is) (tail fs) (tail ts) (tail xs) (tail ds)
+    ∙ rw (getD-tail is n, getD-tail fs n, getD-tail ts n, getD-tail xs n, getD-tail ds n))
+
+-- the first j of the other's entries are there
+pub record Joined (es : List Entry) (n j k : ℕ) (mi mf mt mx md is fs ts xs ds : List ℕ) : Type 0 where
+  pub some : j ≤ k
+  pub most : n + k ≤ mostEntries
+  pub held : Held (n + j) is fs ts xs ds
+  pub there : entries (n + j) is fs ts xs ds ≡ es ++ entries j mi mf mt mx md
+
+pub joined-starts : (n k : ℕ) (mi mf mt mx md is fs ts xs ds : List ℕ) → n + k ≤ mostEntries → Held n is fs ts xs ds →
+    Joined (entries n is fs ts xs ds) n 0 k mi mf mt mx md is fs ts xs ds
+joined-starts n k mi mf mt mx md is fs ts xs ds h held =
+    let e : n + 0 ≡ n = omega arith in
+    record { some = omega arith; most = h; held = rw e held; there = rw e (sym (append-nil (entries n is fs ts xs ds))) }
+
+module _ (es : List Entry) (n j k : ℕ) (mi mf mt mx md is fs ts xs ds : List ℕ) (s : Joined es n j k mi mf mt mx md is fs ts xs ds) where
+  pub joined-more : (is′ fs′ ts′ xs′ ds′ : List ℕ) → j < k →
+      Kept (entries (n + j) is fs ts xs ds ++ (entryAt j mi mf mt mx md ∷ [])) (n + j + 1) is′ fs′ ts′ xs′ ds′ →
+      Joined es n (j + 1) k mi mf mt mx md is′ fs′ ts′ xs′ ds′
+  joined-more is′ fs′ ts′ xs′ ds′ h q =
+      let es₀ = entries (n + j) is fs ts xs ds in
+      let e = entryAt j mi mf mt mx md in
+      let l : length (es₀ ++ (e ∷ [])) ≡ n + j + 1 = sym (q .count) in
+      let a : n + (j + 1) ≡ n + j + 1 = omega arith in
+      record {
+        some = omega arith;
+        most = s .most;
+        held = rw a (kept-held (es₀ ++ (e ∷ [])) (n + j + 1) is′ fs′ ts′ xs′ ds′ q (omega (arith, s .most)));
+        there =
+            ap (λ m. entries m is′ fs′ ts′ xs′ ds′) a
+            ∙ kept-entries (es₀ ++ (e ∷ [])) (n + j + 1) is′ fs′ ts′ xs′ ds′ q
+            ∙ ap (λ y. y ++ (e ∷ [])) (s .there)
+            ∙ append-assoc es (entries j mi mf mt mx md) (e ∷ [])
+            ∙ ap (λ y. es ++ y) (sym (entries-more j mi mf mt mx md))
+            ∙ ap (λ m. es ++ entries m mi mf mt mx md) (sym (add-one j));
+      }
+
+  pub joined-ends : k ≤ j → Kept (es ++ entries k mi mf mt mx md) (n + k) is fs ts xs ds
+  joined-ends h =
+      let e : j ≡ k = omega (arith, s .some) in
+      let q : Kept (entries (n + j) is fs ts xs ds) (n + j) is fs ts xs ds =
+      record { count = sym (entries-length (n + j) is fs ts xs ds); columns = s .held .columns } in
+      rw e at (rw (s .there) at q)

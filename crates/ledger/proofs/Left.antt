@@ -1,5 +1,5 @@
 -- What is left of a ledger from place k on, as a loop over its columns meets it: the entry at k, and the rest.
-use mathlib.Core.Path.{_≡_, refl, ap, sym, _∙_}
+use mathlib.Core.Path.{_≡_, refl, ap, sym}
 use mathlib.Core.Bool.{Bool, true, false, cond, _&&_}
 use mathlib.Core.List.{List, [], _∷_, tail}
 use Prim.Native.Nat.{ℕ, zero, suc, _+_, _-_, _*_, _≤_, _<_}
@@ -9,9 +9,8 @@ use native.Mathlib.Omega.{arith}
 use lib.Dec.{eqb}
 use lib.ListN.{getD, drop}
 use Rattle.rules.specs.declared.Entry.{Entry}
-use Rattle.rules.specs.Ledger.{entry, isFrom, isTo, lotsOf}
+use Rattle.rules.specs.Ledger.{entry, isFrom, lotsOf}
 use Rattle.rules.specs.Book.{headOr0, entries}
-use Rattle.ledger.specs.Places.{placeOf, placeIn}
 
 abbrev pub left : ℕ → ℕ → List ℕ → List ℕ → List ℕ → List ℕ → List ℕ → List Entry
 left k n is fs ts xs ds = entries (n - k) (drop k is) (drop k fs) (drop k ts) (drop k xs) (drop k ds)
@@ -70,52 +69,3 @@ module _ (n : ℕ) (is fs xs : List ℕ) (i a : ℕ) where
       let e : n - k ≡ 0 = omega arith in
       let z : lotsOf (isFrom i a) (left k n is fs ts xs ds) ≡ 0 = rw e in
       omega (arith, o .2 ts ds)
-
-pub place-next : (k n : ℕ) (is cs : List ℕ) (i a : ℕ) → k < n →
-    placeIn (n - k) (drop k is) (drop k cs) i a
-    ≡ cond (eqb (getD is k 0) i && eqb (getD cs k 0) a) 0 (suc (placeIn (n - (k + 1)) (drop (k + 1) is) (drop (k + 1) cs) i a))
-place-next k n is cs i a h =
-    let e : n - k ≡ suc (n - (k + 1)) = omega arith in
-    rw e
-    (rw (add-one k) (simp (head-drop, tail-drop)))
-
--- the loop's invariant, as it starts, at the entry itself, at another one, and behind the last
-abbrev pub Seek : ℕ → ℕ → List ℕ → List ℕ → ℕ → ℕ → Type 0
-Seek k n is cs i a = (k ≤ n) × (placeIn n is cs i a ≡ k + placeIn (n - k) (drop k is) (drop k cs) i a)
-
-module _ (n : ℕ) (is cs : List ℕ) (i a : ℕ) where
-  pub seek-starts : Seek 0 n is cs i a
-  seek-starts = (omega arith, let e : n - 0 ≡ n = omega arith in rw e (sym (zero-add _)))
-
-  pub seek-found : (k : ℕ) → Seek k n is cs i a → k < n → eqb (getD is k 0) i && eqb (getD cs k 0) a ≡ true →
-      k ≡ placeIn n is cs i a
-  seek-found k s h e = omega (arith, simp e at (place-next k n is cs i a h))
-
-  pub seek-more : (k : ℕ) → Seek k n is cs i a → k < n → eqb (getD is k 0) i && eqb (getD cs k 0) a ≡ false →
-      Seek (k + 1) n is cs i a
-  seek-more k s h e = (omega arith, omega (arith, simp e at (place-next k n is cs i a h)))
-
-  pub seek-ends : (k : ℕ) → Seek k n is cs i a → n ≤ k → k ≡ placeIn n is cs i a
-  seek-ends k s h =
-      let e : n - k ≡ 0 = omega arith in
-      let z : placeIn (n - k) (drop k is) (drop k cs) i a ≡ 0 = rw e in
-      omega arith
-
--- the place in two columns is the place in the ledger
-from-place : (n : ℕ) (is fs ts xs ds : List ℕ) (i a : ℕ) → placeIn n is fs i a ≡ placeOf (isFrom i a) (entries n is fs ts xs ds)
-from-place zero is fs ts xs ds i a = refl
-from-place (suc n) is fs ts xs ds i a =
-    ap (λ k. cond (eqb (headOr0 is) i && eqb (headOr0 fs) a) 0 (suc k)) (from-place n (tail is) (tail fs) (tail ts) (tail xs) (tail ds) i a)
-
-to-place : (n : ℕ) (is fs ts xs ds : List ℕ) (i a : ℕ) → placeIn n is ts i a ≡ placeOf (isTo i a) (entries n is fs ts xs ds)
-to-place zero is fs ts xs ds i a = refl
-to-place (suc n) is fs ts xs ds i a =
-    ap (λ k. cond (eqb (headOr0 is) i && eqb (headOr0 ts) a) 0 (suc k)) (to-place n (tail is) (tail fs) (tail ts) (tail xs) (tail ds) i a)
-
-pub place-from : (n : ℕ) (is fs ts xs ds : List ℕ) (i a r : ℕ) → r ≡ placeIn n is fs i a →
-    r ≡ placeOf (isFrom i a) (entries n is fs ts xs ds)
-place-from n is fs ts xs ds i a r e = e ∙ from-place n is fs ts xs ds i a
-
-pub place-to : (n : ℕ) (is fs ts xs ds : List ℕ) (i a r : ℕ) → r ≡ placeIn n is ts i a →
-    r ≡ placeOf (isTo i a) (entries n is fs ts xs ds)
-place-to n is fs ts xs ds i a r e = e ∙ to-place n is fs ts xs ds i a

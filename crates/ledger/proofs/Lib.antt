@@ -1,6 +1,7 @@
 pub mod Each
 pub mod Entries
 pub mod Left
-pub mod Removing
 pub mod Clearing
-pub mod Lowering
+pub mod Zeros
+pub mod Lots
+pub mod Books

@@ -1,11 +1,19 @@
 -- Five columns that hold a list of entries, and stores into them.
 use mathlib.Core.Path.{_≡_}
-use mathlib.Core.List.{List, _++_}
-use Prim.Native.Nat.{ℕ, _-_, _≤_}
+use mathlib.Core.Bool.{cond}
+use mathlib.Core.List.{List, [], _∷_, _++_}
+use Prim.Native.Nat.{ℕ, _+_, _-_, _≤_, _<_}
+use denote.Ref.{RefT, now}
+use denote.Triple.Both.{Both}
 use lib.ListN.{length, getD, set, take, drop, replicate}
 use Rattle.rules.specs.declared.Entry.{Entry}
 use Rattle.rules.specs.Measures.{mostEntries}
-use Rattle.rules.specs.Book.{column, entries}
+use Rattle.rules.specs.Ledger.{entry}
+use Rattle.rules.specs.Book.{isZero, column, entries}
+
+-- the entry that stands at a place of five columns
+abbrev pub entryAt : ℕ → List ℕ → List ℕ → List ℕ → List ℕ → List ℕ → Entry
+entryAt k is fs ts xs ds = entry (getD is k 0) (getD fs k 0) (getD ts k 0) (getD xs k 0) (getD ds k 0)
 
 -- something holds of each column, with the number of an entry that stands in it
 pub record EachColumn (P : (Entry → ℕ) → List ℕ → Type 0) (is fs ts xs ds : List ℕ) : Type 0 where
@@ -59,3 +67,45 @@ Cleared n i₀ f₀ t₀ x₀ d₀ i f t x d = EachPair (λ g c₀ c. c ≡ take
 pub record Kept (es : List Entry) (n : ℕ) (is fs ts xs ds : List ℕ) : Type 0 where
   pub count : n ≡ length es
   pub columns : Columns es is fs ts xs ds
+
+-- entries at 0 go
+abbrev pub withoutZeros : List Entry → List Entry
+withoutZeros [] = []
+withoutZeros (e ∷ es) = cond (isZero (e .lots)) (withoutZeros es) (e ∷ withoutZeros es)
+
+-- the entry at place k again at place w, unless it is at 0; r is the place behind it
+pub record MovedUp (k w r : ℕ) (i₀ f₀ t₀ x₀ d₀ i f t x d : List ℕ) : Type 0 where
+  pub none : getD x₀ k 0 ≡ 0 → (r ≡ w) × EachPair (λ g c₀ c. c ≡ c₀) i₀ f₀ t₀ x₀ d₀ i f t x d
+  pub one : 0 < getD x₀ k 0 → (r ≡ w + 1) × Copied w k i₀ f₀ t₀ x₀ d₀ i f t x d
+
+-- By name: columns as a contract has them, lent, and before and after
+
+abbrev pub Lent : Type 0
+Lent = RefT (List ℕ)
+
+abbrev pub Column : Type 0
+Column = Both Lent Lent
+
+-- whole columns, a ledger in its columns
+abbrev pub whole : Lent → Lent → Lent → Lent → Lent → Type 0
+whole issues froms tos lots days = Whole (now issues) (now froms) (now tos) (now lots) (now days)
+
+abbrev pub held : ℕ → Lent → Lent → Lent → Lent → Lent → Type 0
+held n issues froms tos lots days = Held n (now issues) (now froms) (now tos) (now lots) (now days)
+
+-- the ledger that the columns held, and what they hold
+abbrev pub before : ℕ → Column → Column → Column → Column → Column → List Entry
+before n issues froms tos lots days =
+    entries n (now (issues .entry)) (now (froms .entry)) (now (tos .entry)) (now (lots .entry)) (now (days .entry))
+
+abbrev pub kept : List Entry → ℕ → Column → Column → Column → Column → Column → Type 0
+kept es n issues froms tos lots days =
+    Kept es n (now (issues .exit)) (now (froms .exit)) (now (tos .exit)) (now (lots .exit)) (now (days .exit))
+
+-- what changed from columns before to columns after
+abbrev pub changed :
+    (List ℕ → List ℕ → List ℕ → List ℕ → List ℕ → List ℕ → List ℕ → List ℕ → List ℕ → List ℕ → Type 0) →
+    Column → Column → Column → Column → Column → Type 0
+changed P issues froms tos lots days =
+    P (now (issues .entry)) (now (froms .entry)) (now (tos .entry)) (now (lots .entry)) (now (days .entry))
+    (now (issues .exit)) (now (froms .exit)) (now (tos .exit)) (now (lots .exit)) (now (days .exit))

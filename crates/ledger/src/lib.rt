@@ -6,11 +6,10 @@ ghost use mathlib.Core.Bool.{cond, _&&_};
 ghost use mathlib.Core.List.{List, [], _∷_, _++_};
 ghost use Prim.Native.Nat.{ℕ, _+_, _-_, _≤_, _<_, min};
 ghost use lib.Dec.{eqb};
-ghost use lib.ListN.{length, getD};
-ghost use Rattle.rules.specs.Ledger.{entry, isFrom, isTo, lotsOf};
+ghost use lib.ListN.{length};
+ghost use Rattle.rules.specs.Ledger.{entry, isFrom, lotsOf};
 ghost use Rattle.rules.specs.Book.{entries};
-ghost use Rattle.ledger.specs.Columns.{Columns, Whole, Held, Stored, Copied, Kept, Unused, Cleared};
-ghost use Rattle.ledger.specs.Places.{placeOf, placeIn, removeAt, lowerAt};
+ghost use Rattle.ledger.specs.Columns.{Stored, Copied, Unused, Cleared, withoutZeros, MovedUp, whole, held, before, kept, changed};
 
 // An entry at a place, whatever stood there.
 pub fn store(
@@ -26,8 +25,8 @@ pub fn store(
     x: u32,
     d: u16,
 )
-    requires { ⌜ (at < 2048) × Whole (now issues) (now froms) (now tos) (now lots) (now days) ⌝ }
-    ensures { λ _. ⌜ Stored at (entry i f t x d) (now (issues .entry)) (now (froms .entry)) (now (tos .entry)) (now (lots .entry)) (now (days .entry)) (now (issues .exit)) (now (froms .exit)) (now (tos .exit)) (now (lots .exit)) (now (days .exit)) ⌝ }
+    requires { ⌜ (at < 2048) × whole issues froms tos lots days ⌝ }
+    ensures { λ _. ⌜ changed (Stored at (entry i f t x d)) issues froms tos lots days ⌝ }
 {
     issues[at] = i;
     froms[at] = f;
@@ -50,8 +49,8 @@ pub fn append(
     x: u32,
     d: u16,
 )
-    requires { ⌜ (count < 2048) × Held count (now issues) (now froms) (now tos) (now lots) (now days) ⌝ }
-    ensures { λ _. ⌜ Kept (entries count (now (issues .entry)) (now (froms .entry)) (now (tos .entry)) (now (lots .entry)) (now (days .entry)) ++ (entry i f t x d ∷ [])) (count + 1) (now (issues .exit)) (now (froms .exit)) (now (tos .exit)) (now (lots .exit)) (now (days .exit)) ⌝ }
+    requires { ⌜ (count < 2048) × held count issues froms tos lots days ⌝ }
+    ensures { λ _. ⌜ kept (before count issues froms tos lots days ++ (entry i f t x d ∷ [])) (count + 1) issues froms tos lots days ⌝ }
 {
     store(issues, froms, tos, lots, days, count, i, f, t, x, d);
 }
@@ -97,38 +96,6 @@ pub fn owed_lots(count: usize, issues: &[u8], froms: &[u8], lots: &[u32], i: u32
     t
 }
 
-// The place of the first entry of issue i with account a in the column of accounts; the count
-// where there is none.
-fn first_of(count: usize, issues: &[u8], accounts: &[u8], i: u32, a: u32) -> usize
-    requires { ⌜ (count ≤ 2048) × (length (now issues) ≡ 2048) × (length (now accounts) ≡ 2048) ⌝ }
-    ensures { λ r. ⌜ r ≡ placeIn count (now (issues .entry)) (now (accounts .entry)) i a ⌝ }
-{
-    let mut k = 0;
-    while k < count {
-        if is_of(issues[k], accounts[k], i, a) {
-            return k;
-        }
-        k += 1;
-    }
-    k
-}
-
-// The place of the first entry of issue i from account a; the count where there is none.
-pub fn first_from(count: usize, issues: &[u8], froms: &[u8], i: u32, a: u32) -> usize
-    requires { ⌜ (count ≤ 2048) × (length (now issues) ≡ 2048) × (length (now froms) ≡ 2048) ⌝ }
-    ensures { λ r. ⌜ ((ts xs ds : List ℕ) → r ≡ placeOf (isFrom i a) (entries count (now (issues .entry)) (now (froms .entry)) ts xs ds)) ⌝ }
-{
-    first_of(count, issues, froms, i, a)
-}
-
-// The place of the first entry of issue i to account a; the count where there is none.
-pub fn first_to(count: usize, issues: &[u8], tos: &[u8], i: u32, a: u32) -> usize
-    requires { ⌜ (count ≤ 2048) × (length (now issues) ≡ 2048) × (length (now tos) ≡ 2048) ⌝ }
-    ensures { λ r. ⌜ ((fs xs ds : List ℕ) → r ≡ placeOf (isTo i a) (entries count (now (issues .entry)) fs (now (tos .entry)) xs ds)) ⌝ }
-{
-    first_of(count, issues, tos, i, a)
-}
-
 // The entry at one place again at another.
 fn copy(
     issues: &mut [u8],
@@ -139,35 +106,14 @@ fn copy(
     to: usize,
     at: usize,
 )
-    requires { ⌜ (to < 2048) × (at < 2048) × Whole (now issues) (now froms) (now tos) (now lots) (now days) ⌝ }
-    ensures { λ _. ⌜ Copied to at (now (issues .entry)) (now (froms .entry)) (now (tos .entry)) (now (lots .entry)) (now (days .entry)) (now (issues .exit)) (now (froms .exit)) (now (tos .exit)) (now (lots .exit)) (now (days .exit)) ⌝ }
+    requires { ⌜ (to < 2048) × (at < 2048) × whole issues froms tos lots days ⌝ }
+    ensures { λ _. ⌜ changed (Copied to at) issues froms tos lots days ⌝ }
 {
     issues[to] = issues[at];
     froms[to] = froms[at];
     tos[to] = tos[at];
     lots[to] = lots[at];
     days[to] = days[at];
-}
-
-// Without the entry at place k: later ones move up, and the last place that was used is 0.
-fn remove(
-    count: usize,
-    k: usize,
-    issues: &mut [u8],
-    froms: &mut [u8],
-    tos: &mut [u8],
-    lots: &mut [u32],
-    days: &mut [u16],
-)
-    requires { ⌜ (k < count) × Held count (now issues) (now froms) (now tos) (now lots) (now days) ⌝ }
-    ensures { λ _. ⌜ Columns (removeAt k (entries count (now (issues .entry)) (now (froms .entry)) (now (tos .entry)) (now (lots .entry)) (now (days .entry)))) (now (issues .exit)) (now (froms .exit)) (now (tos .exit)) (now (lots .exit)) (now (days .exit)) ⌝ }
-{
-    let mut at = k;
-    while at + 1 < count {
-        copy(issues, froms, tos, lots, days, at, at + 1);
-        at += 1;
-    }
-    store(issues, froms, tos, lots, days, at, 0, 0, 0, 0, 0);
 }
 
 // The lots left of an entry that is met by m lots: it is taken out of its columns and met in a lent
@@ -186,29 +132,6 @@ pub fn left_of(issue: u8, from: u8, to: u8, lots: u32, day: u16, m: u32) -> u32
     after.lots
 }
 
-// The entry at place k falls by m of its lots, and goes where that leaves 0; answers the new count.
-pub fn lower_at(
-    count: usize,
-    k: usize,
-    m: u32,
-    issues: &mut [u8],
-    froms: &mut [u8],
-    tos: &mut [u8],
-    lots: &mut [u32],
-    days: &mut [u16],
-) -> usize
-    requires { ⌜ (k < count) × (m ≤ getD (now lots) k 0) × Held count (now issues) (now froms) (now tos) (now lots) (now days) ⌝ }
-    ensures { λ r. ⌜ Kept (lowerAt k m (entries count (now (issues .entry)) (now (froms .entry)) (now (tos .entry)) (now (lots .entry)) (now (days .entry)))) r (now (issues .exit)) (now (froms .exit)) (now (tos .exit)) (now (lots .exit)) (now (days .exit)) ⌝ }
-{
-    let left = left_of(issues[k], froms[k], tos[k], lots[k], days[k], m);
-    if left == 0 {
-        remove(count, k, issues, froms, tos, lots, days);
-        return count - 1;
-    }
-    lots[k] = left;
-    count
-}
-
 // Places from w on are 0. Those from `count` on are so already.
 pub fn clear(
     w: usize,
@@ -220,11 +143,83 @@ pub fn clear(
     days: &mut [u16],
 )
     requires { ⌜ (w ≤ count) × Unused count (now issues) (now froms) (now tos) (now lots) (now days) ⌝ }
-    ensures { λ _. ⌜ Cleared w (now (issues .entry)) (now (froms .entry)) (now (tos .entry)) (now (lots .entry)) (now (days .entry)) (now (issues .exit)) (now (froms .exit)) (now (tos .exit)) (now (lots .exit)) (now (days .exit)) ⌝ }
+    ensures { λ _. ⌜ changed (Cleared w) issues froms tos lots days ⌝ }
 {
     let mut j = w;
     while j < count {
         store(issues, froms, tos, lots, days, j, 0, 0, 0, 0, 0);
+        j += 1;
+    }
+}
+
+// The entry at place k again at place w, unless it is at 0; answers the place behind it.
+fn move_up(
+    issues: &mut [u8],
+    froms: &mut [u8],
+    tos: &mut [u8],
+    lots: &mut [u32],
+    days: &mut [u16],
+    k: usize,
+    w: usize,
+) -> usize
+    requires { ⌜ (k < 2048) × (w ≤ k) × whole issues froms tos lots days ⌝ }
+    ensures { λ r. ⌜ changed (MovedUp k w r) issues froms tos lots days ⌝ }
+{
+    if lots[k] == 0 {
+        return w;
+    }
+    copy(issues, froms, tos, lots, days, w, k);
+    w + 1
+}
+
+// Entries at 0 go and later ones move up; answers the number of those that stay.
+pub fn remove_zeros(
+    count: usize,
+    issues: &mut [u8],
+    froms: &mut [u8],
+    tos: &mut [u8],
+    lots: &mut [u32],
+    days: &mut [u16],
+) -> usize
+    requires { ⌜ held count issues froms tos lots days ⌝ }
+    ensures { λ r. ⌜ kept (withoutZeros (before count issues froms tos lots days)) r issues froms tos lots days ⌝ }
+{
+    let mut k = 0;
+    let mut w = 0;
+    while k < count {
+        w = move_up(issues, froms, tos, lots, days, k, w);
+        k += 1;
+    }
+    clear(w, count, issues, froms, tos, lots, days);
+    w
+}
+
+// The entries of a second ledger, in its columns is, fs, ts, xs, ds, behind those of the first.
+pub fn append_all(
+    count: usize,
+    issues: &mut [u8],
+    froms: &mut [u8],
+    tos: &mut [u8],
+    lots: &mut [u32],
+    days: &mut [u16],
+    more: usize,
+    is: &[u8],
+    fs: &[u8],
+    ts: &[u8],
+    xs: &[u32],
+    ds: &[u16],
+)
+    requires { ⌜ (count + more ≤ 2048) × held count issues froms tos lots days × whole is fs ts xs ds ⌝ }
+    ensures { λ _. ⌜ kept (before count issues froms tos lots days ++ before more is fs ts xs ds) (count + more) issues froms tos lots days ⌝ }
+{
+    let mut j = 0;
+    while j < more {
+        let i = is[j];
+        let f = fs[j];
+        let t = ts[j];
+        let x = xs[j];
+        let d = ds[j];
+        append(count + j, issues, froms, tos, lots, days, i, f, t, x, d);
         j += 1;
     }
 }

@@ -21,10 +21,6 @@ right false false e = e
 pub between-most : (lo hi x : ℕ) → between lo hi x ≡ true → x ≤ hi
 between-most lo hi x e = leb-true x hi (right (leb lo x) (leb x hi) e)
 
--- and at least lo
-pub between-least : (lo hi x : ℕ) → between lo hi x ≡ true → lo ≤ x
-between-least lo hi x e = leb-true lo x (left (leb lo x) (leb x hi) e)
-
 pub priced : (x p : ℕ) → between 1 mostLots x ≡ true → priceRight p ≡ true → Priced x p
 priced x p e f = record { lots = between-most 1 mostLots x e; price = between-most 1 mostPrice p f }
 

@@ -19,39 +19,32 @@ const MOST_DAYS: u32 = 12;
 
 const MOST_RATE: u32 = 10_000;
 
-// x lies in lo..hi.
-fn within(lo: u32, hi: u32, x: u32) -> bool
-    ensures { λ r. ⌜ r ≡ between lo hi x ⌝ }
-{
-    lo <= x && x <= hi
-}
-
 // Question 7: lots are 1..20,000,000.
 pub fn lots_right(x: u32) -> bool
     ensures { λ r. ⌜ r ≡ between 1 mostLots x ⌝ }
 {
-    within(1, MOST_LOTS, x)
+    (1 <= x) & (x <= MOST_LOTS)
 }
 
 // Question 11 on a price: it is 1..200,000.
 pub fn price_right(price: u32) -> bool
     ensures { λ r. ⌜ r ≡ priceRight price ⌝ }
 {
-    within(1, MOST_PRICE, price)
+    (1 <= price) & (price <= MOST_PRICE)
 }
 
 // Question 11 on days and rate: days are 1..12, the rate is 0..10,000.
 pub fn term_right(days: u32, rate: u32) -> bool
     ensures { λ r. ⌜ r ≡ termRight days rate ⌝ }
 {
-    within(1, MOST_DAYS, days) && rate <= MOST_RATE
+    (1 <= days) & (days <= MOST_DAYS) & (rate <= MOST_RATE)
 }
 
 // Question 11 on all that a charge is counted from beside the lots.
 fn charge_right(price: u32, days: u32, rate: u32) -> bool
     ensures { λ r. ⌜ r ≡ priceRight price && termRight days rate ⌝ }
 {
-    price_right(price) && term_right(days, rate)
+    price_right(price) & term_right(days, rate)
 }
 
 // The number of the first question answered 'no', 7 on lots and then 11 on the rest; 0 where both say 'yes'.

@@ -1,5 +1,3 @@
-pub mod Alone
-pub mod Sweeping
-pub mod Opening
-pub mod Stepping
-pub mod Pairs
+pub mod Recording
+pub mod Meeting
+pub mod Books

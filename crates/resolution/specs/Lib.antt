@@ -1,3 +1,2 @@
--- What resolve and pair-off do to the ledger's columns and to the lent output.
+-- What resolve does to the ledger's columns and to the lent output.
 pub mod Resolving
-pub mod Pairs

@@ -3,52 +3,40 @@ use mathlib.Core.Path.{_≡_}
 use mathlib.Core.Bool.{true}
 use mathlib.Core.List.{List, [], map}
 use Prim.Native.Nat.{ℕ, _+_, _-_, _*_, _≤_, _<_}
-use lib.ListN.{length, getD}
+use lib.ListN.{length, getD, set}
 use lib.Seq.{sets}
+use denote.Ref.{now}
 use Rattle.rules.specs.declared.Entry.{Entry}
-use Rattle.rules.specs.Measures.{outputWords}
-use Rattle.rules.specs.Ledger.{entry, putEntry, isFrom, metBy, meet}
+use Rattle.rules.specs.Measures.{mostEntries, outputWords}
+use Rattle.rules.specs.Ledger.{putEntry, isFrom, metBy, meet}
 use Rattle.rules.specs.Book.{all, entries, entrySound}
 use Rattle.rules.specs.Records.{recordOf, words, over}
 use Rattle.rules.specs.Calls.{resolveRecords}
-use Rattle.ledger.specs.Columns.{EachPair, Columns, Whole, Held}
+use Rattle.ledger.specs.Columns.{entryAt, Columns, Whole, Held, Lent, Column}
 use Rattle.resolution.specs.declared.Counts.{Counts}
 use Rattle.resolution.specs.declared.Turn.{Turn}
 
--- the entry that stands at a place of five columns
-abbrev pub entryAt : ℕ → List ℕ → List ℕ → List ℕ → List ℕ → List ℕ → Entry
-entryAt k is fs ts xs ds = entry (getD is k 0) (getD fs k 0) (getD ts k 0) (getD xs k 0) (getD ds k 0)
-
--- an entry, or nothing where it is at 0, as it is kept and as a record of what was met
+-- an entry of x lots, or nothing where x is 0
 abbrev pub alone : Entry → ℕ → List Entry
 alone e x = putEntry e x []
-
--- an entry with x lots stored at place w, unless x is 0
-pub record Put (e : Entry) (x w r : ℕ) (i₀ f₀ t₀ x₀ d₀ i f t xs d : List ℕ) : Type 0 where
-  pub next : r ≡ w + length (alone e x)
-  pub columns : EachPair (λ g c₀ c. c ≡ sets c₀ w (map g (alone e x))) i₀ f₀ t₀ x₀ d₀ i f t xs d
 
 -- its record behind n others, unless x is 0
 pub record Recorded (e : Entry) (x n r : ℕ) (o₀ o : List ℕ) : Type 0 where
   pub next : r ≡ n + length (alone e x)
   pub out : o ≡ sets o₀ (2 * n) (words (map (recordOf 11) (alone e x)))
 
--- the entry at place k can be met, what is left of it stored at w, a record put behind n others
-pub record CanMeet (k w n : ℕ) (is fs ts xs ds out : List ℕ) : Type 0 where
-  pub place : k < 2048
-  pub before : w ≤ k
+-- the entry at place k can be met, a record put behind n others
+pub record CanMeet (k n : ℕ) (is fs ts xs ds out : List ℕ) : Type 0 where
+  pub place : k < mostEntries
   pub room : 2 * n + 2 ≤ length out
   pub whole : Whole is fs ts xs ds
   pub sound : entrySound (entryAt k is fs ts xs ds) ≡ true
 
 -- and was, by as much of x lots as it takes
-pub record WasMet (i a x k w n : ℕ) (r : Turn) (is fs ts xs ds out : List ℕ) (is′ fs′ ts′ xs′ ds′ out′ : List ℕ) : Type 0 where
-  pub left : r .left ≡ x - metBy (isFrom i a) x (entryAt k is fs ts xs ds)
-  pub kept :
-      Put (entryAt k is fs ts xs ds) (getD xs k 0 - metBy (isFrom i a) x (entryAt k is fs ts xs ds)) w (r .entries)
-      is fs ts xs ds is′ fs′ ts′ xs′ ds′
-  pub met :
-      Recorded (entryAt k is fs ts xs ds) (metBy (isFrom i a) x (entryAt k is fs ts xs ds)) n (r .records) out out′
+pub record WasMet (i a x k n : ℕ) (r : Turn) (e : Entry) (xs xs′ out out′ : List ℕ) : Type 0 where
+  pub left : r .left ≡ x - metBy (isFrom i a) x e
+  pub lots : xs′ ≡ set xs k (getD xs k 0 - metBy (isFrom i a) x e)
+  pub met : Recorded e (metBy (isFrom i a) x e) n (r .records) out out′
 
 -- a ledger whose entries are sound, in its columns, and an output with room for a record an entry
 pub record Resolvable (n : ℕ) (is fs ts xs ds out : List ℕ) : Type 0 where
@@ -62,3 +50,24 @@ pub record Resolved (es : List Entry) (i a x : ℕ) (r : Counts) (is fs ts xs ds
   pub columns : Columns (meet (isFrom i a) x es) is fs ts xs ds
   pub records : r .records ≡ length (resolveRecords es i a x)
   pub written : out′ ≡ over (words (resolveRecords es i a x)) out
+
+-- The same by name
+
+abbrev pub canMeet : ℕ → ℕ → Lent → Lent → Lent → Lent → Lent → Lent → Type 0
+canMeet k n issues froms tos lots days out =
+    CanMeet k n (now issues) (now froms) (now tos) (now lots) (now days) (now out)
+
+abbrev pub wasMet : ℕ → ℕ → ℕ → ℕ → ℕ → Turn → Column → Column → Column → Column → Column → Column → Type 0
+wasMet i a x k n r issues froms tos lots days out =
+    WasMet i a x k n r
+    (entryAt k (now (issues .entry)) (now (froms .entry)) (now (tos .entry)) (now (lots .entry)) (now (days .entry)))
+    (now (lots .entry)) (now (lots .exit)) (now (out .entry)) (now (out .exit))
+
+abbrev pub resolvable : ℕ → Lent → Lent → Lent → Lent → Lent → Lent → Type 0
+resolvable n issues froms tos lots days out =
+    Resolvable n (now issues) (now froms) (now tos) (now lots) (now days) (now out)
+
+abbrev pub resolved : List Entry → ℕ → ℕ → ℕ → Counts → Column → Column → Column → Column → Column → Column → Type 0
+resolved es i a x r issues froms tos lots days out =
+    Resolved es i a x r (now (issues .exit)) (now (froms .exit)) (now (tos .exit)) (now (lots .exit)) (now (days .exit))
+    (now (out .entry)) (now (out .exit))

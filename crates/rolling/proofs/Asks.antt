@@ -1,27 +1,24 @@
 -- roll's questions one by one, and what a sound book gives once none is answered 'no'.
-use mathlib.Core.Path.{_≡_, refl, sym, ap, _∙_}
+use mathlib.Core.Path.{_≡_, refl, ap}
 use mathlib.Core.Bool.{Bool, true, false, _&&_}
-use mathlib.Core.List.{List, [], _∷_}
-use Prim.Native.Nat.{ℕ, _+_, _≤_, _<_}
+use mathlib.Core.List.{List}
+use Prim.Native.Nat.{ℕ, _≤_, _<_}
 use native.Mathlib.Omega.{arith}
 use lib.Dec.{ltb, eqb}
-use lib.ListN.{length, replicate}
-use lib.IntN.{ℤ, pos}
+use lib.ListN.{length}
 use borrow.Author.Tests.{ltb-true, lt-ltb, le-ltb, eqb-true, eq-eqb, ne-eqb}
 use Rattle.rules.specs.declared.Book.{Book}
 use Rattle.rules.specs.declared.Phase.{Phase}
 use Rattle.rules.specs.Measures.{mostPrice, lastDay, issueCount}
-use Rattle.rules.specs.declared.Phase.the-variants.{Taking}
-use Rattle.rules.specs.Ledger.{charged}
-use Rattle.rules.specs.Book.{isCut, all, ledgerOf, withDay, withNets, withDelivered, withCharges}
-use Rattle.rules.specs.Questions.{Question, firstNo, askRoll, askDay, termRight, priceRight}
-use Rattle.rules.specs.Calls.{rollAsks, rolled}
+use Rattle.rules.specs.Book.{isCut, all, sound}
+use Rattle.rules.specs.Questions.{Question, firstNo, termRight, priceRight}
+use Rattle.rules.specs.Calls.{rollAsks}
 use Rattle.laws.proofs.Basics.{and-left, and-right, and-both, each-map}
 use Rattle.laws.proofs.Sound.{sound-parts, charge-bounded, all-each, each-getD}
 use Rattle.laws.proofs.Ledger.{sound-at}
 use Rattle.measures.proofs.Limits.{between-most, termed}
-use Rattle.laws.proofs.Answers.{yes, said-yes, said-no}
-use Rattle.rolling.specs.Rolling.{Chargeable, Ready}
+use Rattle.laws.proofs.Answers.{AllYes, stops, no-no, all-yes}
+use Rattle.rolling.specs.Rolling.{Chargeable}
 
 and-no : (a b : Bool) → b ≡ false → a && b ≡ false
 and-no true b e = e
@@ -37,80 +34,67 @@ pub record Terms (days rate : ℕ) (prices : List ℕ) : Type 0 where
   pub price : all priceRight prices ≡ true
 
 module _ (p : Phase) (today days rate : ℕ) (prices : List ℕ) where
-  abbrev from12 : List Question
-  from12 = askDay today ∷ []
-
-  abbrev from11 : List Question
-  from11 = askRoll days rate prices ∷ from12
-
   abbrev pub asks : ℕ
   asks = firstNo (rollAsks p today days rate prices)
 
-  abbrev right : Bool
-  right = termRight days rate && eqb (length prices) issueCount && all priceRight prices
+  abbrev qs : List Question
+  qs = rollAsks p today days rate prices
 
   pub no3 : isCut p ≡ false → 3 ≡ asks
-  no3 h = sym (said-no 3 (isCut p) from11 h)
+  no3 h = stops 0 qs tt h
 
   module _ (y3 : isCut p ≡ true) where
-    yes3 : asks ≡ firstNo from11
-    yes3 = said-yes 3 (isCut p) from11 y3
-
-    no11 : right ≡ false → 11 ≡ asks
-    no11 h = sym (yes3 ∙ said-no 11 right from12 h)
-
     pub no11-term : termRight days rate ≡ false → 11 ≡ asks
     no11-term h =
-        no11 (no-and _ (all priceRight prices) (no-and (termRight days rate) (eqb (length prices) issueCount) h))
+        stops 1 qs (y3, tt) (no-and _ (all priceRight prices) (no-and (termRight days rate) (eqb (length prices) issueCount) h))
 
     pub no11-count : (length prices ≡ 16 → ⊥) → 11 ≡ asks
     no11-count h =
-        no11 (no-and _ (all priceRight prices)
+        stops 1 qs (y3, tt)
+        (no-and _ (all priceRight prices)
         (and-no (termRight days rate) (eqb (length prices) issueCount) (ne-eqb (length prices) issueCount h)))
 
     pub no11-price : all priceRight prices ≡ false → 11 ≡ asks
-    no11-price h = no11 (and-no (termRight days rate && eqb (length prices) issueCount) (all priceRight prices) h)
+    no11-price h =
+        stops 1 qs (y3, tt) (and-no (termRight days rate && eqb (length prices) issueCount) (all priceRight prices) h)
 
     module _ (t : Terms days rate prices) where
-      yes11 : asks ≡ firstNo from12
+      yes11 : termRight days rate && eqb (length prices) issueCount && all priceRight prices ≡ true
       yes11 =
-          yes3
-          ∙ said-yes 11 right from12
-          (and-both (termRight days rate && eqb (length prices) issueCount) (all priceRight prices)
+          and-both (termRight days rate && eqb (length prices) issueCount) (all priceRight prices)
           (and-both (termRight days rate) (eqb (length prices) issueCount) (t .term) (eq-eqb (length prices) issueCount (t .count)))
-          (t .price))
+          (t .price)
 
       pub no12 : lastDay ≤ today → 12 ≡ asks
-      no12 h = sym (yes11 ∙ said-no 12 (ltb today lastDay) [] (le-ltb today lastDay h))
+      no12 h = stops 2 qs (y3, (yes11, tt)) (le-ltb today lastDay h)
 
       pub none : today < lastDay → 0 ≡ asks
-      none h = sym (yes11 ∙ said-yes 12 (ltb today lastDay) [] (lt-ltb today lastDay h))
+      none h = no-no qs (y3, (yes11, (lt-ltb today lastDay h, tt)))
+
+  answered : asks ≡ 0 → AllYes (rollAsks p today days rate prices)
+  answered h = all-yes qs (omega arith) h
 
   pub terms : asks ≡ 0 → Terms days rate prices
   terms h =
-      let y3 = yes 2 (isCut p) from11 h in
-      let y11 = yes 10 right from12 (y3 .others) in
-      let y = and-left (termRight days rate && eqb (length prices) issueCount) (all priceRight prices) (y11 .first) in
+      let y11 = answered h .1 .0 in
+      let y = and-left (termRight days rate && eqb (length prices) issueCount) (all priceRight prices) y11 in
       record {
         term = and-left (termRight days rate) (eqb (length prices) issueCount) y;
         count = eqb-true (length prices) issueCount (and-right (termRight days rate) (eqb (length prices) issueCount) y);
-        price = and-right (termRight days rate && eqb (length prices) issueCount) (all priceRight prices) (y11 .first);
+        price = and-right (termRight days rate && eqb (length prices) issueCount) (all priceRight prices) y11;
       }
 
   pub not-last : asks ≡ 0 → today < lastDay
-  not-last h =
-      let y3 = yes 2 (isCut p) from11 h in
-      let y11 = yes 10 right from12 (y3 .others) in
-      ltb-true today lastDay (yes 11 (ltb today lastDay) [] (y11 .others) .first)
+  not-last h = ltb-true today lastDay (answered h .1 .1 .0)
 
 -- the columns of a sound book
-pub chargeable : (b : Book) (days rate : ℕ) (prices : List ℕ) → Ready b days rate prices → length (b .issues) ≡ 2048 →
+pub chargeable : (b : Book) (days rate : ℕ) (prices : List ℕ) → sound b ≡ true → firstNo (rollAsks (b .phase) (b .day) days rate prices) ≡ 0 → length (b .issues) ≡ 2048 →
     length (b .froms) ≡ 2048 → length (b .tos) ≡ 2048 → length (b .lots) ≡ 2048 → length (b .charges) ≡ 64 →
     Chargeable days rate prices (b .count) (b .issues) (b .froms) (b .tos) (b .lots) (b .charges)
-chargeable b days rate prices r li lf lt lx lc =
-    let s = sound-parts b (r .sound) in
-    let t = terms (b .phase) (b .day) days rate prices (r .asks) in
-    let d = not-last (b .phase) (b .day) days rate prices (r .asks) in
+chargeable b days rate prices h q li lf lt lx lc =
+    let s = sound-parts b h in
+    let t = terms (b .phase) (b .day) days rate prices q in
+    let d = not-last (b .phase) (b .day) days rate prices q in
     let e = sound-at (b .day) (b .count) (b .issues) (b .froms) (b .tos) (b .lots) (b .days) (s .ledger) in
     record {
       term = termed days rate (t .term);
@@ -130,16 +114,3 @@ chargeable b days rate prices r li lf lt lx lc =
       accounts = lc;
       charge = λ a. omega (arith, charge-bounded b s a, d);
     }
-
--- the book put together from its rolled columns
-pub together : (b charged′ cleared delivered′ next : Book) (cs ns : List ℤ) (ds : List ℕ) (days rate : ℕ) (prices : List ℕ) →
-    charged′ ≡ withCharges b cs → cleared ≡ withNets charged′ ns → delivered′ ≡ withDelivered cleared ds →
-    next ≡ withDay delivered′ (b .day + 1) Taking → cs ≡ charged days rate prices (ledgerOf b) (b .charges) →
-    ns ≡ replicate 1024 (pos 0) → ds ≡ replicate 1024 0 → next ≡ rolled b days rate prices
-together b charged′ cleared delivered′ next cs ns ds days rate prices e₁ e₂ e₃ e₄ ec en ed =
-    let b₁ = withCharges b (charged days rate prices (ledgerOf b) (b .charges)) in
-    let b₂ = withNets b₁ (replicate 1024 (pos 0)) in
-    let f₁ : charged′ ≡ b₁ = e₁ ∙ ap (withCharges b) ec in
-    let f₂ : cleared ≡ b₂ = e₂ ∙ ap (λ x. withNets x ns) f₁ ∙ ap (withNets b₁) en in
-    let f₃ : delivered′ ≡ withDelivered b₂ (replicate 1024 0) = e₃ ∙ ap (λ x. withDelivered x ds) f₂ ∙ ap (withDelivered b₂) ed in
-    e₄ ∙ ap (λ x. withDay x (b .day + 1) Taking) f₃

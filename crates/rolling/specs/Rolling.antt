@@ -1,17 +1,15 @@
 -- What a roll in place may count on, and what it leaves.
 use mathlib.Core.Path.{_≡_}
-use mathlib.Core.Bool.{true}
 use mathlib.Core.List.{List}
 use Prim.Native.Nat.{ℕ, _+_, _*_, _≤_, _<_, _^_}
 use lib.ListN.{length, getD, set, replicate}
 use lib.IntN.{ℤ, pos, natAbs, _+ℤ_, _-ℤ_}
+use denote.Ref.{now}
 use Rattle.rules.specs.Measures.{mostLots, mostPrice, mostEntries, mostCharge, lastDay}
 use Rattle.rules.specs.Ledger.{charged}
-use Rattle.rules.specs.Book.{entries, sound}
-use Rattle.rules.specs.Questions.{firstNo}
-use Rattle.rules.specs.Calls.{rollAsks}
-use Rattle.rules.specs.declared.Book.{Book}
+use Rattle.rules.specs.Book.{entries}
 use Rattle.measures.specs.Range.{Termed}
+use Rattle.book.specs.States.{Lent, Column}
 
 -- yen added to a charge, or taken from it, leave a charge of 64 bits
 pub record Room (c : ℤ) (y : ℕ) : Type 0 where
@@ -59,7 +57,11 @@ pub record Rolled (ns : List ℤ) (ds : List ℕ) : Type 0 where
   pub nets : ns ≡ replicate 1024 (pos 0)
   pub delivered : ds ≡ replicate 1024 0
 
--- a sound book whose roll has its questions answered 'yes'
-pub record Ready (b : Book) (days rate : ℕ) (prices : List ℕ) : Type 0 where
-  pub sound : sound b ≡ true
-  pub asks : firstNo (rollAsks (b .phase) (b .day) days rate prices) ≡ 0
+-- the same of lent columns
+abbrev pub canCharge : ℕ → ℕ → Lent ℕ → ℕ → Lent ℕ → Lent ℕ → Lent ℕ → Lent ℕ → Lent ℤ → Type 0
+canCharge days rate prices n issues froms tos lots charges =
+    Chargeable days rate (now prices) n (now issues) (now froms) (now tos) (now lots) (now charges)
+
+abbrev pub wasCharged : ℕ → ℕ → Column ℕ → ℕ → Column ℕ → Column ℕ → Column ℕ → Column ℕ → Column ℤ → Type 0
+wasCharged days rate prices n issues froms tos lots charges =
+    Charged days rate (now (prices .entry)) n (now (issues .entry)) (now (froms .entry)) (now (tos .entry)) (now (lots .entry)) (now (charges .entry)) (now (charges .exit))

@@ -7,7 +7,7 @@ ghost use lib.IntN.{pos, _+ℤ_, _-ℤ_};
 ghost use Rattle.rules.specs.Book.{all};
 ghost use Rattle.rules.specs.Questions.{firstNo, priceRight};
 ghost use Rattle.rules.specs.Calls.{rollAsks};
-ghost use Rattle.rolling.specs.Rolling.{Room, Payable, paid, Chargeable, Charged, Cells, Rolled};
+ghost use Rattle.rolling.specs.Rolling.{Room, Payable, paid, canCharge, wasCharged, Cells, Rolled};
 
 // Is each price 1..200,000?
 fn prices_right(prices: &[u32]) -> bool
@@ -83,8 +83,8 @@ fn charge_entries<'a>(
     lots: &'a [u32],
     charges: &mut [i64],
 )
-    requires { ⌜ Chargeable days rate (now prices) count (now issues) (now froms) (now tos) (now lots) (now charges) ⌝ }
-    ensures { λ _. ⌜ Charged days rate (now (prices .entry)) count (now (issues .entry)) (now (froms .entry)) (now (tos .entry)) (now (lots .entry)) (now (charges .entry)) (now (charges .exit)) ⌝ }
+    requires { ⌜ canCharge days rate prices count issues froms tos lots charges ⌝ }
+    ensures { λ _. ⌜ wasCharged days rate prices count issues froms tos lots charges ⌝ }
 {
     let mut k: usize = 0;
     while k < count {
@@ -133,8 +133,8 @@ pub fn roll_in<'a>(
     nets: &mut [i32],
     delivered: &mut [u32],
 )
-    requires { ⌜ Chargeable days rate (now prices) count (now issues) (now froms) (now tos) (now lots) (now charges) × Cells (now nets) (now delivered) ⌝ }
-    ensures { λ _. ⌜ Charged days rate (now (prices .entry)) count (now (issues .entry)) (now (froms .entry)) (now (tos .entry)) (now (lots .entry)) (now (charges .entry)) (now (charges .exit)) × Rolled (now (nets .exit)) (now (delivered .exit)) ⌝ }
+    requires { ⌜ canCharge days rate prices count issues froms tos lots charges × Cells (now nets) (now delivered) ⌝ }
+    ensures { λ _. ⌜ wasCharged days rate prices count issues froms tos lots charges × Rolled (now (nets .exit)) (now (delivered .exit)) ⌝ }
 {
     charge_entries(days, rate, prices, count, issues, froms, tos, lots, charges);
     clear_nets(nets);

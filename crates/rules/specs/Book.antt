@@ -9,8 +9,8 @@ use Rattle.rules.specs.declared.Book.{Book}
 use Rattle.rules.specs.declared.Entry.{Entry}
 use Rattle.rules.specs.declared.Phase.{Phase}
 use Rattle.rules.specs.declared.Phase.the-variants.{Taking, Settling, Cut}
-use Rattle.rules.specs.Measures.{issueCount, accountCount, unitLots, mostLots, mostEntries, mostCharge, between, sum, dueOf, owedOf}
-use Rattle.rules.specs.Units.{Part, units}
+use Rattle.rules.specs.Measures.{issueCount, lastIssue, accountCount, lastAccount, cellCount, unitLots, mostLots, mostEntries, mostCharge, between, sum, dueOf, owedOf}
+use Rattle.rules.specs.Units.{Part, unitsOfNets}
 use Rattle.rules.specs.Handover.{stock}
 use Rattle.rules.specs.Ledger.{entry}
 
@@ -43,10 +43,10 @@ all p (x ∷ xs) = p x && all p xs
 
 -- for each issue and account: where its number stands, and the numbers of an issue
 abbrev pub cell : ℕ → ℕ → ℕ
-cell i a = i * 64 + a
+cell i a = i * accountCount + a
 
 abbrev pub row {ℓ} : {A : Type ℓ} → ℕ → List A → List A
-row i xs = take 64 (drop (i * 64) xs)
+row i xs = take accountCount (drop (i * accountCount) xs)
 
 abbrev pub netAt : List ℤ → ℕ → ℕ → ℤ
 netAt nets i a = getD nets (cell i a) (pos 0)
@@ -66,7 +66,7 @@ deliveredTotal delivered i = sum (row i delivered)
 
 -- the issue's units in the order of the day
 unfoldable pub orderIn : List ℤ → ℕ → List Part
-orderIn nets i = units unitLots (duesOf nets i)
+orderIn nets i = unitsOfNets unitLots (row i nets)
 
 abbrev pub orderOf : Book → ℕ → List Part
 orderOf b i = orderIn (b .nets) i
@@ -109,7 +109,7 @@ isZero x = eqb x 0
 -- entries have numbers in range, from unlike to, lots 1..20,000,000
 abbrev pub entrySound : Entry → Bool
 entrySound e =
-    leb (e .issue) 15 && leb (e .from) 63 && leb (e .to) 63 && not (eqb (e .from) (e .to))
+    leb (e .issue) lastIssue && leb (e .from) lastAccount && leb (e .to) lastAccount && not (eqb (e .from) (e .to))
     && between 1 mostLots (e .lots)
 
 -- days never fall along the ledger, from `least` on, nor are above today
@@ -201,5 +201,5 @@ withLedger b es =
 -- a fresh book is day 0, Taking, all zero, ledger empty
 abbrev pub fresh : Book
 fresh =
-    bookOf 0 Taking (replicate 1024 (pos 0)) (replicate 1024 0) (replicate 64 (pos 0)) 0
-    (replicate 2048 0) (replicate 2048 0) (replicate 2048 0) (replicate 2048 0) (replicate 2048 0)
+    bookOf 0 Taking (replicate cellCount (pos 0)) (replicate cellCount 0) (replicate accountCount (pos 0)) 0
+    (replicate mostEntries 0) (replicate mostEntries 0) (replicate mostEntries 0) (replicate mostEntries 0) (replicate mostEntries 0)

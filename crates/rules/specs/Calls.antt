@@ -13,7 +13,7 @@ use Rattle.rules.specs.declared.Found.{Found}
 use Rattle.rules.specs.declared.Found.the-variants as found
 use Rattle.rules.specs.declared.Phase.{Phase}
 use Rattle.rules.specs.declared.Phase.the-variants.{Taking, Settling, Cut}
-use Rattle.rules.specs.Measures.{issueCount, unitLots, outputWords, valueOf, chargeOf}
+use Rattle.rules.specs.Measures.{issueCount, cellCount, unitLots, outputWords, valueOf, chargeOf}
 use Rattle.rules.specs.Units.{Part}
 use Rattle.rules.specs.Handover.{handovers, partials}
 use Rattle.rules.specs.Fails.{Fail, fails}
@@ -134,8 +134,8 @@ abbrev pub rolled : Book → ℕ → ℕ → List ℕ → Book
 rolled b days rate prices =
     withDay
     (withDelivered
-    (withNets (withCharges b (charged days rate prices (ledgerOf b) (b .charges))) (replicate 1024 (pos 0)))
-    (replicate 1024 0))
+    (withNets (withCharges b (charged days rate prices (ledgerOf b) (b .charges))) (replicate cellCount (pos 0)))
+    (replicate cellCount 0))
     (b .day + 1)
     Taking
 

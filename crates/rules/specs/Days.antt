@@ -19,6 +19,7 @@ use Rattle.rules.specs.Records.{Rec, recordsIn}
 use Rattle.rules.specs.Calls.{Call, Trade, Close, Deliver, Cutoff, Resolve, PairOff, Roll, Answer, oneUnit, noUnit, someYen, noYen, called, unit, value, charge, issuePartials, issueFails}
 use Rattle.rules.specs.Tape.{readOf, pricesOf, wordsOf, writeOf}
 use Rattle.rules.specs.Run.{Ran, ChargeLine, runOf, answerOf, failLines, chargeLines, line}
+use Rattle.rules.specs.Text.{decimal, lineText, failText, chargeText, ranOf, closingText, printedOf}
 use Rattle.rules.specs.Tally.{State, afterAll, start, inIssue}
 
 -- a lent output: the words after the last record show that they are kept
@@ -72,6 +73,17 @@ exampleTape = 0x10042000 ∷ 0x80000003 ∷ 0x50000000 ∷ 0x60000000 ∷ []
 
 unfoldable pub exampleRun : Ran
 exampleRun = runOf exampleTape false
+
+-- its bytes, and what is printed for them
+abbrev pub exampleBytes : List ℕ
+exampleBytes = 0x00 ∷ 0x20 ∷ 0x04 ∷ 0x10 ∷ 0x03 ∷ 0x00 ∷ 0x00 ∷ 0x80 ∷ 0x00 ∷ 0x00 ∷ 0x00 ∷ 0x50 ∷ 0x00 ∷ 0x00 ∷ 0x00 ∷ 0x60 ∷ []
+
+abbrev pub exampleText : List ℕ
+exampleText =
+    (48 ∷ 32 ∷ 116 ∷ 114 ∷ 97 ∷ 100 ∷ 101 ∷ 32 ∷ 48 ∷ 32 ∷ 48 ∷ 10 ∷ [])
+    ++ (50 ∷ 32 ∷ 99 ∷ 108 ∷ 111 ∷ 115 ∷ 101 ∷ 32 ∷ 48 ∷ 32 ∷ 48 ∷ 10 ∷ [])
+    ++ (51 ∷ 32 ∷ 99 ∷ 117 ∷ 116 ∷ 111 ∷ 102 ∷ 102 ∷ 32 ∷ 48 ∷ 32 ∷ 49 ∷ 10 ∷ [])
+    ++ (70 ∷ 32 ∷ 48 ∷ 32 ∷ 49 ∷ 32 ∷ 50 ∷ 32 ∷ 51 ∷ 32 ∷ 48 ∷ 10 ∷ [])
 
 -- the same calls as P5 to P8 and the resolve after it, tallied
 unfoldable pub tallied : State
@@ -150,6 +162,7 @@ programDays =
     case (exampleRun .lines) (line 0 name.Trade 0 0 ∷ line 2 name.Close 0 0 ∷ line 3 name.Cutoff 0 1 ∷ [])
     ∷ case (failLines (exampleRun .book)) (fail 1 2 3 ∷ [])
     ∷ case (chargeLines (exampleRun .book)) []
+    ∷ case (printedOf exampleBytes) exampleText
     ∷ []
 
 -- days of our own
@@ -182,6 +195,6 @@ settledDays = unitDays ++ bookDays ++ ledgerDays ++ programDays ++ ownDays
 
 -- each by computing what the definitions give
 pub settled : Holds settledDays
-unfolding settledDays units handovers partials lacks fails pairing valueOf chargeOf conditions sound orderIn issuePartials issueFails called unit value charge readOf pricesOf answerOf runOf inIssue traded1 traded2 traded3 closed delivered1 delivered2 cut rolled1 pairedOff resolved exampleRun tallied talliedCut
+unfolding settledDays units handovers partials lacks fails pairing valueOf chargeOf conditions sound orderIn issuePartials issueFails called unit value charge readOf pricesOf answerOf runOf decimal lineText failText chargeText ranOf closingText printedOf inIssue traded1 traded2 traded3 closed delivered1 delivered2 cut rolled1 pairedOff resolved exampleRun tallied talliedCut
 settled =
-    (refl, (refl, (refl, (refl, (refl, (refl, (refl, (refl, (refl, (refl, (refl, (refl, (refl, (refl, (refl, (refl, (refl, (refl, (refl, (refl, (refl, (refl, (refl, (refl, (refl, (refl, (refl, (refl, (refl, (refl, (refl, (refl, (refl, (refl, tt))))))))))))))))))))))))))))))))))
+    (refl, (refl, (refl, (refl, (refl, (refl, (refl, (refl, (refl, (refl, (refl, (refl, (refl, (refl, (refl, (refl, (refl, (refl, (refl, (refl, (refl, (refl, (refl, (refl, (refl, (refl, (refl, (refl, (refl, (refl, (refl, (refl, (refl, (refl, (refl, tt)))))))))))))))))))))))))))))))))))

@@ -1,4 +1,4 @@
--- Document 01 as definitions, in its order.
+-- Document 01 as definitions: each file cites only those before it.
 pub mod Measures
 pub mod Units
 pub mod Handover
@@ -9,6 +9,8 @@ pub mod Records
 pub mod Questions
 pub mod Calls
 pub mod Tape
+pub mod Bytes
 pub mod Run
+pub mod Text
 pub mod Tally
 pub mod Days

@@ -9,9 +9,19 @@ use mathlib.Core.List.{List, [], _∷_}
 abbrev pub issueCount : ℕ
 issueCount = 16
 
+abbrev pub lastIssue : ℕ
+lastIssue = 15
+
 -- 64 netting accounts (0 to 63)
 abbrev pub accountCount : ℕ
 accountCount = 64
+
+abbrev pub lastAccount : ℕ
+lastAccount = 63
+
+-- a number for each issue and account
+abbrev pub cellCount : ℕ
+cellCount = 1024
 
 -- a unit is at most 5 billion yen (001), so 100,000 lots
 abbrev pub unitLots : ℕ

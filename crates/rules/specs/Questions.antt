@@ -8,7 +8,7 @@ use lib.IntN.{ℤ, pos, _+ℤ_, _-ℤ_}
 use Rattle.rules.specs.declared.Book.{Book}
 use Rattle.rules.specs.declared.Entry.{Entry}
 use Rattle.rules.specs.declared.Phase.{Phase}
-use Rattle.rules.specs.Measures.{issueCount, mostLots, mostEntries, lastDay, mostDays, mostRate, mostPrice, between, owedOf}
+use Rattle.rules.specs.Measures.{issueCount, lastIssue, lastAccount, mostLots, mostEntries, lastDay, mostDays, mostRate, mostPrice, between, owedOf}
 use Rattle.rules.specs.Ledger.{isFrom, lotsOf}
 use Rattle.rules.specs.Book.{isTaking, isSettling, isCut, all, withinSize, netAt, deliveredAt, sound}
 
@@ -41,14 +41,14 @@ askCut p = ask 3 (isCut p)
 
 -- 4. Is the issue at most 15?
 abbrev pub askIssue : ℕ → Question
-askIssue i = ask 4 (leb i 15)
+askIssue i = ask 4 (leb i lastIssue)
 
 -- 5. Is each account at most 63?
 abbrev pub askAccount : ℕ → Question
-askAccount a = ask 5 (leb a 63)
+askAccount a = ask 5 (leb a lastAccount)
 
 abbrev pub askAccounts : ℕ → ℕ → Question
-askAccounts f t = ask 5 (leb f 63 && leb t 63)
+askAccounts f t = ask 5 (leb f lastAccount && leb t lastAccount)
 
 -- 6. Do from and to differ?
 abbrev pub askDiffer : ℕ → ℕ → Question

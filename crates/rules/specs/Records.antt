@@ -1,5 +1,5 @@
 -- Records and words: 32-bit words, each field's place said once.
-use mathlib.Core.List.{List, [], _∷_, _++_, map}
+use mathlib.Core.List.{List, [], _∷_, _++_}
 use Prim.Native.Nat.{ℕ, zero, suc, _+_, _*_, _/_, _%_, _^_}
 use lib.ListN.{length, drop}
 use Rattle.rules.specs.declared.Entry.{Entry}

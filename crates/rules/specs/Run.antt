@@ -80,8 +80,12 @@ runFrom (suc n) at b ws stray =
     afterLine (line at (nameOf x) (a .refusal) (a .count)) (runFrom n (at + k) (a .book) (drop k ws) stray)))
 
 -- each instruction takes a word at least, so there are no more of them than words
+abbrev pub runRest : ℕ → Book → List ℕ → Bool → Ran
+runRest at b ws stray = runFrom (suc (length ws)) at b ws stray
+
+-- the run of a tape, from a fresh book on
 unfoldable pub runOf : List ℕ → Bool → Ran
-runOf ws stray = runFrom (suc (length ws)) 0 fresh ws stray
+runOf ws stray = runRest 0 fresh ws stray
 
 -- then `F` issue from to lots day for each entry
 abbrev pub failLines : Book → List Entry

@@ -7,7 +7,7 @@ use lib.Dec.{eqb}
 use lib.ListN.{length, getD}
 use lib.IntN.{ℤ, pos, _+ℤ_, _-ℤ_}
 use Rattle.rules.specs.declared.Book.{Book}
-use Rattle.rules.specs.Measures.{accountCount, unitLots, total, sum}
+use Rattle.rules.specs.Measures.{issueCount, accountCount, unitLots, total, sum}
 use Rattle.rules.specs.Units.{Part, part, sumLots, ofAccount, unitsOfNets}
 use Rattle.rules.specs.Ledger.{isFrom, isTo, lotsOf}
 use Rattle.rules.specs.Book.{tab, ledgerOf, fresh}
@@ -168,7 +168,7 @@ unitsToday t i = unitsOfNets unitLots (netsToday t i)
 -- 'delivered today less those handed on' is 0 to 99,999 lots, and 0 except between close and cutoff
 pub record StockHeld (given handed : ℕ) (settling : Bool) : Type 0 where
   pub least : handed ≤ given
-  pub most : given - handed ≤ 99999
+  pub most : given - handed < unitLots
   pub zero : settling ≡ false → given ≡ handed
 
 abbrev pub nobody : Part
@@ -199,13 +199,13 @@ failsBy b i a = lotsOf (isFrom i a) (ledgerOf b)
 
 pub record Demand3 (s : State) : Type 0 where
   -- the bonds delivered today less those handed on are 0 to 99,999 lots, and 0 except between close and cutoff
-  pub stock : (i : ℕ) → i < 16 →
+  pub stock : (i : ℕ) → i < issueCount →
       StockHeld (inIssue (s .tally .today .given) i) (sumLots (s .tally .rows i)) (s .settling)
   -- no unit has been handed a lot while a unit before it lacked one
-  pub turns : (i : ℕ) → i < 16 → (k : ℕ) → k < length (s .tally .rows i) →
+  pub turns : (i : ℕ) → i < issueCount → (k : ℕ) → k < length (s .tally .rows i) →
       InTurn (s .tally .rows i) (unitsToday (s .tally) i) k
   -- bought less sold equals handed less given, plus the fails owed to the account, less the fails it owes
-  pub balance : (i a : ℕ) → i < 16 → a < 64 →
+  pub balance : (i a : ℕ) → i < issueCount → a < accountCount →
       pos (s .tally .inAll .bought i a) -ℤ pos (s .tally .inAll .sold i a)
       ≡ pos (s .tally .inAll .handed i a) -ℤ pos (s .tally .inAll .given i a)
       +ℤ pos (failsTo (s .book) i a) -ℤ pos (failsBy (s .book) i a)

@@ -13,7 +13,7 @@ use Rattle.rules.specs.declared.Word.the-variants.{Head, After, Wrong}
 use Rattle.rules.specs.Measures.{issueCount, tapeWords}
 use Rattle.rules.specs.Book.{all}
 use Rattle.rules.specs.Records.{Field, bits, kindBits, issueBits, fromBits, toBits, lotsBits, daysBits, rateBits, priceBits, inField, ofField, headWord, lotsWord, over}
-use Rattle.rules.specs.Questions.{Question, ask, firstNo, askOutput}
+use Rattle.rules.specs.Questions.{ask, firstNo, askOutput}
 
 abbrev pub kindOf : ℕ → ℕ
 kindOf w = ofField kindBits w
@@ -26,24 +26,34 @@ pub data Kind : Type 0 where
   after : Field → Kind
   none : Kind
 
--- the kinds of a tape from 0 on, each said once
-abbrev pub kinds : List Kind
+-- a kind's number, and what a word of it is
+pub data Line : Type 0 where
+  kind : ℕ → Kind → Line
+
+-- the kinds of a tape, each said once
+abbrev pub kinds : List Line
 kinds =
-    none
     -- 1 trade, 2 deliver, 3 resolve: head, then a kind 8 word
-    ∷ head (bits 0 12) 1 8 (λ w x. Trade (ofField issueBits w) (ofField fromBits w) (ofField toBits w) x)
-    ∷ head (bits 0 18) 1 8 (λ w x. Deliver (ofField issueBits w) (ofField fromBits w) x)
-    ∷ head (bits 0 18) 1 8 (λ w x. Resolve (ofField issueBits w) (ofField fromBits w) x)
+    kind 1 (head (bits 0 12) 1 8 (λ w x. Trade (ofField issueBits w) (ofField fromBits w) (ofField toBits w) x))
+    ∷ kind 2 (head (bits 0 18) 1 8 (λ w x. Deliver (ofField issueBits w) (ofField fromBits w) x))
+    ∷ kind 3 (head (bits 0 18) 1 8 (λ w x. Resolve (ofField issueBits w) (ofField fromBits w) x))
     -- 4 pair-off, 5 close, 6 cutoff: one word
-    ∷ head (bits 0 18) 0 0 (λ w x. PairOff (ofField issueBits w) (ofField fromBits w))
-    ∷ head (bits 0 28) 0 0 (λ w x. Close)
-    ∷ head (bits 0 28) 0 0 (λ w x. Cutoff)
+    ∷ kind 4 (head (bits 0 18) 0 0 (λ w x. PairOff (ofField issueBits w) (ofField fromBits w)))
+    ∷ kind 5 (head (bits 0 28) 0 0 (λ w x. Close))
+    ∷ kind 6 (head (bits 0 28) 0 0 (λ w x. Cutoff))
     -- 7 roll: then sixteen kind 9 words
-    ∷ head (bits 0 10) issueCount 9 (λ w x. Roll (ofField daysBits w) (ofField rateBits w))
+    ∷ kind 7 (head (bits 0 10) issueCount 9 (λ w x. Roll (ofField daysBits w) (ofField rateBits w)))
     -- 8 lots in 27..0, 9 price in 17..0
-    ∷ after (bits 0 0)
-    ∷ after (bits 18 10)
+    ∷ kind 8 (after (bits 0 0))
+    ∷ kind 9 (after (bits 18 10))
     ∷ []
+
+abbrev pub kindIn : List Line → ℕ → Kind
+kindIn [] k = none
+kindIn (kind n K ∷ ls) k = cond (eqb k n) K (kindIn ls k)
+
+abbrev pub kindAt : ℕ → Kind
+kindAt k = kindIn kinds k
 
 -- unused bits are 0
 abbrev pub clear : Field → ℕ → Bool
@@ -56,7 +66,7 @@ asKind none w x = Wrong
 
 -- what a word is taken as, with the lots of the word after it
 abbrev pub wordAs : ℕ → ℕ → Word
-wordAs w x = asKind (getD kinds (kindOf w) none) w x
+wordAs w x = asKind (kindAt (kindOf w)) w x
 
 abbrev pub isAfter : ℕ → Word → Bool
 isAfter k (Head x j n) = false
@@ -118,11 +128,15 @@ wordsOf (Roll days rate) prices = rollWord days rate ∷ map priceWord prices
 abbrev pub fits : Field → ℕ → Bool
 fits f x = ltb x (2 ^ f .width)
 
+-- the fields of a head and of the lots after it, 0 where a head has none
+abbrev pub headFits : ℕ → ℕ → ℕ → ℕ → Bool
+headFits i f t x = fits issueBits i && fits fromBits f && fits toBits t && fits lotsBits x
+
 abbrev pub fieldsFit : Instruction → List ℕ → Bool
-fieldsFit (Trade i f t x) prices = fits issueBits i && fits fromBits f && fits toBits t && fits lotsBits x
-fieldsFit (Deliver i a x) prices = fits issueBits i && fits fromBits a && fits lotsBits x
-fieldsFit (Resolve i a x) prices = fits issueBits i && fits fromBits a && fits lotsBits x
-fieldsFit (PairOff i a) prices = fits issueBits i && fits fromBits a
+fieldsFit (Trade i f t x) prices = headFits i f t x
+fieldsFit (Deliver i a x) prices = headFits i a 0 x
+fieldsFit (Resolve i a x) prices = headFits i a 0 x
+fieldsFit (PairOff i a) prices = headFits i a 0 0
 fieldsFit Close prices = true
 fieldsFit Cutoff prices = true
 fieldsFit (Roll days rate) prices =

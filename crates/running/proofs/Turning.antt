@@ -28,9 +28,9 @@ use Rattle.cutoff.specs.declared.Counts.{Counts as CutCounts}
 use Rattle.cutoff.specs.Write.{Lent, lent}
 use Rattle.cutoff.specs.All.{WasCutAll}
 use Rattle.resolution.specs.declared.Counts.{Counts}
-use Rattle.resolution.specs.declared.Steps.{Steps}
+use Rattle.pairing.specs.declared.Steps.{Steps}
 use Rattle.resolution.specs.Resolving.{Resolved}
-use Rattle.resolution.specs.Pairs.{WasPaired}
+use Rattle.pairing.specs.Pairs.{WasPaired}
 use Rattle.running.specs.declared.Turn.{Turn}
 use Rattle.running.specs.Turns.{TurnIs, Gives, outAfter, inState, withinNets, withinCells, withinLedger, butCharges, butDays}
 

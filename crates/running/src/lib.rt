@@ -198,7 +198,7 @@ fn pair_off(
     requires { ⌜ ledgerReady s issues froms tos lots days ⌝ }
     ensures { λ r. ⌜ Turns (onLedger issues froms tos lots days) s (PairOff i a) r [] ⌝ }
 {
-    let no = resolution::pair_off_asks(i, a);
+    let no = pairing::pair_off_asks(i, a);
     if no != 0 {
         return Turn {
             refusal: no,
@@ -209,7 +209,7 @@ fn pair_off(
     }
     let count = s.entries;
     let day = s.day;
-    let k = resolution::pair_off_in(count, issues, froms, tos, lots, days, day, i, a);
+    let k = pairing::pair_off_in(count, issues, froms, tos, lots, days, day, i, a);
     let next = book::with_entries(s, k.count);
     Turn {
         refusal: 0,

@@ -9,9 +9,9 @@ use Rattle.rules.specs.declared.Instruction.{Instruction}
 use Rattle.rules.specs.declared.Read.the-variants.{Instr}
 use Rattle.rules.specs.Measures.{issueCount}
 use Rattle.rules.specs.Records.{bits, issueBits, fromBits, toBits, lotsBits, daysBits, rateBits, priceBits, ofField, headWord, lotsWord}
-use Rattle.rules.specs.Tape.{kindOf, Kind, head, after, none, kinds, isAfter, wordAs, wordsWrong, readOf, pricesOf, rollWord, priceWord, wordsOf}
+use Rattle.rules.specs.Tape.{kindOf, Kind, head, after, none, kindAt, isAfter, wordAs, wordsWrong, readOf, pricesOf, rollWord, priceWord, wordsOf}
 use Rattle.laws.proofs.Basics.{byTest}
-use Rattle.tape.proofs.Table.{each, Clears, after-is}
+use Rattle.tape.proofs.Table.{by-kind, Clears, after-is}
 use Rattle.tape.proofs.Sized.{read-is}
 
 -- each is a word
@@ -64,11 +64,11 @@ module _ (w k : ℕ) (word : w < 2 ^ 32) (kind : kindOf w ≡ k) where
 
 -- a first word that is right leaves the words after it
 first-right : (k n w : ℕ) (ws : List ℕ) → 0 ≡ wordsWrong k (suc n) (w ∷ ws) →
-    (kindOf w ≡ k) × Clears (getD kinds k none) w × (0 ≡ wordsWrong k n ws)
+    (kindOf w ≡ k) × Clears (kindAt k) w × (0 ≡ wordsWrong k n ws)
 first-right k n w ws e =
     byTest (isAfter k (wordAs w 0))
     (λ t.
-    let a = after-is (getD kinds (kindOf w) none) w 0 k t in
+    let a = after-is (kindAt (kindOf w)) w 0 k t in
     (a .0, rw (a .0) at (a .1), simp t at e))
     (λ t. let z : _≡_ {A = ℕ} 0 14 = simp t at e in absurd (omega arith))
 
@@ -97,14 +97,22 @@ module _ (w : ℕ) (rest : List ℕ) (b : Words (w ∷ rest)) where
   Back k (after u) = Unit {0}
   Back k none = Unit {0}
 
-  roll-back : Back 7 (getD kinds 7 none)
+  roll-back : Back 7 (kindAt 7)
   unfolding pricesOf
   roll-back e z r = joined (terms w 7 (b 0) e refl z) (prices-after issueCount rest (λ i. b (suc i)) r)
 
-  back : (k : ℕ) → Back k (getD kinds k none)
+  lots : 0 ≡ wordsWrong 8 1 rest → take 1 rest ≡ lotsWord (ofField lotsBits (getD rest 0 0)) ∷ []
+  lots r = lots-after rest (λ i. b (suc i)) r
+
+  back : (k : ℕ) → Back k (kindAt k)
   back k =
-      each Back kinds
-      (tt, (λ e z r. joined (full w 1 (b 0) e z) (lots-after rest (λ i. b (suc i)) r), (λ e z r. joined (short w 2 (b 0) e z) (lots-after rest (λ i. b (suc i)) r), (λ e z r. joined (short w 3 (b 0) e z) (lots-after rest (λ i. b (suc i)) r), (λ e z r. joined (short w 4 (b 0) e z) refl, (λ e z r. joined (bare w 5 (b 0) e z) refl, (λ e z r. joined (bare w 6 (b 0) e z) refl, (roll-back, (tt, (tt, tt)))))))))) (λ k. tt) k
+      by-kind Back (λ k. tt) (λ k u. tt)
+      (λ e z r. joined (full w 1 (b 0) e z) (lots r))
+      (λ e z r. joined (short w 2 (b 0) e z) (lots r))
+      (λ e z r. joined (short w 3 (b 0) e z) (lots r))
+      (λ e z r. joined (short w 4 (b 0) e z) refl)
+      (λ e z r. joined (bare w 5 (b 0) e z) refl)
+      (λ e z r. joined (bare w 6 (b 0) e z) refl) roll-back k
 
 -- the words that are read as an instruction are exactly those written for it
 pub read-is-written : (ws : List ℕ) (x : Instruction) (n : ℕ) → Words ws → readOf ws ≡ Instr x n →

@@ -2,6 +2,7 @@
 pub mod Table
 pub mod Reading
 pub mod PriceWords
+pub mod Fitting
 pub mod Writing
 pub mod Sized
 pub mod There

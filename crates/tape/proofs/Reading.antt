@@ -1,14 +1,16 @@
 -- The words of an instruction are asked one by one: what the question does to the words from `at` on.
 use mathlib.Core.Path.{_≡_, refl, ap}
-use mathlib.Core.Bool.{cond}
+use mathlib.Core.Bool.{false, cond}
 use mathlib.Core.List.{List, [], _∷_}
 use Prim.Native.Nat.{ℕ, zero, suc, _+_, _-_, _/_, _%_, _≤_, _<_}
 use native.Mathlib.Numerals.{add-one}
 use native.Mathlib.Omega.{arith}
-use lib.ListN.{length, getD, drop, drop-of-length-le, List·getD-eq-default}
+use borrow.Author.Tests.{ne-eqb}
+use lib.Dec.{eqb}
+use lib.ListN.{length, getD, drop, drop-of-length-le}
 use lib.Seq.{drop-cons}
 use Rattle.rules.specs.Records.{lotsBits, ofField}
-use Rattle.rules.specs.Tape.{kindOf, none, kinds, wordAs, isAfter, wordsWrong, readAs, readFrom, readOf}
+use Rattle.rules.specs.Tape.{kindOf, wordAs, isAfter, wordsWrong, readAs, readFrom, readOf}
 use Rattle.rules.specs.declared.Instruction.{Instruction}
 use Rattle.rules.specs.declared.Read.the-variants.{Refused}
 use Rattle.rules.specs.declared.Word.{Word}
@@ -21,7 +23,7 @@ pub mod-one : (w : ℕ) → w / 1 % 1 ≡ 0
 mod-one w = omega arith
 
 -- k is none of the numbers below n
-abbrev NoneBelow : ℕ → ℕ → Type 0
+abbrev pub NoneBelow : ℕ → ℕ → Type 0
 NoneBelow k zero = Unit {0}
 NoneBelow k (suc n) = NoneBelow k n × (k ≡ n → ⊥)
 
@@ -30,8 +32,12 @@ none-below k zero h = omega arith
 none-below k (suc n) h = let l = none-below k n (h .0) in let m = h .1 in omega arith
 
 -- a kind that the table does not have is wrong
-pub kind-above : (w x k : ℕ) → k ≡ kindOf w → NoneBelow k (length kinds) → Wrong ≡ wordAs w x
-kind-above w x k e h = rw (← e, List·getD-eq-default kinds none (none-below k (length kinds) h))
+pub kind-above : (w x k : ℕ) → k ≡ kindOf w → NoneBelow k 10 → Wrong ≡ wordAs w x
+kind-above w x k e h =
+    let l = none-below k 10 h in
+    let ne : (n : ℕ) → n < 10 → eqb k n ≡ false = λ n m. ne-eqb k n (λ q. omega arith) in
+    rw (← e)
+    (simp (ne 1 (omega arith), ne 2 (omega arith), ne 3 (omega arith), ne 4 (omega arith), ne 5 (omega arith), ne 6 (omega arith), ne 7 (omega arith), ne 8 (omega arith), ne 9 (omega arith)))
 
 -- the words of kind k from `at` on, of n in all
 module _ (k n at : ℕ) (ws : List ℕ) (more : at < n) where

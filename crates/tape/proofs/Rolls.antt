@@ -3,13 +3,13 @@ use mathlib.Core.Path.{_≡_, refl, sym}
 use mathlib.Core.List.{List, [], _∷_}
 use Prim.Native.Nat.{ℕ, _≤_}
 use native.Mathlib.Omega.{arith}
-use lib.ListN.{length, getD}
+use lib.ListN.{length}
 use lib.Seq.{sets}
 use Rattle.rules.specs.declared.Instruction.the-variants.{Roll}
 use Rattle.rules.specs.declared.Read.the-variants.{Instr}
 use Rattle.rules.specs.Measures.{issueCount, tapeWords}
-use Rattle.rules.specs.Tape.{kindOf, Kind, head, after, none, kinds, readOf, pricesOf}
-use Rattle.tape.proofs.Table.{each}
+use Rattle.rules.specs.Tape.{kindOf, Kind, head, after, none, kindAt, readOf, pricesOf}
+use Rattle.tape.proofs.Table.{by-kind}
 use Rattle.tape.proofs.Sized.{read-is, read-sized}
 use Rattle.tape.proofs.PriceWords.{prices-filled}
 
@@ -19,10 +19,9 @@ Sixteen (after u) = Unit {0}
 Sixteen none = Unit {0}
 
 -- no other instruction is a roll
-sixteen : (k : ℕ) → Sixteen (getD kinds k none)
+sixteen : (k : ℕ) → Sixteen (kindAt k)
 sixteen k =
-    each (λ k K. Sixteen K) kinds
-    (tt, (λ w x d r e. cc, (λ w x d r e. cc, (λ w x d r e. cc, (λ w x d r e. cc, (λ w x d r e. cc, (λ w x d r e. cc, (λ w x d r e. refl, (tt, (tt, tt)))))))))) (λ k. tt) k
+    by-kind (λ k K. Sixteen K) (λ k. tt) (λ k u. tt) (λ w x d r e. cc) (λ w x d r e. cc) (λ w x d r e. cc) (λ w x d r e. cc) (λ w x d r e. cc) (λ w x d r e. cc) (λ w x d r e. refl) k
 
 pub roll-whole : (ws : List ℕ) (days rate n : ℕ) → readOf ws ≡ Instr (Roll days rate) n → tapeWords ≤ length ws
 unfolding readOf
@@ -33,6 +32,6 @@ roll-whole (w ∷ rest) days rate n e =
     omega (arith, s w _ days rate (sym (f .is)), f .count, read-sized (w ∷ rest) (Roll days rate) n e .1)
 
 -- its prices fill sixteen lent numbers
-pub roll-prices : (ws lent : List ℕ) (days rate n : ℕ) → readOf ws ≡ Instr (Roll days rate) n → length lent ≡ 16 →
+pub roll-prices : (ws lent : List ℕ) (days rate n : ℕ) → readOf ws ≡ Instr (Roll days rate) n → length lent ≡ issueCount →
     sets lent 0 (pricesOf ws) ≡ pricesOf ws
 roll-prices ws lent days rate n e h = prices-filled ws lent (roll-whole ws days rate n e) h

@@ -18,7 +18,7 @@ use Rattle.rules.specs.Book.{fresh}
 use Rattle.rules.specs.Questions.{Question, firstNo, askOutput, askSound}
 use Rattle.rules.specs.Calls.{Deliver, Cutoff, Resolve, Answer, Effect, answer, ownAsks, effect, called}
 use Rattle.rules.specs.Tape.{readOf, pricesOf}
-use Rattle.rules.specs.Run.{Ran, callOf, nameOf, line, anyOutput, answerOf, ended, stopped, afterLine, afterRead, runFrom, runOf}
+use Rattle.rules.specs.Run.{Ran, callOf, nameOf, line, anyOutput, answerOf, ended, stopped, afterLine, afterRead, runFrom, runRest, runOf}
 use Rattle.tape.proofs.Sized.{read-sized}
 
 -- what an instruction at the front of some words does: its line, and the rest of the run
@@ -46,10 +46,6 @@ run-fuel (suc n) (suc m) at b ws stray h g =
     let d = length-drop k ws in
     ap (afterLine (line at (nameOf x) (answerOf b x ws .refusal) (answerOf b x ws .count)))
     (run-fuel n m (at + k) (answerOf b x ws .book) (drop k ws) stray (omega arith) (omega arith))))
-
--- the run from an index on, with fuel enough
-abbrev pub runRest : ℕ → Book → List ℕ → Bool → Ran
-runRest at b ws stray = runFrom (suc (length ws)) at b ws stray
 
 pub run-start : (ws : List ℕ) (stray : Bool) → runOf ws stray ≡ runRest 0 fresh ws stray
 unfolding runOf

@@ -1,7 +1,7 @@
 -- What is read as an instruction is a head with all its words: nothing was wrong of them, so none was missing.
 use mathlib.Core.Path.{_≡_, refl, ap}
 use mathlib.Core.List.{List, [], _∷_}
-use Prim.Native.Nat.{ℕ, zero, suc, _+_, _-_, _≤_}
+use Prim.Native.Nat.{ℕ, zero, suc, _-_, _≤_}
 use native.Mathlib.Omega.{arith}
 use lib.ListN.{length, getD}
 use Rattle.rules.specs.declared.Instruction.{Instruction}
@@ -10,7 +10,7 @@ use Rattle.rules.specs.declared.Read.the-variants.{Instr, Refused}
 use Rattle.rules.specs.declared.Word.{Word}
 use Rattle.rules.specs.declared.Word.the-variants.{Head, After, Wrong}
 use Rattle.rules.specs.Records.{lotsBits, ofField}
-use Rattle.rules.specs.Tape.{kindOf, none, kinds, wordAs, isAfter, wordsWrong, readAs, readFrom, readOf, ReadAnswer, readAnswer}
+use Rattle.rules.specs.Tape.{kindOf, kindAt, wordAs, isAfter, wordsWrong, readAs, readFrom, readOf, ReadAnswer, readAnswer}
 use Rattle.laws.proofs.Basics.{byTest}
 use Rattle.tape.proofs.Table.{HeadIs, head-is}
 
@@ -36,7 +36,7 @@ right-length k (suc n) (w ∷ ws) e =
 -- what is read: the instruction of the head's line, with its words
 pub record ReadIs (w : ℕ) (rest : List ℕ) (x : Instruction) (n : ℕ) : Type 0 where
   pub follows : ℕ
-  pub first : HeadIs (getD kinds (kindOf w) none) w (ofField lotsBits (getD rest 0 0)) x follows n
+  pub first : HeadIs (kindAt (kindOf w)) w (ofField lotsBits (getD rest 0 0)) x follows n
   pub right : 0 ≡ wordsWrong follows (first .follow) rest
 
 not-wrong : (r : ℕ) (y x : Instruction) (m n : ℕ) → readAs r y m ≡ Instr x n → (0 ≡ r) × (y ≡ x) × (m ≡ n)
@@ -47,7 +47,7 @@ from-head : (f : Word) (w : ℕ) (rest : List ℕ) (x : Instruction) (n : ℕ) �
     readFrom f rest ≡ Instr x n → ReadIs w rest x n
 from-head (Head y k m) w rest x n h e =
     let r = not-wrong (wordsWrong k (m - 1) rest) y x m n e in
-    let g = head-is (getD kinds (kindOf w) none) w (ofField lotsBits (getD rest 0 0)) x k n (rw (r .1, r .2) at h) in
+    let g = head-is (kindAt (kindOf w)) w (ofField lotsBits (getD rest 0 0)) x k n (rw (r .1, r .2) at h) in
     let c : m - 1 ≡ g .follow = omega (arith, g .count, r .2) in
     record { follows = k; first = g; right = rw c at (r .0) }
 from-head (After k) w rest x n h e = let z : _≡_ {A = ℕ} 0 1 = cc in absurd (omega arith)

@@ -1,26 +1,32 @@
 -- The table of kinds: what holds of each of its lines holds of every kind; and what a word taken as a head, or as a word
 -- after one, says of its line.
-use mathlib.Core.Path.{_≡_, refl, ap}
+use mathlib.Core.Path.{_≡_, sym, subst}
 use mathlib.Core.Bool.{true, false≢true}
 use mathlib.Core.List.{List, [], _∷_}
-use Prim.Native.Nat.{ℕ, zero, suc, _+_}
+use Prim.Native.Nat.{ℕ, _+_}
 use native.Mathlib.Omega.{arith}
 use borrow.Author.Tests.{eqb-true}
-use lib.ListN.{getD}
+use lib.Dec.{eqb}
 use Rattle.rules.specs.declared.Instruction.{Instruction}
 use Rattle.rules.specs.declared.Word.the-variants.{Head}
 use Rattle.rules.specs.Records.{Field, ofField}
-use Rattle.rules.specs.Tape.{kindOf, Kind, head, after, none, clear, asKind, isAfter}
+use Rattle.rules.specs.Tape.{kindOf, Kind, head, after, none, Line, kind, kinds, kindIn, kindAt, clear, asKind, isAfter}
 use Rattle.laws.proofs.Basics.{byTest}
 
-abbrev pub Each : (ℕ → Kind → Type 0) → List Kind → Type 0
+abbrev Each : (ℕ → Kind → Type 0) → List Line → Type 0
 Each P [] = Unit {0}
-Each P (K ∷ Ks) = P 0 K × Each (λ k. P (suc k)) Ks
+Each P (kind n K ∷ ls) = P n K × Each P ls
 
-pub each : (P : ℕ → Kind → Type 0) (Ks : List Kind) → Each P Ks → ((k : ℕ) → P k none) → (k : ℕ) → P k (getD Ks k none)
+each : (P : ℕ → Kind → Type 0) (ls : List Line) → Each P ls → ((k : ℕ) → P k none) → (k : ℕ) → P k (kindIn ls k)
 each P [] h d k = d k
-each P (K ∷ Ks) h d zero = h .0
-each P (K ∷ Ks) h d (suc k) = each (λ j. P (suc j)) Ks (h .1) (λ j. d (suc j)) k
+each P (kind n K ∷ ls) h d k =
+    byTest (eqb k n) (λ t. rw t (subst (λ (j : ℕ). P j K) (sym (eqb-true k n t)) (h .0))) (λ t. rw t (each P ls (h .1) d k))
+
+pub by-kind : (P : ℕ → Kind → Type 0) → ((k : ℕ) → P k none) → ((k : ℕ) (u : Field) → P k (after u)) →
+    P 1 (kindAt 1) → P 2 (kindAt 2) → P 3 (kindAt 3) → P 4 (kindAt 4) → P 5 (kindAt 5) → P 6 (kindAt 6) → P 7 (kindAt 7) →
+    (k : ℕ) → P k (kindAt k)
+by-kind P n f h1 h2 h3 h4 h5 h6 h7 k =
+    each P kinds (h1, (h2, (h3, (h4, (h5, (h6, (h7, (f 8 _, (f 9 _, tt))))))))) n k
 
 -- the line of a word that is taken as a head
 pub record HeadIs (K : Kind) (w x : ℕ) (y : Instruction) (k n : ℕ) : Type 0 where

@@ -4,15 +4,14 @@ use mathlib.Core.Bool.{cond}
 use mathlib.Core.List.{List, [], _∷_, _++_, map}
 use Prim.Native.Nat.{ℕ, zero, suc, _+_, _-_, _≤_}
 use native.Mathlib.Omega.{arith}
-use lib.ListN.{length, getD, take, drop}
+use lib.ListN.{length, take}
 use lib.Seq.{getD-take, take-take, take-append-le}
 use Rattle.rules.specs.declared.Word.{Word}
-use Rattle.rules.specs.declared.Word.the-variants.{Head, After, Wrong}
 use Rattle.rules.specs.Measures.{issueCount, tapeWords}
 use Rattle.rules.specs.Records.{priceBits, ofField}
-use Rattle.rules.specs.Tape.{kindOf, Kind, head, after, none, kinds, clear, asKind, wordAs, isAfter, wordsWrong, readAs, readFrom, readOf, pricesOf}
+use Rattle.rules.specs.Tape.{kindOf, Kind, head, after, none, kindAt, clear, asKind, wordAs, isAfter, wordsWrong, readAs, readFrom, readOf, pricesOf}
 use Rattle.laws.proofs.Basics.{either}
-use Rattle.tape.proofs.Table.{each}
+use Rattle.tape.proofs.Table.{by-kind}
 
 -- words beyond those that are asked do not count
 wrong-take : (k n m : ℕ) (ws : List ℕ) → n ≤ m → wordsWrong k n (take m ws) ≡ wordsWrong k n ws
@@ -27,8 +26,9 @@ Few (head u n k f) = n ≤ issueCount
 Few (after u) = Unit {0}
 Few none = Unit {0}
 
-few : (k : ℕ) → Few (getD kinds k none)
-few k = each (λ k K. Few K) kinds (tt, (omega arith, (omega arith, (omega arith, (omega arith, (omega arith, (omega arith, (omega arith, (tt, (tt, tt)))))))))) (λ k. tt) k
+few : (k : ℕ) → Few (kindAt k)
+few k =
+    by-kind (λ k K. Few K) (λ k. tt) (λ k u. tt) (omega arith) (omega arith) (omega arith) (omega arith) (omega arith) (omega arith) (omega arith) k
 
 module _ (m : ℕ) (enough : issueCount ≤ m) (ws : List ℕ) where
   from-take : (K : Kind) (w x : ℕ) → Few K → readFrom (asKind K w x) (take m ws) ≡ readFrom (asKind K w x) ws
@@ -43,7 +43,7 @@ unfolding readOf
 read-window zero ws h = absurd (omega arith)
 read-window (suc n) [] h = refl
 read-window (suc n) (w ∷ ws) h =
-    rw (getD-take n ws 0 0 (omega arith)) (from-take n (omega arith) ws (getD kinds (kindOf w) none) w _ (few (kindOf w)))
+    rw (getD-take n ws 0 0 (omega arith)) (from-take n (omega arith) ws (kindAt (kindOf w)) w _ (few (kindOf w)))
 
 pub prices-window : (n : ℕ) (ws : List ℕ) → tapeWords ≤ n → pricesOf (take n ws) ≡ pricesOf ws
 unfolding pricesOf

@@ -9,11 +9,13 @@ ghost use Prim.Native.Nat.{_-_, _≤_, _<_, _^_};
 ghost use lib.Dec.{eqb};
 ghost use lib.ListN.{length, getD, drop};
 ghost use lib.Seq.{sets};
+ghost use Rattle.rules.specs.declared.Instruction.the-variants.{Roll};
+ghost use Rattle.rules.specs.Measures.{tapeWords};
 ghost use Rattle.rules.specs.Book.{all};
 ghost use Rattle.rules.specs.Records.{lotsBits, priceBits, ofField};
-ghost use Rattle.rules.specs.declared.Word.the-variants.{Wrong};
-ghost use Rattle.rules.specs.Tape.{wordAs, isAfter, wordsWrong, readOf, readAnswer, pricesOf, rollWord, priceWord, fits, writeOf};
-ghost use Rattle.tape.specs.Answers.{WriteAnswerIs, twoWords, oneWord, rollWords, Room, PricesFit};
+ghost use Rattle.rules.specs.declared.Word.the-variants.{Head, Wrong};
+ghost use Rattle.rules.specs.Tape.{wordAs, isAfter, wordsWrong, readOf, readAnswer, pricesOf, rollWord, priceWord, fits, headFits, fieldsFit, writeOf};
+ghost use Rattle.tape.specs.Answers.{WriteAnswerIs, headWords, rollWords, Room, PricesFit};
 
 // A word taken as x, or a wrong word where its unused bits, which hold `unused`, are not 0.
 fn clear(unused: u32, x: Word) -> Word
@@ -23,6 +25,13 @@ fn clear(unused: u32, x: Word) -> Word
         return Word::Wrong;
     }
     x
+}
+
+// The head of instruction x: the kind of the words that follow it, and the count of all its words.
+fn head(unused: u32, x: Instruction, kind: u32, count: usize) -> Word
+    ensures { λ r. ⌜ r ≡ cond (eqb unused 0) (Head x kind count) Wrong ⌝ }
+{
+    clear(unused, Word::Head(x, kind, count))
 }
 
 // What a word is taken as, with the lots of the word after it: by its kind the head of a call, a word
@@ -35,13 +44,23 @@ fn word_as(w: u32, lots: u32) -> Word
     let from = words::from_of(w);
     match kind {
         0 => Word::Wrong,
-        1 => clear(w % 4096, Word::Head(Instruction::Trade(issue, from, words::to_of(w), lots), 8, 2)),
-        2 => clear(w % 262144, Word::Head(Instruction::Deliver(issue, from, lots), 8, 2)),
-        3 => clear(w % 262144, Word::Head(Instruction::Resolve(issue, from, lots), 8, 2)),
-        4 => clear(w % 262144, Word::Head(Instruction::PairOff(issue, from), 0, 1)),
-        5 => clear(w % 268435456, Word::Head(Instruction::Close, 0, 1)),
-        6 => clear(w % 268435456, Word::Head(Instruction::Cutoff, 0, 1)),
-        7 => clear(w % 1024, Word::Head(Instruction::Roll(words::days_of(w), words::rate_of(w)), 9, 17)),
+        1 => head(
+            w % 4096,
+            Instruction::Trade(issue, from, words::to_of(w), lots),
+            8,
+            2,
+        ),
+        2 => head(w % 262144, Instruction::Deliver(issue, from, lots), 8, 2),
+        3 => head(w % 262144, Instruction::Resolve(issue, from, lots), 8, 2),
+        4 => head(w % 262144, Instruction::PairOff(issue, from), 0, 1),
+        5 => head(w % 268435456, Instruction::Close, 0, 1),
+        6 => head(w % 268435456, Instruction::Cutoff, 0, 1),
+        7 => head(
+            w % 1024,
+            Instruction::Roll(words::days_of(w), words::rate_of(w)),
+            9,
+            17,
+        ),
         8 => Word::After(8),
         9 => clear(w / 262144 % 1024, Word::After(9)),
         10..=15 => Word::Wrong,
@@ -126,64 +145,50 @@ pub fn prices(tape: &[u32], prices: &mut [u32])
     }
 }
 
-// A head and its kind 8 word at the front of the output, or refusal 15.
-fn write_two(kind: u32, issue: u32, from: u32, to: u32, lots: u32, out: &mut [u32]) -> Written
-    requires { ⌜ Room kind (now out) ⌝ }
-    ensures { λ r. ⌜ WriteAnswerIs (twoWords kind issue from to lots (now (out .entry))) r (now (out .exit)) ⌝ }
+// Nothing written, for the number of a question.
+fn refused(no: u32) -> Written
+    ensures { λ r. ⌜ r ≡ record { refusal = no; count = 0 } ⌝ }
 {
-    if 16 <= issue {
-        return Written {
-            refusal: 15,
-            count: 0,
-        };
+    Written {
+        refusal: no,
+        count: 0,
     }
-    if 64 <= from {
-        return Written {
-            refusal: 15,
-            count: 0,
-        };
-    }
-    if 64 <= to {
-        return Written {
-            refusal: 15,
-            count: 0,
-        };
-    }
-    if 268435456 <= lots {
-        return Written {
-            refusal: 15,
-            count: 0,
-        };
+}
+
+// Do the fields of a head and the lots after it fit their bits?
+fn head_fits(issue: u32, from: u32, to: u32, lots: u32) -> bool
+    ensures { λ r. ⌜ r ≡ headFits issue from to lots ⌝ }
+{
+    (issue < 16) & (from < 64) & (to < 64) & (lots < 268435456)
+}
+
+// A head at the front of the output, alone or with its kind 8 word, or refusal 15.
+fn put_head(
+    kind: u32,
+    issue: u32,
+    from: u32,
+    to: u32,
+    lots: u32,
+    alone: bool,
+    out: &mut [u32],
+) -> Written
+    requires { ⌜ Room kind (now out) ⌝ }
+    ensures { λ r. ⌜ WriteAnswerIs (headWords kind issue from to lots alone (now (out .entry))) r (now (out .exit)) ⌝ }
+{
+    if !head_fits(issue, from, to, lots) {
+        return refused(15);
     }
     out[0] = words::head(kind, issue, from, to);
+    if alone {
+        return Written {
+            refusal: 0,
+            count: 1,
+        };
+    }
     out[1] = words::lots_word(lots);
     Written {
         refusal: 0,
         count: 2,
-    }
-}
-
-// A head alone at the front of the output, or refusal 15.
-fn write_one(kind: u32, issue: u32, account: u32, out: &mut [u32]) -> Written
-    requires { ⌜ Room kind (now out) ⌝ }
-    ensures { λ r. ⌜ WriteAnswerIs (oneWord kind issue account (now (out .entry))) r (now (out .exit)) ⌝ }
-{
-    if 16 <= issue {
-        return Written {
-            refusal: 15,
-            count: 0,
-        };
-    }
-    if 64 <= account {
-        return Written {
-            refusal: 15,
-            count: 0,
-        };
-    }
-    out[0] = words::head(kind, issue, account, 0);
-    Written {
-        refusal: 0,
-        count: 1,
     }
 }
 
@@ -229,35 +234,20 @@ fn put_prices(prices: &[u32], out: &mut [u32])
     }
 }
 
+// Do the fields of a roll fit their bits? It has sixteen prices.
+fn roll_fits(days: u32, rate: u32, prices: &[u32]) -> bool
+    ensures { λ r. ⌜ r ≡ fieldsFit (Roll days rate) (now (prices .entry)) ⌝ }
+{
+    (days < 16) & (rate < 16384) & (prices.len() == 16) & prices_fit(prices)
+}
+
 // A roll's head and its price words at the front of the output, or refusal 15.
-fn write_roll(days: u32, rate: u32, prices: &[u32], out: &mut [u32]) -> Written
-    requires { ⌜ 17 ≤ length (now out) ⌝ }
+fn put_roll(days: u32, rate: u32, prices: &[u32], out: &mut [u32]) -> Written
+    requires { ⌜ tapeWords ≤ length (now out) ⌝ }
     ensures { λ r. ⌜ WriteAnswerIs (rollWords days rate (now (prices .entry)) (now (out .entry))) r (now (out .exit)) ⌝ }
 {
-    if 16 <= days {
-        return Written {
-            refusal: 15,
-            count: 0,
-        };
-    }
-    if 16384 <= rate {
-        return Written {
-            refusal: 15,
-            count: 0,
-        };
-    }
-    if prices.len() != 16 {
-        return Written {
-            refusal: 15,
-            count: 0,
-        };
-    }
-    let fit = prices_fit(prices);
-    if !fit {
-        return Written {
-            refusal: 15,
-            count: 0,
-        };
+    if !roll_fits(days, rate, prices) {
+        return refused(15);
     }
     out[0] = roll_head(days, rate);
     put_prices(prices, out);
@@ -273,18 +263,15 @@ pub fn write(x: Instruction, prices: &[u32], out: &mut [u32]) -> Written
     ensures { λ r. ⌜ WriteAnswerIs (writeOf x (now (prices .entry)) (now (out .entry))) r (now (out .exit)) ⌝ }
 {
     if out.len() < 17 {
-        return Written {
-            refusal: 1,
-            count: 0,
-        };
+        return refused(1);
     }
     match x {
-        Instruction::Trade(issue, from, to, lots) => write_two(1, issue, from, to, lots, out),
-        Instruction::Deliver(issue, account, lots) => write_two(2, issue, account, 0, lots, out),
-        Instruction::Resolve(issue, account, lots) => write_two(3, issue, account, 0, lots, out),
-        Instruction::PairOff(issue, account) => write_one(4, issue, account, out),
-        Instruction::Close => write_one(5, 0, 0, out),
-        Instruction::Cutoff => write_one(6, 0, 0, out),
-        Instruction::Roll(days, rate) => write_roll(days, rate, prices, out),
+        Instruction::Trade(issue, from, to, lots) => put_head(1, issue, from, to, lots, false, out),
+        Instruction::Deliver(issue, from, lots) => put_head(2, issue, from, 0, lots, false, out),
+        Instruction::Resolve(issue, from, lots) => put_head(3, issue, from, 0, lots, false, out),
+        Instruction::PairOff(issue, account) => put_head(4, issue, account, 0, 0, true, out),
+        Instruction::Close => put_head(5, 0, 0, 0, 0, true, out),
+        Instruction::Cutoff => put_head(6, 0, 0, 0, 0, true, out),
+        Instruction::Roll(days, rate) => put_roll(days, rate, prices, out),
     }
 }

@@ -1,22 +1,23 @@
 -- What a turn of each loop does: a list filled or changed place by place, and the runs from j on taken one by one.
 use mathlib.Core.Path.{_≡_, refl, sym, ap, _∙_}
 use mathlib.Core.List.{List, [], _∷_, _++_, map, map-append}
-use Prim.Native.Nat.{ℕ, suc, _+_, _-_, _*_, _/_, _%_, _≤_, _<_}
+use Prim.Native.Nat.{ℕ, suc, _+_, _-_, _*_, _/_, _%_, _≤_, _<_, min}
 use native.Mathlib.Omega.{arith}
 use native.Mathlib.Numerals.{add-one}
-use lib.ListN.{length, length-append, take, drop, getD, set, length-map, List·getD-map, drop-of-length-le}
+use lib.ListN.{length, take, drop, getD, set, length-map, List·getD-map, drop-of-length-le}
 use lib.Seq.{take-suc, take-suc-set, drop-cons, getD-take, length-take-le, take-append-add, take-append-le}
 use lib.IntN.{ℤ, pos, natAbs}
 use Rattle.rules.specs.Measures.{dueOf}
-use Rattle.rules.specs.Units.{parts, largestFirst}
+use Rattle.rules.specs.Units.{part, parts, largestFirst}
 use Rattle.rules.specs.Handover.{covered, stock}
-use Rattle.rules.specs.declared.Found.the-variants.{Unit}
-use Rattle.laws.proofs.Basics.{Every}
+use Rattle.rules.specs.Book.{row, duesOf, orderIn}
+use Rattle.laws.proofs.Cells.{length-dues}
 use Rattle.laws.proofs.Sound.{each-getD}
 use Rattle.laws.proofs.Signed.{size-of}
-use Rattle.laws.proofs.Handover.{covered-past, stock-past}
-use Rattle.units.specs.Runs.{partOf, runsIn, unitsOfRun, unitsOfRuns, fullOf, smallLots, runsOf, foundOf, Prepared}
-use Rattle.units.proofs.Units.{units-runs, run-length, run-lots, unit-past, unit-full, unit-small, covered-run, stock-run}
+use Rattle.units.specs.Runs.{partOf, runsIn, unitsOfRun, unitsOfRuns, unitsIn, fullOf, smallLots, runsOf, CanRank, CanPrepare, Prepared}
+use Rattle.units.proofs.Units.{units-runs, unit-past, unit-here, covered-run, stock-run, covered-over, stock-over}
+use Rattle.units.proofs.Gathered.{gathered}
+use Rattle.units.proofs.Cells.{row-sized}
 
 -- a list filled by a function of another's elements
 pub fill-more : (f : ℕ → ℕ) (src out : List ℕ) (i : ℕ) → i < length src → i < length out →
@@ -51,45 +52,26 @@ module _ (runs : List ℕ) (n j : ℕ) (l : n ≤ length runs) where
   pub units-at : j < n → unitsOfRuns (drop j (runsIn runs n)) ≡ unitsOfRun (partOf (getD runs j 0)) ++ unitsOfRuns (drop (suc j) (runsIn runs n))
   units-at h = ap unitsOfRuns (runs-at h)
 
-  -- how many units there are
-  pub number-next : j < n →
-      length (unitsOfRuns (drop j (runsIn runs n)))
-      ≡ (getD runs j 0 / 64 + 99999) / 100000 + length (unitsOfRuns (drop (j + 1) (runsIn runs n)))
-  number-next h =
-      let u = partOf (getD runs j 0) in
-      let us = unitsOfRuns (drop (suc j) (runsIn runs n)) in
-      rw (units-at h, add-one) (omega (arith, length-append (unitsOfRun u) us, run-length u))
-
-  -- the k-th unit
+  -- the k-th unit: past a run, or in it
   pub unit-next : (k c : ℕ) → j < n → c ≡ (getD runs j 0 / 64 + 99999) / 100000 → c ≤ k →
       drop k (unitsOfRuns (drop j (runsIn runs n))) ≡ drop (k - c) (unitsOfRuns (drop (j + 1) (runsIn runs n)))
   unit-next k c h e g =
       rw (units-at h, add-one, e) (unit-past (partOf (getD runs j 0)) (unitsOfRuns (drop (suc j) (runsIn runs n))) k (omega arith))
 
-  pub unit-is-full : (k : ℕ) → j < n → k * 100000 + 100000 ≤ getD runs j 0 / 64 →
-      Unit (getD runs j 0 % 64) 100000 ≡ foundOf (drop k (unitsOfRuns (drop j (runsIn runs n))))
-  unit-is-full k h g = rw (units-at h) (sym (unit-full (partOf (getD runs j 0)) (unitsOfRuns (drop (suc j) (runsIn runs n))) k g))
-
-  pub unit-is-small : (k : ℕ) → j < n → k * 100000 < getD runs j 0 / 64 → getD runs j 0 / 64 < k * 100000 + 100000 →
-      Unit (getD runs j 0 % 64) (getD runs j 0 / 64 - k * 100000) ≡ foundOf (drop k (unitsOfRuns (drop j (runsIn runs n))))
-  unit-is-small k h g g′ = rw (units-at h) (sym (unit-small (partOf (getD runs j 0)) (unitsOfRuns (drop (suc j) (runsIn runs n))) k g g′))
+  pub unit-is : (k x : ℕ) → j < n → k * 100000 < getD runs j 0 / 64 → x ≡ min (getD runs j 0 / 64 - k * 100000) 100000 →
+      drop k (unitsOfRuns (drop j (runsIn runs n)))
+      ≡ part (getD runs j 0 % 64) x ∷ drop (k + 1) (unitsOfRuns (drop j (runsIn runs n)))
+  unit-is k x h g e = rw (units-at h) (unit-here (partOf (getD runs j 0)) (unitsOfRuns (drop (suc j) (runsIn runs n))) k x g e)
 
   -- what a total covers
   pub covered-next : (d : ℕ) → j < n → getD runs j 0 / 64 ≤ d →
       covered (unitsOfRuns (drop j (runsIn runs n))) d
       ≡ (getD runs j 0 / 64 + 99999) / 100000 + covered (unitsOfRuns (drop (j + 1) (runsIn runs n))) (d - getD runs j 0 / 64)
-  covered-next d h g =
-      let u = partOf (getD runs j 0) in
-      let us = unitsOfRuns (drop (suc j) (runsIn runs n)) in
-      rw (units-at h, add-one, ← run-length u)
-      (covered-past (unitsOfRun u) us d (omega (arith, run-lots u)) ∙ ap (λ x. length (unitsOfRun u) + covered us (d - x)) (run-lots u))
+  covered-next d h g = rw (units-at h, add-one) (covered-over (partOf (getD runs j 0)) (unitsOfRuns (drop (suc j) (runsIn runs n))) d g)
 
   pub stock-next : (d : ℕ) → j < n → getD runs j 0 / 64 ≤ d →
       stock (unitsOfRuns (drop j (runsIn runs n))) d ≡ stock (unitsOfRuns (drop (j + 1) (runsIn runs n))) (d - getD runs j 0 / 64)
-  stock-next d h g =
-      let u = partOf (getD runs j 0) in
-      let us = unitsOfRuns (drop (suc j) (runsIn runs n)) in
-      rw (units-at h, add-one) (stock-past (unitsOfRun u) us d (omega (arith, run-lots u)) ∙ ap (λ x. stock us (d - x)) (run-lots u))
+  stock-next d h g = rw (units-at h, add-one) (stock-over (partOf (getD runs j 0)) (unitsOfRuns (drop (suc j) (runsIn runs n))) d g)
 
   pub covered-last : (d : ℕ) → j < n → d < getD runs j 0 / 64 → covered (unitsOfRuns (drop j (runsIn runs n))) d ≡ d / 100000
   covered-last d h g = rw (units-at h) (covered-run (partOf (getD runs j 0)) (unitsOfRuns (drop (suc j) (runsIn runs n))) d g)
@@ -122,18 +104,26 @@ unfolding runsOf
 ordered dues rests r₀ r₁ r₂ n m k h g e f r s =
     ap (map partOf) (behind r₁ r₂ n m k h g) ∙ map-append partOf (take n r₁) (take m r₂) ∙ rw (f, e, s, r)
 
--- what the dues of small nets can be ranked by
-pub dues-small : (ns : List ℤ) (dues : List ℕ) → dues ≡ map dueOf ns → Every (λ m. natAbs m ≤ 20000000) ns →
-    (a : ℕ) → getD dues a 0 ≤ 20000000
-dues-small ns dues e h a =
-    rw (e, List·getD-map dueOf ns a (pos 0))
-    (omega (arith, size-of (getD ns a (pos 0)), each-getD (λ m. natAbs m ≤ 20000000) ns a (pos 0) h (omega arith)))
+-- the dues of an issue can be ranked
+pub can-rank : (nets : List ℤ) (i : ℕ) (dues runs : List ℕ) → dues ≡ duesOf nets i → CanPrepare nets i runs → CanRank 128 dues runs
+can-rank nets i dues runs e c =
+    record {
+      accounts = ap length e ∙ length-dues nets i (c .order .cells) (c .order .issue);
+      held = c .room;
+      small = λ a. rw (e, List·getD-map dueOf (row i nets) a (pos 0))
+          (omega (
+            arith,
+            size-of (getD (row i nets) a (pos 0)),
+            each-getD (λ m. natAbs m ≤ 20000000) (row i nets) a (pos 0) (row-sized nets i (c .order .size)) (omega arith),
+          ));
+    }
 
-pub dues-length : (ns : List ℤ) (dues : List ℕ) → dues ≡ map dueOf ns → length ns ≡ 64 → length dues ≡ 64
-dues-length ns dues e h = ap length e ∙ length-map ns dueOf ∙ h
-
-pub prepared : (ns : List ℤ) (dues runs : List ℕ) (n : ℕ) → dues ≡ map dueOf ns → n ≤ 128 → n ≤ length runs → runsIn runs n ≡ runsOf dues →
-    Prepared ns runs n
-prepared ns dues runs n e few held r =
-    let q : runsIn runs n ≡ runsOf (map dueOf ns) = r ∙ ap runsOf e in
-    record { few = few; held = held; ranked = q; units = ap unitsOfRuns q ∙ units-runs (map dueOf ns) }
+-- ranked, they hold the issue's order
+pub prepared : (nets : List ℤ) (i : ℕ) (dues runs : List ℕ) (n : ℕ) → dues ≡ duesOf nets i → n ≤ 128 → n ≤ length runs →
+    runsIn runs n ≡ runsOf dues → Prepared nets i runs n
+unfolding orderIn unitsIn
+prepared nets i dues runs n e few there r =
+    record {
+      held = record { few = few; there = there; gathered = λ d. rw r (gathered dues d) };
+      units = ap unitsOfRuns (r ∙ ap runsOf e) ∙ units-runs (duesOf nets i);
+    }

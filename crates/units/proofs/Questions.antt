@@ -1,42 +1,38 @@
 -- The unit question's answers: each refusal, and the unit that is found.
-use mathlib.Core.Path.{_≡_, refl, ap, _∙_}
+use mathlib.Core.Path.{_≡_, refl, sym, ap, _∙_}
 use mathlib.Core.Bool.{true, false}
 use mathlib.Core.List.{List, [], _∷_}
-use Prim.Native.Nat.{ℕ, _+_, _-_, _*_, _≤_, _<_}
-use native.Mathlib.Omega.{arith}
-use lib.ListN.{length, take, drop}
-use lib.IntN.{ℤ, natAbs}
+use Prim.Native.Nat.{ℕ, _≤_, _<_}
+use lib.ListN.{drop}
+use lib.IntN.{ℤ}
 use borrow.Author.Tests.{le-leb, lt-leb}
 use Rattle.rules.specs.declared.Book.{Book}
 use Rattle.rules.specs.declared.Found.{Found}
 use Rattle.rules.specs.declared.Found.the-variants as found
-use Rattle.rules.specs.Units.{Part}
-use Rattle.rules.specs.Book.{row, orderIn, sound}
+use Rattle.rules.specs.Measures.{unitLots}
+use Rattle.rules.specs.Units.{Part, part}
+use Rattle.rules.specs.Book.{orderIn, sound}
 use Rattle.rules.specs.Calls.{foundAnswer, firstAnswer, unit}
-use Rattle.laws.proofs.Basics.{each-take, each-drop}
-use Rattle.laws.proofs.Cells.{length-row}
-use Rattle.units.specs.Runs.{foundOf, unitsIn, CanOrder, CanPrepare, Prepared}
+use Rattle.units.specs.declared.Seat.{Seat}
+use Rattle.units.specs.declared.NextUnit.{NextUnit}
+use Rattle.units.specs.declared.NextUnit.the-variants as next
+use Rattle.units.specs.Runs.{foundOf, unitsFrom, unitsOf, Prepared, SeatIs, NextIs}
 
--- an issue's row, cut out of all nets
-pub row-part : {A : Type 0} (l : List A) (i : ℕ) → take (i * 64 + 64 - i * 64) (drop (i * 64) l) ≡ row i l
-row-part l i = let e : i * 64 + 64 - i * 64 ≡ 64 = omega arith in rw e
+-- what a step along the units says
+module _ (runs : List ℕ) (n : ℕ) (s : Seat) (r : NextUnit) (l : NextIs runs n s r) where
+  pub unit-list : (a x : ℕ) (s′ : Seat) → r ≡ next.Unit a x s′ → unitsFrom runs n s ≡ part a x ∷ unitsFrom runs n s′
+  unit-list a x s′ e = l .list ∙ ap (unitsOf runs n) e
 
-pub row-can : (nets : List ℤ) (i : ℕ) (ns : List ℤ) (runs : List ℕ) → ns ≡ row i nets → CanOrder nets i → 128 ≤ length runs →
-    CanPrepare ns runs
-row-can nets i ns runs e c h =
-    record {
-      accounts = ap length e ∙ length-row nets i (c .cells) (c .issue);
-      held = h;
-      small = rw e
-          (each-take (λ m. natAbs m ≤ 20000000) 64 (drop (i * 64) nets)
-          (each-drop (λ m. natAbs m ≤ 20000000) (i * 64) nets (c .small)));
-    }
+  pub unit-range : (a x : ℕ) (s′ : Seat) → r ≡ next.Unit a x s′ → (a < 64) × (x ≤ unitLots)
+  unit-range a x s′ e = rw e at (l .range)
 
--- prepared of an issue's row, the runs stand for the issue's order
-pub row-order : (nets : List ℤ) (i : ℕ) (ns : List ℤ) (runs : List ℕ) (n : ℕ) → ns ≡ row i nets → Prepared ns runs n →
-    unitsIn runs n ≡ orderIn nets i
-unfolding orderIn
-row-order nets i ns runs n e p = rw e at (p .units)
+  pub unit-end : r ≡ next.Nothing → unitsFrom runs n s ≡ []
+  unit-end e = l .list ∙ ap (unitsOf runs n) e
+
+-- behind the place in front of unit k is the k-th
+module _ (nets : List ℤ) (i k : ℕ) (runs : List ℕ) (n : ℕ) (s : Seat) (p : Prepared nets i runs n) (q : SeatIs k s) where
+  pub found-is : (us : List Part) → unitsFrom runs n s ≡ us → foundOf us ≡ foundOf (drop k (orderIn nets i))
+  found-is us e = ap foundOf (sym e ∙ q runs n ∙ ap (drop k) (p .units))
 
 found-first : (us : List Part) → foundAnswer (foundOf us) ≡ firstAnswer us
 found-first [] = refl

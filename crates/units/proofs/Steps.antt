@@ -2,18 +2,21 @@
 -- and what a step says of the list of overlaps that are left.
 use mathlib.Core.Path.{_≡_, refl, sym, ap, _∙_}
 use mathlib.Core.List.{List, [], _∷_}
-use Prim.Native.Nat.{ℕ, zero, suc, _+_, _-_, _/_, _%_, _≤_, _<_}
+use Prim.Native.Nat.{ℕ, zero, suc, _+_, _-_, _/_, _%_, _≤_, _<_, min}
 use native.Mathlib.Numerals.{add-one}
 use native.Mathlib.Omega.{arith}
+use lib.Dec.{leb}
 use lib.ListN.{length, drop, getD, drop-of-length-le}
+use borrow.Author.Tests.{leb-true, leb-false}
 use Rattle.rules.specs.Units.{Part, part, put, parts}
-use Rattle.rules.specs.Fails.{overlaps}
+use Rattle.rules.specs.Fails.{Fail, failOf, overlaps}
+use Rattle.laws.proofs.Basics.{byTest}
 use Rattle.laws.proofs.Overlaps.{overlaps-short0, overlaps-lack0, overlaps-end, overlaps-short, overlaps-lack}
 use Rattle.units.specs.declared.Cursor.{Cursor}
 use Rattle.units.specs.declared.Next.{Next}
 use Rattle.units.specs.declared.Next.the-variants.{Overlap, Done}
 use Rattle.units.specs.Runs.{runsIn}
-use Rattle.units.specs.Cursor.{overlapsFrom, overlapsOf, AtShort, AtRun, Advanced, OverlapInRange}
+use Rattle.units.specs.Cursor.{overlapsFrom, overlapsOf, overlapAt, AtShort, AtRun, Advanced, OverlapInRange}
 use Rattle.units.proofs.Ranking.{parts-at}
 use Rattle.units.proofs.Loops.{runs-at, runs-end}
 
@@ -51,43 +54,44 @@ module _ (ss : List Part) (runs : List ℕ) (n j : ℕ) (l : n ≤ length runs) 
   run-end t y e h =
       rw e (overlaps-lack0 ss (drop j (runsIn runs n)) t ∙ ap (overlaps ss) (runs-end runs n j l h) ∙ overlaps-end ss)
 
--- one step: on to a shortfall, on to a run, then the smaller of the two is handed out
-module _ (us : List Part) (ss : List ℕ) (c s : Cursor) (p : AtShort ss c s) where
-  pub none-short : s .short ≡ 0 → Advanced us ss c Done
+-- the smaller of a shortfall and a lack is laid
+overlaps-least : (ss vs : List Part) (a x b y z : ℕ) → 0 < x → 0 < y → z ≡ min x y →
+    overlaps (part a x ∷ ss) (part b y ∷ vs) ≡ failOf a (part b z) ∷ overlaps (part a (x - z) ∷ ss) (part b (y - z) ∷ vs)
+overlaps-least ss vs a x b y z p q m =
+    let F : ℕ → ℕ → ℕ → List Fail = λ w u v. failOf a (part b w) ∷ overlaps (part a u ∷ ss) (part b v ∷ vs) in
+    byTest (leb x y)
+    (λ e.
+    let l = leb-true x y e in
+    let i : 0 ≡ x - x = omega arith in
+    let j : x ≡ z = omega (arith, m) in
+    overlaps-short ss vs a x b y p l ∙ ap (λ u. F x u (y - x)) i ∙ ap (λ w. F w (x - w) (y - w)) j)
+    (λ e.
+    let l : y ≤ x = omega (arith, leb-false x y e) in
+    let i : 0 ≡ y - y = omega arith in
+    let j : y ≡ z = omega (arith, m) in
+    overlaps-lack ss vs a x b y q l ∙ ap (λ v. F y (x - y) v) i ∙ ap (λ w. F w (x - w) (y - w)) j)
+
+-- one step: on to a shortfall, on to a run, then the overlap of the two is handed out
+module _ (runs : List ℕ) (n : ℕ) (ss : List ℕ) (c s : Cursor) (p : AtShort ss c s) where
+  abbrev us : List Part
+  us = runsIn runs n
+
+  pub none-short : s .short ≡ 0 → Advanced runs n ss c Done
+  unfolding overlapsFrom
   none-short e = record { list = p .same us ∙ p .none e us; range = tt }
 
   module _ (v : Cursor) (q : AtRun us s v) where
-    pub none-run : v .lack ≡ 0 → Advanced us ss c Done
+    pub none-run : v .lack ≡ 0 → Advanced runs n ss c Done
+    unfolding overlapsFrom
     none-run e = record { list = p .same us ∙ q .same ss ∙ q .none e ss; range = tt }
 
-    pub hand-short : 0 < v .short → v .short ≤ v .lack →
-        Advanced us ss c
-        (Overlap (v .from) (v .to) (v .short)
-        (record { account = v .account; from = v .from; short = 0; run = v .run; to = v .to; lack = v .lack - v .short }))
+    pub hand-least : (x : ℕ) → 0 < v .short → 0 < v .lack → x ≡ min (v .short) (v .lack) → Advanced runs n ss c (overlapAt v x)
     unfolding overlapsFrom
-    hand-short some few =
+    hand-least x some lacking least =
         let r = q .range in
         record {
           list = p .same us ∙ q .same ss
-              ∙ overlaps-short (parts (v .account) (drop (v .account) ss)) (drop (v .run) us) (v .from) (v .short) (v .to) (v .lack) some few;
-          range = record {
-            from = r .from;
-            to = r .to;
-            lots = r .short;
-            cursor = record { from = r .from; to = r .to; short = omega arith };
-          };
-        }
-
-    pub hand-lack : 0 < v .lack → v .lack ≤ v .short →
-        Advanced us ss c
-        (Overlap (v .from) (v .to) (v .lack)
-        (record { account = v .account; from = v .from; short = v .short - v .lack; run = v .run; to = v .to; lack = 0 }))
-    unfolding overlapsFrom
-    hand-lack some few =
-        let r = q .range in
-        record {
-          list = p .same us ∙ q .same ss
-              ∙ overlaps-lack (parts (v .account) (drop (v .account) ss)) (drop (v .run) us) (v .from) (v .short) (v .to) (v .lack) some few;
+              ∙ overlaps-least (parts (v .account) (drop (v .account) ss)) (drop (v .run) us) (v .from) (v .short) (v .to) (v .lack) x some lacking least;
           range = record {
             from = r .from;
             to = r .to;
@@ -97,16 +101,12 @@ module _ (us : List Part) (ss : List ℕ) (c s : Cursor) (p : AtShort ss c s) wh
         }
 
 -- what a step says
-module _ (us : List Part) (ss : List ℕ) (c : Cursor) (r : Next) (l : Advanced us ss c r) where
-  pub step-list : (c′ : Cursor) (f t x : ℕ) → r ≡ Overlap f t x c′ → overlapsFrom us ss c ≡ overlapsOf us ss (Overlap f t x c′)
-  step-list c′ f t x e = l .list ∙ ap (overlapsOf us ss) e
+module _ (runs : List ℕ) (n : ℕ) (ss : List ℕ) (c : Cursor) (r : Next) (l : Advanced runs n ss c r) where
+  pub step-list : (c′ : Cursor) (f t x : ℕ) → r ≡ Overlap f t x c′ → overlapsFrom runs n ss c ≡ overlapsOf runs n ss (Overlap f t x c′)
+  step-list c′ f t x e = l .list ∙ ap (overlapsOf runs n ss) e
 
   pub step-range : (c′ : Cursor) (f t x : ℕ) → r ≡ Overlap f t x c′ → OverlapInRange f t x c′
   step-range c′ f t x e = rw e at (l .range)
 
-  pub step-length : (c′ : Cursor) (f t x : ℕ) → r ≡ Overlap f t x c′ →
-      length (overlapsFrom us ss c) ≡ suc (length (overlapsFrom us ss c′))
-  step-length c′ f t x e = ap length (step-list c′ f t x e)
-
-  pub step-end : r ≡ Done → overlapsFrom us ss c ≡ []
-  step-end e = l .list ∙ ap (overlapsOf us ss) e
+  pub step-end : r ≡ Done → overlapsFrom runs n ss c ≡ []
+  step-end e = l .list ∙ ap (overlapsOf runs n ss) e

@@ -1,17 +1,21 @@
 -- Runs: parts of one word each that stand for units in unit order.
 use mathlib.Core.Path.{_≡_}
-use mathlib.Core.Bool.{cond}
+use mathlib.Core.Bool.{true, cond}
 use mathlib.Core.List.{List, [], _∷_, _++_, map}
 use Prim.Native.Nat.{ℕ, suc, _*_, _/_, _%_, _≤_, _<_}
 use lib.Dec.{ltb}
-use lib.ListN.{length, take, getD, replicate}
-use lib.IntN.{ℤ, natAbs}
-use Rattle.rules.specs.Measures.{unitLots, mostLots, dueOf}
-use Rattle.rules.specs.Units.{Part, part, put, parts, largestFirst, unitsOfNets}
+use lib.ListN.{length, take, drop, getD, replicate}
+use lib.IntN.{ℤ}
+use Rattle.rules.specs.Measures.{unitLots, mostLots}
+use Rattle.rules.specs.Units.{Part, part, put, parts, largestFirst}
 use Rattle.rules.specs.Handover.{covered, stock}
+use Rattle.rules.specs.Fails.{skip, lacks}
+use Rattle.rules.specs.Book.{all, withinSize, orderIn}
 use Rattle.rules.specs.declared.Found.{Found}
 use Rattle.rules.specs.declared.Found.the-variants.{Unit, Nothing}
-use Rattle.laws.proofs.Basics.{Every}
+use Rattle.units.specs.declared.Seat.{Seat}
+use Rattle.units.specs.declared.NextUnit.{NextUnit}
+use Rattle.units.specs.declared.NextUnit.the-variants as next
 use Rattle.units.specs.declared.Handed.{Handed}
 
 -- a part in one word: lots * 64 + account
@@ -36,7 +40,7 @@ unitsOfRuns [] = []
 unitsOfRuns (u ∷ us) = unitsOfRun u ++ unitsOfRuns us
 
 -- the units that n runs stand for
-abbrev pub unitsIn : List ℕ → ℕ → List Part
+unfoldable pub unitsIn : List ℕ → ℕ → List Part
 unitsIn runs n = unitsOfRuns (runsIn runs n)
 
 -- what is full of a part, and what is small of its lots
@@ -60,28 +64,51 @@ pub record Ranked (lots keys : List ℕ) (n : ℕ) : Type 0 where
   pub few : n ≤ 64
   pub order : runsIn keys n ≡ largestFirst (parts 0 lots)
 
--- an issue's nets whose runs can be prepared in a lent array
-pub record CanPrepare (ns : List ℤ) (runs : List ℕ) : Type 0 where
-  pub accounts : length ns ≡ 64
-  pub held : 128 ≤ length runs
-  pub small : Every (λ m. natAbs m ≤ mostLots) ns
-
--- the first n words are the runs of these nets, and stand for their units in order
-pub record Prepared (ns : List ℤ) (runs : List ℕ) (n : ℕ) : Type 0 where
+-- units held in the first n words of a lent array: what they lack after a total is what is left of their runs
+pub record Held (runs : List ℕ) (n : ℕ) : Type 0 where
   pub few : n ≤ 128
-  pub held : n ≤ length runs
-  pub ranked : runsIn runs n ≡ runsOf (map dueOf ns)
-  pub units : unitsIn runs n ≡ unitsOfNets unitLots ns
+  pub there : n ≤ length runs
+  pub gathered : (d : ℕ) → lacks unitLots (unitsIn runs n) d ≡ skip d (runsIn runs n)
 
 -- an issue whose units can be ordered, from all nets
 pub record CanOrder (nets : List ℤ) (i : ℕ) : Type 0 where
   pub cells : length nets ≡ 1024
   pub issue : i < 16
-  pub small : Every (λ m. natAbs m ≤ mostLots) nets
+  pub size : all (withinSize mostLots) nets ≡ true
+
+pub record CanPrepare (nets : List ℤ) (i : ℕ) (runs : List ℕ) : Type 0 where
+  pub order : CanOrder nets i
+  pub room : 128 ≤ length runs
+
+-- the lent array holds the units of the issue in the order of the day
+pub record Prepared (nets : List ℤ) (i : ℕ) (runs : List ℕ) (n : ℕ) : Type 0 where
+  pub held : Held runs n
+  pub units : unitsIn runs n ≡ orderIn nets i
 
 abbrev pub foundOf : List Part → Found
 foundOf [] = Nothing
 foundOf (u ∷ us) = Unit (u .account) (u .lots)
+
+-- the units behind a place
+unfoldable pub unitsFrom : List ℕ → ℕ → Seat → List Part
+unitsFrom runs n s = drop (s .passed) (unitsOfRuns (drop (s .run) (runsIn runs n)))
+
+-- the place in front of unit k, whatever holds the units
+abbrev pub SeatIs : ℕ → Seat → Type 0
+SeatIs k s = (runs : List ℕ) (n : ℕ) → unitsFrom runs n s ≡ drop k (unitsIn runs n)
+
+-- the list that a step stands for: the unit handed out, and those behind it
+abbrev pub unitsOf : List ℕ → ℕ → NextUnit → List Part
+unitsOf runs n (next.Unit a x s) = part a x ∷ unitsFrom runs n s
+unitsOf runs n next.Nothing = []
+
+abbrev pub UnitInRange : NextUnit → Type 0
+UnitInRange (next.Unit a x s) = (a < 64) × (x ≤ unitLots)
+UnitInRange next.Nothing = 0 ≤ 0
+
+pub record NextIs (runs : List ℕ) (n : ℕ) (s : Seat) (r : NextUnit) : Type 0 where
+  pub list : unitsFrom runs n s ≡ unitsOf runs n r
+  pub range : UnitInRange r
 
 -- how many of these units a total covers, and the stock
 pub record HandedIs (us : List Part) (d : ℕ) (r : Handed) : Type 0 where

@@ -1,10 +1,10 @@
 // Words of records and of the tape: made of their fields, and taken apart.
 ghost use mathlib.Core.Path.{_≡_};
 ghost use mathlib.Core.List.{_∷_};
-ghost use Prim.Native.Nat.{_+_, _*_, _≤_, _<_, _^_};
-ghost use lib.ListN.{length, drop, set};
+ghost use Prim.Native.Nat.{_≤_, _<_, _^_};
+ghost use lib.ListN.{length, drop};
 ghost use Rattle.rules.specs.Records.{kindBits, issueBits, fromBits, toBits, lotsBits, daysBits, rateBits, priceBits, ofField, headWord, lotsWord};
-ghost use Rattle.words.specs.Fits.{HeadFits, PartFits, RecordFits};
+ghost use Rattle.words.specs.Fits.{HeadFits, PartFits};
 
 // The head of a record or an instruction: kind in bits 31..28, issue in 27..24, from (or the only
 // account) in 23..18, to in 17..12, the rest 0.
@@ -90,14 +90,4 @@ pub fn record(part: &mut [u32], kind: u32, issue: u32, from: u32, to: u32, lots:
     let first = head(kind, issue, from, to);
     let second = lots_word(lots);
     put(part, first, second);
-}
-
-// One record behind n others: its head and its lots at words 2n and 2n + 1 of the output.
-pub fn record_at(out: &mut [u32], n: usize, kind: u32, issue: u32, from: u32, to: u32, lots: u32)
-    requires { ⌜ RecordFits (now out) n kind issue from to lots ⌝ }
-    ensures { λ _. ⌜ now (out .exit) ≡ set (set (now (out .entry)) (2 * n) (headWord kind issue from to)) (2 * n + 1) (lotsWord lots) ⌝ }
-{
-    let first = head(kind, issue, from, to);
-    let second = lots_word(lots);
-    put(&mut out[2 * n..], first, second);
 }

@@ -14,6 +14,7 @@ count-requires c κs =
     let a = s .args in
     let y = c .before .before .before .before .before .prepare .ensures in (
       y .advance,
+      y .range,
       omega (arith, ap length (y .fails), few (now (a .nets)) (now (a .delivered)) (a .i) (s .pre .1) (s .pre .0)),
     )
 

@@ -1,11 +1,12 @@
--- The stock's record, then the fails: together the issue's entries and records.
+-- The stock's record, then the fails behind it: together the issue's entries and records.
 use Prim.Native.Nat.{_+_}
 use native.Mathlib.Omega.{arith}
 use borrow.Author.Needs.{needs}
 use denote.Ref.{now}
-use Rattle.rules.specs.Calls.{issueEntries, issueRecords}
-use Rattle.cutoff.specs.Write.{lent, Wrote}
-use Rattle.cutoff.proofs.Cutting.{can-hand, can-lay, was-cut}
+use Rattle.cutoff.specs.Write.{lent, lending}
+use Rattle.cutoff.specs.Issue.{countsOf, WasCut}
+use Rattle.cutoff.proofs.Writing.{withOut, back}
+use Rattle.cutoff.proofs.Cutting.{Behind, can-hand, stock-handed}
 use Rattle.cutoff.proofs.cut_issue.Statement.{statement}
 use Rattle.cutoff.proofs.cut_issue.Tie as tie
 
@@ -14,48 +15,36 @@ hand-stock-requires c κs =
     let s = c .before .before .before .before .before .before .before .before .before .before .before .before .before .before in
     let a = s .args in
     let p = c .before .before .before .before .prepare in
-    can-hand (now (a .nets)) (now (a .delivered)) (a .day) (a .i) (a .n) (a .w)
-    (lent (now (a .issues)) (now (a .froms)) (now (a .tos)) (now (a .lots)) (now (a .days)) (now (a .out)))
+    can-hand (now (a .nets)) (now (a .delivered)) (a .day) (a .i) (a .n) (lending (a .issues) (a .froms) (a .tos) (a .lots) (a .days) (a .out))
     (s .pre) (p .last .1 .1 .1 .0) (p .last .1 .1 .1 .1 .0) (p .result) (p .ensures)
+
+handed : (c : tie.After-hand-stock) →
+    let a = c .before .before .before .before .before .before .before .before .before .before .before .before .before .before .before .args in
+    let p = c .before .before .before .before .before .prepare in
+    Behind (now (a .nets)) (now (a .delivered)) (a .day) (a .i) (a .n) (lending (a .issues) (a .froms) (a .tos) (a .lots) (a .days) (a .out))
+    (p .last .1 .1 .1 .0) (p .last .1 .1 .1 .1 .0) (p .result) (c .hand-stock .result) (c .hand-stock .last .0)
+handed c =
+    let s = c .before .before .before .before .before .before .before .before .before .before .before .before .before .before .before in
+    let a = s .args in
+    let p = c .before .before .before .before .before .prepare in
+    stock-handed (now (a .nets)) (now (a .delivered)) (a .day) (a .i) (a .n) (lending (a .issues) (a .froms) (a .tos) (a .lots) (a .days) (a .out))
+    (s .pre) (p .last .1 .1 .1 .0) (p .last .1 .1 .1 .1 .0) (p .result) (p .ensures) (c .hand-stock .result) (c .hand-stock .last .0) (c .hand-stock .ensures)
 
 lay-requires : tie.Need-lay-requires
-lay-requires c κs =
-    let s = c .before .before .before .before .before .before .before .before .before .before .before .before .before .before .before .before .before .before .before .before .before .before .before .before .before in
-    let a = s .args in
-    let p = c .before .before .before .before .before .before .before .before .before .before .before .before .before .before .before .prepare in
-    let h = c .before .before .before .before .before .before .before .before .before .before .hand-stock in
-    can-lay (now (a .nets)) (now (a .delivered)) (a .day) (a .i) (a .n) (a .w)
-    (lent (now (a .issues)) (now (a .froms)) (now (a .tos)) (now (a .lots)) (now (a .days)) (now (a .out)))
-    (s .pre) (p .last .1 .1 .1 .0) (p .last .1 .1 .1 .1 .0) (p .result) (p .ensures)
-    (h .result) (h .last .0) (h .ensures) (h .kept .0)
+lay-requires c κs = handed (c .before .before .before .before .before .before .before .before .before .before) .can
 
--- the issue's entries and records were written
-written : (c : tie.After-slice-known13) →
-    let s = c .before .before .before .before .before .before .before .before .before .before .before .before .before .before .before .before .before .before .before .before .before .before .before .before .before .before .before .before .before .before .before .before .before .before .before .before .before .before in
-    let a = s .args in
-    let h = c .before .before .before .before .before .before .before .before .before .before .before .before .before .before .before .before .before .before .before .before .before .before .before .hand-stock in
+-- the issue is cut
+cut : (c : tie.After-slice-known13) →
+    let a = c .before .before .before .before .before .before .before .before .before .before .before .before .before .before .before .before .before .before .before .before .before .before .before .before .before .before .before .before .before .before .before .before .before .before .before .before .before .before .args in
     let l = c .before .before .before .before .before .before .before .before .before .before .before .before .lay in
-    Wrote (issueEntries (a .day) (now (a .nets)) (now (a .delivered)) (a .i)) (issueRecords (a .day) (now (a .nets)) (now (a .delivered)) (a .i))
-    (a .n) (a .w) (lent (now (a .issues)) (now (a .froms)) (now (a .tos)) (now (a .lots)) (now (a .days)) (now (a .out)))
-    (a .n + l .result) (h .result + l .result) (lent (l .last .1 .1 .1 .1 .1 .1 .1 .1 .0) (l .last .1 .1 .1 .1 .1 .1 .1 .1 .1 .0) (l .last .1 .1 .1 .1 .1 .1 .1 .1 .1 .1 .0) (l .last .1 .1 .1 .1 .1 .1 .1 .1 .1 .1 .1 .0) (l .last .1 .1 .1 .1 .1 .1 .1 .1 .1 .1 .1 .1 .0) (l .last .1 .1 .1 .1 .1 .1 .1 .1 .1 .1 .1 .1 .1 .0))
-written c =
-    let s = c .before .before .before .before .before .before .before .before .before .before .before .before .before .before .before .before .before .before .before .before .before .before .before .before .before .before .before .before .before .before .before .before .before .before .before .before .before .before in
-    let a = s .args in
-    let h = c .before .before .before .before .before .before .before .before .before .before .before .before .before .before .before .before .before .before .before .before .before .before .before .hand-stock in
-    let l = c .before .before .before .before .before .before .before .before .before .before .before .before .lay in
-    let p = c .before .before .before .before .before .before .before .before .before .before .before .before .before .before .before .before .before .before .before .before .before .before .before .before .before .before .before .before .prepare in
-    was-cut (now (a .nets)) (now (a .delivered)) (a .day) (a .i) (a .n) (a .w)
-    (lent (now (a .issues)) (now (a .froms)) (now (a .tos)) (now (a .lots)) (now (a .days)) (now (a .out)))
-    (s .pre) (p .last .1 .1 .1 .0) (p .last .1 .1 .1 .1 .0) (p .result) (p .ensures)
-    (h .result) (h .last .0) (h .ensures) (h .kept .0) (l .result)
-    (lent (l .last .1 .1 .1 .1 .1 .1 .1 .1 .0) (l .last .1 .1 .1 .1 .1 .1 .1 .1 .1 .0) (l .last .1 .1 .1 .1 .1 .1 .1 .1 .1 .1 .0) (l .last .1 .1 .1 .1 .1 .1 .1 .1 .1 .1 .1 .0) (l .last .1 .1 .1 .1 .1 .1 .1 .1 .1 .1 .1 .1 .0) (l .last .1 .1 .1 .1 .1 .1 .1 .1 .1 .1 .1 .1 .1 .0))
-    (l .ensures)
-
-add-t45 : tie.Need-add-t45
-add-t45 c = omega (arith, written c .records, c .before .before .before .before .before .before .before .before .before .before .before .before .before .before .before .before .before .before .before .before .before .before .before .before .before .before .before .before .before .before .before .before .before .before .before .before .before .before .pre .write .room)
+    let v = c .before .before .before .before .before .before .before .before .before .before .before .before .before .before .before .before .before .before .before .before .before .before .before .hand-stock in
+    WasCut (now (a .nets)) (now (a .delivered)) (a .day) (a .i) (a .n) (lending (a .issues) (a .froms) (a .tos) (a .lots) (a .days) (a .out)) (countsOf (a .n + l .result) (v .result + l .result))
+    (back (v .result) (withOut (lending (a .issues) (a .froms) (a .tos) (a .lots) (a .days) (a .out)) (v .last .0))
+    (lent (l .last .1 .1 .1 .1 .1 .1 .0) (l .last .1 .1 .1 .1 .1 .1 .1 .0) (l .last .1 .1 .1 .1 .1 .1 .1 .1 .0) (l .last .1 .1 .1 .1 .1 .1 .1 .1 .1 .0) (l .last .1 .1 .1 .1 .1 .1 .1 .1 .1 .1 .0) (l .last .1 .1 .1 .1 .1 .1 .1 .1 .1 .1 .1 .0)))
+cut c = let l = c .before .before .before .before .before .before .before .before .before .before .before .before .lay in handed (c .before .before .before .before .before .before .before .before .before .before .before .before .before .before .before .before .before .before .before .before .before .before .before) .done (l .result) _ (l .ensures)
 
 returns : tie.Need-returns
-returns c = written c
+returns c = rw (c .numbers .ensures) (cut (c .before))
 
 pub cut-issue-spec : {M : Type 1} → statement M
 cut-issue-spec =
@@ -69,9 +58,15 @@ cut-issue-spec =
     (λ c. search needs)
     (λ c. search needs)
     (λ c. search needs)
+    (λ c. omega (arith, handed (c .before .before .before .before .before .before .before .before .before) .room, handed (c .before .before .before .before .before .before .before .before .before) .few))
+    (λ c. omega (arith, handed (c .before .before .before .before .before .before .before .before .before) .room, handed (c .before .before .before .before .before .before .before .before .before) .few))
+    (λ c. handed (c .before .before .before .before .before .before .before .before .before) .room)
+    (λ c. handed (c .before .before .before .before .before .before .before .before .before) .room)
+    (λ c. search needs)
     lay-requires
     (λ c. search needs)
-    add-t45
+    (λ c. omega (arith, cut c .wrote .held .most, handed (c .before .before .before .before .before .before .before .before .before .before .before .before .before .before .before .before .before .before .before .before .before .before .before) .few))
+    (λ c κs. search needs)
     (λ c. search needs)
     (λ c. search needs)
     (λ c. search needs)

@@ -1,31 +1,40 @@
 -- The entry is appended and its record put, by the contracts of the two.
 use native.Mathlib.Omega.{arith}
 use borrow.Author.Needs.{needs}
-use denote.Ref.{now}
-use Rattle.rules.specs.Ledger.{entry}
-use Rattle.cutoff.specs.Write.{lent}
+use Rattle.cutoff.specs.Write.{lent, lending}
 use Rattle.cutoff.proofs.Fails.{entered}
 use Rattle.cutoff.proofs.enter.Statement.{statement}
 use Rattle.cutoff.proofs.enter.Tie as tie
 
+record-requires : tie.Need-record-requires
+record-requires c κs =
+    let p = c .before .before .before .before .before .before .before .before .before .before .before .before .before .before .before .before .before .before .before .before .before .before .before .before .before .before .pre in
+    record {
+      room = omega (arith, p .write .room);
+      head = record { kinds = omega arith; issues = p .issue; froms = p .from; tos = p .to };
+      lots = omega (arith, p .lots);
+    }
+
 returns : tie.Need-returns
 returns c =
-    let a = c .before .before .before .before .before .before .before .before .before .before .before .before .before .before .before .before .before .before .before .before .before .before .before .before .before .before .args in
-    let k = c .before .before .before .before .before .before .before .before .before .before .before .before .before .before .append in
-    let o = c .before .before .record-at in
-    entered (entry (a .i) (a .f) (a .t) (a .x) (a .day)) (a .n) (a .w)
-    (lent (now (a .issues)) (now (a .froms)) (now (a .tos)) (now (a .lots)) (now (a .days)) (now (a .out)))
+    let s = c .before .before .before .before .before .before .before .before .before .before .before .before .before .before .before .before .before .before .before .before .before .before .before .before .before .before .before .before .before in
+    let a = s .args in
+    let k = c .before .before .before .before .before .before .before .before .before .before .before .before .before .before .before .before .before .append in
+    let o = c .before .before .«record» in
+    entered (a .e) (a .n)
+    (lending (a .issues) (a .froms) (a .tos) (a .lots) (a .days) (a .out))
     (lent (k .last .1 .0) (k .last .1 .1 .0) (k .last .1 .1 .1 .0) (k .last .1 .1 .1 .1 .0) (k .last .1 .1 .1 .1 .1 .0) (o .last .0))
-    (omega (arith, c .before .before .before .before .before .before .before .before .before .before .before .before .before .before .before .before .before .before .before .before .before .before .before .before .before .before .pre .write .most)) (k .ensures) (o .ensures)
+    (omega (arith, s .pre .write .most)) (k .ensures) (o .ensures)
 
 pub enter-spec : {M : Type 1} → statement M
 enter-spec =
     tie.close
     (tie.spec
+    (λ c κs. search needs)
     (λ c. search needs)
     (λ c. search needs)
-    (λ c κs. search needs)
-    (λ c κs. search needs)
+    (λ c. search needs)
+    record-requires
     (λ c. search needs)
     (λ c. search needs)
     (λ c. search needs)

@@ -2,43 +2,36 @@
 use native.Mathlib.Omega.{arith}
 use borrow.Author.Needs.{needs}
 use denote.Ref.{now}
-use Rattle.units.proofs.Questions.{row-part, row-can}
-use Rattle.cutoff.proofs.Issues.{can-order, total-small, owing, ready}
+use Rattle.units.proofs.Cells.{row-part, total-small}
+use Rattle.cutoff.proofs.Issues.{owing, ready}
 use Rattle.cutoff.proofs.prepare.Statement.{statement}
 use Rattle.cutoff.proofs.prepare.Tie as tie
 
-prepare-requires : tie.Need-prepare-requires
-prepare-requires c κs =
-    let s = c .before .before .before .before .before in
-    let a = s .args in
-    row-can (now (a .nets)) (a .i) _ _ (row-part (now (a .nets)) (a .i))
-    (can-order (now (a .nets)) (now (a .delivered)) (a .i) (s .pre .issue) (s .pre .sound)) (s .pre .held)
-
 total-requires : tie.Need-total-requires
 total-requires c κs =
-    let s = c .before .before .before .before .before .before .before .before .before in
+    let s = c .before .before .before .before .before .before .before .before in
     let a = s .args in
-    total-small (now (a .nets)) (now (a .delivered)) (a .i) (s .pre .issue) (s .pre .sound) _ _
-    (row-part (now (a .nets)) (a .i)) (row-part (now (a .delivered)) (a .i))
+    rw (row-part (now (a .delivered)) (a .i)) (total-small (now (a .nets)) (now (a .delivered)) (s .pre .sound) (a .i) (s .pre .issue))
 
 shorts-of-requires : tie.Need-shorts-of-requires
 shorts-of-requires c κs =
-    let s = c .before .before .before .before .before .before .before .before .before .before .before .before .before in
+    let s = c .before .before .before .before .before .before .before .before .before .before .before .before in
     let a = s .args in
-    owing (now (a .nets)) (now (a .delivered)) (a .i) (s .pre .issue) (s .pre .sound) _ _
-    (row-part (now (a .nets)) (a .i)) (row-part (now (a .delivered)) (a .i)) _ (s .pre .accounts)
+    rw (row-part (now (a .nets)) (a .i), row-part (now (a .delivered)) (a .i))
+    (owing (now (a .nets)) (now (a .delivered)) (a .i) (s .pre .issue) (s .pre .sound) _ (s .pre .accounts))
 
 returns : tie.Need-returns
 returns c =
-    let s = c .before .before .before .before .before .before .before .before .before .before .before .before .before .before .before .before .before .before .before in
+    let s = c .before .before .before .before .before .before .before .before .before .before .before .before .before .before .before .before .before .before in
     let a = s .args in
     let p = c .before .before .before .before .before .before .before .before .before .before .before .before .before .prepare in
     let t = c .before .before .before .before .before .before .before .before .before .total in
     let h = c .before .before .before .before .before .shorts-of in
     let v = c .before .start in
-    ready (now (a .nets)) (now (a .delivered)) (a .i) (s .pre .issue) (s .pre .sound) _ _
-    (row-part (now (a .nets)) (a .i)) (row-part (now (a .delivered)) (a .i))
-    (p .last .1 .0) (h .last .1 .1 .0) (p .result) (t .result) (v .result) (p .ensures) (t .ensures) (h .ensures)
+    ready (now (a .nets)) (now (a .delivered)) (a .i) (s .pre .issue) (s .pre .sound)
+    (p .last .1 .1 .0) (h .last .1 .1 .0) (p .result) (t .result) (v .result) (p .ensures)
+    (rw (row-part (now (a .delivered)) (a .i)) at (t .ensures))
+    (rw (row-part (now (a .nets)) (a .i), row-part (now (a .delivered)) (a .i)) at (h .ensures))
     (omega (arith, h .kept .1 .1 .0, s .pre .accounts)) (v .ensures)
 
 pub prepare-spec : {M : Type 1} → statement M
@@ -47,11 +40,7 @@ prepare-spec =
     (tie.spec
     (λ c. search needs)
     (λ c. search needs)
-    (λ c. search needs)
-    (λ c. search needs)
-    (λ c. search needs)
-    (λ c. search needs)
-    prepare-requires
+    (λ c κs. search needs)
     (λ c. search needs)
     (λ c. search needs)
     (λ c. search needs)

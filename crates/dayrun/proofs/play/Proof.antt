@@ -1,96 +1,112 @@
--- Invariant: the book in its columns is sound, and the turns left are so few that no index wraps.
-use mathlib.Core.Path.{_≡_, refl, sym}
-use Prim.Native.Nat.{_+_, _*_, _≤_}
+-- Invariant: the run so far, of the bytes that came, printed as many bytes as were sent; the turns left are so few that no number wraps.
+use mathlib.Core.Path.{_≡_, refl, sym, ap, _∙_}
+use mathlib.Core.Bool.{false}
+use Prim.Native.Nat.{_+_, _-_, _*_, _≤_, _<_}
 use native.Mathlib.Omega.{arith}
-use lib.ListN as list
+use lib.ListN.{length}
 use lib.Seq.{length-take-le}
-use Rattle.book.specs.States.{Ready}
-use Rattle.dayrun.specs.Day.{Buffers, Standing}
+use Rattle.rules.specs.Book.{sound}
+use Rattle.laws.proofs.Called.{fresh-sound}
+use Rattle.dayrun.specs.Day.{Buffers, Standing, unused}
+use Rattle.dayrun.proofs.Sofar.{Sofar, sofar-starts, sofar-on, few-words, shown, played, goes-on}
 use borrow.Author.Needs.{needs}
 use Rattle.dayrun.proofs.play.Statement.{statement}
 use Rattle.dayrun.proofs.play.Tie as tie
-use Rattle.dayrun.proofs.play.Reads as reads
-use Rattle.dayrun.proofs.play.Lts as lts
-use Rattle.dayrun.proofs.part.Reads as part-reads
-use Rattle.io.proofs.write_all.Reads as write-all-reads
 
 abbrev Inv-loop : tie.InvT-loop
-Inv-loop bytes₀ words₀ text₀ nets₀ delivered₀ charges₀ issues₀ froms₀ tos₀ lots₀ days₀ out₀ p₀ written₀ turns₀ bytes words text nets delivered charges issues froms tos lots days out p written turns =
-    Buffers bytes words text
+Inv-loop bytes₀ words₀ text₀ out₀ p₀ sent₀ written₀ turns₀ bytes words text out p sent written turns =
+    Buffers bytes words text out
     × Standing p
-    × Ready (p .state) nets delivered charges issues froms tos lots days out
-    × (list.length out ≡ list.length out₀)
-    × (p .index + 4096 * turns ≤ 18446744073709543424)
-    × (p .state .entries ≤ 2048)
+    × (p .index + 4096 * turns ≤ 144115188075851776)
+    × (sent + 327680 * turns ≤ 11529215046068469760)
+    × (0 < turns → (p .over ≡ false) × (p .failed ≡ false))
+    × Sofar (p .over) (p .index) (p .book) (unused p bytes) sent
 
 abbrev μ-loop : tie.MeasureT-loop
-μ-loop bytes₀ words₀ text₀ nets₀ delivered₀ charges₀ issues₀ froms₀ tos₀ lots₀ days₀ out₀ p₀ written₀ turns₀ bytes words text nets delivered charges issues froms tos lots days out p written turns =
-    turns
+μ-loop bytes₀ words₀ text₀ out₀ p₀ sent₀ written₀ turns₀ bytes words text out p sent written turns = turns
 
--- src/main.rt:123:5
 loop-holds : tie.Need-loop-holds Inv-loop μ-loop
-loop-holds c =
-    let s = c .before .before .before .before .before .before .before .before .before .before in
-    (s .pre .0, record { order = omega arith; within = omega arith }, s .pre .1, refl, omega arith, omega arith)
+loop-holds c = (
+  c .before .before .before .before .before .pre,
+  record { order = omega arith; within = omega arith; few = λ e. omega arith; waits = λ e. refl; sound = ap sound (c .fresh .ensures) ∙ fresh-sound },
+  omega arith,
+  omega arith,
+  λ h. (refl, refl),
+  sofar-starts _ _ (c .fresh .ensures) refl,
+)
 
--- src/main.rt:125:9
-part-requires : tie.Need-part-requires Inv-loop μ-loop
-part-requires c κs =
-    let l = c .before .before .before .before .before .before .before .before .before .before .before .before .before .loop in
-    (l .inv .0, l .inv .1, l .inv .2, omega (arith, l .inv .4, c .before .before .before .before .before .before .before .before .before .before .before .before .loop-test .taken))
+step-requires : tie.Need-step-requires Inv-loop μ-loop
+step-requires c κs =
+    let l = c .before .before .before .before .before .loop in
+    let t = c .before .before .before .before .loop-test .taken in
+    let o = l .inv .4 (omega (arith, t)) in
+    (l .inv .0, l .inv .1, o .0, o .1, omega (arith, t, l .inv .2))
 
--- src/main.rt:129:48
-slice-reshare-prefix-write-all : tie.Need-slice-reshare-prefix-write-all Inv-loop μ-loop
-slice-reshare-prefix-write-all c =
-    let t = c .before .before .before .before .before .before .before .before .before .before .before .before .before .before .before .before .before .before .before .before .before .before .part .ensures in
-    omega (arith, t .0 .length, t .1 .lines)
+-- a turn goes on where the run stood, and its text has room
+goes : (c : tie.After-step Inv-loop μ-loop) → c .before .before .before .before .before .before .loop .p .over ≡ false
+goes c = c .before .before .before .before .before .before .loop .inv .4 (omega (arith, c .before .before .before .before .before .loop-test .taken)) .0
 
--- src/main.rt:129:48
-slice-aggregate-write-all : tie.Need-slice-aggregate-write-all Inv-loop μ-loop
-slice-aggregate-write-all c =
-    let t = c .before .before .before .before .before .before .before .before .before .before .before .before .before .before .before .before .before .before .before .before .before .before .before .part in
-    sym (length-take-le (t .result .length) (t .last .1 .1 .1 .0) (omega (arith, t .ensures .0 .length, t .ensures .1 .lines)))
+few : (c : tie.After-step Inv-loop μ-loop) → (c .step .result .index ≤ c .before .before .before .before .before .before .loop .p .index + 4096) × (c .step .result .length ≤ 327680)
+few c = few-words (c .before .before .before .before .before .before .loop .p) (c .step .result) (c .before .before .before .before .before .before .loop .bytes) _ _ (c .step .ensures .0) (c .step .ensures .2 .input)
 
--- src/main.rt:123:5
+fits : (c : tie.After-step Inv-loop μ-loop) → c .step .result .length ≤ length (c .step .last .1 .1 .1 .0)
+fits c = omega (arith, few c .1, c .step .ensures .2 .lines)
+
+slice-reshare-prefix-show : tie.Need-slice-reshare-prefix-show Inv-loop μ-loop
+slice-reshare-prefix-show c = fits (c .before .before .before .before .before .before .before .before)
+
+slice-aggregate-show : tie.Need-slice-aggregate-show Inv-loop μ-loop
+slice-aggregate-show c = let k = c .before .before .before .before .before .before .before .before .before in sym (length-take-le (k .step .result .length) (k .step .last .1 .1 .1 .0) (fits k))
+
+show-requires : tie.Need-show-requires Inv-loop μ-loop
+show-requires c κs =
+    let k = c .before .before .before .before .before .before .before .before .before in
+    let l = k .before .before .before .before .before .before .loop in (
+      shown (l .p) (k .step .result) (l .bytes) _ _ (k .step .ensures .0) (l .sent) (goes k) (l .inv .5),
+      omega (arith, length-take-le (k .step .result .length) (k .step .last .1 .1 .1 .0) (fits k), few k .1, l .inv .3, k .before .before .before .before .before .loop-test .taken),
+    )
+
+-- where the run stands behind a turn
+record Behind (c : tie.After-show Inv-loop μ-loop) : Type 0 where
+  pub index : c .before .before .before .before .before .before .before .before .before .before .step .result .index + 4096 * (c .before .before .before .before .before .before .before .before .before .before .before .before .before .before .before .before .loop .turns - 1) ≤ 144115188075851776
+  pub sent : c .show .result .count + 327680 * (c .before .before .before .before .before .before .before .before .before .before .before .before .before .before .before .before .loop .turns - 1) ≤ 11529215046068469760
+  pub sofar : let r = c .before .before .before .before .before .before .before .before .before .before .step .result in Sofar (r .over) (r .index) (r .book) (unused r (c .before .before .before .before .before .before .before .before .before .before .step .last .1 .0)) (c .show .result .count)
+
+behind : (c : tie.After-show Inv-loop μ-loop) → Behind c
+behind c =
+    let k = c .before .before .before .before .before .before .before .before .before .before in
+    let l = k .before .before .before .before .before .before .loop in
+    let t = k .before .before .before .before .before .loop-test .taken in
+    let n = length-take-le (k .step .result .length) (k .step .last .1 .1 .1 .0) (fits k) in
+    record {
+      index = omega (arith, few k .0, l .inv .2, t);
+      sent = omega (arith, n, few k .1, c .show .ensures, l .inv .3, t);
+      sofar = sofar-on (l .p) (k .step .result) (l .bytes) _ _ (k .step .ensures .0) (l .sent) (goes k) (l .inv .5) (c .show .result .count) (c .show .ensures);
+    }
+
 loop-less : tie.Need-loop-less Inv-loop μ-loop
-loop-less c =
-    omega (arith, c .before .before .before .before .before .before .before .before .before .before .before .before .before .before .before .before .before .before .before .before .before .before .before .before .before .before .before .before .before .before .before .before .before .before .before .before .before .before .before .loop-test .taken)
+loop-less c = search needs
 
--- src/main.rt:123:5
 loop-again : tie.Need-loop-again Inv-loop μ-loop
 loop-again c =
-    let t = c .before .before .before .before .before .before .before .before .before .before .before .before .before .before .before .before .before .before .before .before .before .before .before .before .before .before .part .ensures in
-    let l = c .before .before .before .before .before .before .before .before .before .before .before .before .before .before .before .before .before .before .before .before .before .before .before .before .before .before .before .before .before .before .before .before .before .before .before .before .before .before .before .before .loop in (
-      t .1,
-      t .0 .standing,
-      t .2,
-      omega (arith, c .before .before .before .before .before .out .given, l .inv .3),
-      omega (arith, t .0 .index, l .inv .4, c .before .before .before .before .before .before .before .before .before .before .before .before .before .before .before .before .before .before .before .before .before .before .before .before .before .before .before .before .before .before .before .before .before .before .before .before .before .before .before .loop-test .taken),
-      t .0 .entries,
-    )
+    let k = c .before .before in
+    let e = k .before .before .before .before .before .before .before .before .before .before .step .ensures in
+    (e .2, e .1, omega (arith, behind k .index), omega (arith, behind k .sent), λ h. absurd (omega arith), behind k .sofar)
 
--- src/main.rt:123:5
 loop-less-2 : tie.Need-loop-less-2 Inv-loop μ-loop
-loop-less-2 c =
-    omega (arith, c .before .before .before .before .before .before .before .before .before .before .before .before .before .before .before .before .before .before .before .before .before .before .before .before .before .before .before .before .before .before .before .before .before .before .before .before .before .before .before .loop-test .taken)
+loop-less-2 c = search needs
 
--- src/main.rt:123:5
 loop-again-2 : tie.Need-loop-again-2 Inv-loop μ-loop
 loop-again-2 c =
-    let t = c .before .before .before .before .before .before .before .before .before .before .before .before .before .before .before .before .before .before .before .before .before .before .before .before .before .before .part .ensures in
-    let l = c .before .before .before .before .before .before .before .before .before .before .before .before .before .before .before .before .before .before .before .before .before .before .before .before .before .before .before .before .before .before .before .before .before .before .before .before .before .before .before .before .loop in (
-      t .1,
-      t .0 .standing,
-      t .2,
-      omega (arith, c .before .before .before .before .before .out .given, l .inv .3),
-      omega (arith, t .0 .index, l .inv .4, c .before .before .before .before .before .before .before .before .before .before .before .before .before .before .before .before .before .before .before .before .before .before .before .before .before .before .before .before .before .before .before .before .before .before .before .before .before .before .before .loop-test .taken),
-      t .0 .entries,
-    )
+    let k = c .before .before in
+    let r = k .before .before .before .before .before .before .before .before .before .before .step .result in
+    let e = k .before .before .before .before .before .before .before .before .before .before .step .ensures in
+    (e .2, e .1, behind k .index, behind k .sent, λ h. goes-on (r .over) (r .failed) (k .show .result .written) (c .if1 .left), behind k .sofar)
 
--- src/main.rt:91:1
 returns : tie.Need-returns Inv-loop μ-loop
 returns c =
-    c .before .before .loop .inv .5
+    let l = c .before .before .loop in
+    (played _ (l .p .index) _ (omega (arith, l .inv .3)) (l .inv .1 .sound) (l .inv .5), l .inv .0)
 
 pub play-spec : {M : Type 1} → statement M
 play-spec =
@@ -98,24 +114,17 @@ play-spec =
     (tie.spec
     Inv-loop
     μ-loop
+    (λ c κs. search needs)
     loop-holds
     (λ c. search needs)
-    part-requires
-    slice-reshare-prefix-write-all
-    slice-aggregate-write-all
-    (λ c κs. search needs)
+    step-requires
+    slice-reshare-prefix-show
+    slice-aggregate-show
+    show-requires
     loop-less
     loop-again
     loop-less-2
     loop-again-2
-    (λ c. search needs)
-    (λ c. search needs)
-    (λ c. search needs)
-    (λ c. search needs)
-    (λ c. search needs)
-    (λ c. search needs)
-    (λ c. search needs)
-    (λ c. search needs)
     (λ c. search needs)
     (λ c. search needs)
     (λ c. search needs)

@@ -14,15 +14,10 @@ use lib.IntN.{ℤ, pos}
 use Rattle.rules.specs.Measures.{mostLots, between, owedOf}
 use Rattle.rules.specs.Book.{isSettling, netAt}
 use Rattle.laws.proofs.Basics.{and-right}
+use Rattle.units.proofs.Cells.{cell-owed}
 use Rattle.delivery.proofs.deliver_asks.Statement.{statement}
 use Rattle.delivery.proofs.deliver_asks.Tie as tie
-use Rattle.delivery.proofs.deliver_asks.Reads as reads
-use Rattle.delivery.proofs.deliver_asks.Lts as lts
-use Rattle.book.proofs.owed.Reads as owed-reads
-use Rattle.book.proofs.settling.Reads as settling-reads
-use Rattle.measures.proofs.lots_right.Reads as lots-right-reads
 
--- src/lib.rt:59:9
 -- what the answers so far say
 yes3 : (c : tie.Else1) → isSettling (c .before .before .before .args .phase) ≡ true
 yes3 c = sym (c .before .settling .ensures) ∙ not-false _ (c .if1 .left)
@@ -37,19 +32,15 @@ owes c =
     let s = c .before .before .before .before .before .before .before .before .before in
     c .owed .ensures ∙ ap owedOf (toZ-ofZ w32 (netAt (now (s .args .nets)) (s .args .i) (s .args .a)) (search needs))
 
--- src/lib.rt:60:9
 returns : tie.Need-returns
 returns c = simp (sym (c .before .settling .ensures) ∙ not-true _ (c .if1 .taken))
 
--- src/lib.rt:63:9
 returns-2 : tie.Need-returns-2
 returns-2 c = simp (yes3 (c .before), lt-leb _ 15 (c .if2 .taken))
 
--- src/lib.rt:66:9
 returns-3 : tie.Need-returns-3
 returns-3 c = simp (yes3 (c .before .before), le-leb _ 15 (c .before .if2 .left), lt-leb _ 63 (c .if3 .taken))
 
--- src/lib.rt:69:9
 returns-4 : tie.Need-returns-4
 returns-4 c =
     let k = c .before .before in
@@ -60,22 +51,19 @@ returns-4 c =
       sym (c .before .lots-right .ensures) ∙ not-true _ (c .if4 .taken),
     )
 
--- src/lib.rt:73:24
 add-if5 : tie.Need-add-if5
 add-if5 c =
     let s = c .before .before .before .before .before .before .before .before .before .before in
     let k = c .before .before .before in
     let x = leb-true (s .args .x) mostLots (and-right (leb 1 (s .args .x)) (leb (s .args .x) mostLots) (yes7 k)) in
-    omega (arith, x, s .pre .small (s .args .i * 64 + s .args .a))
+    omega (arith, x, cell-owed (now (s .args .nets)) (now (s .args .delivered)) (s .pre) (s .args .i * 64 + s .args .a))
 
--- src/lib.rt:74:9
 returns-5 : tie.Need-returns-5
 returns-5 c =
     let k = c .before .before .before .before in
     let l = k .before .before in
     simp (yes3 (l .before .before), le-leb _ 15 (l .before .if2 .left), le-leb _ 63 (l .if3 .left), yes7 k, lt-leb _ _ (rw (owes (c .before .before)) at (c .if5 .taken)))
 
--- src/lib.rt:55:1
 returns-6 : tie.Need-returns-6
 returns-6 c =
     let k = c .before .before .before .before in

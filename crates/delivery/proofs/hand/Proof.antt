@@ -1,80 +1,90 @@
--- The output holds the records of the units handed over so far; each turn's question finds the next unit.
-use mathlib.Core.Path.{_≡_, refl, sym, ap, _∙_}
-use mathlib.Core.List.{[], _∷_, _++_}
-use mathlib.Core.Logic.{⊎-elim}
-use Prim.Native.Nat.{ℕ, _+_, _-_, _*_, _≤_, _<_}
+-- The records of all units are those of the units behind the place, from here; each turn hands over the next.
+use mathlib.Core.Path.{_≡_, ap}
+use mathlib.Core.List.{[], _∷_}
+use Prim.Native.Nat.{_+_, _-_, _*_, _≤_}
+use native.Mathlib.Nat.{sub-zero}
 use native.Mathlib.Omega.{arith}
 use borrow.Author.Needs.{needs}
 use denote.Ref.{now}
-use lib.ListN.{length, drop, length-append}
+use lib.ListN.{length, drop}
 use Rattle.rules.specs.Units.{part}
-use Rattle.rules.specs.Records.{handover, words, over}
-use Rattle.rules.specs.declared.Found.the-variants.{Unit}
-use Rattle.units.specs.Runs.{unitsIn, foundOf}
-use Rattle.words.proofs.Output.{record-more, records-length}
+use Rattle.rules.specs.Records.{handover, words}
+use Rattle.units.specs.Runs.{unitsIn, unitsFrom}
+use Rattle.units.proofs.Questions.{unit-list, unit-range, unit-end}
+use Rattle.words.proofs.Stores.{part-length, part-over}
 use Rattle.delivery.specs.Deliver.{handRecords}
-use Rattle.delivery.proofs.Handing.{hand-more, hand-length, found-some, found-fits}
+use Rattle.delivery.proofs.Handing.{Handing, handing-starts, handing-more, handing-ends}
 use Rattle.delivery.proofs.hand.Statement.{statement}
 use Rattle.delivery.proofs.hand.Tie as tie
-use Rattle.delivery.proofs.hand.Reads as reads
-use Rattle.delivery.proofs.hand.Lts as lts
-use Rattle.units.proofs.unit_at.Reads as unit-at-reads
-use Rattle.words.proofs.record_at.Reads as record-at-reads
 
 abbrev Inv-loop : tie.InvT-loop
-Inv-loop runs n i c count out₀ m₀ out m =
-    (m ≤ count) × (length out ≡ length out₀) × (out ≡ over (words (handRecords (unitsIn runs n) i c m)) out₀)
+Inv-loop runs n i c count out₀ seat₀ m₀ out seat m =
+    (m ≤ count) × Handing i m (count - m) (unitsFrom runs n seat) (words (handRecords i count (drop c (unitsIn runs n)))) out₀ out
 
 abbrev μ-loop : tie.MeasureT-loop
-μ-loop runs n i c count out₀ m₀ out m = count - m
+μ-loop runs n i c count out₀ seat₀ m₀ out seat m = count - m
 
--- the unit that was found
+loop-holds : tie.Need-loop-holds Inv-loop μ-loop
+loop-holds c =
+    let s = c .before .before .before in
+    let a = s .args in (
+      omega arith,
+      rw (c .seek .ensures (now (a .runs)) (a .n), sub-zero)
+          (handing-starts (a .i) (a .count) (drop (a .c) (unitsIn (now (a .runs)) (a .n))) (now (a .out)) (s .pre .there) (s .pre .room)),
+    )
+
+-- the next unit stands in front of what is left
 found : (c : tie.After-known-told Inv-loop μ-loop) →
-    let s = c .before .before .before .before .before .before .before .before in
-    Unit (c .before .to .given .0 .0) (c .before .to .given .0 .1 .0)
-    ≡ foundOf (drop (s .args .c + c .before .before .before .before .before .loop .m) (unitsIn (now (s .args .runs)) (s .args .n)))
-found c = sym (c .before .to .given .1) ∙ c .before .before .before .unit-at .ensures
+    let a = c .before .before .before .before .before .before .before .before .before .args in
+    let g = c .before .to .given .0 in
+    unitsFrom (now (a .runs)) (a .n) (c .before .before .before .before .before .loop .seat) ≡ part (g .0) (g .1 .0) ∷ unitsFrom (now (a .runs)) (a .n) (g .1 .1 .0)
+found c =
+    let a = c .before .before .before .before .before .before .before .before .before .args in
+    let n = c .before .before .before .next-unit in
+    unit-list (now (a .runs)) (a .n) (c .before .before .before .before .before .loop .seat) (n .result) (n .ensures) _ _ _ (c .before .to .given .1)
 
--- src/lib.rt:16:13
 returns : tie.Need-returns Inv-loop μ-loop
 returns c =
-    let s = c .before .before .before .before .before .before in
-    let l = c .before .before .before .loop in
-    let t = found-some (unitsIn (now (s .args .runs)) (s .args .n)) (s .args .c + l .m) _ (c .before .unit-at .ensures) (omega (arith, s .pre .there)) in
-    absurd (⊎-elim (λ e. omega (arith, e, t)) (λ e. omega (arith, e, t)) (c .match .keys2))
+    let a = c .before .before .before .before .before .before .before .before .args in
+    let l = c .before .before .before .before .loop in
+    let n = c .before .before .next-unit in
+    absurd (
+    omega (
+      arith,
+      l .inv .1 .there,
+      ap length (unit-end (now (a .runs)) (a .n) (l .seat) (n .result) (n .ensures) (c .enum-told .given .1)),
+    )
+    )
 
--- src/lib.rt:18:9
-record-at-requires : tie.Need-record-at-requires Inv-loop μ-loop
-record-at-requires c κs =
-    let s = c .before .before .before .before .before .before .before .before .before in
+record-requires : tie.Need-record-requires Inv-loop μ-loop
+record-requires c κs =
+    let s = c .before .before .before .before .before .before .before .before .before .before in
     let l = c .before .before .before .before .before .before .loop in
-    let f = found-fits (now (s .args .runs)) (s .args .n) (s .args .c + l .m) _ _ (found (c .before)) in
+    let n = c .before .before .before .before .next-unit in
+    let f = unit-range (now (s .args .runs)) (s .args .n) (l .seat) (n .result) (n .ensures) _ _ _ (c .before .before .to .given .1) in
     record {
-      room = omega (arith, s .pre .room);
-      head = record { kinds = omega arith; issues = omega (arith, s .pre .issue); froms = omega arith; tos = omega (arith, f .0) };
+      room = omega (arith, part-length (l .out) (2 * l .m), l .inv .1 .same, s .pre .room);
+      head = record { kinds = omega arith; issues = s .pre .issue; froms = omega arith; tos = f .0 };
       lots = omega (arith, f .1);
     }
 
--- src/lib.rt:14:5
 loop-again : tie.Need-loop-again Inv-loop μ-loop
 loop-again c =
+    let s = c .before .before .before .before .before .before .before .before .before .before .before .before .before in
     let l = c .before .before .before .before .before .before .before .before .before .loop in
-    let s = c .before .before .before .before .before .before .before .before .before .before .before .before in
-    let k = c .before .before .before .before in
-    let us = unitsIn (now (s .args .runs)) (s .args .n) in
-    let rs = handRecords us (s .args .i) (s .args .c) (l .m) in
-    let r = handover (s .args .i) (part (k .before .to .given .0 .0) (k .before .to .given .0 .1 .0)) in
-    let n = hand-length us (s .args .i) (s .args .c) (l .m) (omega (arith, s .pre .there)) in
-    let e = record-more rs r (l .m) (now (s .args .out)) (l .out) _ (sym n) (omega (arith, s .pre .room)) (l .inv .2) (c .before .before .record-at .ensures) in
-    (omega arith, ap length e ∙ records-length (rs ++ (r ∷ [])) (now (s .args .out)) (omega (arith, length-append rs (r ∷ []), s .pre .room)), rw (hand-more us (s .args .i) (s .args .c) (l .m) _ _ (found k)) e)
+    let g = c .before .before .before .before .before .to .given .0 in
+    let w = words (handover (s .args .i) (part (g .0) (g .1 .0)) ∷ []) in
+    let e : s .args .count - (l .m + 1) ≡ s .args .count - l .m - 1 = omega arith in (
+      omega arith,
+      rw e
+          (handing-more (s .args .i) (l .m) _ _ _ _ (l .out) (l .inv .1) _ _ _ _ (omega arith) (found (c .before .before .before .before))
+          (part-over (l .out) (c .before .before .«record» .last .0) w (2 * l .m) (omega (arith, l .inv .1 .same, s .pre .room)) (c .before .before .«record» .ensures))),
+    )
 
--- src/lib.rt:9:1
 returns-2 : tie.Need-returns-2 Inv-loop μ-loop
 returns-2 c =
     let l = c .before .loop in
-    let s = c .before .before .before .before in
-    let e : l .m ≡ s .args .count = omega arith in
-    rw e at (l .inv .2)
+    handing-ends _ _ _ _ _ _ _ (l .inv .1) (omega arith)
 
 pub hand-spec : {M : Type 1} → statement M
 hand-spec =
@@ -82,14 +92,19 @@ hand-spec =
     (tie.spec
     Inv-loop
     μ-loop
-    (λ c. search needs)
-    (λ c. search needs)
-    (λ c. search needs)
+    (λ c κs. search needs)
+    loop-holds
     (λ c κs. search needs)
     (λ c. search needs)
     (λ c. search needs)
+    (λ c. search needs)
     returns
-    record-at-requires
+    (λ c. search needs)
+    (λ c. search needs)
+    (λ c. search needs)
+    (λ c. search needs)
+    (λ c. search needs)
+    record-requires
     (λ c. search needs)
     (λ c. search needs)
     loop-again

@@ -1,39 +1,38 @@
--- The issue's row is prepared, and its runs are asked for the k-th unit.
-use mathlib.Core.Path.{ap, _∙_}
+-- The issue's units are prepared, and the one behind the place in front of unit k is the answer.
 use borrow.Author.Needs.{needs}
 use denote.Ref.{now}
-use lib.ListN.{drop}
-use Rattle.units.specs.Runs.{foundOf}
-use Rattle.units.proofs.Questions.{row-part, row-can, row-order}
+use Rattle.units.proofs.Questions.{unit-list, unit-end, found-is}
 use Rattle.inquiry.proofs.unit_of.Statement.{statement}
 use Rattle.inquiry.proofs.unit_of.Tie as tie
 
-prepare-requires : tie.Need-prepare-requires
-prepare-requires c κs =
-    let s = c .before .before in
-    row-can (now (s .args .nets)) (s .args .i) _ _ (row-part (now (s .args .nets)) (s .args .i)) (s .pre) (search needs)
-
 returns : tie.Need-returns
 returns c =
-    let s = c .before .before .before .before .before .before in
-    let p = c .before .before .before .prepare in
-    let a = s .args in
-    c .unit-at .ensures
-    ∙ ap (λ us. foundOf (drop (a .k) us))
-    (row-order (now (a .nets)) (a .i) _ (p .last .1 .0) (p .result) (row-part (now (a .nets)) (a .i)) (p .ensures))
+    let a = c .before .before .before .before .before .before .before .before .args in
+    let p = c .before .before .before .before .before .before .prepare in
+    let s = c .before .before .before .before .seek in
+    let n = c .before .before .next-unit in
+    found-is (now (a .nets)) (a .i) (a .k) (p .last .1 .1 .0) (p .result) (s .result) (p .ensures) (s .ensures) _
+    (unit-end (p .last .1 .1 .0) (p .result) (s .result) (n .result) (n .ensures) (c .enum-told .given .1))
+
+returns-2 : tie.Need-returns-2
+returns-2 c =
+    let a = c .before .before .before .before .before .before .before .before .before .args in
+    let p = c .before .before .before .before .before .before .before .prepare in
+    let s = c .before .before .before .before .before .seek in
+    let n = c .before .before .before .next-unit in
+    found-is (now (a .nets)) (a .i) (a .k) (p .last .1 .1 .0) (p .result) (s .result) (p .ensures) (s .ensures) _
+    (unit-list (p .last .1 .1 .0) (p .result) (s .result) (n .result) (n .ensures) _ _ _ (c .before .a .given .1))
 
 pub unit-of-spec : {M : Type 1} → statement M
 unit-of-spec =
     tie.close
     (tie.spec
     (λ c. search needs)
-    (λ c. search needs)
-    (λ c. search needs)
-    (λ c. search needs)
-    (λ c. search needs)
-    (λ c. search needs)
-    (λ c. search needs)
-    prepare-requires
+    (λ c κs. search needs)
+    (λ c κs. search needs)
     (λ c. search needs)
     (λ c κs. search needs)
-    returns)
+    (λ c. search needs)
+    (λ c. search needs)
+    returns
+    returns-2)

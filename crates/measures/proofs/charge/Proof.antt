@@ -25,10 +25,4 @@ returns-2 c = charge-yen _ _ _ _ _ (asked (c .before .before)) (omega arith) _ (
 pub charge-spec : {M : Type 1} → statement M
 charge-spec =
     tie.close
-    (tie.spec
-    (λ c κs. search needs)
-    (λ c κs. search needs)
-    (λ c κs. search needs)
-    returns
-    charge-of-requires
-    returns-2)
+    (tie.spec (λ c κs. search needs) (λ c κs. search needs) (λ c κs. search needs) returns charge-of-requires returns-2)

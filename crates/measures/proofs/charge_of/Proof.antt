@@ -1,5 +1,4 @@
 -- The products are at most those of the limits, so they fit and the quotient is at most the largest charge.
-use mathlib.Core.Path.{refl}
 use borrow.Author.Needs.{needs}
 use native.Mathlib.Nat.{mul-le-mul}
 use native.Mathlib.Omega.{arith}

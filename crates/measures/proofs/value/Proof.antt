@@ -24,10 +24,4 @@ returns-2 c = value-yen _ _ _ (asked (c .before .before)) (omega arith) _ (c .va
 pub value-spec : {M : Type 1} → statement M
 value-spec =
     tie.close
-    (tie.spec
-    (λ c κs. search needs)
-    (λ c κs. search needs)
-    (λ c κs. search needs)
-    returns
-    value-of-requires
-    returns-2)
+    (tie.spec (λ c κs. search needs) (λ c κs. search needs) (λ c κs. search needs) returns value-of-requires returns-2)

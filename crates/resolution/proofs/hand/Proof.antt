@@ -1,5 +1,8 @@
--- `resolution::hand` meets its contract: nothing is written at 0 lots, else the record.
-use Rattle.resolution.proofs.Alone.{recorded-none, recorded-some}
+-- `resolution::hand` meets its contract: nothing is written at 0 lots, else the record, in the part behind the others.
+use denote.Ref.{now}
+use Prim.Native.Nat.{_*_}
+use Rattle.words.proofs.Stores.{part-put}
+use Rattle.resolution.proofs.Recording.{recorded-none, recorded-some}
 use borrow.Author.Needs.{needs}
 use Rattle.resolution.proofs.hand.Statement.{statement}
 use Rattle.resolution.proofs.hand.Tie as tie
@@ -8,7 +11,22 @@ returns : tie.Need-returns
 returns c = λ y d. recorded-none _ _ _ _ (c .if1 .taken)
 
 returns-2 : tie.Need-returns-2
-returns-2 c = λ y d. recorded-some _ _ _ _ d y _ _ _ (c .before .before .before .before .if1 .left) (c .before .before .record-at .ensures)
+returns-2 c =
+    let a = c .before .before .before .before .before .before .args in
+    λ y d. recorded-some _ _ _ _ d y _ _ _ (c .before .before .before .before .if1 .left)
+    (part-put (now (a .out)) (c .before .before .«record» .last .0) (2 * a .n) _ _ (c .before .before .before .before .before .before .pre .0) (c .before .before .«record» .ensures))
 
 pub hand-spec : {M : Type 1} → statement M
-hand-spec = tie.close (tie.spec returns (λ c κs. search needs) (λ c. search needs) (λ c. search needs) returns-2)
+hand-spec =
+    tie.close
+    (tie.spec
+    returns
+    (λ c. search needs)
+    (λ c. search needs)
+    (λ c. search needs)
+    (λ c. search needs)
+    (λ c. search needs)
+    (λ c κs. search needs)
+    (λ c. search needs)
+    (λ c. search needs)
+    returns-2)

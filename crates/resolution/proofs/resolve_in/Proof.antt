@@ -2,38 +2,28 @@
 use Prim.Native.Nat.{_-_}
 use borrow.Author.Needs.{needs}
 use Rattle.rules.specs.Book.{entries}
-use Rattle.resolution.proofs.Sweeping.{Sweep, sweep-starts, sweep-meet, sweep-more, sweep-unused, sweep-ends, sweep-length}
+use Rattle.resolution.proofs.Meeting.{Meets, meets-starts, meets-can, meets-more, meets-end}
 use Rattle.resolution.proofs.resolve_in.Statement.{statement}
 use Rattle.resolution.proofs.resolve_in.Tie as tie
 
 abbrev Inv-loop : tie.InvT-loop
-Inv-loop count issues₀ froms₀ tos₀ lots₀ days₀ i a x out₀ k₀ w₀ n₀ left₀ issues froms tos lots days out k w n left =
-    Sweep i a x (entries count issues₀ froms₀ tos₀ lots₀ days₀) count k w n left issues froms tos lots days out₀ out
+Inv-loop count issues froms tos lots₀ days i a x out₀ k₀ n₀ left₀ lots out k n left =
+    Meets i a x (entries count issues froms tos lots₀ days) count k n left issues froms tos lots days out₀ out
 
 abbrev μ-loop : tie.MeasureT-loop
-μ-loop count issues₀ froms₀ tos₀ lots₀ days₀ i a x out₀ k₀ w₀ n₀ left₀ issues froms tos lots days out k w n left =
-    count - k
+μ-loop count issues froms tos lots₀ days i a x out₀ k₀ n₀ left₀ lots out k n left = count - k
 
 loop-holds : tie.Need-loop-holds Inv-loop μ-loop
-loop-holds c = sweep-starts _ _ _ _ _ _ _ _ _ _ (c .before .before .before .before .before .before .pre)
+loop-holds c = meets-starts _ _ _ _ _ _ _ _ _ _ (c .before .before .before .before .before .before .pre)
 
 meet-at-requires : tie.Need-meet-at-requires Inv-loop μ-loop
-meet-at-requires c κs =
-    sweep-meet _ _ _ _ _ _ _ _ _ _ _ _ _ _ _ _ (c .before .before .before .before .before .before .before .loop .inv) (c .before .before .before .before .before .before .loop-test .taken)
+meet-at-requires c κs = meets-can _ _ _ _ _ _ _ _ _ _ _ _ _ _ _ (c .before .before .before .before .before .before .before .loop .inv) (c .before .before .before .before .before .before .loop-test .taken)
 
 loop-again : tie.Need-loop-again Inv-loop μ-loop
-loop-again c =
-    sweep-more _ _ _ _ _ _ _ _ _ _ _ _ _ _ _ _ (c .before .before .before .before .before .before .before .before .before .before .before .before .before .before .before .before .before .before .before .before .loop .inv) (c .before .before .before .before .before .before .before .before .before .before .before .before .before .before .before .before .before .before .before .loop-test .taken) (c .before .before .before .before .before .before .before .before .before .before .before .before .meet-at .result) _ _ _ _ _ _ (c .before .before .before .before .before .before .before .before .before .before .before .before .meet-at .ensures)
-
-clear-requires : tie.Need-clear-requires Inv-loop μ-loop
-clear-requires c κs = sweep-unused _ _ _ _ _ _ _ _ _ _ _ _ _ _ _ _ (c .before .before .before .before .before .before .loop .inv) (c .before .before .before .before .before .loop-test .left)
-
-same-length-6 : tie.Need-same-length-6 Inv-loop μ-loop
-same-length-6 c = sweep-length _ _ _ _ _ _ _ _ _ _ _ _ _ _ _ _ (c .before .before .before .before .before .before .before .before .before .before .before .before .before .before .before .before .before .loop .inv)
+loop-again c = meets-more _ _ _ _ _ _ _ _ _ _ _ _ _ _ _ (c .before .before .before .before .before .before .before .before .before .before .before .before .loop .inv) (c .before .before .before .before .before .before .before .before .before .before .before .loop-test .taken) (c .before .before .before .before .meet-at .result) _ _ (c .before .before .before .before .meet-at .ensures)
 
 returns : tie.Need-returns Inv-loop μ-loop
-returns c =
-    sweep-ends _ _ _ _ _ _ _ _ _ _ _ _ _ _ _ _ (c .before .before .before .before .before .before .before .before .before .before .before .before .before .before .before .before .before .loop .inv) (c .before .before .before .before .before .before .before .before .before .before .before .before .before .before .before .before .loop-test .left) _ _ _ _ _ (c .before .before .before .before .before .before .before .before .before .before .clear .ensures)
+returns c = meets-end _ _ _ _ _ _ _ _ _ _ _ _ _ _ _ (c .before .before .before .before .before .before .before .before .before .before .before .before .before .before .before .before .before .loop .inv) (c .before .before .before .before .before .before .before .before .before .before .before .before .before .before .before .before .loop-test .left) _ _ _ _ _ _ (c .before .before .before .before .before .before .before .before .before .before .remove-zeros .ensures)
 
 pub resolve-in-spec : {M : Type 1} → statement M
 resolve-in-spec =
@@ -46,11 +36,11 @@ resolve-in-spec =
     (λ c. search needs)
     (λ c. search needs)
     loop-again
-    clear-requires
+    (λ c κs. search needs)
     (λ c. search needs)
     (λ c. search needs)
     (λ c. search needs)
     (λ c. search needs)
     (λ c. search needs)
-    same-length-6
+    (λ c. search needs)
     returns)

@@ -5,8 +5,9 @@ use Rattle.rules.specs.declared.Book.{Book}
 use Rattle.rules.specs.Calls.{Cutoff}
 use Rattle.laws.proofs.Sound.{sound-parts}
 use Rattle.book.specs.States.{withEntries}
-use Rattle.cutoff.specs.Issue.{SoundCells}
-use Rattle.cutoff.proofs.Books.{sound-cells, can-cut-all}
+use Rattle.book.specs.Cells.{SoundCells}
+use Rattle.units.proofs.Cells.{sound-cells}
+use Rattle.cutoff.proofs.Books.{can-cut-all}
 use Rattle.running.specs.Turns.{butCharges}
 use Rattle.running.proofs.Turning.{room-out, turn-no, turn-yes, was-cut, full}
 use borrow.Author.Needs.{needs}

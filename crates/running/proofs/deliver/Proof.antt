@@ -4,7 +4,9 @@ use denote.Ref.{now}
 use Rattle.rules.specs.declared.Book.{Book}
 use Rattle.rules.specs.Calls.{Deliver}
 use Rattle.laws.proofs.Sound.{sound-parts}
-use Rattle.delivery.proofs.Asking.{can-ask, can-deliver}
+use Rattle.book.specs.Cells.{SoundCells}
+use Rattle.units.proofs.Cells.{sound-cells}
+use Rattle.delivery.proofs.Asking.{can-deliver}
 use Rattle.running.specs.Turns.{withinCells}
 use Rattle.running.proofs.Turning.{room-out, turn-no, turn-yes, delivered-to}
 use borrow.Author.Needs.{needs}
@@ -19,11 +21,13 @@ within s b = withinCells (s .args .s) (now (s .args .nets)) (now (s .args .deliv
 abbrev start : tie.After-deliver-asks → tie.Start
 start c = c .before .before .before .before
 
-deliver-asks-requires : tie.Need-deliver-asks-requires
-deliver-asks-requires c κs =
-    let s = c .before .before .before in
+cells : (s : tie.Start) → SoundCells (now (s .args .nets)) (now (s .args .delivered))
+cells s =
     let b = within s (s .pre .1 .rest) in
-    can-ask b (sound-parts b (s .pre .1 .sound)) (s .pre .0 .nets) (s .pre .0 .delivered)
+    sound-cells b (sound-parts b (s .pre .1 .sound)) (s .pre .0 .nets) (s .pre .0 .delivered)
+
+deliver-asks-requires : tie.Need-deliver-asks-requires
+deliver-asks-requires c κs = cells (c .before .before .before)
 
 returns : tie.Need-returns
 returns c b q =
@@ -37,8 +41,7 @@ deliver-in-requires c κs =
     let k = c .before .before in
     let s = start (k .before) in
     let a = s .args in
-    let b = within s (s .pre .1 .rest) in
-    can-deliver b (sound-parts b (s .pre .1 .sound)) (s .pre .0 .nets) (s .pre .0 .delivered) (a .i) (a .a) (a .x) (now (a .out))
+    can-deliver (a .s .phase) (now (a .nets)) (now (a .delivered)) (a .i) (a .a) (a .x) (now (a .out)) (cells s)
     (sym (k .before .deliver-asks .ensures) ∙ k .if1 .left) (s .pre .2)
 
 returns-2 : tie.Need-returns-2

@@ -3,7 +3,7 @@ use mathlib.Core.Path.{refl, sym, _∙_}
 use denote.Ref.{now}
 use Rattle.rules.specs.declared.Book.{Book}
 use Rattle.rules.specs.Calls.{PairOff}
-use Rattle.resolution.proofs.Opening.{book-pairable, pair-issue}
+use Rattle.pairing.proofs.Books.{book-pairable}
 use Rattle.running.specs.Turns.{withinLedger}
 use Rattle.running.proofs.Turning.{turn-no, turn-yes, paired-off, whole}
 use borrow.Author.Needs.{needs}
@@ -32,8 +32,8 @@ pair-off-in-requires c κs =
     let s = start (k .before) in
     let a = s .args in
     let b = within s (s .pre .1 .rest) in
-    book-pairable b (a .i) (a .a) (pair-issue b (a .i) (a .a) (sym (k .before .pair-off-asks .ensures) ∙ k .if1 .left)) (s .pre .1 .sound)
-    (whole (now (a .issues)) (now (a .froms)) (now (a .tos)) (now (a .lots)) (now (a .days)) (s .pre .0))
+    book-pairable b (s .pre .1 .sound) (whole (now (a .issues)) (now (a .froms)) (now (a .tos)) (now (a .lots)) (now (a .days)) (s .pre .0)) (a .i) (a .a)
+    (sym (k .before .pair-off-asks .ensures) ∙ k .if1 .left)
 
 returns-2 : tie.Need-returns-2
 returns-2 c b q =
@@ -44,7 +44,7 @@ returns-2 c b q =
     turn-yes (within s b) (PairOff (a .i) (a .a)) refl q _ (k .before .pair-off-asks .result) (d .result .steps) (d .result .cancelled) _ _
     (k .before .pair-off-asks .ensures) (k .if1 .left)
     (paired-off (a .s) _ (now (a .issues)) (now (a .froms)) (now (a .tos)) (now (a .lots)) (now (a .days)) (a .i) (a .a) (d .result) _ _ _ _ _ b
-    (c .with-entries .ensures) (d .ensures))
+    (c .with-entries .ensures) (d .ensures .0))
 
 pub pair-off-spec : {M : Type 1} → statement M
 pair-off-spec =

@@ -3,7 +3,7 @@ use denote.Ref.{now}
 use Rattle.rules.specs.declared.Book.{Book}
 use Rattle.rules.specs.Calls.{Resolve}
 use Rattle.laws.proofs.Sound.{sound-parts}
-use Rattle.resolution.proofs.Opening.{book-resolvable}
+use Rattle.resolution.proofs.Books.{book-resolvable}
 use Rattle.running.specs.Turns.{withinLedger}
 use Rattle.running.proofs.Turning.{room-out, turn-no, turn-yes, resolved, whole}
 use borrow.Author.Needs.{needs}

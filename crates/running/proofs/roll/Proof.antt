@@ -38,7 +38,7 @@ roll-in-requires c κs =
     let s = start (k .before) in
     let a = s .args in
     let l = s .pre .0 in (
-      chargeable (within s (s .pre .1 .rest)) (a .days) (a .rate) (now (a .prices)) (record { sound = s .pre .1 .sound; asks = answered k })
+      chargeable (within s (s .pre .1 .rest)) (a .days) (a .rate) (now (a .prices)) (s .pre .1 .sound) (answered k)
           (l .issue) (l .from) (l .to) (l .lot) (l .accounts),
       record { nets = l .cells .nets; delivered = l .cells .delivered },
     )

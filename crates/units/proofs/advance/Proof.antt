@@ -2,8 +2,7 @@
 use native.Mathlib.Omega.{arith}
 use borrow.Author.Needs.{needs}
 use denote.Ref.{now}
-use Rattle.units.specs.Runs.{runsIn}
-use Rattle.units.proofs.Steps.{none-short, none-run, hand-short, hand-lack}
+use Rattle.units.proofs.Steps.{none-short, none-run, hand-least}
 use Rattle.units.proofs.advance.Statement.{statement}
 use Rattle.units.proofs.advance.Tie as tie
 
@@ -11,36 +10,34 @@ returns : tie.Need-returns
 returns c =
     let s = c .before .before .next-short in
     let a = c .before .before .before .before .before .args in
-    let us = runsIn (now (a .runs)) (a .n) in
-    none-short us (now (a .shorts)) (a .c) (s .result) (s .ensures) (c .if1 .taken)
+    none-short (now (a .runs)) (a .n) (now (a .shorts)) (a .c) (s .result) (s .ensures) (c .if1 .taken)
 
 returns-2 : tie.Need-returns-2
 returns-2 c =
     let s = c .before .before .before .before .before .next-short in
     let a = c .before .before .before .before .before .before .before .before .args in
-    let us = runsIn (now (a .runs)) (a .n) in
     let r = c .before .before .next-run in
-    none-run us (now (a .shorts)) (a .c) (s .result) (s .ensures) (r .result) (r .ensures) (c .if2 .taken)
+    none-run (now (a .runs)) (a .n) (now (a .shorts)) (a .c) (s .result) (s .ensures) (r .result) (r .ensures) (c .if2 .taken)
 
 returns-3 : tie.Need-returns-3
 returns-3 c =
     let s = c .before .before .before .before .before .before .before .before .next-short in
     let a = c .before .before .before .before .before .before .before .before .before .before .before .args in
-    let us = runsIn (now (a .runs)) (a .n) in
     let r = c .before .before .before .before .before .next-run in
-    hand-short us (now (a .shorts)) (a .c) (s .result) (s .ensures) (r .result) (r .ensures)
-    (omega (arith, r .ensures .short)) (omega arith)
+    rw (c .overlap .ensures)
+    (hand-least (now (a .runs)) (a .n) (now (a .shorts)) (a .c) (s .result) (s .ensures) (r .result) (r .ensures) _
+    (omega (arith, r .ensures .short)) (omega arith) (omega arith))
 
 returns-4 : tie.Need-returns-4
 returns-4 c =
     let s = c .before .before .before .before .before .before .before .before .next-short in
     let a = c .before .before .before .before .before .before .before .before .before .before .before .args in
-    let us = runsIn (now (a .runs)) (a .n) in
     let r = c .before .before .before .before .before .next-run in
-    hand-lack us (now (a .shorts)) (a .c) (s .result) (s .ensures) (r .result) (r .ensures)
-    (omega arith) (omega arith)
+    rw (c .overlap2 .ensures)
+    (hand-least (now (a .runs)) (a .n) (now (a .shorts)) (a .c) (s .result) (s .ensures) (r .result) (r .ensures) _
+    (omega (arith, r .ensures .short)) (omega arith) (omega arith))
 
 pub advance-spec : {M : Type 1} → statement M
 advance-spec =
     tie.close
-    (tie.spec (λ c κs. search needs) returns (λ c κs. search needs) returns-2 (λ c. search needs) returns-3 returns-4)
+    (tie.spec (λ c κs. search needs) returns (λ c κs. search needs) returns-2 (λ c κs. search needs) returns-3 (λ c κs. search needs) returns-4)

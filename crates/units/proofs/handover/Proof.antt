@@ -5,9 +5,8 @@ use native.Mathlib.Omega.{arith}
 use borrow.Author.Needs.{needs}
 use denote.Ref.{now}
 use lib.ListN.{drop}
-use Rattle.units.specs.Runs.{unitsOfRuns}
 use Rattle.rules.specs.Handover.{covered, stock}
-use Rattle.units.specs.Runs.{runsIn}
+use Rattle.units.specs.Runs.{runsIn, unitsOfRuns, unitsIn}
 use Rattle.units.proofs.Loops.{covered-next, stock-next, covered-last, stock-last, runs-end}
 use Rattle.units.proofs.handover.Statement.{statement}
 use Rattle.units.proofs.handover.Tie as tie
@@ -22,6 +21,7 @@ abbrev μ-loop : tie.MeasureT-loop
 μ-loop runs n d left₀ count₀ j₀ left count j = n - j
 
 returns : tie.Need-returns Inv-loop μ-loop
+unfolding unitsIn
 returns c =
     let a = c .before .before .before .before .args in
     let l = c .before .before .before .loop in
@@ -45,6 +45,7 @@ loop-again c =
     )
 
 returns-2 : tie.Need-returns-2 Inv-loop μ-loop
+unfolding unitsIn
 returns-2 c =
     let a = c .before .before .args in
     let l = c .before .loop in

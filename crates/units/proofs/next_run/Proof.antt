@@ -8,7 +8,6 @@ use denote.Ref.{now}
 use Rattle.rules.specs.Units.{Part}
 use Rattle.rules.specs.Fails.{overlaps}
 use Rattle.units.specs.Runs.{runsIn}
-use Rattle.units.specs.Cursor.{overlapsFrom}
 use Rattle.units.proofs.Steps.{ahead, behind, run-next, run-end}
 use Rattle.units.proofs.next_run.Statement.{statement}
 use Rattle.units.proofs.next_run.Tie as tie
@@ -25,7 +24,6 @@ loop-holds : tie.Need-loop-holds Inv-loop μ-loop
 loop-holds c = (c .pre .1 .to, (λ ss. refl))
 
 returns : tie.Need-returns Inv-loop μ-loop
-unfolding overlapsFrom
 returns c =
     let s = c .before .before .before in
     let k = s .args .c in
@@ -49,7 +47,6 @@ loop-again c =
     )
 
 returns-2 : tie.Need-returns-2 Inv-loop μ-loop
-unfolding overlapsFrom
 returns-2 c =
     let s = c .before .before in
     let k = s .args .c in

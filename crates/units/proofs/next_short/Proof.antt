@@ -7,7 +7,6 @@ use borrow.Author.Needs.{needs}
 use denote.Ref.{now}
 use Rattle.rules.specs.Units.{Part}
 use Rattle.rules.specs.Fails.{overlaps}
-use Rattle.units.specs.Cursor.{overlapsFrom}
 use Rattle.units.proofs.Steps.{ahead, behind, short-next, short-end}
 use Rattle.units.proofs.next_short.Statement.{statement}
 use Rattle.units.proofs.next_short.Tie as tie
@@ -20,10 +19,9 @@ abbrev μ-loop : tie.MeasureT-loop
 μ-loop shorts c a₀ f₀ x₀ a f x = 64 - a
 
 loop-holds : tie.Need-loop-holds Inv-loop μ-loop
-loop-holds c = (c .pre .range .from, c .pre .range .short, (λ vs. refl))
+loop-holds c = (c .pre .1 .from, c .pre .1 .short, (λ vs. refl))
 
 returns : tie.Need-returns Inv-loop μ-loop
-unfolding overlapsFrom
 returns c =
     let s = c .before .before .before in
     let k = s .args .c in
@@ -33,8 +31,8 @@ returns c =
       same = λ us. rw z at (l .inv .2 (behind (k .to) (k .lack) (k .run) us));
       none = λ q us.
           short-end (now (s .args .shorts)) (behind (k .to) (k .lack) (k .run) us) (l .f) 0 (l .a) refl
-          (omega (arith, s .pre .accounts));
-      range = record { from = l .inv .0; to = s .pre .range .to; short = omega arith };
+          (omega (arith, s .pre .0 .accounts));
+      range = record { from = l .inv .0; to = s .pre .1 .to; short = omega arith };
     }
 
 loop-again : tie.Need-loop-again Inv-loop μ-loop
@@ -42,12 +40,11 @@ loop-again c =
     let s = c .before .before .before .before in
     let l = c .before .before .before .loop in (
       omega arith,
-      s .pre .small (l .a),
+      s .pre .0 .small (l .a),
       (λ vs. l .inv .2 vs ∙ short-next (now (s .args .shorts)) vs (l .f) (l .x) (l .a) (omega arith) (omega arith)),
     )
 
 returns-2 : tie.Need-returns-2 Inv-loop μ-loop
-unfolding overlapsFrom
 returns-2 c =
     let s = c .before .before in
     let k = s .args .c in
@@ -55,7 +52,7 @@ returns-2 c =
     record {
       same = λ us. l .inv .2 (behind (k .to) (k .lack) (k .run) us);
       none = λ q us. absurd (omega arith);
-      range = record { from = l .inv .0; to = s .pre .range .to; short = l .inv .1 };
+      range = record { from = l .inv .0; to = s .pre .1 .to; short = l .inv .1 };
     }
 
 pub next-short-spec : {M : Type 1} → statement M

@@ -22,17 +22,17 @@ loop-holds c = (search needs, seeking-starts _ _)
 
 returns : tie.Need-returns Inv-loop μ-loop
 returns c =
-    let a = c .before .before .before .before .args in
-    let l = c .before .before .before .loop in
-    let us = runsIn (now (a .runs)) (a .n) in
-    let e = runs-at (now (a .runs)) (a .n) (l .j) (search needs) (omega arith) in
-    rw add-one
-    (seeking-stands us (partOf (getD (now (a .runs)) (l .j) 0)) (a .d) (l .left) (suc (l .j)) (omega arith) (omega arith)
+    let s = c .before .before .before .before .before .before in
+    let l = c .before .before .before .before .loop in
+    let rs = now (s .args .runs) in
+    let e = runs-at rs (s .args .n) (l .j) (search needs) (omega arith) in
+    rw (c .stand .ensures, add-one)
+    (seeking-stands rs (s .args .n) (s .args .d) (suc (l .j)) (s .pre) (partOf (getD rs (l .j) 0)) (l .left) (omega arith) (omega arith)
     (rw e at (l .inv .1)))
 
 loop-again : tie.Need-loop-again Inv-loop μ-loop
 loop-again c =
-    let a = c .before .before .before .before .args in
+    let a = c .before .before .before .before .before .args in
     let l = c .before .before .before .loop in
     let us = runsIn (now (a .runs)) (a .n) in
     let e = runs-at (now (a .runs)) (a .n) (l .j) (search needs) (omega arith) in (
@@ -44,10 +44,11 @@ loop-again c =
 
 returns-2 : tie.Need-returns-2 Inv-loop μ-loop
 returns-2 c =
-    let a = c .before .before .args in
-    let l = c .before .loop in
-    seeking-ends (runsIn (now (a .runs)) (a .n)) (a .d) (l .left) (l .j)
-    (runs-end (now (a .runs)) (a .n) (l .j) (search needs) (omega arith)) (l .inv .1)
+    let s = c .before .before .before .before in
+    let l = c .before .before .loop in
+    let rs = now (s .args .runs) in
+    rw (c .stand2 .ensures)
+    (seeking-ends rs (s .args .n) (s .args .d) (l .j) (s .pre) (l .left) (runs-end rs (s .args .n) (l .j) (search needs) (omega arith)) (l .inv .1))
 
 pub start-spec : {M : Type 1} → statement M
 start-spec =
@@ -60,7 +61,9 @@ start-spec =
     (λ c. search needs)
     (λ c. search needs)
     (λ c. search needs)
+    (λ c κs. search needs)
     returns
     (λ c. search needs)
     loop-again
+    (λ c κs. search needs)
     returns-2)

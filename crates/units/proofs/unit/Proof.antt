@@ -5,7 +5,7 @@ use native.Mathlib.Omega.{arith}
 use borrow.Author.Needs.{needs}
 use borrow.Author.Tests.{not-true, not-false}
 use Rattle.rules.specs.Book.{sound}
-use Rattle.laws.proofs.Sound.{sound-parts}
+use Rattle.units.proofs.Cells.{nets-sized}
 use Rattle.units.proofs.Questions.{refused-sound, refused-issue, answered}
 use Rattle.units.proofs.unit.Statement.{statement}
 use Rattle.units.proofs.unit.Tie as tie
@@ -28,7 +28,7 @@ unit-of-requires : tie.Need-unit-of-requires
 unit-of-requires c κs =
     let e = c .before .before .before in
     let s = c .before .before .before .before .before .before in
-    record { cells = search needs; issue = omega arith; small = sound-parts (s .args .t1) (yes (e .before)) .size }
+    record { cells = search needs; issue = omega arith; size = nets-sized (s .args .t1) (yes (e .before)) }
 
 returns-3 : tie.Need-returns-3
 returns-3 c =

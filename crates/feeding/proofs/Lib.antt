@@ -1,0 +1,3 @@
+-- Laws of bytes and their words, and of what a read answers.
+pub mod Bytes
+pub mod WordLaws

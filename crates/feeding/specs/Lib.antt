@@ -1,0 +1,2 @@
+-- What stands in the buffers.
+pub mod Fed

@@ -1,0 +1,110 @@
+// The tape's words out of the bytes of standard input, through a lent buffer. A read of 0 bytes is the end
+// of the tape, and nothing else is.
+ghost use mathlib.Core.Path.{_≡_};
+ghost use Prim.Native.Nat.{_+_, _-_, _*_, _≤_, _<_, _^_};
+ghost use lib.ListN.{length, getD, take, drop};
+ghost use Rattle.rules.specs.Bytes.{wordOf};
+ghost use Rattle.feeding.specs.Fed.{Decoded, Took, Refilled, Fed};
+
+// Where the bytes in the buffer end, whether the input has ended, and whether the read failed.
+pub struct Fill {
+    pub end: usize,
+    pub done: bool,
+    pub failed: bool,
+}
+
+fn wide(x: u8) -> u32
+    ensures { λ r. ⌜ (r ≡ x) × (r < 256) ⌝ }
+{
+    x as u32
+}
+
+// The word of four bytes, the least first.
+fn word(bytes: &[u8], at: usize) -> u32
+    requires { ⌜ at + 4 ≤ length (now bytes) ⌝ }
+    ensures { λ r. ⌜ r ≡ wordOf (getD (now (bytes .entry)) at 0) (getD (now (bytes .entry)) (at + 1) 0) (getD (now (bytes .entry)) (at + 2) 0) (getD (now (bytes .entry)) (at + 3) 0) ⌝ }
+{
+    let a = wide(bytes[at]);
+    let b = wide(bytes[at + 1]);
+    let c = wide(bytes[at + 2]);
+    let d = wide(bytes[at + 3]);
+    a + 256 * b + 65536 * c + 16777216 * d
+}
+
+// The whole words of some bytes; answers how many there are.
+fn decode(bytes: &[u8], words: &mut [u32]) -> usize
+    requires { ⌜ length (now bytes) ≤ 4 * length (now words) ⌝ }
+    ensures { λ r. ⌜ Decoded (now (bytes .entry)) (now (words .exit)) r ⌝ }
+{
+    let n = bytes.len() / 4;
+    let mut k = 0;
+    while k < n {
+        words[k] = word(bytes, 4 * k);
+        k += 1;
+    }
+    n
+}
+
+// The bytes from `start` on go to the front, `left` of them.
+fn shift(bytes: &mut [u8], start: usize, left: usize)
+    requires { ⌜ start + left ≤ length (now bytes) ⌝ }
+    ensures { λ _. ⌜ take left (now (bytes .exit)) ≡ take left (drop start (now (bytes .entry))) ⌝ }
+{
+    let mut i = 0;
+    while i < left {
+        bytes[i] = bytes[start + i];
+        i += 1;
+    }
+}
+
+// What a read answered: behind the bytes left come as many as it says. There is room for a byte, so an
+// answer of 0 is the end of the tape; a negative answer is a failure.
+fn took(got: isize, left: usize, room: &[u8]) -> Fill
+    requires { ⌜ (0 < length (now room)) × (left + length (now room) < 2 ^ 64) ⌝ }
+    ensures { λ r. ⌜ Took got left (length (now (room .entry))) r ⌝ }
+{
+    let n = io::count(got, room);
+    let failed = got < 0;
+    let done = !failed & (n == 0);
+    Fill {
+        end: left + n,
+        done,
+        failed,
+    }
+}
+
+// The bytes not yet used go to the front, and one read fills up behind them.
+fn refill(bytes: &mut [u8], start: usize, end: usize) -> Fill
+    requires { ⌜ (start ≤ end) × (end ≤ length (now bytes)) × (end - start < length (now bytes)) ⌝ }
+    ensures { λ r. ⌜ Refilled (now (bytes .entry)) (now (bytes .exit)) start end r ⌝ }
+{
+    let left = end - start;
+    shift(bytes, start, left);
+    let got = libc::read(libc::STDIN_FILENO, &mut bytes[left..]);
+    took(got, left, &bytes[left..])
+}
+
+// The words in the buffer: how many, where their bytes end, and whether the input has ended or could not
+// be read.
+pub struct Words {
+    pub count: usize,
+    pub end: usize,
+    pub done: bool,
+    pub failed: bool,
+}
+
+// The words of the bytes not yet used and of those that one more read gives.
+pub fn next(bytes: &mut [u8], words: &mut [u32], start: usize, end: usize) -> Words
+    requires { ⌜ (start ≤ end) × (end ≤ length (now bytes)) × (end - start < length (now bytes)) × (length (now bytes) ≤ 4 * length (now words)) ⌝ }
+    ensures { λ r. ⌜ Fed (now (bytes .entry)) (now (bytes .exit)) (now (words .exit)) start end r ⌝ }
+{
+    let f = refill(bytes, start, end);
+    let filled = f.end;
+    let count = decode(&bytes[..filled], words);
+    Words {
+        count,
+        end: filled,
+        done: f.done,
+        failed: f.failed,
+    }
+}

@@ -1,0 +1,3 @@
+-- What pair-off does to the ledger's columns.
+pub mod Places
+pub mod Pairs

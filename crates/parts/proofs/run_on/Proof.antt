@@ -1,0 +1,62 @@
+-- The columns are the book's own, so they have its lengths; the book behind the run is put together of them again.
+use mathlib.Core.Path.{_≡_, refl, sym, ap, _∙_}
+use native.Mathlib.Omega.{arith}
+use Rattle.rules.specs.Book.{sound}
+use Rattle.book.specs.declared.State.{State}
+use Rattle.book.specs.Scan.{Lengths}
+use Rattle.book.specs.States.{bookIn}
+use Rattle.turns.proofs.Goings.{went-as}
+use borrow.Author.Needs.{needs}
+use Rattle.parts.proofs.run_on.Statement.{statement}
+use Rattle.parts.proofs.run_on.Tie as tie
+
+-- the lengths of the book's columns
+lengths : (s : tie.Start) → let b = s .args .b in Lengths (b .nets) (b .delivered) (b .charges) (b .issues) (b .froms) (b .tos) (b .lots) (b .days)
+lengths s =
+    record {
+      cells = record { nets = search needs; delivered = search needs };
+      charges = search needs;
+      ledger = record { issues = search needs; froms = search needs; tos = search needs; lots = search needs; days = search needs };
+    }
+
+-- the state and the columns are the book
+same : (c : tie.After-state-of) → let b = c .before .before .before .before .args .b in
+    bookIn (c .state-of .result) (b .nets) (b .delivered) (b .charges) (b .issues) (b .froms) (b .tos) (b .lots) (b .days) ≡ b
+same c =
+    let b = c .before .before .before .before .args .b in
+    ap (λ (s : State). bookIn s (b .nets) (b .delivered) (b .charges) (b .issues) (b .froms) (b .tos) (b .lots) (b .days)) (c .state-of .ensures)
+
+slice-aggregate-run-7 : tie.Need-slice-aggregate-run-7
+slice-aggregate-run-7 c = let l = lengths (c .before .before .before .before .before .before .before .before .before .before .before .before .before .before .before .before .before .before .before) .ledger .lots in search (needs, l)
+
+slice-aggregate-run-8 : tie.Need-slice-aggregate-run-8
+slice-aggregate-run-8 c = let l = lengths (c .before .before .before .before .before .before .before .before .before .before .before .before .before .before .before .before .before .before .before .before) .ledger .days in search (needs, l)
+
+run-requires : tie.Need-run-requires
+run-requires c κs =
+    let s = c .before .before .before .before .before .before .before .before .before .before .before .before .before .before .before .before .before .before .before .before .before .before in
+    (record { lengths = lengths s; sound = ap sound (same (c .before .before .before .before .before .before .before .before .before .before .before .before .before .before .before .before .before .before)) ∙ s .pre .0; room = s .pre .1 }, s .pre .2, s .pre .3)
+
+returns : tie.Need-returns
+returns c =
+    let t = c .before .before .before .before .before .before .before .before .before .before .before .before .before .before .run in
+    went-as _ _ _ _ _ _ refl refl (same (c .before .before .before .before .before .before .before .before .before .before .before .before .before .before .before .before .before .before .before .before .before .before .before .before .before .before .before .before .before .before .before .before .before)) (sym (c .book-in .ensures)) (t .ensures)
+
+pub run-on-spec : {M : Type 1} → statement M
+run-on-spec =
+    tie.close
+    (tie.spec
+    (λ c κs. search needs)
+    (λ c. search needs)
+    (λ c. search needs)
+    (λ c. search needs)
+    (λ c. search needs)
+    (λ c. search needs)
+    (λ c. search needs)
+    slice-aggregate-run-7
+    slice-aggregate-run-8
+    run-requires
+    (λ c κs. search needs)
+    (λ c. search needs)
+    (λ c. search needs)
+    returns)

@@ -1,0 +1,3 @@
+-- Laws of the text and of signs.
+pub mod Texts
+pub mod Signed

@@ -1,0 +1,2 @@
+-- Where text stands.
+pub mod Added

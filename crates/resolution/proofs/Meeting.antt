@@ -1,0 +1,191 @@
+-- Entries met one by one where they stand. What the definition makes of the whole ledger is what it makes of
+-- the ledger now, from place k on.
+use mathlib.Core.Path.{_≡_, refl, sym, ap, _∙_, subst}
+use mathlib.Core.Bool.{Bool, true, cond}
+use mathlib.Core.List.{List, [], _∷_, _++_, map}
+use Prim.Native.Nat.{ℕ, zero, suc, _+_, _-_, _*_, _≤_, _<_}
+use native.Mathlib.Numerals.{add-one}
+use native.Mathlib.Omega.{arith}
+use lib.ListN.{length, getD, set, drop, length-map}
+use lib.Seq.{sets, length-sets, sets-eq}
+use Rattle.rules.specs.declared.Entry.{Entry}
+use Rattle.rules.specs.Measures.{outputWords}
+use Rattle.rules.specs.Ledger.{putEntry, isFrom, metBy, meet, met}
+use Rattle.rules.specs.Book.{isZero, entries, entrySound}
+use Rattle.rules.specs.Records.{recordOf, words, over}
+use Rattle.laws.proofs.Basics.{Every, each-map}
+use Rattle.laws.proofs.Sound.{SoundEntry, all-each, entry-parts, parts-entry}
+use Rattle.laws.proofs.Ledger.{noEntry, entry-at}
+use Rattle.laws.proofs.Meeting.{withLots, length-putEntry, length-met}
+use Rattle.words.proofs.Output.{words-length}
+use Rattle.ledger.specs.Columns.{entryAt, Held, Kept, withoutZeros}
+use Rattle.ledger.proofs.Entries.{entries-length}
+use Rattle.ledger.proofs.Zeros.{put-zeros}
+use Rattle.ledger.proofs.Lots.{lotsAt, entries-lots, held-lots}
+use Rattle.resolution.specs.declared.Turn.{Turn}
+use Rattle.resolution.specs.Resolving.{alone, CanMeet, WasMet, Resolvable, Resolved}
+use Rattle.resolution.proofs.Recording.{recorded-more}
+
+module _ (p : Entry → Bool) where
+  -- each entry with its lots less what meets it, those before place k as they are
+  abbrev pub metFrom : ℕ → ℕ → List Entry → List Entry
+  metFrom k x [] = []
+  metFrom zero x (e ∷ es) = withLots e (e .lots - metBy p x e) ∷ metFrom zero (x - metBy p x e) es
+  metFrom (suc k) x (e ∷ es) = e ∷ metFrom k x es
+
+  -- without those at 0 it is what is left of the ledger
+  meet-zeros : (x : ℕ) (es : List Entry) → meet p x es ≡ withoutZeros (metFrom 0 x es)
+  meet-zeros x [] = refl
+  meet-zeros x (e ∷ es) =
+      let y = e .lots - metBy p x e in
+      put-zeros e y (meet p (x - metBy p x e) es)
+      ∙ ap (λ l. cond (isZero y) l (withLots e y ∷ l)) (meet-zeros (x - metBy p x e) es)
+
+  -- the entry at place k met, what is left and what is met
+  meets-turn : (k x : ℕ) (es : List Entry) → k < length es →
+      let e = getD es k noEntry in
+      metFrom k x es ≡ metFrom (suc k) (x - metBy p x e) (lotsAt k (e .lots - metBy p x e) es)
+  meets-turn k x [] h = absurd (omega arith)
+  meets-turn zero x (e ∷ es) h = refl
+  meets-turn (suc k) x (e ∷ es) h = ap (λ l. e ∷ l) (meets-turn k x es (omega arith))
+
+  mets-turn : (k x y : ℕ) (es : List Entry) → k < length es →
+      let e = getD es k noEntry in
+      met p x (drop k es) ≡ putEntry e (metBy p x e) (met p (x - metBy p x e) (drop (suc k) (lotsAt k y es)))
+  mets-turn k x y [] h = absurd (omega arith)
+  mets-turn zero x y (e ∷ es) h = refl
+  mets-turn (suc k) x y (e ∷ es) h = mets-turn k x y es (omega arith)
+
+  -- behind the last entry
+  meets-ends : (k x : ℕ) (es : List Entry) → length es ≤ k → metFrom k x es ≡ es
+  meets-ends k x [] h = refl
+  meets-ends zero x (e ∷ es) h = absurd (omega arith)
+  meets-ends (suc k) x (e ∷ es) h = ap (λ l. e ∷ l) (meets-ends k x es (omega arith))
+
+  mets-ends : (k x : ℕ) (es : List Entry) → length es ≤ k → met p x (drop k es) ≡ []
+  mets-ends zero x [] h = refl
+  mets-ends (suc k) x [] h = refl
+  mets-ends zero x (e ∷ es) h = absurd (omega arith)
+  mets-ends (suc k) x (e ∷ es) h = mets-ends k x es (omega arith)
+
+-- entries from place k on are sound: the one there, and those behind it
+sound-here : (k : ℕ) (es : List Entry) → k < length es → Every SoundEntry (drop k es) → SoundEntry (getD es k noEntry)
+sound-here k [] h ss = absurd (omega arith)
+sound-here zero (e ∷ es) h ss = ss .0
+sound-here (suc k) (e ∷ es) h ss = sound-here k es (omega arith) ss
+
+sound-behind : (k y : ℕ) (es : List Entry) → Every SoundEntry (drop k es) → Every SoundEntry (drop (suc k) (lotsAt k y es))
+sound-behind k y [] ss = tt
+sound-behind zero y (e ∷ es) ss = ss .1
+sound-behind (suc k) y (e ∷ es) ss = sound-behind k y es ss
+
+-- the pass at place k: r records are written, x lots are left
+pub record Meets (i a x₀ : ℕ) (es₀ : List Entry) (n k r x : ℕ) (is fs ts xs ds o₀ o : List ℕ) : Type 0 where
+  pub held : Held n is fs ts xs ds
+  pub some : k ≤ n
+  pub few : r ≤ k
+  pub room : outputWords ≤ length o
+  pub same : length o ≡ length o₀
+  pub sound : Every SoundEntry (drop k (entries n is fs ts xs ds))
+  pub meets : meet (isFrom i a) x₀ es₀ ≡ withoutZeros (metFrom (isFrom i a) k x (entries n is fs ts xs ds))
+  pub mets : length (met (isFrom i a) x₀ es₀) ≡ r + length (met (isFrom i a) x (drop k (entries n is fs ts xs ds)))
+  pub written :
+      over (words (map (recordOf 11) (met (isFrom i a) x₀ es₀))) o₀
+      ≡ sets o (2 * r) (words (map (recordOf 11) (met (isFrom i a) x (drop k (entries n is fs ts xs ds)))))
+
+pub meets-starts : (i a x n : ℕ) (is fs ts xs ds o : List ℕ) → Resolvable n is fs ts xs ds o →
+    Meets i a x (entries n is fs ts xs ds) n 0 0 x is fs ts xs ds o o
+meets-starts i a x n is fs ts xs ds o h =
+    let es = entries n is fs ts xs ds in
+    let ms = met (isFrom i a) x es in
+    let rs = map (recordOf 11) ms in
+    let l = words-length rs in
+    record {
+      held = h .held;
+      some = omega arith;
+      few = omega arith;
+      room = h .room;
+      same = refl;
+      sound = each-map (λ e. entrySound e ≡ true) SoundEntry entry-parts es (all-each entrySound es (h .sound));
+      meets = meet-zeros (isFrom i a) x es;
+      mets = omega arith;
+      written =
+          let z : 0 + length (words rs) ≡ length (words rs) = omega arith in
+          sym (sets-eq (words rs) o 0
+          (omega (arith, length-map ms (recordOf 11), length-met (isFrom i a) x es, entries-length n is fs ts xs ds, h .held .most, h .room))
+          ∙ ap (λ m. words rs ++ drop m o) z);
+    }
+
+module _ (i a x₀ : ℕ) (es₀ : List Entry) (n k r x : ℕ) (is fs ts xs ds o₀ o : List ℕ)
+    (s : Meets i a x₀ es₀ n k r x is fs ts xs ds o₀ o) where
+  abbrev es : List Entry
+  es = entries n is fs ts xs ds
+
+  module _ (h : k < n) where
+    inside : k < length es
+    inside = omega (arith, entries-length n is fs ts xs ds)
+
+    here : getD es k noEntry ≡ entryAt k is fs ts xs ds
+    here = entry-at n is fs ts xs ds k h
+
+    pub meets-can : CanMeet k r is fs ts xs ds o
+    meets-can =
+        record {
+          place = omega (arith, s .held .most);
+          room = omega (arith, s .few, s .held .most, s .room);
+          whole = s .held .whole;
+          sound = ap entrySound (sym here) ∙ parts-entry (getD es k noEntry) (sound-here k es inside (s .sound));
+        }
+
+    -- one entry further
+    pub meets-more : (t : Turn) (xs′ o′ : List ℕ) → WasMet i a x k r t (entryAt k is fs ts xs ds) xs xs′ o o′ →
+        Meets i a x₀ es₀ n (k + 1) (t .records) (t .left) is fs ts xs′ ds o₀ o′
+    meets-more t xs′ o′ w₀ =
+        let p = isFrom i a in
+        let e = getD es k noEntry in
+        let m = metBy p x e in
+        let y = e .lots - m in
+        let w : WasMet i a x k r t e xs xs′ o o′ = subst (λ d. WasMet i a x k r t d xs xs′ o o′) (sym here) w₀ in
+        let v : xs′ ≡ set xs k y = w .lots ∙ ap (λ z. set xs k (z - m)) (sym (ap (λ d. d .lots) here)) in
+        let q : entries n is fs ts xs′ ds ≡ lotsAt k y es =
+        ap (λ z. entries n is fs ts z ds) v ∙ entries-lots n k y is fs ts xs ds (omega (arith, s .held .whole .lotss, s .held .most)) in
+        let c = mets-turn p k x y es inside in
+        let same : length o′ ≡ length o = ap length (w .met .out) ∙ length-sets o (2 * r) (words (map (recordOf 11) (alone e m))) in
+        rw (add-one k, w .left)
+        (record {
+          held = rw v (held-lots n k y is fs ts xs ds h (s .held));
+          some = omega arith;
+          few = omega (arith, w .met .next, length-putEntry e m [], s .few);
+          room = omega (arith, s .room);
+          same = same ∙ s .same;
+          sound = rw q (sound-behind k y es (s .sound));
+          meets = rw q (s .meets ∙ ap withoutZeros (meets-turn p k x es inside));
+          mets =
+              rw q (omega (
+                arith,
+                s .mets,
+                ap length c,
+                length-putEntry e m (met p (x - m) (drop (suc k) (lotsAt k y es))),
+                w .met .next,
+                length-putEntry e m [],
+              ));
+          written =
+              rw q (s .written
+              ∙ ap (λ l. sets o (2 * r) (words (map (recordOf 11) l))) c
+              ∙ recorded-more e m r (t .records) (met p (x - m) (drop (suc k) (lotsAt k y es))) o o′ (w .met));
+        })
+
+  -- behind the last entry, without those at 0
+  pub meets-end : n ≤ k → (w : ℕ) (is′ fs′ ts′ xs′ ds′ : List ℕ) → Kept (withoutZeros es) w is′ fs′ ts′ xs′ ds′ →
+      Resolved es₀ i a x₀ (record { entries = w; records = r }) is′ fs′ ts′ xs′ ds′ o₀ o
+  meets-end h w is′ fs′ ts′ xs′ ds′ q =
+      let p = isFrom i a in
+      let l : length es ≤ k = omega (arith, entries-length n is fs ts xs ds) in
+      let m : meet p x₀ es₀ ≡ withoutZeros es = s .meets ∙ ap withoutZeros (meets-ends p k x es l) in
+      let c = mets-ends p k x es l in
+      record {
+        entries = q .count ∙ ap length (sym m);
+        columns = rw m (q .columns);
+        records = omega (arith, s .mets, ap length c, length-map (met p x₀ es₀) (recordOf 11));
+        written = sym (s .written ∙ ap (λ y. sets o (2 * r) (words (map (recordOf 11) y))) c);
+      }

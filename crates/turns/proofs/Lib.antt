@@ -1,0 +1,2 @@
+-- Laws of a run whose words come in parts.
+pub mod Goings

@@ -1,0 +1,2 @@
+-- What a run does and prints.
+pub mod Going

@@ -1,0 +1,208 @@
+// The instructions of some words, each answered in place on the book's columns, and their lines. More words
+// may come behind them.
+use book::State;
+use report::text;
+use rules::Instruction;
+use rules::Name;
+use rules::Read;
+ghost use mathlib.Core.Path.{_≡_};
+ghost use Prim.Native.Nat.{_+_, _*_, _≤_, _<_, _^_};
+ghost use lib.ListN.{length};
+ghost use Rattle.rules.specs.Run.{nameOf};
+ghost use Rattle.book.specs.States.{columns, ready};
+ghost use Rattle.report.specs.Added.{Added};
+ghost use Rattle.turns.specs.Going.{Begins, rollsOf, Priced, Stepped, refusalOf, enough, strayText, Went};
+
+// After an instruction: where the text ends, and the state.
+pub struct Step {
+    pub end: usize,
+    pub state: State,
+}
+
+// After a part of a run: the words used, where the text ends, whether the run is over, the state.
+pub struct Part {
+    pub used: usize,
+    pub end: usize,
+    pub over: bool,
+    pub state: State,
+}
+
+// The name that an instruction's line has.
+fn name_of(x: Instruction) -> Name
+    ensures { λ r. ⌜ r ≡ nameOf x ⌝ }
+{
+    match x {
+        Instruction::Trade(_, _, _, _) => Name::Trade,
+        Instruction::Deliver(_, _, _) => Name::Deliver,
+        Instruction::Resolve(_, _, _) => Name::Resolve,
+        Instruction::PairOff(_, _) => Name::PairOff,
+        Instruction::Close => Name::Close,
+        Instruction::Cutoff => Name::Cutoff,
+        Instruction::Roll(_, _) => Name::Roll,
+    }
+}
+
+// Does the instruction have prices?
+fn rolls(x: Instruction) -> bool
+    ensures { λ r. ⌜ r ≡ rollsOf x ⌝ }
+{
+    match x {
+        Instruction::Trade(_, _, _, _) => false,
+        Instruction::Deliver(_, _, _) => false,
+        Instruction::Resolve(_, _, _) => false,
+        Instruction::PairOff(_, _) => false,
+        Instruction::Close => false,
+        Instruction::Cutoff => false,
+        Instruction::Roll(_, _) => true,
+    }
+}
+
+// A roll's prices, from the words after its head.
+fn prices_of(words: &[u32], x: Instruction, prices: &mut [u32])
+    requires { ⌜ Begins (now words) x × (length (now prices) ≡ 16) ⌝ }
+    ensures { λ _. ⌜ Priced (now (words .entry)) x (now (prices .exit)) ⌝ }
+{
+    if rolls(x) {
+        tape::prices(words, prices);
+    }
+}
+
+// The instruction that the words begin with, answered in place, and its line.
+fn turn(
+    words: &[u32],
+    x: Instruction,
+    index: u64,
+    s: State,
+    nets: &mut [i32],
+    delivered: &mut [u32],
+    charges: &mut [i64],
+    issues: &mut [u8],
+    froms: &mut [u8],
+    tos: &mut [u8],
+    lots: &mut [u32],
+    days: &mut [u16],
+    out: &mut [u32],
+    text: &mut [u8],
+    at: usize,
+) -> Step
+    requires { ⌜ Begins (now words) x × ready s nets delivered charges issues froms tos lots days out × (at + 72 ≤ length (now text)) ⌝ }
+    ensures { λ r. ⌜ (let c = columns nets delivered charges issues froms tos lots days in Stepped (now (words .entry)) x index (c .before s) (now (text .entry)) (now (text .exit)) at r (c .after (r .state))) ⌝ }
+{
+    let mut prices = [0u32; 16];
+    prices_of(words, x, &mut prices);
+    let t = running::answer(
+        x,
+        &prices,
+        s,
+        nets,
+        delivered,
+        charges,
+        issues,
+        froms,
+        tos,
+        lots,
+        days,
+        out,
+    );
+    let state = t.state;
+    let end = text::line(text, at, index, name_of(x), t.refusal, t.count);
+    Step { end, state }
+}
+
+// The number of a reader's refusal.
+fn refusal_of(r: Read) -> u32
+    ensures { λ n. ⌜ n ≡ refusalOf r ⌝ }
+{
+    match r {
+        Read::Instr(_, _) => 0,
+        Read::Refused(n) => n,
+    }
+}
+
+// Can a whole instruction be read out of so many words? Any can where no more will come.
+fn is_enough(left: usize, last: bool) -> bool
+    ensures { λ r. ⌜ r ≡ enough left last ⌝ }
+{
+    if last {
+        return 0 < left;
+    }
+    17 <= left
+}
+
+// The line of a last word of 1 to 3 bytes, if there is one.
+fn stray_line(text: &mut [u8], at: usize, index: u64, stray: bool) -> usize
+    requires { ⌜ at + 72 ≤ length (now text) ⌝ }
+    ensures { λ r. ⌜ Added 72 (now (text .entry)) (now (text .exit)) at r (strayText stray index) ⌝ }
+{
+    if stray {
+        return text::line(text, at, index, Name::Tape, 13, 0);
+    }
+    at
+}
+
+// The instructions of the words, up to the last that is sure to be whole, or to the end where no more
+// words will come. A reader's refusal ends the run.
+pub fn run(
+    words: &[u32],
+    last: bool,
+    stray: bool,
+    index: u64,
+    s: State,
+    nets: &mut [i32],
+    delivered: &mut [u32],
+    charges: &mut [i64],
+    issues: &mut [u8],
+    froms: &mut [u8],
+    tos: &mut [u8],
+    lots: &mut [u32],
+    days: &mut [u16],
+    out: &mut [u32],
+    text: &mut [u8],
+) -> Part
+    requires { ⌜ ready s nets delivered charges issues froms tos lots days out × (72 * (length (now words) + 1) ≤ length (now text)) × (index + length (now words) < 2 ^ 64) ⌝ }
+    ensures { λ r. ⌜ (let c = columns nets delivered charges issues froms tos lots days in Went (now (words .entry)) last stray index (c .before s) (now (text .exit)) (r .used) (r .end) (r .over) (c .after (r .state))) ⌝ }
+{
+    let mut at = 0;
+    let mut end = 0;
+    let mut state = s;
+    while is_enough(words.len() - at, last) {
+        let found = tape::read(&words[at..]);
+        let Read::Instr(x, n) = found else {
+            let no = refusal_of(found);
+            end = text::line(text, end, index + at as u64, Name::Tape, no, 0);
+            return Part {
+                used: at,
+                end,
+                over: true,
+                state,
+            };
+        };
+        let t = turn(
+            &words[at..],
+            x,
+            index + at as u64,
+            state,
+            nets,
+            delivered,
+            charges,
+            issues,
+            froms,
+            tos,
+            lots,
+            days,
+            out,
+            text,
+            end,
+        );
+        end = t.end;
+        state = t.state;
+        at += n;
+    }
+    end = stray_line(text, end, index + at as u64, last & stray);
+    Part {
+        used: at,
+        end,
+        over: last,
+        state,
+    }
+}
