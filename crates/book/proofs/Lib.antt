@@ -1,4 +1,3 @@
 pub mod Signs
 pub mod RowLaws
 pub mod ScanLaws
-pub mod Halves

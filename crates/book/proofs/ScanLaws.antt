@@ -1,25 +1,17 @@
 -- A scan with a flag: the flag and the test of what is left are together the test of the whole.
 use mathlib.Core.Path.{_≡_, refl, ap, sym, _∙_}
-use mathlib.Core.Bool.{Bool, true, false, cond, _&&_}
-use mathlib.Core.List.{List, [], _∷_, map}
-use Prim.Native.Nat.{ℕ, zero, suc, _+_, _-_, _*_, _≤_, _<_}
+use mathlib.Core.Bool.{Bool, true, false, _&&_}
+use mathlib.Core.List.{List, map}
+use Prim.Native.Nat.{ℕ, _+_, _≤_, _<_}
 use native.Mathlib.Numerals.{add-one}
-use native.Mathlib.Omega.{arith}
-use lib.Dec.{leb, eqb}
-use lib.ListN.{length, take, drop, getD, drop-of-length-le, length-drop}
-use lib.Seq.{drop-cons, drop-drop, take-all}
-use lib.IntN.{ℤ, pos}
-use Rattle.rules.specs.Measures.{issueCount, mostLots, mostEntries, mostCharge, sum, dueOf, owedOf}
-use Rattle.rules.specs.declared.Book.{Book}
-use Rattle.rules.specs.declared.Entry.{Entry}
-use Rattle.rules.specs.Ledger.{entry}
-use Rattle.rules.specs.Book.{isTaking, tab, all, row, entries, ledgerOf, isZero, balanced, withinSize, withinOwed, entrySound, daysSound, conditions, sound}
-use Rattle.laws.proofs.Ledger.{noEntry, length-entries, entry-at}
-use Rattle.book.specs.Scan.{rowSound, netsSound, deliveredSound, entriesSound, unusedZero, ledgerSound, chargesSound}
+use lib.ListN.{length, drop, getD, drop-of-length-le}
+use lib.Seq.{drop-cons}
+use Rattle.rules.specs.Measures.{sum}
+use Rattle.rules.specs.Book.{all}
 
 -- Tests joined
 
-and-false : (a : Bool) → a && false ≡ false
+pub and-false : (a : Bool) → a && false ≡ false
 and-false true = refl
 and-false false = refl
 
@@ -64,165 +56,3 @@ sum-more f xs i d h = rw add-one (ap (λ l. sum (map f l)) (drop-cons xs i d h))
 
 pub sum-none {ℓ} : {A : Type ℓ} (f : A → ℕ) (xs : List A) (i : ℕ) → length xs ≤ i → sum (map f (drop i xs)) ≡ 0
 sum-none f xs i h = ap (λ l. sum (map f l)) (drop-of-length-le xs h)
-
--- An issue's row
-
--- what is left of the two tests of each net, from i on
-abbrev pub restOfRow : List ℤ → List ℕ → ℕ → Bool
-restOfRow ns ds i = all (withinSize mostLots) (drop i ns) && withinOwed (drop i ns) (drop i ds)
-
-module _ (ns : List ℤ) (ds : List ℕ) (i : ℕ) (g : Bool) where
-  pub row-more : (o : ℕ) (w whole : Bool) → i < length ns → i < length ds → o ≡ owedOf (getD ns i (pos 0)) →
-      w ≡ withinSize mostLots (getD ns i (pos 0)) → g && restOfRow ns ds i ≡ whole →
-      ((g && w) && leb (getD ds i 0) o) && restOfRow ns ds (i + 1) ≡ whole
-  row-more o w whole h k eo ew e =
-      rw (eo, ew, add-one)
-      (and-turn g (withinSize mostLots (getD ns i (pos 0))) (all (withinSize mostLots) (drop (suc i) ns))
-      (leb (getD ds i 0) (owedOf (getD ns i (pos 0)))) (withinOwed (drop (suc i) ns) (drop (suc i) ds))
-      ∙ ap (λ t. g && t) (sym (rw (drop-cons ns i (pos 0) h, drop-cons ds i 0 k))) ∙ e)
-
-  pub row-end : (dues oweds : ℕ) → length ns ≤ i → dues ≡ sum (map dueOf ns) → oweds ≡ sum (map owedOf ns) →
-      g && restOfRow ns ds i ≡ all (withinSize mostLots) ns && withinOwed ns ds →
-      g && eqb dues oweds ≡ rowSound ns ds
-  unfolding rowSound
-  row-end dues oweds h ed eo e =
-      let f : g ≡ all (withinSize mostLots) ns && withinOwed ns ds =
-      sym (and-true g) ∙ ap (λ l. g && (all (withinSize mostLots) l && withinOwed l (drop i ds))) (sym (drop-of-length-le ns h)) ∙ e in
-      rw (f, ed, eo) (and-swap (all (withinSize mostLots) ns) (balanced ns) (withinOwed ns ds))
-
--- The issues
-
--- what is left of the tests of all issues, from issue i on
-abbrev pub restOfNets : List ℤ → List ℕ → ℕ → Bool
-restOfNets ns ds i =
-    all (withinSize mostLots) (drop (i * 64) ns)
-    && (all (λ j. balanced (row j ns)) (tab (λ j. j) i (16 - i)) && withinOwed (drop (i * 64) ns) (drop (i * 64) ds))
-
-all-split {ℓ} : {A : Type ℓ} (p : A → Bool) (n : ℕ) (l : List A) → all p l ≡ all p (take n l) && all p (drop n l)
-all-split p zero l = refl
-all-split p (suc n) [] = refl
-all-split p (suc n) (x ∷ xs) =
-    ap (λ t. p x && t) (all-split p n xs) ∙ sym (and-assoc (p x) (all p (take n xs)) (all p (drop n xs)))
-
-within-none : (ns : List ℤ) → withinOwed ns [] ≡ true
-within-none [] = refl
-within-none (n ∷ ns) = refl
-
-within-split : (n : ℕ) (ns : List ℤ) (ds : List ℕ) →
-    withinOwed ns ds ≡ withinOwed (take n ns) (take n ds) && withinOwed (drop n ns) (drop n ds)
-within-split zero ns ds = refl
-within-split (suc n) [] ds = refl
-within-split (suc n) (x ∷ ns) [] = sym (within-none (drop n ns))
-within-split (suc n) (x ∷ ns) (d ∷ ds) =
-    ap (λ t. leb d (owedOf x) && t) (within-split n ns ds)
-    ∙ sym (and-assoc (leb d (owedOf x)) (withinOwed (take n ns) (take n ds)) (withinOwed (drop n ns) (drop n ds)))
-
-and-issue : (g w a b c o d : Bool) →
-    (g && (w && (b && o))) && (a && (c && d)) ≡ g && ((w && a) && ((b && c) && (o && d)))
-and-issue false w a b c o d = refl
-and-issue true false a b c o d = refl
-and-issue true true a false c o d = sym (and-false a)
-and-issue true true a true c true d = refl
-and-issue true true a true c false d = sym (ap (λ t. a && t) (and-false c) ∙ and-false a)
-
-next-row : (i : ℕ) → i * 64 + 64 ≡ (i + 1) * 64
-next-row i = omega arith
-
-pub issue-more : (ns : List ℤ) (ds : List ℕ) (i : ℕ) (g r whole : Bool) → i < 16 → r ≡ rowSound (row i ns) (row i ds) →
-    g && restOfNets ns ds i ≡ whole → (g && r) && restOfNets ns ds (i + 1) ≡ whole
-unfolding rowSound
-issue-more ns ds i g r whole h er e =
-    let w = all (withinSize mostLots) in
-    let k : 16 - i ≡ suc (16 - (i + 1)) = omega arith in
-    let dn : drop 64 (drop (i * 64) ns) ≡ drop ((i + 1) * 64) ns = drop-drop 64 (i * 64) ns ∙ ap (λ m. drop m ns) (next-row i) in
-    let dd : drop 64 (drop (i * 64) ds) ≡ drop ((i + 1) * 64) ds = drop-drop 64 (i * 64) ds ∙ ap (λ m. drop m ds) (next-row i) in
-    let fa : w (drop (i * 64) ns) ≡ w (row i ns) && w (drop ((i + 1) * 64) ns) =
-    all-split (withinSize mostLots) 64 (drop (i * 64) ns) ∙ ap (λ l. w (row i ns) && w l) dn in
-    let fo : withinOwed (drop (i * 64) ns) (drop (i * 64) ds)
-    ≡ withinOwed (row i ns) (row i ds) && withinOwed (drop ((i + 1) * 64) ns) (drop ((i + 1) * 64) ds) =
-    within-split 64 (drop (i * 64) ns) (drop (i * 64) ds)
-    ∙ ap (λ l. withinOwed (row i ns) (row i ds) && withinOwed l (drop 64 (drop (i * 64) ds))) dn
-    ∙ ap (λ l. withinOwed (row i ns) (row i ds) && withinOwed (drop ((i + 1) * 64) ns) l) dd in
-    let fb : tab (λ j. j) i (16 - i) ≡ i ∷ tab (λ j. j) (i + 1) (16 - (i + 1)) =
-    ap (λ m. tab (λ j. j) i m) k ∙ ap (λ j. i ∷ tab (λ v. v) j (16 - (i + 1))) (sym (add-one i)) in
-    let f : restOfNets ns ds i
-    ≡ (w (row i ns) && w (drop ((i + 1) * 64) ns))
-    && ((balanced (row i ns) && all (λ j. balanced (row j ns)) (tab (λ j. j) (i + 1) (16 - (i + 1))))
-    && (withinOwed (row i ns) (row i ds) && withinOwed (drop ((i + 1) * 64) ns) (drop ((i + 1) * 64) ds))) =
-    rw (fa, fo, fb) in
-    rw er (and-issue g (w (row i ns)) (w (drop ((i + 1) * 64) ns)) (balanced (row i ns)) _ (withinOwed (row i ns) (row i ds)) _
-    ∙ ap (λ t. g && t) (sym f) ∙ e)
-
-pub nets-start : (ns : List ℤ) (ds : List ℕ) → restOfNets ns ds 0 ≡ netsSound ns ds
-unfolding netsSound
-nets-start ns ds = refl
-
-pub nets-end : (ns : List ℤ) (ds : List ℕ) (i : ℕ) (g whole : Bool) → length ns ≡ 1024 → length ds ≡ 1024 → i ≡ 16 →
-    g && restOfNets ns ds i ≡ whole → g ≡ whole
-nets-end ns ds i g whole en ed ei e =
-    let hn : length ns ≤ 1024 = omega arith in
-    sym (and-true g)
-    ∙ ap (λ t. g && t) (sym (rw ei (rw (drop-of-length-le ns hn) refl)))
-    ∙ e
-
--- The ledger
-
--- what is left of the tests of its entries, from entry k on, with the day before it
-abbrev pub restOfLedger : ℕ → ℕ → ℕ → List Entry → Bool
-restOfLedger today last k es = all entrySound (drop k es) && daysSound last today (drop k es)
-
-module _ (today n : ℕ) (is fs ts xs ds : List ℕ) (last k : ℕ) (g whole : Bool) where
-  pub ledger-more : (w : Bool) → k < n → w ≡ entrySound (entry (getD is k 0) (getD fs k 0) (getD ts k 0) (getD xs k 0) 0) →
-      g && restOfLedger today last k (entries n is fs ts xs ds) ≡ whole →
-      ((g && w) && leb last (getD ds k 0)) && restOfLedger today (getD ds k 0) (k + 1) (entries n is fs ts xs ds) ≡ whole
-  ledger-more w h ew e =
-      let es = entries n is fs ts xs ds in
-      let l : k < length es = omega (arith, length-entries n is fs ts xs ds) in
-      let d : drop k es ≡ entry (getD is k 0) (getD fs k 0) (getD ts k 0) (getD xs k 0) (getD ds k 0) ∷ drop (suc k) es =
-      drop-cons es k noEntry l ∙ ap (λ v. v ∷ drop (suc k) es) (entry-at n is fs ts xs ds k h) in
-      rw (ew, add-one)
-      (and-turn g (entrySound (entry (getD is k 0) (getD fs k 0) (getD ts k 0) (getD xs k 0) 0)) (all entrySound (drop (suc k) es))
-      (leb last (getD ds k 0)) (daysSound (getD ds k 0) today (drop (suc k) es))
-      ∙ ap (λ t. g && t) (sym (rw d)) ∙ e)
-
-  pub ledger-end : n ≤ k → g && restOfLedger today last k (entries n is fs ts xs ds) ≡ whole → g && leb last today ≡ whole
-  ledger-end h e =
-      let l : length (entries n is fs ts xs ds) ≤ k = omega (arith, length-entries n is fs ts xs ds) in
-      ap (λ t. g && t) (sym (rw (drop-of-length-le (entries n is fs ts xs ds) l))) ∙ e
-
--- what is left of a column, lent from n on
-pub rest-all : (n : ℕ) (xs : List ℕ) → n ≤ 2048 → length xs ≡ 2048 → take (length xs - n) (drop n xs) ≡ drop n xs
-rest-all n xs h e = take-all (length xs - n) (drop n xs) (omega (arith, length-drop n xs))
-
--- All parts
-
-joined : (a b c d e f g h i j k l m n : Bool) →
-    (((a && (b && c)) && d) && (e && ((f && g) && (h && i && j && k && l)))) && (m && n)
-    ≡ a && (b && (c && (d && (e && (f && (g && (h && (i && (j && (k && (l && (m && (n && true)))))))))))))
-joined false b c d e f g h i j k l m n = refl
-joined true false c d e f g h i j k l m n = refl
-joined true true false d e f g h i j k l m n = refl
-joined true true true false e f g h i j k l m n = refl
-joined true true true true false f g h i j k l m n = refl
-joined true true true true true false g h i j k l m n = refl
-joined true true true true true true false h i j k l m n = refl
-joined true true true true true true true false i j k l m n = refl
-joined true true true true true true true true false j k l m n = refl
-joined true true true true true true true true true false k l m n = refl
-joined true true true true true true true true true true false l m n = refl
-joined true true true true true true true true true true true false m n = refl
-joined true true true true true true true true true true true true m n = ap (λ t. m && t) (sym (and-true n))
-
-pub sound-joined : (b : Book) →
-    ((netsSound (b .nets) (b .delivered) && deliveredSound (b .phase) (b .delivered))
-    && ledgerSound (b .day) (b .count) (b .issues) (b .froms) (b .tos) (b .lots) (b .days))
-    && chargesSound (b .day) (b .charges)
-    ≡ sound b
-unfolding netsSound deliveredSound ledgerSound entriesSound unusedZero chargesSound sound conditions
-sound-joined b =
-    joined (all (withinSize mostLots) (b .nets)) (all (λ i. balanced (row i (b .nets))) (tab (λ i. i) 0 issueCount))
-    (withinOwed (b .nets) (b .delivered)) (cond (isTaking (b .phase)) (all isZero (b .delivered)) true)
-    (leb (b .count) mostEntries) (all entrySound (ledgerOf b)) (daysSound 0 (b .day) (ledgerOf b))
-    (all isZero (drop (b .count) (b .issues))) (all isZero (drop (b .count) (b .froms)))
-    (all isZero (drop (b .count) (b .tos))) (all isZero (drop (b .count) (b .lots)))
-    (all isZero (drop (b .count) (b .days))) (balanced (b .charges)) (all (withinSize (mostCharge * b .day)) (b .charges))

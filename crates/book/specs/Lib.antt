@@ -1,6 +1,5 @@
 pub mod Nets
 pub mod Rows
-pub mod Columns
 pub mod Scan
 pub mod States
 pub mod Cells

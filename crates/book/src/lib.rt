@@ -1,6 +1,4 @@
-// The book's leaves: signed nets as lots due and lots owed, an issue's rows, the phases, soundness.
-pub mod scan;
-
+// The book's leaves: signed nets as lots due and lots owed, an issue's rows, the phases, the state.
 use rules::Book;
 use rules::Phase;
 ghost use mathlib.Core.Path.{_≡_};
@@ -9,9 +7,8 @@ ghost use Prim.Native.Nat.{_<_};
 ghost use lib.ListN.{length};
 ghost use Rattle.rules.specs.Measures.{mostLots, lastDay, sum, dueOf, owedOf};
 ghost use Rattle.rules.specs.Fails.{shorts};
-ghost use Rattle.rules.specs.Book.{isTaking, isSettling, isCut, withinSize, sound as soundOf, fresh as freshOf, withDay, withNets, withDelivered, withCharges};
+ghost use Rattle.rules.specs.Book.{isTaking, isSettling, isCut, withinSize, fresh as freshOf};
 ghost use Rattle.book.specs.Nets.{Small, Lowered, Raised};
-ghost use Rattle.book.specs.Columns.{withColumns};
 ghost use Rattle.book.specs.States.{freshState, withPhase, withEntries, nextDay};
 ghost use Rattle.book.specs.Rows.{Owing};
 
@@ -193,102 +190,4 @@ pub fn fresh() -> Book
         lots: [0; 2048],
         days: [0; 2048],
     }
-}
-
-// The book with other nets.
-pub fn with_nets(b: Book, nets: [i32; 1024]) -> Book
-    ensures { λ r. ⌜ r ≡ withNets b nets ⌝ }
-{
-    let mut next = b;
-    next.nets = nets;
-    next
-}
-
-// The book with other delivered lots.
-pub fn with_delivered(b: Book, delivered: [u32; 1024]) -> Book
-    ensures { λ r. ⌜ r ≡ withDelivered b delivered ⌝ }
-{
-    let mut next = b;
-    next.delivered = delivered;
-    next
-}
-
-// The book with other charges.
-pub fn with_charges(b: Book, charges: [i64; 64]) -> Book
-    ensures { λ r. ⌜ r ≡ withCharges b charges ⌝ }
-{
-    let mut next = b;
-    next.charges = charges;
-    next
-}
-
-// The book with another day and phase.
-pub fn with_day(b: Book, day: u16, phase: Phase) -> Book
-    ensures { λ r. ⌜ r ≡ withDay b day phase ⌝ }
-{
-    let nets = b.nets;
-    let delivered = b.delivered;
-    let charges = b.charges;
-    let issues = b.issues;
-    let froms = b.froms;
-    let tos = b.tos;
-    let lots = b.lots;
-    let days = b.days;
-    Book {
-        day,
-        phase,
-        nets,
-        delivered,
-        charges,
-        count: b.count,
-        issues,
-        froms,
-        tos,
-        lots,
-        days,
-    }
-}
-
-// The book with another ledger, given by its columns.
-pub fn with_columns(
-    b: Book,
-    count: usize,
-    issues: [u8; 2048],
-    froms: [u8; 2048],
-    tos: [u8; 2048],
-    lots: [u32; 2048],
-    days: [u16; 2048],
-) -> Book
-    ensures { λ r. ⌜ r ≡ withColumns b count issues froms tos lots days ⌝ }
-{
-    let mut next = b;
-    next.count = count;
-    next.issues = issues;
-    next.froms = froms;
-    next.tos = tos;
-    next.lots = lots;
-    next.days = days;
-    next
-}
-
-// Is the book sound? Any book is scanned, damaged ones too.
-pub fn sound(b: Book) -> bool
-    ensures { λ r. ⌜ r ≡ soundOf b ⌝ }
-{
-    let day = b.day;
-    let phase = b.phase;
-    let count = b.count;
-    scan::sound_columns(
-        day,
-        phase,
-        &b.nets,
-        &b.delivered,
-        &b.charges,
-        count,
-        &b.issues,
-        &b.froms,
-        &b.tos,
-        &b.lots,
-        &b.days,
-    )
 }

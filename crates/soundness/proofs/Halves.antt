@@ -12,7 +12,7 @@ use Rattle.rules.specs.Measures.{mostCharge, sum, dueOf, owedOf}
 use Rattle.rules.specs.Book.{all, withinSize}
 use Rattle.laws.proofs.Basics.{byTest}
 use Rattle.book.specs.Scan.{chargesSound}
-use Rattle.soundness.proofs.ScanLaws.{and-true, and-assoc, all-more, all-end}
+use Rattle.book.proofs.ScanLaws.{and-true, and-assoc, all-more, all-end}
 
 -- with the carry of the low halves, equal halves are equal numbers
 halves : (gh gl ph pl : ℕ) →

@@ -1,3 +1,3 @@
-pub mod ScanLaws
+pub mod Parts
 pub mod Halves
 pub mod Told

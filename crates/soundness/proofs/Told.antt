@@ -11,7 +11,7 @@ use Rattle.laws.proofs.Basics.{Every, and-left, and-right}
 use Rattle.laws.proofs.Sound.{all-each}
 use Rattle.book.specs.Scan.{Lengths}
 use Rattle.soundness.specs.Sound.{lengths, lengthsRight, soundIn}
-use Rattle.soundness.proofs.ScanLaws.{and-true}
+use Rattle.book.proofs.ScanLaws.{and-true}
 
 -- the eight tests as they are put together in the code
 eight : (a b c d e f g h : Bool) →

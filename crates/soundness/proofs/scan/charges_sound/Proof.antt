@@ -11,7 +11,7 @@ use mir.Syntax.{w64}
 use mir.ValLaws.{toZ-ofZ}
 use Rattle.rules.specs.Measures.{mostCharge, sum, dueOf, owedOf}
 use Rattle.rules.specs.Book.{all, withinSize}
-use Rattle.soundness.proofs.ScanLaws.{sum-more, sum-none}
+use Rattle.book.proofs.ScanLaws.{sum-more, sum-none}
 use Rattle.soundness.proofs.Halves.{charge-more, charges-end}
 use borrow.Author.Needs.{needs}
 use Rattle.soundness.proofs.scan.charges_sound.Statement.{statement}

@@ -6,7 +6,7 @@ use native.Mathlib.Omega.{arith}
 use denote.Ref.{now}
 use Rattle.rules.specs.Book.{entries}
 use Rattle.book.specs.Scan.{entriesSound}
-use Rattle.soundness.proofs.ScanLaws.{restOfLedger, ledger-more, ledger-end}
+use Rattle.soundness.proofs.Parts.{restOfLedger, ledger-more, ledger-end}
 use borrow.Author.Needs.{needs}
 use Rattle.soundness.proofs.scan.entries_sound.Statement.{statement}
 use Rattle.soundness.proofs.scan.entries_sound.Tie as tie

@@ -2,7 +2,7 @@
 use mathlib.Core.Bool.{not, _&&_}
 use lib.Dec.{leb, eqb}
 use Rattle.rules.specs.Measures.{mostLots}
-use Rattle.soundness.proofs.ScanLaws.{and-assoc}
+use Rattle.book.proofs.ScanLaws.{and-assoc}
 use Rattle.soundness.proofs.scan.entry_sound.Statement.{statement}
 use Rattle.soundness.proofs.scan.entry_sound.Tie as tie
 

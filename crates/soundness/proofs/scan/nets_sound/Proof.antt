@@ -6,7 +6,7 @@ use native.Mathlib.Omega.{arith}
 use denote.Ref.{now}
 use Rattle.rules.specs.Book.{row}
 use Rattle.book.specs.Scan.{rowSound, netsSound}
-use Rattle.soundness.proofs.ScanLaws.{restOfNets, nets-start, issue-more, nets-end}
+use Rattle.soundness.proofs.Parts.{restOfNets, nets-start, issue-more, nets-end}
 use borrow.Author.Needs.{needs}
 use Rattle.soundness.proofs.scan.nets_sound.Statement.{statement}
 use Rattle.soundness.proofs.scan.nets_sound.Tie as tie

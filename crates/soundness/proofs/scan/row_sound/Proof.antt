@@ -11,7 +11,8 @@ use mir.Syntax.{w32}
 use mir.ValLaws.{toZ-ofZ}
 use Rattle.rules.specs.Measures.{mostLots, sum, dueOf, owedOf}
 use Rattle.rules.specs.Book.{all, withinSize, withinOwed}
-use Rattle.soundness.proofs.ScanLaws.{restOfRow, row-more, row-end, sum-more, sum-none}
+use Rattle.book.proofs.ScanLaws.{sum-more, sum-none}
+use Rattle.soundness.proofs.Parts.{restOfRow, row-more, row-end}
 use borrow.Author.Needs.{needs}
 use Rattle.soundness.proofs.scan.row_sound.Statement.{statement}
 use Rattle.soundness.proofs.scan.row_sound.Tie as tie

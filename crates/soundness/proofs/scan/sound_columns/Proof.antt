@@ -1,7 +1,7 @@
 -- The four parts together are the fourteen conditions.
 use denote.Ref.{now}
 use Rattle.rules.specs.Book.{bookOf}
-use Rattle.soundness.proofs.ScanLaws.{sound-joined}
+use Rattle.soundness.proofs.Parts.{sound-joined}
 use borrow.Author.Needs.{needs}
 use Rattle.soundness.proofs.scan.sound_columns.Statement.{statement}
 use Rattle.soundness.proofs.scan.sound_columns.Tie as tie

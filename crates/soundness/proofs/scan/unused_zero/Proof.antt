@@ -7,7 +7,7 @@ use denote.Ref.{now}
 use lib.ListN.{length, take, drop}
 use Rattle.rules.specs.Book.{all, isZero}
 use Rattle.book.specs.Scan.{unusedZero}
-use Rattle.soundness.proofs.ScanLaws.{rest-all}
+use Rattle.soundness.proofs.Parts.{rest-all}
 use borrow.Author.Needs.{needs}
 use Rattle.soundness.proofs.scan.unused_zero.Statement.{statement}
 use Rattle.soundness.proofs.scan.unused_zero.Tie as tie

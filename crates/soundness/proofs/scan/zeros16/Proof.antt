@@ -6,7 +6,7 @@ use native.Mathlib.Omega.{arith}
 use denote.Ref.{now}
 use lib.ListN.{length, drop}
 use Rattle.rules.specs.Book.{all, isZero}
-use Rattle.soundness.proofs.ScanLaws.{all-more, all-end}
+use Rattle.book.proofs.ScanLaws.{all-more, all-end}
 use borrow.Author.Needs.{needs}
 use Rattle.soundness.proofs.scan.zeros16.Statement.{statement}
 use Rattle.soundness.proofs.scan.zeros16.Tie as tie

@@ -1,4 +1,4 @@
--- A scan with a flag: the flag and the test of what is left are together the test of the whole.
+-- The scan's parts: the flag and the test of what is left are together the test of the whole.
 use mathlib.Core.Path.{_≡_, refl, ap, sym, _∙_}
 use mathlib.Core.Bool.{Bool, true, false, cond, _&&_}
 use mathlib.Core.List.{List, [], _∷_, map}
@@ -16,54 +16,7 @@ use Rattle.rules.specs.Ledger.{entry}
 use Rattle.rules.specs.Book.{isTaking, tab, all, row, entries, ledgerOf, isZero, balanced, withinSize, withinOwed, entrySound, daysSound, conditions, sound}
 use Rattle.laws.proofs.Ledger.{noEntry, length-entries, entry-at}
 use Rattle.book.specs.Scan.{rowSound, netsSound, deliveredSound, entriesSound, unusedZero, ledgerSound, chargesSound}
-
--- Tests joined
-
-and-false : (a : Bool) → a && false ≡ false
-and-false true = refl
-and-false false = refl
-
-pub and-true : (a : Bool) → a && true ≡ a
-and-true true = refl
-and-true false = refl
-
-and-comm : (a b : Bool) → a && b ≡ b && a
-and-comm true b = sym (and-true b)
-and-comm false b = sym (and-false b)
-
-pub and-assoc : (a b c : Bool) → (a && b) && c ≡ a && (b && c)
-and-assoc true b c = refl
-and-assoc false b c = refl
-
-pub and-swap : (a b c : Bool) → (a && c) && b ≡ a && (b && c)
-and-swap true b c = and-comm c b
-and-swap false b c = refl
-
--- a flag, two tests of an element, and the tests of what follows it
-pub and-turn : (g w a o b : Bool) → ((g && w) && o) && (a && b) ≡ g && ((w && a) && (o && b))
-and-turn false w a o b = refl
-and-turn true false a o b = refl
-and-turn true true a true b = refl
-and-turn true true a false b = sym (and-false a)
-
--- One element more
-
-pub all-more {ℓ} : {A : Type ℓ} (p : A → Bool) (xs : List A) (i : ℕ) (d : A) (g whole : Bool) → i < length xs →
-    g && all p (drop i xs) ≡ whole → (g && p (getD xs i d)) && all p (drop (i + 1) xs) ≡ whole
-all-more p xs i d g whole h e =
-    and-assoc g (p (getD xs i d)) (all p (drop (i + 1) xs))
-    ∙ ap (λ t. g && t) (rw add-one (sym (ap (all p) (drop-cons xs i d h)))) ∙ e
-
-pub all-end {ℓ} : {A : Type ℓ} (p : A → Bool) (xs : List A) (i : ℕ) (g whole : Bool) → length xs ≤ i →
-    g && all p (drop i xs) ≡ whole → g ≡ whole
-all-end p xs i g whole h e = sym (and-true g) ∙ ap (λ l. g && all p l) (sym (drop-of-length-le xs h)) ∙ e
-
-pub sum-more {ℓ} : {A : Type ℓ} (f : A → ℕ) (xs : List A) (i : ℕ) (d : A) → i < length xs →
-    sum (map f (drop i xs)) ≡ f (getD xs i d) + sum (map f (drop (i + 1) xs))
-sum-more f xs i d h = rw add-one (ap (λ l. sum (map f l)) (drop-cons xs i d h))
-
-pub sum-none {ℓ} : {A : Type ℓ} (f : A → ℕ) (xs : List A) (i : ℕ) → length xs ≤ i → sum (map f (drop i xs)) ≡ 0
-sum-none f xs i h = ap (λ l. sum (map f l)) (drop-of-length-le xs h)
+use Rattle.book.proofs.ScanLaws.{and-assoc, and-false, and-swap, and-true, and-turn}
 
 -- An issue's row
 
