@@ -1,3 +1,4 @@
 pub mod Numbers
 pub mod Hosting
 pub mod Writing
+pub mod Fed

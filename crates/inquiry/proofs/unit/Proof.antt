@@ -6,7 +6,7 @@ use denote.Ref.{now}
 use borrow.Author.Needs.{needs}
 use borrow.Author.Tests.{not-true, not-false}
 use Rattle.rules.specs.declared.Book.{Book}
-use Rattle.laws.proofs.Sound.{sound-parts}
+use Rattle.units.proofs.Cells.{nets-sized}
 use Rattle.book.specs.States.{bookIn}
 use Rattle.soundness.specs.Sound.{soundIn}
 use Rattle.soundness.proofs.Told.{sound-lengths, sound-book}
@@ -47,7 +47,7 @@ unit-of-requires c κs =
     record {
       cells = sound-lengths b (yes (c .before)) .cells .nets;
       issue = omega arith;
-      small = sound-parts b (sound-book b (yes (c .before))) .size;
+      size = nets-sized b (sound-book b (yes (c .before)));
     }
 
 returns-3 : tie.Need-returns-3
