@@ -16,7 +16,7 @@ use Rattle.rules.specs.Run.{Ran, runRest, stopped}
 use Rattle.rules.specs.Text.{linesText, ranOf, closingText, printedOf}
 use Rattle.laws.proofs.Sound.{sound-parts}
 use Rattle.tape.proofs.Run.{run-start}
-use Rattle.feeding.proofs.WordLaws.{tailIn, words-append, words-tail, words-length, words-from, stray-from}
+use Rattle.input.proofs.WordLaws.{tailIn, words-append, words-tail, words-length, words-from, stray-from}
 use Rattle.parts.specs.declared.Place.{Place}
 use Rattle.turns.specs.Going.{Follows, Goes, onward, Went}
 use Rattle.turns.proofs.Goings.{went-as}

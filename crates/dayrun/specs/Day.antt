@@ -6,8 +6,8 @@ use Prim.Native.Nat.{ℕ, _+_, _-_, _≤_, _<_}
 use lib.ListN.{length, take, drop}
 use Rattle.rules.specs.Book.{sound}
 use Rattle.rules.specs.Text.{linesText, ranOf, printedOf, PrintedAt}
-use Rattle.feeding.specs.declared.Words.{Words}
-use Rattle.feeding.specs.Fed.{Fed}
+use Rattle.input.specs.declared.Words.{Words}
+use Rattle.input.specs.Fed.{Fed}
 use Rattle.parts.specs.declared.Place.{Place}
 use Rattle.parts.specs.Parting.{Parted}
 use Rattle.dayrun.specs.declared.Sent.{Sent}

@@ -18,7 +18,7 @@ fn step(p: Place, bytes: &mut [u8], words: &mut [u32], text: &mut [u8], out: &mu
     ensures { λ r. ⌜ Stepped p (now (bytes .entry)) (now (bytes .exit)) (now (text .exit)) r × Standing r × Buffers (now (bytes .exit)) (now (words .exit)) (now (text .exit)) (now (out .exit)) ⌝ }
 {
     let start = p.start;
-    let w = feeding::next(bytes, words, start, p.end);
+    let w = input::next(bytes, words, start, p.end);
     let n = w.count;
     parts::part(p, w, &words[..n], text, out)
 }

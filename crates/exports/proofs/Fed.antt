@@ -6,16 +6,17 @@ use Prim.Native.Nat.{ℕ, _≤_}
 use borrow.Author.Tests.{le-leb}
 use Rattle.rules.specs.declared.Book.{Book}
 use Rattle.rules.specs.declared.Instruction.{Instruction}
+use Rattle.rules.specs.declared.Phase.the-variants.{Taking}
 use Rattle.rules.specs.Calls.{Call, Answer, called}
 use Rattle.rules.specs.Run.{callOf}
 use Rattle.rules.specs.Tally.{State, Demand3}
 use Rattle.tally.proofs.Made.{Made, demand3-of}
-use Rattle.book.specs.States.{freshState}
+use Rattle.book.specs.States.{stateOf}
 use Rattle.soundness.specs.Sound.{lengthsRight}
 use Rattle.running.specs.declared.Turn.{Turn}
 use Rattle.running.specs.Turns.{Gives}
 use Rattle.running.proofs.Fed.{gave, gave-answer}
-use Rattle.dispatch.specs.Dispatch.{calledIn, beside}
+use Rattle.dispatch.specs.Dispatch.{beside}
 use Rattle.dispatch.proofs.Calling.{where-right}
 use Rattle.exports.specs.Fields.{isKind}
 use Rattle.exports.specs.Host.{dayCalled, Host, CallIs}
@@ -23,7 +24,7 @@ use Rattle.exports.proofs.Hosting.{of-kind}
 
 -- the numbers of a host's answer
 abbrev numbers : ℕ → ℕ → ℕ → Turn
-numbers n k x = record { refusal = n; count = k; cancelled = x; state = freshState }
+numbers n k x = record { refusal = n; count = k; cancelled = x; state = stateOf 0 Taking 0 }
 
 -- a call of a kind of 1 to 7, in columns of a book's lengths and with one of its phases, and what that gave
 pub data ByHost (b : Book) : Call → Answer → Type 0 where

@@ -7,7 +7,7 @@ use lib.Dec.{eqb}
 use lib.ListN.{length}
 use Rattle.rules.specs.Measures.{outputWords}
 use Rattle.rules.specs.Book.{sound}
-use Rattle.feeding.specs.declared.Words.{Words}
+use Rattle.input.specs.declared.Words.{Words}
 use Rattle.parts.specs.declared.Place.{Place}
 use Rattle.turns.specs.Going.{Went}
 

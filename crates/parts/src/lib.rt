@@ -1,5 +1,5 @@
 // A run in parts: the words that one read gives, as far as they hold whole instructions, run on a book.
-use feeding::Words;
+use input::Words;
 use rules::Book;
 ghost use mathlib.Core.Path.{_≡_};
 ghost use mathlib.Core.Bool.{true};

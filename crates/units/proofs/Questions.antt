@@ -1,18 +1,12 @@
 -- The unit question's answers: each refusal, and the unit that is found.
-use mathlib.Core.Path.{_≡_, refl, sym, ap, _∙_}
-use mathlib.Core.Bool.{true, false}
+use mathlib.Core.Path.{_≡_, sym, ap, _∙_}
 use mathlib.Core.List.{List, [], _∷_}
 use Prim.Native.Nat.{ℕ, _≤_, _<_}
 use lib.ListN.{drop}
 use lib.IntN.{ℤ}
-use borrow.Author.Tests.{le-leb, lt-leb}
-use Rattle.rules.specs.declared.Book.{Book}
-use Rattle.rules.specs.declared.Found.{Found}
-use Rattle.rules.specs.declared.Found.the-variants as found
 use Rattle.rules.specs.Measures.{unitLots}
 use Rattle.rules.specs.Units.{AccountLots, accountLots}
-use Rattle.rules.specs.Book.{orderIn, sound}
-use Rattle.rules.specs.Calls.{foundAnswer, firstAnswer, unit}
+use Rattle.rules.specs.Book.{orderIn}
 use Rattle.units.specs.declared.Seat.{Seat}
 use Rattle.units.specs.declared.NextUnit.{NextUnit}
 use Rattle.units.specs.declared.NextUnit.the-variants as next
@@ -33,20 +27,3 @@ module _ (runs : List ℕ) (n : ℕ) (s : Seat) (r : NextUnit) (l : NextIs runs 
 module _ (nets : List ℤ) (i k : ℕ) (runs : List ℕ) (n : ℕ) (s : Seat) (p : Prepared nets i runs n) (q : SeatIs k s) where
   pub found-is : (us : List AccountLots) → unitsFrom runs n s ≡ us → foundOf us ≡ foundOf (drop k (orderIn nets i))
   found-is us e = ap foundOf (sym e ∙ q runs n ∙ ap (drop k) (p .units))
-
-found-first : (us : List AccountLots) → foundAnswer (foundOf us) ≡ firstAnswer us
-found-first [] = refl
-found-first (u ∷ us) = refl
-
-module _ (b : Book) (i k : ℕ) where
-  pub refused-sound : sound b ≡ false → foundAnswer (found.Refused 2) ≡ unit b i k
-  unfolding unit
-  refused-sound e = rw e
-
-  pub refused-issue : sound b ≡ true → 15 < i → foundAnswer (found.Refused 4) ≡ unit b i k
-  unfolding unit
-  refused-issue e h = rw (e, lt-leb i 15 h)
-
-  pub answered : (r : Found) → sound b ≡ true → i ≤ 15 → r ≡ foundOf (drop k (orderIn (b .nets) i)) → foundAnswer r ≡ unit b i k
-  unfolding unit
-  answered r e h f = rw (e, le-leb i 15 h, f) (found-first (drop k (orderIn (b .nets) i)))

@@ -6,10 +6,10 @@ use native.Mathlib.Omega.{arith}
 use denote.Ref.{now}
 use lib.ListN.{length, take, drop, length-set}
 use Rattle.rules.specs.Bytes.{wordsIn}
-use Rattle.feeding.proofs.Bytes.{decode-on, decode-ends}
+use Rattle.input.proofs.Bytes.{decode-on, decode-ends}
 use borrow.Author.Needs.{needs}
-use Rattle.feeding.proofs.decode.Statement.{statement}
-use Rattle.feeding.proofs.decode.Tie as tie
+use Rattle.input.proofs.decode.Statement.{statement}
+use Rattle.input.proofs.decode.Tie as tie
 
 abbrev Inv-loop : tie.InvT-loop
 Inv-loop bytes words₀ n k₀ words k =

@@ -6,8 +6,8 @@ use lib.IntN.{ℤ}
 use lib.ListN.{length, take, drop}
 use Rattle.io.specs.Counts.{clamped}
 use Rattle.rules.specs.Bytes.{wordsIn, saysEnd, saysFailed}
-use Rattle.feeding.specs.declared.Fill.{Fill}
-use Rattle.feeding.specs.declared.Words.{Words}
+use Rattle.input.specs.declared.Fill.{Fill}
+use Rattle.input.specs.declared.Words.{Words}
 
 -- the words of some bytes stand at the front of a buffer
 pub record Decoded (bytes words : List ℕ) (count : ℕ) : Type 0 where

@@ -4,7 +4,7 @@ ghost use mathlib.Core.Path.{_≡_};
 ghost use Prim.Native.Nat.{_+_, _-_, _*_, _≤_, _<_, _^_};
 ghost use lib.ListN.{length, getD, take, drop};
 ghost use Rattle.rules.specs.Bytes.{wordOf};
-ghost use Rattle.feeding.specs.Fed.{Decoded, Few, Took, Refilled, Fed};
+ghost use Rattle.input.specs.Fed.{Decoded, Few, Took, Refilled, Fed};
 
 // Where the bytes in the buffer end, whether the input has ended, and whether the read failed.
 pub struct Fill {

@@ -17,8 +17,8 @@ use mir.ValLaws.{toZ-ofZ}
 use Rattle.laws.proofs.Basics.{byTest}
 use Rattle.io.specs.Counts.{clamped}
 use Rattle.rules.specs.Bytes.{wordOf, wordsIn, saysEnd, saysFailed}
-use Rattle.feeding.specs.declared.Fill.{Fill}
-use Rattle.feeding.specs.Fed.{Took, Refilled}
+use Rattle.input.specs.declared.Fill.{Fill}
+use Rattle.input.specs.Fed.{Took, Refilled}
 
 pub words-none : (bytes : List ℕ) → length bytes < 4 → wordsIn bytes ≡ []
 words-none [] h = refl

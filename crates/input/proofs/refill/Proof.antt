@@ -4,11 +4,11 @@ use mathlib.Core.List.{_++_}
 use Prim.Native.Nat.{ℕ, _-_}
 use lib.ListN.{length, take, drop}
 use denote.Ref.{now}
-use Rattle.feeding.specs.Fed.{Refilled}
-use Rattle.feeding.proofs.Bytes.{refilled}
+use Rattle.input.specs.Fed.{Refilled}
+use Rattle.input.proofs.Bytes.{refilled}
 use borrow.Author.Needs.{needs}
-use Rattle.feeding.proofs.refill.Statement.{statement}
-use Rattle.feeding.proofs.refill.Tie as tie
+use Rattle.input.proofs.refill.Statement.{statement}
+use Rattle.input.proofs.refill.Tie as tie
 
 returns : tie.Need-returns
 returns c =

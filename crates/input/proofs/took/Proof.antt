@@ -9,10 +9,10 @@ use lib.ListN.{length}
 use mir.Syntax.{w64}
 use mir.ValLaws.{toZ-ofZ}
 use Rattle.io.specs.Counts.{clamped}
-use Rattle.feeding.proofs.Bytes.{says-failed, says-end}
+use Rattle.input.proofs.Bytes.{says-failed, says-end}
 use borrow.Author.Needs.{needs}
-use Rattle.feeding.proofs.took.Statement.{statement}
-use Rattle.feeding.proofs.took.Tie as tie
+use Rattle.input.proofs.took.Statement.{statement}
+use Rattle.input.proofs.took.Tie as tie
 
 returns : tie.Need-returns
 returns c =

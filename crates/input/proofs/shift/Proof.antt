@@ -6,10 +6,10 @@ use native.Mathlib.Omega.{arith}
 use denote.Ref.{now}
 use lib.ListN.{length, take, drop, length-drop}
 use lib.Seq.{length-take-le}
-use Rattle.feeding.proofs.Bytes.{copied}
+use Rattle.input.proofs.Bytes.{copied}
 use borrow.Author.Needs.{needs}
-use Rattle.feeding.proofs.shift.Statement.{statement}
-use Rattle.feeding.proofs.shift.Tie as tie
+use Rattle.input.proofs.shift.Statement.{statement}
+use Rattle.input.proofs.shift.Tie as tie
 
 abbrev part : tie.Start → List ℕ
 part s = take (s .args .end - s .args .start) (drop (s .args .start) (now (s .args .buffer)))

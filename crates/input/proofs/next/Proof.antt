@@ -3,8 +3,8 @@ use mathlib.Core.Path.{sym}
 use native.Mathlib.Omega.{arith}
 use lib.Seq.{length-take-le}
 use borrow.Author.Needs.{needs}
-use Rattle.feeding.proofs.next.Statement.{statement}
-use Rattle.feeding.proofs.next.Tie as tie
+use Rattle.input.proofs.next.Statement.{statement}
+use Rattle.input.proofs.next.Tie as tie
 
 -- src/input.rt:87:24
 slice-aggregate-decode : tie.Need-slice-aggregate-decode
