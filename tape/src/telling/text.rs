@@ -1,7 +1,7 @@
 //! The facts as sentences: a line for each instruction, and below it what it did.
 
 use crate::facts::Fact;
-use crate::measure::{write_grouped, write_number, Face, Grouped, Lots, Price, Rate};
+use crate::measure::{Face, Grouped, Line, Lots, Price, Rate};
 use library::Instruction;
 use std::io::{self, Write};
 
@@ -42,19 +42,13 @@ fn trade(out: &mut impl Write, word: usize, fact: &Fact) -> io::Result<()> {
     else {
         return Ok(());
     };
-    out.write_all(b"  word ")?;
-    write_number(out, word as u64)?;
-    out.write_all(b": trade: account ")?;
-    write_number(out, (*from).into())?;
-    out.write_all(b" sells account ")?;
-    write_number(out, (*to).into())?;
-    out.write_all(b" ")?;
-    write_grouped(out, (*lots).into())?;
-    out.write_all(if *lots == 1 { b" lot (" } else { b" lots (" })?;
-    write_grouped(out, u64::from(*lots) * 50_000)?;
-    out.write_all(b" yen face) of issue ")?;
-    write_number(out, (*issue).into())?;
-    out.write_all(b"\n")
+    let lots = u64::from(*lots);
+    let mut line = Line::new();
+    line.put(b"  word ").number(word as u64).put(b": trade: account ").number((*from).into());
+    line.put(b" sells account ").number((*to).into()).put(b" ").grouped(lots);
+    line.put(if lots == 1 { b" lot (" } else { b" lots (" }).grouped(lots * 50_000);
+    line.put(b" yen face) of issue ").number((*issue).into()).put(b"\n");
+    out.write_all(line.bytes())
 }
 
 /// What an instruction says.
