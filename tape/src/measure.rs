@@ -10,31 +10,84 @@ pub struct Grouped(pub i128);
 /// The digits of a number, the last at the end of the buffer, with a comma before every three where
 /// they are grouped; answers where they begin. A number has at most 20 digits and 6 commas.
 fn digits(number: u64, grouped: bool, written: &mut [u8; 26]) -> usize {
-    let (mut left, mut at, mut count) = (number, written.len(), 0);
-    while count == 0 || left > 0 {
-        if grouped && count > 0 && count % 3 == 0 {
+    let (mut left, mut at) = (number, written.len());
+    while left >= 1_000 {
+        let three = (left % 1_000) as u16;
+        left /= 1_000;
+        at -= 3;
+        written[at] = b'0' + (three / 100) as u8;
+        written[at + 1] = b'0' + (three / 10 % 10) as u8;
+        written[at + 2] = b'0' + (three % 10) as u8;
+        if grouped {
             at -= 1;
             written[at] = b',';
         }
-        at -= 1;
-        written[at] = b'0' + (left % 10) as u8;
-        left /= 10;
-        count += 1;
     }
-    at
+    let mut first = left as u16;
+    loop {
+        at -= 1;
+        written[at] = b'0' + (first % 10) as u8;
+        first /= 10;
+        if first == 0 {
+            return at;
+        }
+    }
+}
+
+/// A line that is put together piece by piece, without the cost of a format, and written at once. It
+/// has room for the longest line of a trade; what does not fit is left out.
+pub struct Line {
+    bytes: [u8; 192],
+    length: usize,
+}
+
+impl Line {
+    /// An empty line.
+    pub fn new() -> Line {
+        Line { bytes: [0; 192], length: 0 }
+    }
+
+    /// Puts a piece.
+    #[inline(always)]
+    pub fn put(&mut self, piece: &[u8]) -> &mut Line {
+        let end = self.length + piece.len();
+        if let Some(room) = self.bytes.get_mut(self.length..end) {
+            room.copy_from_slice(piece);
+            self.length = end;
+        }
+        self
+    }
+
+    /// Puts a number.
+    pub fn number(&mut self, number: u64) -> &mut Line {
+        let mut written = [0; 26];
+        let at = digits(number, false, &mut written);
+        self.put(&written[at..])
+    }
+
+    /// Puts a number with a comma before every three digits.
+    pub fn grouped(&mut self, number: u64) -> &mut Line {
+        let mut written = [0; 26];
+        let at = digits(number, true, &mut written);
+        self.put(&written[at..])
+    }
+
+    /// What was put.
+    pub fn bytes(&self) -> &[u8] {
+        &self.bytes[..self.length]
+    }
+}
+
+impl Default for Line {
+    fn default() -> Line {
+        Line::new()
+    }
 }
 
 /// Writes a number, without the cost of a format.
 pub fn write_number(out: &mut impl Write, number: u64) -> io::Result<()> {
     let mut written = [0; 26];
     let at = digits(number, false, &mut written);
-    out.write_all(&written[at..])
-}
-
-/// Writes a number with a comma before every three digits, without the cost of a format.
-pub fn write_grouped(out: &mut impl Write, number: u64) -> io::Result<()> {
-    let mut written = [0; 26];
-    let at = digits(number, true, &mut written);
     out.write_all(&written[at..])
 }
 
@@ -102,10 +155,14 @@ mod tests {
         assert_eq!(numbers.map(|number| Grouped(number).to_string()), texts);
         let most = Grouped(u64::MAX.into()).to_string();
         assert_eq!(most, "18,446,744,073,709,551,615");
-        let mut written = Vec::new();
-        write_grouped(&mut written, 1_234_567).unwrap();
-        write_number(&mut written, u64::MAX).unwrap();
-        assert_eq!(written, b"1,234,56718446744073709551615");
+        for number in [0, 9, 10, 99, 100, 999, 1_000, 1_001, 10_000, 999_999, 1_000_000, u64::MAX] {
+            let mut written = Vec::new();
+            write_number(&mut written, number).unwrap();
+            assert_eq!(String::from_utf8(written).unwrap(), number.to_string());
+        }
+        let mut line = Line::new();
+        line.put(b"a ").grouped(1_234_567).put(b" ").number(u64::MAX);
+        assert_eq!(line.bytes(), b"a 1,234,567 18446744073709551615");
         assert_eq!(Grouped(i128::MIN).to_string(), i128::MIN.to_string());
     }
 

@@ -69,9 +69,18 @@ fn refused(out: &mut impl Write, refusal: Refusal, why: &str) -> io::Result<()> 
 
 /// The fields of a fact after its day.
 fn fields(out: &mut impl Write, fact: &Fact) -> io::Result<()> {
-    let wide = u64::from;
     match fact {
-        Fact::Day { .. } | Fact::NothingFails => Ok(()),
+        Fact::Instruction { .. } | Fact::ReadingEnds { .. } => instruction(out, fact),
+        Fact::Units { .. } | Fact::Tie { .. } | Fact::Owes { .. } => order(out, fact),
+        Fact::Handed { .. } | Fact::Waits { .. } | Fact::Partly { .. } => handover(out, fact),
+        Fact::Charge { .. } | Fact::Charged { .. } | Fact::End { .. } => charge(out, fact),
+        _ => fail(out, fact),
+    }
+}
+
+/// An instruction with its numbers and its refusal, or where reading ends.
+fn instruction(out: &mut impl Write, fact: &Fact) -> io::Result<()> {
+    match fact {
         Fact::Instruction { word, instruction, refusal } => {
             field(out, "word", *word as u64)?;
             text(out, "call", instruction.name())?;
@@ -85,12 +94,17 @@ fn fields(out: &mut impl Write, fact: &Fact) -> io::Result<()> {
             field(out, "word", *word as u64)?;
             refused(out, *refusal, refusal.meaning())
         }
+        _ => Ok(()),
+    }
+}
+
+/// The units in their order, a tie, and what is owed.
+fn order(out: &mut impl Write, fact: &Fact) -> io::Result<()> {
+    let wide = u64::from;
+    match fact {
         Fact::Units { issue, first, last, account, lots, due } => {
             units(out, [*issue, *first, *last, *account, *lots])?;
             field(out, "due", wide(*due))
-        }
-        Fact::Handed { issue, first, last, account, lots } => {
-            units(out, [*issue, *first, *last, *account, *lots])
         }
         Fact::Tie { issue, full, lots, accounts } => {
             field(out, "issue", wide(*issue))?;
@@ -102,6 +116,17 @@ fn fields(out: &mut impl Write, fact: &Fact) -> io::Result<()> {
         Fact::Owes { issue, account, lots } => {
             numbers(out, &[("issue", wide(*issue)), ("account", wide(*account)), ("lots", *lots)])
         }
+        _ => Ok(()),
+    }
+}
+
+/// Units handed over, whole and in part, and stock that waits.
+fn handover(out: &mut impl Write, fact: &Fact) -> io::Result<()> {
+    let wide = u64::from;
+    match fact {
+        Fact::Handed { issue, first, last, account, lots } => {
+            units(out, [*issue, *first, *last, *account, *lots])
+        }
         Fact::Waits { issue, stock, unit, account, lots } => {
             numbers(out, &[("issue", wide(*issue)), ("stock", *stock), ("unit", wide(*unit))])?;
             numbers(out, &[("account", wide(*account)), ("lots", wide(*lots))])
@@ -111,6 +136,14 @@ fn fields(out: &mut impl Write, fact: &Fact) -> io::Result<()> {
             numbers(out, &[("account", wide(*account)), ("lots", wide(*lots))])?;
             field(out, "lacks", wide(*lacks))
         }
+        _ => Ok(()),
+    }
+}
+
+/// Fails as they arise, are met and stand in the ledger.
+fn fail(out: &mut impl Write, fact: &Fact) -> io::Result<()> {
+    let wide = u64::from;
+    match fact {
         Fact::Fails { issue, from, to, lots, first, last } => {
             owed(out, [*issue, *from, *to, *lots])?;
             numbers(out, &[("first", wide(*first)), ("last", wide(*last))])
@@ -125,19 +158,28 @@ fn fields(out: &mut impl Write, fact: &Fact) -> io::Result<()> {
             numbers(out, &[("issue", wide(*issue)), ("account", wide(*account))])?;
             numbers(out, &[("steps", *steps as u64), ("cancelled", *cancelled)])
         }
+        _ => Ok(()),
+    }
+}
+
+/// Charges, and the book at the end.
+fn charge(out: &mut impl Write, fact: &Fact) -> io::Result<()> {
+    let wide = u64::from;
+    match fact {
         Fact::Charge { terms, from, to, lots, value, yen } => {
             owed(out, [terms.issue, *from, *to, *lots])?;
             numbers(out, &[("price", wide(terms.price)), ("value", *value)])?;
             numbers(out, &[("days", wide(terms.days)), ("rate", wide(terms.rate)), ("yen", *yen)])
         }
-        Fact::End { phase, entries, charged } => {
-            text(out, "phase", phase)?;
-            numbers(out, &[("entries", *entries as u64), ("charged", *charged as u64)])
-        }
         Fact::Charged { account, yen } => {
             field(out, "account", wide(*account))?;
             write!(out, ",\"yen\":{yen}")
         }
+        Fact::End { phase, entries, charged } => {
+            text(out, "phase", phase)?;
+            numbers(out, &[("entries", *entries as u64), ("charged", *charged as u64)])
+        }
+        _ => Ok(()),
     }
 }
 

@@ -1,7 +1,7 @@
 //! The facts as sentences: a line for each instruction, and below it what it did.
 
 use crate::facts::Fact;
-use crate::measure::{write_grouped, write_number, Face, Grouped, Lots, Price, Rate};
+use crate::measure::{Face, Grouped, Line, Lots, Price, Rate};
 use library::Instruction;
 use std::io::{self, Write};
 
@@ -42,19 +42,13 @@ fn trade(out: &mut impl Write, word: usize, fact: &Fact) -> io::Result<()> {
     else {
         return Ok(());
     };
-    out.write_all(b"  word ")?;
-    write_number(out, word as u64)?;
-    out.write_all(b": trade: account ")?;
-    write_number(out, (*from).into())?;
-    out.write_all(b" sells account ")?;
-    write_number(out, (*to).into())?;
-    out.write_all(b" ")?;
-    write_grouped(out, (*lots).into())?;
-    out.write_all(if *lots == 1 { b" lot (" } else { b" lots (" })?;
-    write_grouped(out, u64::from(*lots) * 50_000)?;
-    out.write_all(b" yen face) of issue ")?;
-    write_number(out, (*issue).into())?;
-    out.write_all(b"\n")
+    let lots = u64::from(*lots);
+    let mut line = Line::new();
+    line.put(b"  word ").number(word as u64).put(b": trade: account ").number((*from).into());
+    line.put(b" sells account ").number((*to).into()).put(b" ").grouped(lots);
+    line.put(if lots == 1 { b" lot (" } else { b" lots (" }).grouped(lots * 50_000);
+    line.put(b" yen face) of issue ").number((*issue).into()).put(b"\n");
+    out.write_all(line.bytes())
 }
 
 /// What an instruction says.
@@ -86,6 +80,16 @@ fn sentence(out: &mut impl Write, instruction: &Instruction) -> io::Result<()> {
 /// Something that an instruction did, or that stands in the book at the end.
 fn detail(out: &mut impl Write, fact: &Fact) -> io::Result<()> {
     match fact {
+        Fact::Units { .. } | Fact::Tie { .. } | Fact::Owes { .. } => order(out, fact),
+        Fact::Handed { .. } | Fact::Waits { .. } | Fact::Partly { .. } => handover(out, fact),
+        Fact::Charge { .. } | Fact::Charged { .. } => charge(out, fact),
+        _ => fail(out, fact),
+    }
+}
+
+/// The units in their order, a tie, and what is owed.
+fn order(out: &mut impl Write, fact: &Fact) -> io::Result<()> {
+    match fact {
         Fact::Units { issue, first, last, account, lots, due } => {
             let (units, is) = units_text(*first, *last);
             let (lots, due) = (Lots((*lots).into()), Lots((*due).into()));
@@ -105,6 +109,13 @@ fn detail(out: &mut impl Write, fact: &Fact) -> io::Result<()> {
         Fact::Owes { issue, account, lots } => {
             write!(out, "account {account} still owes {} of issue {issue} today", Lots(*lots))
         }
+        _ => Ok(()),
+    }
+}
+
+/// Units handed over, whole and in part, and stock that waits.
+fn handover(out: &mut impl Write, fact: &Fact) -> io::Result<()> {
+    match fact {
         Fact::Handed { first, last, account, lots, .. } => {
             let (units, is) = units_text(*first, *last);
             let (lots, each) = (Face((*lots).into()), if first == last { "" } else { " each" });
@@ -122,6 +133,13 @@ fn detail(out: &mut impl Write, fact: &Fact) -> io::Result<()> {
             )?;
             write!(out, ", which still lacks {lacks} (a partial fail)")
         }
+        _ => Ok(()),
+    }
+}
+
+/// Fails as they arise, are met and stand in the ledger.
+fn fail(out: &mut impl Write, fact: &Fact) -> io::Result<()> {
+    match fact {
         Fact::Fails { issue, from, to, lots, first, last } => {
             let (lots, (units, _)) = (Face((*lots).into()), units_text(*first, *last));
             write!(out, "issue {issue}: account {from} fails account {to}: {lots}, of {units}")
@@ -140,16 +158,15 @@ fn detail(out: &mut impl Write, fact: &Fact) -> io::Result<()> {
         Fact::Entry { issue, from, to, lots, since } => {
             entry(out, &[*issue, *from, *to, *lots], *since)
         }
-        Fact::Charge { .. } => charge(out, fact),
-        Fact::Charged { account, yen } => {
-            write!(out, "account {account}: {} yen", Grouped((*yen).into()))
-        }
         _ => Ok(()),
     }
 }
 
-/// A charge, with the value, the price, the rate and the days behind it.
+/// An account's charges; or one charge, with the value, the price, the rate and the days behind it.
 fn charge(out: &mut impl Write, fact: &Fact) -> io::Result<()> {
+    if let Fact::Charged { account, yen } = fact {
+        return write!(out, "account {account}: {} yen", Grouped((*yen).into()));
+    }
     let Fact::Charge { terms, from, to, lots, value, yen } = fact else { return Ok(()) };
     let (yen, value) = (Grouped((*yen).into()), Grouped((*value).into()));
     let (issue, lots) = (terms.issue, Lots((*lots).into()));
