@@ -32,12 +32,7 @@ pub fn number_of(p: Phase) -> u32
 pub fn state_of(day: u16, phase: u32, entries: usize) -> State
     ensures { λ r. ⌜ r ≡ stateOf day (phaseOf phase) entries ⌝ }
 {
-    let p = phase_of(phase);
-    State {
-        day,
-        phase: p,
-        entries,
-    }
+    book::state_of(day, phase_of(phase), entries)
 }
 
 // Is there an instruction of this kind?
