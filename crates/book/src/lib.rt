@@ -79,7 +79,7 @@ pub fn total(d: &[u32]) -> u32
 }
 
 // What each account of an issue owes and has not delivered.
-pub fn shorts_of(net: &[i32], delivered: &[u32], short: &mut [u32])
+pub fn missing_of(net: &[i32], delivered: &[u32], short: &mut [u32])
     requires { ⌜ Owing (now net) (now delivered) (now short) ⌝ }
     ensures { λ _. ⌜ now (short .exit) ≡ undelivered (map owedOf (now (net .entry))) (now (delivered .entry)) ⌝ }
 {

@@ -17,17 +17,17 @@ use Rattle.cutoff.specs.Issue.{countsOf, entriesOn, CanLay, WasLaid, Can
 use Rattle.cutoff.proofs.Writing.{withOut, behind, back, wrote-count, wrote-both}
 
 -- behind the stock's v records: the fails can be laid, and then the issue is cut
-pub record Behind (nets : List ℤ) (delivered : List ℕ) (day i n : ℕ) (a : Lent) (runs shorts : List ℕ) (r : Ready) (v : ℕ) (o : List ℕ) : Type 0 where
+pub record Behind (nets : List ℤ) (delivered : List ℕ) (day i n : ℕ) (a : Lent) (runs missing : List ℕ) (r : Ready) (v : ℕ) (o : List ℕ) : Type 0 where
   pub few : v ≤ 1
   pub room : 2 * v ≤ length o
-  pub can : CanLay day i runs shorts r n (behind v (withOut a o))
-  pub done : (m : ℕ) (c : Lent) → WasLaid day i runs shorts r n (behind v (withOut a o)) m c →
+  pub can : CanLay day i runs missing r n (behind v (withOut a o))
+  pub done : (m : ℕ) (c : Lent) → WasLaid day i runs missing r n (behind v (withOut a o)) m c →
       WasCut nets delivered day i n a (countsOf (n + m) (v + m)) (back v (withOut a o) c)
 
 module _ (nets : List ℤ) (delivered : List ℕ) (day i n : ℕ) (a : Lent) (can : CanCut nets delivered day i n a)
-    (runs shorts : List ℕ) (r : Ready) (y : IsReady nets delivered i runs shorts r) where
+    (runs missing : List ℕ) (r : Ready) (y : IsReady nets delivered i runs missing r) where
   -- the cursor's entries are the issue's
-  entries-ready : entriesOn day i runs (r .n) shorts (r .cursor) ≡ issueEntries day (orderIn nets) nets delivered i
+  entries-ready : entriesOn day i runs (r .n) missing (r .cursor) ≡ issueEntries day (orderIn nets) nets delivered i
   unfolding entriesOn
   entries-ready = ap (map (failEntry day i)) (y .fails)
 
@@ -67,7 +67,7 @@ module _ (nets : List ℤ) (delivered : List ℕ) (day i n : ℕ) (a : Lent) (ca
     handed =
         record { held = can .write .held; ledger = sym (append-nil _); out = rw (y .partials) at (h .out) }
 
-    can-lay : CanLay day i runs shorts r n (behind v (withOut a o))
+    can-lay : CanLay day i runs missing r n (behind v (withOut a o))
     can-lay =
         record {
           issue = can .issue;
@@ -90,7 +90,7 @@ module _ (nets : List ℤ) (delivered : List ℕ) (day i n : ℕ) (a : Lent) (ca
               });
         }
 
-    was-cut : (m : ℕ) (c : Lent) → WasLaid day i runs shorts r n (behind v (withOut a o)) m c →
+    was-cut : (m : ℕ) (c : Lent) → WasLaid day i runs missing r n (behind v (withOut a o)) m c →
         WasCut nets delivered day i n a (countsOf (n + m) (v + m)) (back v (withOut a o) c)
     was-cut m c p =
         let es = issueEntries day (orderIn nets) nets delivered i in
@@ -103,7 +103,7 @@ module _ (nets : List ℤ) (delivered : List ℕ) (day i n : ℕ) (a : Lent) (ca
           records = omega (arith, number, records-number, wrote-count es (failRecords es) n (n + m) (behind v (withOut a o)) c q);
         }
 
-    pub stock-handed : Behind nets delivered day i n a runs shorts r v o
+    pub stock-handed : Behind nets delivered day i n a runs missing r v o
     stock-handed =
         record {
           few = omega (arith, number);

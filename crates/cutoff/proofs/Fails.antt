@@ -40,12 +40,12 @@ handed-one i a zero o new n e = absurd (n refl)
 handed-one i a (suc x) o new n e = record { records = refl; out = e }
 
 -- a step of the cursor, as entries
-module _ (day i : ℕ) (runs : List ℕ) (k : ℕ) (shorts : List ℕ) (c : Cursor) (r : Next) (l : Advanced runs k shorts c r) where
+module _ (day i : ℕ) (runs : List ℕ) (k : ℕ) (missing : List ℕ) (c : Cursor) (r : Next) (l : Advanced runs k missing c r) where
   pub entries-more : (c′ : Cursor) (f t x : ℕ) → r ≡ Overlap f t x c′ →
-      entriesOn day i runs k shorts c ≡ entry i f t x day ∷ entriesOn day i runs k shorts c′
+      entriesOn day i runs k missing c ≡ entry i f t x day ∷ entriesOn day i runs k missing c′
   unfolding entriesOn
-  entries-more c′ f t x e = ap (map (failEntry day i)) (step-list runs k shorts c r l c′ f t x e)
+  entries-more c′ f t x e = ap (map (failEntry day i)) (step-list runs k missing c r l c′ f t x e)
 
-  pub entries-end : r ≡ Done → entriesOn day i runs k shorts c ≡ []
+  pub entries-end : r ≡ Done → entriesOn day i runs k missing c ≡ []
   unfolding entriesOn
-  entries-end e = ap (map (failEntry day i)) (step-end runs k shorts c r l e)
+  entries-end e = ap (map (failEntry day i)) (step-end runs k missing c r l e)

@@ -30,17 +30,17 @@ pub record CanEnter (e : Entry) (n : ℕ) (a : Lent) : Type 0 where
 
 -- the entries of the overlaps from a cursor on
 unfoldable pub entriesOn : ℕ → ℕ → List ℕ → ℕ → List ℕ → Cursor → List Entry
-entriesOn day i runs k shorts c = map (failEntry day i) (overlapsFrom runs k shorts c)
+entriesOn day i runs k missing c = map (failEntry day i) (overlapsFrom runs k missing c)
 
-pub record CanLay (day i : ℕ) (runs shorts : List ℕ) (p : Ready) (n : ℕ) (a : Lent) : Type 0 where
+pub record CanLay (day i : ℕ) (runs missing : List ℕ) (p : Ready) (n : ℕ) (a : Lent) : Type 0 where
   pub issue : i < 16
-  pub advance : CanAdvance runs (p .n) shorts
+  pub advance : CanAdvance runs (p .n) missing
   pub range : InRange (p .cursor)
-  pub write : CanWrite (entriesOn day i runs (p .n) shorts (p .cursor)) (failRecords (entriesOn day i runs (p .n) shorts (p .cursor))) n a
+  pub write : CanWrite (entriesOn day i runs (p .n) missing (p .cursor)) (failRecords (entriesOn day i runs (p .n) missing (p .cursor))) n a
 
 abbrev pub WasLaid : ℕ → ℕ → List ℕ → List ℕ → Ready → ℕ → Lent → ℕ → Lent → Type 0
-WasLaid day i runs shorts p n a r b =
-    Wrote (entriesOn day i runs (p .n) shorts (p .cursor)) (failRecords (entriesOn day i runs (p .n) shorts (p .cursor))) n a (n + r) b
+WasLaid day i runs missing p n a r b =
+    Wrote (entriesOn day i runs (p .n) missing (p .cursor)) (failRecords (entriesOn day i runs (p .n) missing (p .cursor))) n a (n + r) b
 
 -- the stock's record
 pub record CanHand (i a x : ℕ) (before : List ℕ) : Type 0 where
@@ -53,18 +53,18 @@ pub record WasHanded (i a x v : ℕ) (before after : List ℕ) : Type 0 where
   pub records : v ≡ length (prepend a x [])
   pub out : after ≡ over (words (map (handover i) (prepend a x []))) before
 
-pub record CanReady (nets : List ℤ) (delivered : List ℕ) (i : ℕ) (runs shorts : List ℕ) : Type 0 where
+pub record CanReady (nets : List ℤ) (delivered : List ℕ) (i : ℕ) (runs missing : List ℕ) : Type 0 where
   pub sound : SoundCells nets delivered
   pub issue : i < 16
   pub held : 128 ≤ length runs
-  pub accounts : length shorts ≡ 64
+  pub accounts : length missing ≡ 64
 
 -- an issue's units and shortfalls: the cursor stands for its fails, and the stock for its partial fail
-pub record IsReady (nets : List ℤ) (delivered : List ℕ) (i : ℕ) (runs shorts : List ℕ) (r : Ready) : Type 0 where
-  pub advance : CanAdvance runs (r .n) shorts
+pub record IsReady (nets : List ℤ) (delivered : List ℕ) (i : ℕ) (runs missing : List ℕ) (r : Ready) : Type 0 where
+  pub advance : CanAdvance runs (r .n) missing
   pub range : InRange (r .cursor)
   pub stock : r .stock ≤ 99999
-  pub fails : overlapsFrom runs (r .n) shorts (r .cursor) ≡ issueFails (orderIn nets) nets delivered i
+  pub fails : overlapsFrom runs (r .n) missing (r .cursor) ≡ issueFails (orderIn nets) nets delivered i
   pub partials : prepend (r .cursor .to) (r .stock) [] ≡ issuePartials (orderIn nets) delivered i
 
 pub record CanCut (nets : List ℤ) (delivered : List ℕ) (day i n : ℕ) (a : Lent) : Type 0 where

@@ -70,7 +70,7 @@ pub struct Ready {
 // Each overlap from a cursor on becomes an entry and a record; answers their number.
 fn lay(
     runs: &[u32],
-    shorts: &[u32],
+    missing: &[u32],
     p: Ready,
     i: u8,
     day: u16,
@@ -82,14 +82,14 @@ fn lay(
     days: &mut [u16],
     out: &mut [u32],
 ) -> usize
-    requires { ⌜ CanLay day i (now runs) (now shorts) p n (lending issues froms tos lots days out) ⌝ }
-    ensures { λ r. ⌜ WasLaid day i (now (runs .entry)) (now (shorts .entry)) p n (lentBefore issues froms tos lots days out) r (lentAfter issues froms tos lots days out) ⌝ }
+    requires { ⌜ CanLay day i (now runs) (now missing) p n (lending issues froms tos lots days out) ⌝ }
+    ensures { λ r. ⌜ WasLaid day i (now (runs .entry)) (now (missing .entry)) p n (lentBefore issues froms tos lots days out) r (lentAfter issues froms tos lots days out) ⌝ }
 {
     let k = p.n;
     let mut cur = p.cursor;
     let mut done: usize = 0;
     loop {
-        let Next::Overlap(f, t, x, rest) = units::advance(runs, k, shorts, cur) else {
+        let Next::Overlap(f, t, x, rest) = units::advance(runs, k, missing, cur) else {
             return done;
         };
         let e = fail(i, f, t, x, day);
@@ -121,15 +121,21 @@ fn hand_stock(out: &mut [u32], i: u32, to: u32, lots: u32) -> usize
 }
 
 // An issue's units and shortfalls into lent arrays, and where its delivered total ends.
-fn prepare(nets: &[i32], delivered: &[u32], i: usize, runs: &mut [u32], shorts: &mut [u32]) -> Ready
-    requires { ⌜ CanReady (now nets) (now delivered) i (now runs) (now shorts) ⌝ }
-    ensures { λ r. ⌜ IsReady (now (nets .entry)) (now (delivered .entry)) i (now (runs .exit)) (now (shorts .exit)) r ⌝ }
+fn prepare(
+    nets: &[i32],
+    delivered: &[u32],
+    i: usize,
+    runs: &mut [u32],
+    missing: &mut [u32],
+) -> Ready
+    requires { ⌜ CanReady (now nets) (now delivered) i (now runs) (now missing) ⌝ }
+    ensures { λ r. ⌜ IsReady (now (nets .entry)) (now (delivered .entry)) i (now (runs .exit)) (now (missing .exit)) r ⌝ }
 {
     let s = i * 64;
     let e = s + 64;
     let n = units::prepare(nets, i, runs);
     let d = book::total(&delivered[s..e]);
-    book::shorts_of(&nets[s..e], &delivered[s..e], shorts);
+    book::missing_of(&nets[s..e], &delivered[s..e], missing);
     let p = units::start(runs, n, d);
     let c = p.cursor;
     Ready {
@@ -169,13 +175,13 @@ fn cut_issue(
     ensures { λ r. ⌜ WasCut (now (nets .entry)) (now (delivered .entry)) day i n (lentBefore issues froms tos lots days out) r (lentAfter issues froms tos lots days out) ⌝ }
 {
     let mut runs = [0u32; 128];
-    let mut shorts = [0u32; 64];
-    let p = prepare(nets, delivered, i, &mut runs, &mut shorts);
+    let mut missing = [0u32; 64];
+    let p = prepare(nets, delivered, i, &mut runs, &mut missing);
     let c = p.cursor;
     let v = hand_stock(out, i as u32, c.to, p.stock);
     let m = lay(
         &runs,
-        &shorts,
+        &missing,
         p,
         i as u8,
         day,
@@ -196,11 +202,11 @@ fn count_issue(nets: &[i32], delivered: &[u32], i: usize) -> usize
     ensures { λ r. ⌜ r ≡ length (issueFails (orderIn (now (nets .entry))) (now (nets .entry)) (now (delivered .entry)) i) ⌝ }
 {
     let mut runs = [0u32; 128];
-    let mut shorts = [0u32; 64];
-    let p = prepare(nets, delivered, i, &mut runs, &mut shorts);
+    let mut missing = [0u32; 64];
+    let p = prepare(nets, delivered, i, &mut runs, &mut missing);
     let k = p.n;
     let c = p.cursor;
-    units::count(&runs, k, &shorts, c)
+    units::count(&runs, k, &missing, c)
 }
 
 // How many entries a cutoff of all issues makes.

@@ -45,21 +45,6 @@ pub struct Entry {
     pub day: u16,
 }
 
-// What a call answers: the refusal's number (0: done), the count of records written, the book.
-pub struct Reply {
-    pub refusal: u32,
-    pub count: usize,
-    pub book: Book,
-}
-
-// What pair-off answers: the refusal's number (0: done), steps made, lots cancelled, the book.
-pub struct Paired {
-    pub refusal: u32,
-    pub steps: usize,
-    pub cancelled: u64,
-    pub book: Book,
-}
-
 // What the unit question answers: account and lots, none, or the refusal's number.
 pub enum Found {
     Unit(u32, u32),

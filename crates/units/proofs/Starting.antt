@@ -39,12 +39,12 @@ module _ (runs : List ℕ) (n d j : ℕ) (held : Held runs n) where
 
   -- what overlaps the rest of the runs overlaps what units lack
   cursor-lacks : (a x s : ℕ) → ((ss : List AccountLots) → overlaps ss (dropLots d us) ≡ overlaps ss (accountLots a x ∷ drop j us)) →
-      (shorts : List ℕ) →
-      overlapsFrom runs n shorts (position j a x s .cursor) ≡ overlaps (byAccount 0 shorts) (lacks unitLots (unitsIn runs n) d)
+      (missing : List ℕ) →
+      overlapsFrom runs n missing (position j a x s .cursor) ≡ overlaps (byAccount 0 missing) (lacks unitLots (unitsIn runs n) d)
   unfolding overlapsFrom
-  cursor-lacks a x s h shorts =
-      overlaps-short0 (byAccount 0 shorts) (accountLots a x ∷ drop j us) 0 ∙ sym (h (byAccount 0 shorts))
-      ∙ ap (overlaps (byAccount 0 shorts)) (sym (held .gathered d))
+  cursor-lacks a x s h missing =
+      overlaps-short0 (byAccount 0 missing) (accountLots a x ∷ drop j us) 0 ∙ sym (h (byAccount 0 missing))
+      ∙ ap (overlaps (byAccount 0 missing)) (sym (held .gathered d))
 
   -- the total ends in run u
   pub seeking-stands : (u : AccountLots) (e : ℕ) → e < u .lots → u .account < 64 → Seeking us (u ∷ drop j us) d e →

@@ -15,33 +15,33 @@ use Rattle.units.specs.Runs.{runsIn, unitsIn}
 
 -- what is still to be handed out: the rest of a shortfall and the later ones, against the rest of a run and the later ones
 abbrev pub overlapsOn : List AccountLots → List ℕ → Cursor → List Fail
-overlapsOn us shorts c =
-    overlaps (accountLots (c .from) (c .short) ∷ byAccount (c .account) (drop (c .account) shorts))
+overlapsOn us missing c =
+    overlaps (accountLots (c .from) (c .short) ∷ byAccount (c .account) (drop (c .account) missing))
     (accountLots (c .to) (c .lack) ∷ drop (c .run) us)
 
 -- the same of the units that the first n words of a lent array hold
 unfoldable pub overlapsFrom : List ℕ → ℕ → List ℕ → Cursor → List Fail
-overlapsFrom runs n shorts c = overlapsOn (runsIn runs n) shorts c
+overlapsFrom runs n missing c = overlapsOn (runsIn runs n) missing c
 
 pub record InRange (c : Cursor) : Type 0 where
   pub from : c .from < 64
   pub to : c .to < 64
   pub short : c .short ≤ mostLots
 
-pub record CanShort (shorts : List ℕ) : Type 0 where
-  pub accounts : length shorts ≡ 64
-  pub small : (a : ℕ) → getD shorts a 0 ≤ mostLots
+pub record CanShort (missing : List ℕ) : Type 0 where
+  pub accounts : length missing ≡ 64
+  pub small : (a : ℕ) → getD missing a 0 ≤ mostLots
 
 -- a cursor whose shortfall is not 0, or which has none left
-pub record AtShort (shorts : List ℕ) (c r : Cursor) : Type 0 where
-  pub same : (us : List AccountLots) → overlapsOn us shorts c ≡ overlapsOn us shorts r
-  pub none : r .short ≡ 0 → (us : List AccountLots) → overlapsOn us shorts r ≡ []
+pub record AtShort (missing : List ℕ) (c r : Cursor) : Type 0 where
+  pub same : (us : List AccountLots) → overlapsOn us missing c ≡ overlapsOn us missing r
+  pub none : r .short ≡ 0 → (us : List AccountLots) → overlapsOn us missing r ≡ []
   pub range : InRange r
 
 -- a cursor at a run of which something is lacking, or which has none left
 pub record AtRun (us : List AccountLots) (c r : Cursor) : Type 0 where
-  pub same : (shorts : List ℕ) → overlapsOn us shorts c ≡ overlapsOn us shorts r
-  pub none : r .lack ≡ 0 → (shorts : List ℕ) → overlapsOn us shorts r ≡ []
+  pub same : (missing : List ℕ) → overlapsOn us missing c ≡ overlapsOn us missing r
+  pub none : r .lack ≡ 0 → (missing : List ℕ) → overlapsOn us missing r ≡ []
   pub short : r .short ≡ c .short
   pub range : InRange r
 
@@ -51,14 +51,14 @@ overlapAt v x =
     Overlap (v .from) (v .to) x
     (record { account = v .account; from = v .from; short = v .short - x; run = v .run; to = v .to; lack = v .lack - x })
 
-pub record CanAdvance (runs : List ℕ) (n : ℕ) (shorts : List ℕ) : Type 0 where
+pub record CanAdvance (runs : List ℕ) (n : ℕ) (missing : List ℕ) : Type 0 where
   pub there : n ≤ length runs
-  pub shortfalls : CanShort shorts
+  pub shortfalls : CanShort missing
 
 -- the list that a step stands for: the overlap handed out, and what is left
 abbrev pub overlapsOf : List ℕ → ℕ → List ℕ → Next → List Fail
-overlapsOf runs n shorts (Overlap f t x c) = failOf f (accountLots t x) ∷ overlapsFrom runs n shorts c
-overlapsOf runs n shorts Done = []
+overlapsOf runs n missing (Overlap f t x c) = failOf f (accountLots t x) ∷ overlapsFrom runs n missing c
+overlapsOf runs n missing Done = []
 
 pub record OverlapInRange (f t x : ℕ) (c : Cursor) : Type 0 where
   pub from : f < 64
@@ -70,8 +70,8 @@ abbrev pub NextInRange : Next → Type 0
 NextInRange (Overlap f t x c) = OverlapInRange f t x c
 NextInRange Done = Unit {0}
 
-pub record Advanced (runs : List ℕ) (n : ℕ) (shorts : List ℕ) (c : Cursor) (r : Next) : Type 0 where
-  pub list : overlapsFrom runs n shorts c ≡ overlapsOf runs n shorts r
+pub record Advanced (runs : List ℕ) (n : ℕ) (missing : List ℕ) (c : Cursor) (r : Next) : Type 0 where
+  pub list : overlapsFrom runs n missing c ≡ overlapsOf runs n missing r
   pub range : NextInRange r
 
 -- in front of all shortfalls, at a run of which so many lots are lacking
@@ -81,8 +81,8 @@ position run to lack s =
 
 -- after a delivered total: the cursor in front of all overlaps with what units lack, the stock, and whose unit is next
 pub record Started (runs : List ℕ) (n d : ℕ) (r : Position) : Type 0 where
-  pub lacking : (shorts : List ℕ) →
-      overlapsFrom runs n shorts (r .cursor) ≡ overlaps (byAccount 0 shorts) (lacks unitLots (unitsIn runs n) d)
+  pub lacking : (missing : List ℕ) →
+      overlapsFrom runs n missing (r .cursor) ≡ overlaps (byAccount 0 missing) (lacks unitLots (unitsIn runs n) d)
   pub left : r .stock ≡ stock (unitsIn runs n) d
   pub next : r .cursor .to ≡ firstUnit (waiting (unitsIn runs n) d) .account
   pub range : InRange (r .cursor)

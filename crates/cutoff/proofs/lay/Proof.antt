@@ -16,15 +16,15 @@ use Rattle.cutoff.proofs.lay.Statement.{statement}
 use Rattle.cutoff.proofs.lay.Tie as tie
 
 abbrev Inv-loop : tie.InvT-loop
-Inv-loop runs shorts i day n issues₀ froms₀ tos₀ lots₀ days₀ out₀ k cur₀ done₀ issues froms tos lots days out cur done =
-    let all = entriesOn day i runs k shorts cur₀ in
-    let rest = entriesOn day i runs k shorts cur in
+Inv-loop runs missing i day n issues₀ froms₀ tos₀ lots₀ days₀ out₀ k cur₀ done₀ issues froms tos lots days out cur done =
+    let all = entriesOn day i runs k missing cur₀ in
+    let rest = entriesOn day i runs k missing cur in
     InRange cur
     × Laying all rest (failRecords all) (failRecords rest) n (lent issues₀ froms₀ tos₀ lots₀ days₀ out₀) (n + done) done (lent issues froms tos lots days out)
 
 abbrev μ-loop : tie.MeasureT-loop
-μ-loop runs shorts i day n issues₀ froms₀ tos₀ lots₀ days₀ out₀ k cur₀ done₀ issues froms tos lots days out cur done =
-    length (entriesOn day i runs k shorts cur)
+μ-loop runs missing i day n issues₀ froms₀ tos₀ lots₀ days₀ out₀ k cur₀ done₀ issues froms tos lots days out cur done =
+    length (entriesOn day i runs k missing cur)
 
 loop-holds : tie.Need-loop-holds Inv-loop μ-loop
 loop-holds c =
@@ -39,14 +39,14 @@ turned : (c : tie.After-known-told Inv-loop μ-loop) →
     let a = c .before .before .before .before .before .before .before .before .before .before .before .before .before .before .args in
     let l = c .before .before .before .before .loop in
     let g = c .before .f .given .0 in
-    Turn (a .day) (a .i) (a .n) (now (a .runs)) (now (a .shorts)) (a .p) (lending (a .issues) (a .froms) (a .tos) (a .lots) (a .days) (a .out))
+    Turn (a .day) (a .i) (a .n) (now (a .runs)) (now (a .missing)) (a .p) (lending (a .issues) (a .froms) (a .tos) (a .lots) (a .days) (a .out))
     (l .cur) (l .done) (lent (l .issues) (l .froms) (l .tos) (l .lots) (l .days) (l .out)) (g .1 .1 .1 .0) (g .0) (g .1 .0) (g .1 .1 .0)
 turned c =
     let s = c .before .before .before .before .before .before .before .before .before .before .before .before .before .before in
     let a = s .args in
     let l = c .before .before .before .before .loop in
     let v = c .before .before .before .advance in
-    turn (a .day) (a .i) (a .n) (now (a .runs)) (now (a .shorts)) (a .p) (lending (a .issues) (a .froms) (a .tos) (a .lots) (a .days) (a .out))
+    turn (a .day) (a .i) (a .n) (now (a .runs)) (now (a .missing)) (a .p) (lending (a .issues) (a .froms) (a .tos) (a .lots) (a .days) (a .out))
     (l .cur) (l .done) (lent (l .issues) (l .froms) (l .tos) (l .lots) (l .days) (l .out)) _ _ _ _ (v .result) (s .pre) (l .inv .1) (v .ensures) (c .before .f .given .1)
 
 returns : tie.Need-returns Inv-loop μ-loop
@@ -54,7 +54,7 @@ returns c =
     let a = c .before .before .before .before .before .before .before .before .before .before .before .before .before .args in
     let l = c .before .before .before .loop in
     let v = c .before .before .advance in
-    let e = entries-end (a .day) (a .i) (now (a .runs)) (a .p .n) (now (a .shorts)) (l .cur) (v .result) (v .ensures) (c .enum-told .given .1) in
+    let e = entries-end (a .day) (a .i) (now (a .runs)) (a .p .n) (now (a .missing)) (l .cur) (v .result) (v .ensures) (c .enum-told .given .1) in
     laying-ends _ _ _ _ _ _ _ (lending (a .issues) (a .froms) (a .tos) (a .lots) (a .days) (a .out))
     (lent (l .issues) (l .froms) (l .tos) (l .lots) (l .days) (l .out)) e (ap failRecords e) (l .inv .1)
 

@@ -13,8 +13,8 @@ total-requires c κs =
     let a = s .args in
     rw (row-part (now (a .delivered)) (a .i)) (total-small (now (a .nets)) (now (a .delivered)) (s .pre .sound) (a .i) (s .pre .issue))
 
-shorts-of-requires : tie.Need-shorts-of-requires
-shorts-of-requires c κs =
+missing-of-requires : tie.Need-missing-of-requires
+missing-of-requires c κs =
     let s = c .before .before .before .before .before .before .before .before .before .before .before .before in
     let a = s .args in
     rw (row-part (now (a .nets)) (a .i), row-part (now (a .delivered)) (a .i))
@@ -26,7 +26,7 @@ returns c =
     let a = s .args in
     let p = c .before .before .before .before .before .before .before .before .before .before .before .before .before .prepare in
     let t = c .before .before .before .before .before .before .before .before .before .total in
-    let h = c .before .before .before .before .before .shorts-of in
+    let h = c .before .before .before .before .before .missing-of in
     let v = c .before .start in
     ready (now (a .nets)) (now (a .delivered)) (a .i) (s .pre .issue) (s .pre .sound)
     (p .last .1 .1 .0) (h .last .1 .1 .0) (p .result) (t .result) (v .result) (p .ensures)
@@ -39,5 +39,5 @@ prepare-spec =
     tie.close
     (tie.spec (λ c. search needs) (λ c. search needs) (λ c κs. search needs) (λ c. search needs) (λ c. search needs) (λ c. search needs)
     (λ c. search needs) total-requires (λ c. search needs) (λ c. search needs) (λ c. search needs) (λ c. search needs) (λ c. search needs)
-    (λ c. search needs) (λ c. search needs) (λ c. search needs) shorts-of-requires (λ c κs. search needs) (λ c. search needs)
+    (λ c. search needs) (λ c. search needs) (λ c. search needs) missing-of-requires (λ c κs. search needs) (λ c. search needs)
     (λ c. search needs) returns)

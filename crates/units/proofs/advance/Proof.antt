@@ -10,14 +10,14 @@ returns : tie.Need-returns
 returns c =
     let s = c .before .before .next-short in
     let a = c .before .before .before .before .before .args in
-    none-short (now (a .runs)) (a .n) (now (a .shorts)) (a .c) (s .result) (s .ensures) (c .if1 .taken)
+    none-short (now (a .runs)) (a .n) (now (a .missing)) (a .c) (s .result) (s .ensures) (c .if1 .taken)
 
 returns-2 : tie.Need-returns-2
 returns-2 c =
     let s = c .before .before .before .before .before .next-short in
     let a = c .before .before .before .before .before .before .before .before .args in
     let r = c .before .before .next-run in
-    none-run (now (a .runs)) (a .n) (now (a .shorts)) (a .c) (s .result) (s .ensures) (r .result) (r .ensures) (c .if2 .taken)
+    none-run (now (a .runs)) (a .n) (now (a .missing)) (a .c) (s .result) (s .ensures) (r .result) (r .ensures) (c .if2 .taken)
 
 returns-3 : tie.Need-returns-3
 returns-3 c =
@@ -25,7 +25,7 @@ returns-3 c =
     let a = c .before .before .before .before .before .before .before .before .before .before .before .args in
     let r = c .before .before .before .before .before .next-run in
     rw (c .overlap .ensures)
-    (hand-least (now (a .runs)) (a .n) (now (a .shorts)) (a .c) (s .result) (s .ensures) (r .result) (r .ensures) _
+    (hand-least (now (a .runs)) (a .n) (now (a .missing)) (a .c) (s .result) (s .ensures) (r .result) (r .ensures) _
     (omega (arith, r .ensures .short)) (omega arith) (omega arith))
 
 returns-4 : tie.Need-returns-4
@@ -34,7 +34,7 @@ returns-4 c =
     let a = c .before .before .before .before .before .before .before .before .before .before .before .args in
     let r = c .before .before .before .before .before .next-run in
     rw (c .overlap2 .ensures)
-    (hand-least (now (a .runs)) (a .n) (now (a .shorts)) (a .c) (s .result) (s .ensures) (r .result) (r .ensures) _
+    (hand-least (now (a .runs)) (a .n) (now (a .missing)) (a .c) (s .result) (s .ensures) (r .result) (r .ensures) _
     (omega (arith, r .ensures .short)) (omega arith) (omega arith))
 
 pub advance-spec : {M : Type 1} → statement M

@@ -11,26 +11,26 @@ use Rattle.units.proofs.count.Statement.{statement}
 use Rattle.units.proofs.count.Tie as tie
 
 abbrev Inv-loop : tie.InvT-loop
-Inv-loop runs n shorts cur₀ k₀ cur k =
-    InRange cur × (k + length (overlapsFrom runs n shorts cur) ≡ length (overlapsFrom runs n shorts cur₀))
+Inv-loop runs n missing cur₀ k₀ cur k =
+    InRange cur × (k + length (overlapsFrom runs n missing cur) ≡ length (overlapsFrom runs n missing cur₀))
 
 abbrev μ-loop : tie.MeasureT-loop
-μ-loop runs n shorts cur₀ k₀ cur k = length (overlapsFrom runs n shorts cur)
+μ-loop runs n missing cur₀ k₀ cur k = length (overlapsFrom runs n missing cur)
 
 -- after a step one overlap fewer is left
 shorter : (c : tie.After-known-told Inv-loop μ-loop) →
     let a = c .before .before .before .before .before .before .before .args in
     let next = c .before .rest .given .0 .1 .1 .1 .0 in
-    (length (overlapsFrom (now (a .runs)) (a .n) (now (a .shorts)) (c .before .before .before .before .loop .cur))
-    ≡ suc (length (overlapsFrom (now (a .runs)) (a .n) (now (a .shorts)) next)))
+    (length (overlapsFrom (now (a .runs)) (a .n) (now (a .missing)) (c .before .before .before .before .loop .cur))
+    ≡ suc (length (overlapsFrom (now (a .runs)) (a .n) (now (a .missing)) next)))
     × InRange next
 shorter c =
     let a = c .before .before .before .before .before .before .before .args in
     let l = c .before .before .before .before .loop in
     let v = c .before .before .before .advance in
     let e = c .before .rest .given .1 in (
-      ap length (step-list (now (a .runs)) (a .n) (now (a .shorts)) (l .cur) (v .result) (v .ensures) _ _ _ _ e),
-      step-range (now (a .runs)) (a .n) (now (a .shorts)) (l .cur) (v .result) (v .ensures) _ _ _ _ e .cursor,
+      ap length (step-list (now (a .runs)) (a .n) (now (a .missing)) (l .cur) (v .result) (v .ensures) _ _ _ _ e),
+      step-range (now (a .runs)) (a .n) (now (a .missing)) (l .cur) (v .result) (v .ensures) _ _ _ _ e .cursor,
     )
 
 returns : tie.Need-returns Inv-loop μ-loop
@@ -41,7 +41,7 @@ returns c =
     omega (
       arith,
       l .inv .1,
-      ap length (step-end (now (a .runs)) (a .n) (now (a .shorts)) (l .cur) (v .result) (v .ensures) (c .enum-told .given .1)),
+      ap length (step-end (now (a .runs)) (a .n) (now (a .missing)) (l .cur) (v .result) (v .ensures) (c .enum-told .given .1)),
     )
 
 add-k : tie.Need-add-k Inv-loop μ-loop

@@ -12,11 +12,11 @@ use Rattle.units.proofs.next_short.Statement.{statement}
 use Rattle.units.proofs.next_short.Tie as tie
 
 abbrev Inv-loop : tie.InvT-loop
-Inv-loop shorts c a₀ f₀ x₀ a f x =
-    (f < 64) × (x ≤ 20000000) × ((vs : List AccountLots) → overlaps (ahead f₀ x₀ a₀ shorts) vs ≡ overlaps (ahead f x a shorts) vs)
+Inv-loop missing c a₀ f₀ x₀ a f x =
+    (f < 64) × (x ≤ 20000000) × ((vs : List AccountLots) → overlaps (ahead f₀ x₀ a₀ missing) vs ≡ overlaps (ahead f x a missing) vs)
 
 abbrev μ-loop : tie.MeasureT-loop
-μ-loop shorts c a₀ f₀ x₀ a f x = 64 - a
+μ-loop missing c a₀ f₀ x₀ a f x = 64 - a
 
 loop-holds : tie.Need-loop-holds Inv-loop μ-loop
 loop-holds c = (c .pre .1 .from, c .pre .1 .short, (λ vs. refl))
@@ -30,7 +30,7 @@ returns c =
     record {
       same = λ us. rw z at (l .inv .2 (behind (k .to) (k .lack) (k .run) us));
       none = λ q us.
-          short-end (now (s .args .shorts)) (behind (k .to) (k .lack) (k .run) us) (l .f) 0 (l .a) refl
+          short-end (now (s .args .missing)) (behind (k .to) (k .lack) (k .run) us) (l .f) 0 (l .a) refl
           (omega (arith, s .pre .0 .accounts));
       range = record { from = l .inv .0; to = s .pre .1 .to; short = omega arith };
     }
@@ -41,7 +41,7 @@ loop-again c =
     let l = c .before .before .before .loop in (
       omega arith,
       s .pre .0 .small (l .a),
-      (λ vs. l .inv .2 vs ∙ short-next (now (s .args .shorts)) vs (l .f) (l .x) (l .a) (omega arith) (omega arith)),
+      (λ vs. l .inv .2 vs ∙ short-next (now (s .args .missing)) vs (l .f) (l .x) (l .a) (omega arith) (omega arith)),
     )
 
 returns-2 : tie.Need-returns-2 Inv-loop μ-loop

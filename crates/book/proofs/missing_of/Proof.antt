@@ -14,8 +14,8 @@ use lib.IntN.{pos}
 use lib.ListN.{length-map}
 use mir.Syntax.{w32}
 use mir.ValLaws.{toZ-ofZ}
-use Rattle.book.proofs.shorts_of.Statement.{statement}
-use Rattle.book.proofs.shorts_of.Tie as tie
+use Rattle.book.proofs.missing_of.Statement.{statement}
+use Rattle.book.proofs.missing_of.Tie as tie
 
 abbrev Inv-loop : tie.InvT-loop
 Inv-loop net delivered short₀ i₀ short i =
@@ -59,8 +59,8 @@ returns c =
     sym (shorts-end ns ds (l .i) _ (l .short) (omega arith) (l .inv .1)) ∙ sets-all (undelivered (map owedOf ns) ds)
     (now (s .args .short)) n
 
-pub shorts-of-spec : {M : Type 1} → statement M
-shorts-of-spec =
+pub missing-of-spec : {M : Type 1} → statement M
+missing-of-spec =
     tie.close
     (tie.spec
     Inv-loop
