@@ -111,7 +111,7 @@ module _ (p r : Place) (bytes bytes′ text : List ℕ) (d : Stepped p bytes byt
   size : length all ≡ d .read .end
   size = length-take-le (d .read .end) bytes′ (d .fed .refilled .fits)
 
-  went : Went (wordsIn all) (d .read .done) (strayIn all) (p .index) (p .book) text (d .parted .used) (r .length) (r .over) (r .book)
+  went : Went (wordsIn all) (d .read .done) (strayIn all) (p .index) (p .book) text (d .parted .used) (r .printed) (r .over) (r .book)
   went =
       went-as _ _ _ _ _ _ (d .fed .decoded .front) (ap (λ (k : ℕ). not (eqb (k % 4) 0)) (sym size)) refl refl (d .parted .went)
 
@@ -137,14 +137,14 @@ module _ (p r : Place) (bytes bytes′ text : List ℕ) (d : Stepped p bytes byt
       }
 
   -- at most 4,096 words are used, and their lines have room
-  pub few-words : length bytes′ ≡ 16384 → (r .index ≤ p .index + 4096) × (r .length ≤ 327680)
+  pub few-words : length bytes′ ≡ 16384 → (r .index ≤ p .index + 4096) × (r .printed ≤ 327680)
   few-words l =
       let z = words-length all in
       (omega (arith, went .within, z .0, size, d .fed .refilled .fits, d .parted .index), omega (arith, went .fits, z .0, size, d .fed .refilled .fits))
 
   -- the part's own run, of bytes
   part-goes : (more : List ℕ) → (d .read .done ≡ true → more ≡ []) →
-      Goes (runRest (p .index) (p .book) (wordsIn (all ++ more)) (strayIn (all ++ more))) (take (r .length) text)
+      Goes (runRest (p .index) (p .book) (wordsIn (all ++ more)) (strayIn (all ++ more))) (take (r .printed) text)
       (onward (r .over) (r .index) (r .book) (wordsIn (unused r bytes′ ++ more)) (strayIn (unused r bytes′ ++ more)))
   part-goes more f =
       let k = d .parted .used in
@@ -158,7 +158,7 @@ module _ (p r : Place) (bytes bytes′ text : List ℕ) (d : Stepped p bytes byt
 
   module _ (sent : ℕ) (o : p .over ≡ false) (s : Sofar (p .over) (p .index) (p .book) (unused p bytes) sent) where
     on : (more : List ℕ) → (d .read .done ≡ true → more ≡ []) →
-        Goes (ranOf ((s .came ++ came) ++ more)) (s .text ++ take (r .length) text)
+        Goes (ranOf ((s .came ++ came) ++ more)) (s .text ++ take (r .printed) text)
         (onward (r .over) (r .index) (r .book) (wordsIn (unused r bytes′ ++ more)) (strayIn (unused r bytes′ ++ more)))
     on more f =
         let old = s .run (came ++ more) (λ e. absurd (let k : _≡_ {A = Bool} true false = sym e ∙ s .goes o in let q : _≡_ {A = ℕ} 0 1 = cc in omega arith)) in
@@ -168,29 +168,29 @@ module _ (p r : Place) (bytes bytes′ text : List ℕ) (d : Stepped p bytes byt
         (goes-then (ranOf (s .came ++ (came ++ more)))
         (runRest (p .index) (p .book) (wordsIn (all ++ more)) (strayIn (all ++ more)))
         (onward (r .over) (r .index) (r .book) (wordsIn (unused r bytes′ ++ more)) (strayIn (unused r bytes′ ++ more)))
-        (s .text) (take (r .length) text)
+        (s .text) (take (r .printed) text)
         (subst (λ (l : List ℕ). Goes (ranOf (s .came ++ (came ++ more))) (s .text) (runRest (p .index) (p .book) (wordsIn l) (strayIn l))) e
         (on-goes (p .over) (p .index) (p .book) _ (s .text) (wordsIn (unused p bytes ++ (came ++ more))) (strayIn (unused p bytes ++ (came ++ more))) o old))
         (part-goes more f))
 
-    pub sofar-on : (next : ℕ) → next ≡ sent + length (take (r .length) text) → Sofar (r .over) (r .index) (r .book) (unused r bytes′) next
+    pub sofar-on : (next : ℕ) → next ≡ sent + length (take (r .printed) text) → Sofar (r .over) (r .index) (r .book) (unused r bytes′) next
     sofar-on next e =
         record {
           came = s .came ++ came;
-          text = s .text ++ take (r .length) text;
+          text = s .text ++ take (r .printed) text;
           ended = d .read .done;
-          many = omega (arith, e, s .many, length-append (s .text) (take (r .length) text));
+          many = omega (arith, e, s .many, length-append (s .text) (take (r .printed) text));
           goes = went .goes;
           run = on;
         }
 
     -- what the part prints stands behind what was printed
-    pub shown : Shown sent (take (r .length) text)
+    pub shown : Shown sent (take (r .printed) text)
     shown =
         record {
           came = s .came ++ came;
           ended = d .read .done;
-          printed = record { part = λ more f. stands sent (s .text) (take (r .length) text) _ _ (s .many) (on more f) };
+          printed = record { part = λ more f. stands sent (s .text) (take (r .printed) text) _ _ (s .many) (on more f) };
         }
 
 -- the run is over: nothing more is needed

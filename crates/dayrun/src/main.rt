@@ -68,7 +68,7 @@ fn play(bytes: &mut [u8], words: &mut [u32], text: &mut [u8], out: &mut [u32]) -
         start: 0,
         end: 0,
         index: 0,
-        length: 0,
+        printed: 0,
         over: false,
         failed: false,
         book,
@@ -79,7 +79,7 @@ fn play(bytes: &mut [u8], words: &mut [u32], text: &mut [u8], out: &mut [u32]) -
     while 0 < turns {
         turns -= 1;
         p = step(p, bytes, words, text, out);
-        let length = p.length;
+        let length = p.printed;
         let s = show(sent, &text[..length]);
         sent = s.count;
         written = s.written;

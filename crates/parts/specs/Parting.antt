@@ -26,4 +26,4 @@ pub record Parted (p : Place) (w : Words) (ws text : List ℕ) (r : Place) : Typ
   pub end : r .end ≡ w .end
   pub index : r .index ≡ p .index + used
   pub failed : r .failed ≡ w .failed
-  pub went : Went ws (w .done) (not (eqb (w .end % 4) 0)) (p .index) (p .book) text used (r .length) (r .over) (r .book)
+  pub went : Went ws (w .done) (not (eqb (w .end % 4) 0)) (p .index) (p .book) text used (r .printed) (r .over) (r .book)

@@ -11,13 +11,13 @@ ghost use Rattle.turns.specs.Going.{Went};
 ghost use Rattle.parts.specs.Parting.{Room, Parted};
 
 // Where a run stands between two parts: the bytes from `start` to `end` are not used yet, the next word
-// has this index; the length of the text to be written, whether the run is over, whether the last read
+// has this index; how much of the text is printed, whether the run is over, whether the last read
 // failed, and the book.
 pub struct Place {
     pub start: usize,
     pub end: usize,
     pub index: u64,
-    pub length: usize,
+    pub printed: usize,
     pub over: bool,
     pub failed: bool,
     pub book: Book,
@@ -105,7 +105,7 @@ pub fn part(p: Place, w: Words, words: &[u32], text: &mut [u8], out: &mut [u32])
         start: 4 * r.used,
         end: w.end,
         index: p.index + r.used as u64,
-        length: r.end,
+        printed: r.end,
         over: r.over,
         failed: w.failed,
         book: after,

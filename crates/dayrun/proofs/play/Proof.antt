@@ -46,24 +46,24 @@ step-requires c κs =
 goes : (c : tie.After-step Inv-loop μ-loop) → c .before .before .before .before .before .before .loop .p .over ≡ false
 goes c = c .before .before .before .before .before .before .loop .inv .4 (omega (arith, c .before .before .before .before .before .loop-test .taken)) .0
 
-few : (c : tie.After-step Inv-loop μ-loop) → (c .step .result .index ≤ c .before .before .before .before .before .before .loop .p .index + 4096) × (c .step .result .length ≤ 327680)
+few : (c : tie.After-step Inv-loop μ-loop) → (c .step .result .index ≤ c .before .before .before .before .before .before .loop .p .index + 4096) × (c .step .result .printed ≤ 327680)
 few c = few-words (c .before .before .before .before .before .before .loop .p) (c .step .result) (c .before .before .before .before .before .before .loop .bytes) _ _ (c .step .ensures .0) (c .step .ensures .2 .input)
 
-fits : (c : tie.After-step Inv-loop μ-loop) → c .step .result .length ≤ length (c .step .last .1 .1 .1 .0)
+fits : (c : tie.After-step Inv-loop μ-loop) → c .step .result .printed ≤ length (c .step .last .1 .1 .1 .0)
 fits c = omega (arith, few c .1, c .step .ensures .2 .lines)
 
 slice-reshare-prefix-show : tie.Need-slice-reshare-prefix-show Inv-loop μ-loop
 slice-reshare-prefix-show c = fits (c .before .before .before .before .before .before .before .before)
 
 slice-aggregate-show : tie.Need-slice-aggregate-show Inv-loop μ-loop
-slice-aggregate-show c = let k = c .before .before .before .before .before .before .before .before .before in sym (length-take-le (k .step .result .length) (k .step .last .1 .1 .1 .0) (fits k))
+slice-aggregate-show c = let k = c .before .before .before .before .before .before .before .before .before in sym (length-take-le (k .step .result .printed) (k .step .last .1 .1 .1 .0) (fits k))
 
 show-requires : tie.Need-show-requires Inv-loop μ-loop
 show-requires c κs =
     let k = c .before .before .before .before .before .before .before .before .before in
     let l = k .before .before .before .before .before .before .loop in (
       shown (l .p) (k .step .result) (l .bytes) _ _ (k .step .ensures .0) (l .sent) (goes k) (l .inv .5),
-      omega (arith, length-take-le (k .step .result .length) (k .step .last .1 .1 .1 .0) (fits k), few k .1, l .inv .3, k .before .before .before .before .before .loop-test .taken),
+      omega (arith, length-take-le (k .step .result .printed) (k .step .last .1 .1 .1 .0) (fits k), few k .1, l .inv .3, k .before .before .before .before .before .loop-test .taken),
     )
 
 -- where the run stands behind a turn
@@ -77,7 +77,7 @@ behind c =
     let k = c .before .before .before .before .before .before .before .before .before .before in
     let l = k .before .before .before .before .before .before .loop in
     let t = k .before .before .before .before .before .loop-test .taken in
-    let n = length-take-le (k .step .result .length) (k .step .last .1 .1 .1 .0) (fits k) in
+    let n = length-take-le (k .step .result .printed) (k .step .last .1 .1 .1 .0) (fits k) in
     record {
       index = omega (arith, few k .0, l .inv .2, t);
       sent = omega (arith, n, few k .1, c .show .ensures, l .inv .3, t);
