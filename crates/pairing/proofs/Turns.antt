@@ -19,7 +19,7 @@ use Rattle.ledger.specs.Columns.{entryAt, Held, Kept, withoutZeros}
 use Rattle.ledger.proofs.Entries.{entries-length, kept-held, kept-entries}
 use Rattle.ledger.proofs.Lots.{lotsAt, entries-lots, held-lots}
 use Rattle.pairing.specs.Places.{isLeft, placeOf, nextIn, CanSeek, CanFall, BothFell}
-use Rattle.pairing.specs.Pairs.{Pairable, WasMade}
+use Rattle.pairing.specs.Pairs.{Pairable, WasMade, WasPaired}
 use Rattle.pairing.proofs.Places.{place-most}
 use Rattle.pairing.proofs.Seeking.{next-to, next-from}
 use Rattle.pairing.proofs.Stepping.{SoFar, Done, count-most, none-in, none-out, es₂, new, step-less, step-small, step-room, so-far-more}
@@ -229,3 +229,17 @@ module _ {today i a : ℕ} {es₀ : List Entry} {n t f k steps cancelled : ℕ} 
               issue = s .issue;
               made = rw (entries-now, more-now, isT, isF, smaller) r;
             }
+
+-- where no step is made the ledger stays as it is
+pub none-paired : (today i a n : ℕ) (is fs ts xs ds mi mf mt mx md : List ℕ) → Pairable n i is fs ts xs ds →
+    WasMade (pairing today i a (entries n is fs ts xs ds)) n (record { steps = 0; cancelled = 0; more = 0 }) is fs ts xs ds mi mf mt mx md →
+    WasPaired (pairing today i a (entries n is fs ts xs ds)) (record { steps = 0; cancelled = 0; count = n }) is fs ts xs ds
+none-paired today i a n is fs ts xs ds mi mf mt mx md p w =
+    let es = entries n is fs ts xs ds in
+    let ss = each-map (λ e. entrySound e ≡ true) SoundEntry entry-parts es (all-each entrySound es (p .sound)) in
+    let e : pairing today i a es .ledger ≡ es = w .ledger ∙ append-nil (withoutZeros es) ∙ zeros-none es ss in
+    record {
+      steps = w .steps;
+      cancelled = w .cancelled;
+      ledger = rw e (record { count = sym (entries-length n is fs ts xs ds); columns = p .held .columns });
+    }

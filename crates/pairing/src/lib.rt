@@ -194,7 +194,7 @@ fn make_steps(
 
 // Pair-off in place: all steps, then entries at 0 go and later ones move up, and the entries P to Q
 // follow them.
-pub fn pair_off_in(
+fn pair_all(
     count: usize,
     issues: &mut [u8],
     froms: &mut [u8],
@@ -251,4 +251,39 @@ pub fn pair_off_in(
         cancelled: made.cancelled,
         count: stay + more,
     }
+}
+
+// Pair-off in place. Where the account has no entry to it, or none from it, nothing is done.
+pub fn pair_off_in(
+    count: usize,
+    issues: &mut [u8],
+    froms: &mut [u8],
+    tos: &mut [u8],
+    lots: &mut [u32],
+    days: &mut [u16],
+    today: u16,
+    i: u32,
+    a: u32,
+) -> Steps
+    requires { ⌜ pairable count i issues froms tos lots days ⌝ }
+    ensures paired { λ r. ⌜ wasPaired (pairing today i a (before count issues froms tos lots days)) r issues froms tos lots days ⌝ }
+    ensures few { λ r. ⌜ fewSteps i a (before count issues froms tos lots days) r ⌝ }
+{
+    let t = next_of(count, 0, issues, tos, lots, i, a);
+    if t == count {
+        return Steps {
+            steps: 0,
+            cancelled: 0,
+            count,
+        };
+    }
+    let f = next_of(count, 0, issues, froms, lots, i, a);
+    if f == count {
+        return Steps {
+            steps: 0,
+            cancelled: 0,
+            count,
+        };
+    }
+    pair_all(count, issues, froms, tos, lots, days, today, i, a)
 }

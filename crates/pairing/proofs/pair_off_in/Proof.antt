@@ -1,55 +1,31 @@
--- `pairing::pair_off_in` meets its contract: the steps are made, entries at 0 go, the entries P to Q follow.
-use mathlib.Core.Path.{sym, _∙_}
+-- Where an entry to the account, or one from it, is missing no step is made; else all are.
 use native.Mathlib.Omega.{arith}
-use Rattle.pairing.proofs.Joining.{zeros-held, join-few, join-held, joined, joined-whole, few-steps}
+use denote.Ref.{now}
+use Rattle.pairing.proofs.Turns.{turns-start, ends-in, ends-out, none-paired}
+use Rattle.pairing.proofs.Joining.{zeros-held}
 use borrow.Author.Needs.{needs}
 use Rattle.pairing.proofs.pair_off_in.Statement.{statement}
 use Rattle.pairing.proofs.pair_off_in.Tie as tie
 
-make-steps-requires : tie.Need-make-steps-requires
-make-steps-requires c κs = (c .before .before .before .before .before .before .before .before .before .before .before .before .before .before .before .pre, zeros-held)
-
-append-all-requires : tie.Need-append-all-requires
-append-all-requires c κs =
-    let m = c .before .before .before .before .before .before .before .before .before .before .before .before .before .before .before .before .before .before .before .before .before .before .before .before .before .before .before .before .before .before .before .before .before .make-steps .ensures in
-    let z = c .before .before .before .before .before .before .before .before .before .before .before .before .before .before .before .before .before .before .before .before .remove-zeros .ensures in
-    (join-few m z, join-held m z, m .more .whole)
-
-add-t69 : tie.Need-add-t69
-add-t69 c = omega (arith, join-few (c .before .before .before .before .before .before .before .before .before .before .before .before .before .before .before .before .before .before .before .before .before .before .before .before .before .before .before .before .before .before .before .before .before .before .before .before .before .before .before .before .before .before .before .before .make-steps .ensures) (c .before .before .before .before .before .before .before .before .before .before .before .before .before .before .before .before .before .before .before .before .before .before .before .before .before .before .before .before .before .before .before .remove-zeros .ensures))
-
-same-length-4 : tie.Need-same-length-4
-same-length-4 c =
-    joined-whole (c .before .before .before .before .before .before .before .before .before .before .before .before .before .before .before .before .before .before .before .before .before .before .before .before .before .before .before .before .before .before .before .before .before .before .before .before .before .before .before .before .before .before .before .before .make-steps .ensures) (c .before .before .before .before .before .before .before .before .before .before .before .before .before .before .before .before .before .before .before .before .before .before .before .before .before .before .before .before .before .before .before .remove-zeros .ensures) (c .before .before .before .before .before .before .before .before .before .before .append-all .ensures) .lotss
-    ∙ sym (c .before .before .before .before .before .before .before .before .before .before .before .before .before .before .before .before .before .before .before .before .before .before .before .before .before .before .before .before .before .before .before .before .before .before .before .before .before .before .before .before .before .before .before .before .before .before .before .before .before .before .before .before .before .before .before .before .before .before .before .before .pre .held .whole .lotss)
-
 returns : tie.Need-returns
-returns c = (
-  joined (c .before .before .before .before .before .before .before .before .before .before .before .before .before .before .before .before .before .before .before .before .before .before .before .before .before .before .before .before .before .before .before .before .before .before .before .before .before .before .before .before .before .before .before .before .make-steps .ensures) (c .before .before .before .before .before .before .before .before .before .before .before .before .before .before .before .before .before .before .before .before .before .before .before .before .before .before .before .before .before .before .before .remove-zeros .ensures) (c .before .before .before .before .before .before .before .before .before .before .append-all .ensures),
-  few-steps _ _ _ _ _ _ _ _ _ _ (c .before .before .before .before .before .before .before .before .before .before .before .before .before .before .before .before .before .before .before .before .before .before .before .before .before .before .before .before .before .before .before .before .before .before .before .before .before .before .before .before .before .before .before .before .before .before .before .before .before .before .before .before .before .before .before .before .before .before .before .before .pre) (c .before .before .before .before .before .before .before .before .before .before .before .before .before .before .before .before .before .before .before .before .before .before .before .before .before .before .before .before .before .before .before .before .before .before .before .before .before .before .before .before .before .before .before .before .make-steps .ensures .steps),
-)
+returns c =
+    let s = c .before .before .before .before .before .before .before .before .before .before in (
+      none-paired _ _ _ _ _ _ _ _ _ _ _ _ _ _ (s .pre)
+          (ends-in (turns-start _ _ _ _ _ _ _ _ _ _ _ _ _ _ (s .pre) zeros-held) (c .before .next-of .ensures) (c .if1 .taken)),
+      omega arith,
+    )
+
+returns-2 : tie.Need-returns-2
+returns-2 c =
+    let s = c .before .before .before .before .before .before .before .before .before .before .before .before .before .before .before in (
+      none-paired _ _ _ _ _ _ _ _ _ _ _ _ _ _ (s .pre)
+          (ends-out (turns-start _ _ _ _ _ _ _ _ _ _ _ _ _ _ (s .pre) zeros-held) (c .before .next-of2 .ensures) (c .if2 .taken)),
+      omega arith,
+    )
 
 pub pair-off-in-spec : {M : Type 1} → statement M
 pair-off-in-spec =
     tie.close
-    (tie.spec
-    (λ c. search needs)
-    (λ c. search needs)
-    (λ c. search needs)
-    (λ c. search needs)
-    (λ c. search needs)
-    make-steps-requires
-    (λ c κs. search needs)
-    (λ c. search needs)
-    (λ c. search needs)
-    (λ c. search needs)
-    (λ c. search needs)
-    (λ c. search needs)
-    append-all-requires
-    add-t69
-    (λ c. search needs)
-    (λ c. search needs)
-    (λ c. search needs)
-    same-length-4
-    (λ c. search needs)
-    returns)
+    (tie.spec (λ c κs. search needs) (λ c. search needs) (λ c. search needs) (λ c. search needs) returns (λ c κs. search needs)
+    (λ c. search needs) (λ c. search needs) (λ c. search needs) (λ c. search needs) returns-2 (λ c κs. search needs)
+    (λ c. search needs) (λ c. search needs) (λ c. search needs) (λ c. search needs) (λ c. search needs) (λ c. search needs))
