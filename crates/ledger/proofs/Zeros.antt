@@ -60,6 +60,20 @@ moved-none k w i f t x d z =
       one = λ h. absurd (omega arith);
     }
 
+-- an entry that is at its place already
+set-own : (xs : List ℕ) (i : ℕ) → xs ≡ set xs i (getD xs i 0)
+set-own [] i = refl
+set-own (x ∷ xs) zero = refl
+set-own (x ∷ xs) (suc i) = ap (λ l. x ∷ l) (set-own xs i)
+
+pub moved-own : (k w : ℕ) (is fs ts xs ds : List ℕ) → (getD xs k 0 ≡ 0 → ⊥) → k ≡ w → MovedUp k w (w + 1) is fs ts xs ds is fs ts xs ds
+moved-own k w is fs ts xs ds h e =
+    rw (sym e)
+    (record {
+      none = λ z. absurd (h z);
+      one = λ l. (refl, record { issues = set-own is k; froms = set-own fs k; tos = set-own ts k; lotss = set-own xs k; dayss = set-own ds k });
+    })
+
 pub moved-one : (k w : ℕ) (i₀ f₀ t₀ x₀ d₀ i f t x d : List ℕ) → (getD x₀ k 0 ≡ 0 → ⊥) → Copied w k i₀ f₀ t₀ x₀ d₀ i f t x d →
     MovedUp k w (w + 1) i₀ f₀ t₀ x₀ d₀ i f t x d
 moved-one k w i₀ f₀ t₀ x₀ d₀ i f t x d h c = record { none = λ z. absurd (h z); one = λ z. (refl, c) }

@@ -168,6 +168,9 @@ fn move_up(
     if lots[k] == 0 {
         return w;
     }
+    if k == w {
+        return w + 1;
+    }
     copy(issues, froms, tos, lots, days, w, k);
     w + 1
 }
