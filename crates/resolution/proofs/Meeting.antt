@@ -1,19 +1,21 @@
 -- Entries met one by one where they stand. What the definition makes of the whole ledger is what it makes of
 -- the ledger now, from place k on.
 use mathlib.Core.Path.{_≡_, refl, sym, ap, _∙_, subst}
-use mathlib.Core.Bool.{Bool, true, cond}
+use mathlib.Core.Bool.{Bool, true, false, cond, _&&_}
 use mathlib.Core.List.{List, [], _∷_, _++_, map}
 use Prim.Native.Nat.{ℕ, zero, suc, _+_, _-_, _*_, _≤_, _<_}
 use native.Mathlib.Numerals.{add-one}
 use native.Mathlib.Omega.{arith}
+use lib.Dec.{ltb}
 use lib.ListN.{length, getD, set, drop, length-map}
 use lib.Seq.{sets, length-sets, sets-eq}
+use borrow.Author.Tests.{ltb-true, ltb-false}
 use Rattle.rules.specs.declared.Entry.{Entry}
 use Rattle.rules.specs.Measures.{outputWords}
 use Rattle.rules.specs.Ledger.{putEntry, isFrom, metBy, meet, met}
 use Rattle.rules.specs.Book.{isZero, entries, entrySound}
 use Rattle.rules.specs.Records.{recordOf, words, over}
-use Rattle.laws.proofs.Basics.{Every, each-map}
+use Rattle.laws.proofs.Basics.{byTest, and-left, Every, each-map}
 use Rattle.laws.proofs.Sound.{SoundEntry, all-each, entry-parts, parts-entry}
 use Rattle.laws.proofs.Ledger.{noEntry, entry-at}
 use Rattle.laws.proofs.Meeting.{withLots, length-putEntry, length-met}
@@ -67,6 +69,31 @@ module _ (p : Entry → Bool) where
   mets-ends (suc k) x [] h = refl
   mets-ends zero x (e ∷ es) h = absurd (omega arith)
   mets-ends (suc k) x (e ∷ es) h = mets-ends k x es (omega arith)
+
+-- where no lots are left nothing is met
+module _ (p : Entry → Bool) where
+  none-by : (e : Entry) → metBy p 0 e ≡ 0
+  none-by e = byTest (p e) (λ q. simp q (omega arith)) (λ q. simp q)
+
+  own-lots : (e : Entry) → withLots e (e .lots - 0) ≡ e
+  own-lots e = let z : e .lots - 0 ≡ e .lots = omega arith in rw z
+
+  meets-none : (k : ℕ) (es : List Entry) → metFrom p k 0 es ≡ es
+  meets-none k [] = refl
+  meets-none zero (e ∷ es) = rw (none-by e, own-lots e, meets-none zero es)
+  meets-none (suc k) (e ∷ es) = ap (λ l. e ∷ l) (meets-none k es)
+
+  mets-none : (es : List Entry) → met p 0 es ≡ []
+  mets-none [] = refl
+  mets-none (e ∷ es) = rw (none-by e) (mets-none es)
+
+-- a pass that goes on is before the last entry
+pub goes-on : (k n x : ℕ) → ltb k n && ltb 0 x ≡ true → k < n
+goes-on k n x h = ltb-true k n (and-left (ltb k n) (ltb 0 x) h)
+
+-- and the entry behind is nearer to the end
+pub nearer : (k n x : ℕ) → ltb k n && ltb 0 x ≡ true → n - (k + 1) < n - k
+nearer k n x h = omega (arith, goes-on k n x h)
 
 -- entries from place k on are sound: the one there, and those behind it
 sound-here : (k : ℕ) (es : List Entry) → k < length es → Every SoundEntry (drop k es) → SoundEntry (getD es k noEntry)
@@ -175,17 +202,29 @@ module _ {i a x₀ : ℕ} {es₀ : List Entry} {n k r x : ℕ} {is fs ts xs ds o
               ∙ recorded-more e m r (t .records) (met p (x - m) (drop (suc k) (lotsAt k y es))) o o′ (w .met));
         })
 
-  -- behind the last entry, without those at 0
-  pub meets-end : n ≤ k → {w : ℕ} {is′ fs′ ts′ xs′ ds′ : List ℕ} → Kept (withoutZeros es) w is′ fs′ ts′ xs′ ds′ →
+  -- the ledger without entries at 0, where no more is met
+  ended : metFrom (isFrom i a) k x es ≡ es → met (isFrom i a) x (drop k es) ≡ [] → {w : ℕ} {is′ fs′ ts′ xs′ ds′ : List ℕ} →
+      Kept (withoutZeros es) w is′ fs′ ts′ xs′ ds′ →
       Resolved es₀ i a x₀ (record { entries = w; records = r }) is′ fs′ ts′ xs′ ds′ o₀ o
-  meets-end h q =
+  ended e c q =
       let p = isFrom i a in
-      let l : length es ≤ k = omega (arith, entries-length n is fs ts xs ds) in
-      let m : meet p x₀ es₀ ≡ withoutZeros es = s .meets ∙ ap withoutZeros (meets-ends p k x es l) in
-      let c = mets-ends p k x es l in
+      let m : meet p x₀ es₀ ≡ withoutZeros es = s .meets ∙ ap withoutZeros e in
       record {
         entries = q .count ∙ ap length (sym m);
         columns = rw m (q .columns);
         records = omega (arith, s .mets, ap length c, length-map (met p x₀ es₀) (recordOf 11));
         written = sym (s .written ∙ ap (λ y. sets o (2 * r) (words (map (recordOf 11) y))) c);
       }
+
+  -- behind the last entry, or where the lots are used up
+  pub meets-end : ltb k n && ltb 0 x ≡ false → {w : ℕ} {is′ fs′ ts′ xs′ ds′ : List ℕ} → Kept (withoutZeros es) w is′ fs′ ts′ xs′ ds′ →
+      Resolved es₀ i a x₀ (record { entries = w; records = r }) is′ fs′ ts′ xs′ ds′ o₀ o
+  meets-end h q =
+      let p = isFrom i a in
+      byTest (ltb k n)
+      (λ e.
+      let z : x ≡ 0 = omega (arith, ltb-false 0 x (subst (λ t. t && ltb 0 x ≡ false) e h)) in
+      ended (rw z (meets-none p k es)) (rw z (mets-none p (drop k es))) q)
+      (λ e.
+      let l : length es ≤ k = omega (arith, entries-length n is fs ts xs ds, ltb-false k n e) in
+      ended (meets-ends p k x es l) (mets-ends p k x es l) q)

@@ -98,7 +98,7 @@ pub fn resolve_in(
     let mut k = 0;
     let mut n = 0;
     let mut left = x;
-    while k < count {
+    while (k < count) & (0 < left) {
         let t = meet_at(k, n, i, a, left, issues, froms, tos, lots, days, out);
         n = t.records;
         left = t.left;

@@ -2,7 +2,7 @@
 use Prim.Native.Nat.{_-_}
 use borrow.Author.Needs.{needs}
 use Rattle.rules.specs.Book.{entries}
-use Rattle.resolution.proofs.Meeting.{Meets, meets-starts, meets-can, meets-more, meets-end}
+use Rattle.resolution.proofs.Meeting.{Meets, meets-starts, goes-on, nearer, meets-can, meets-more, meets-end}
 use Rattle.resolution.proofs.resolve_in.Statement.{statement}
 use Rattle.resolution.proofs.resolve_in.Tie as tie
 
@@ -17,10 +17,10 @@ loop-holds : tie.Need-loop-holds Inv-loop μ-loop
 loop-holds c = meets-starts _ _ _ _ _ _ _ _ _ _ (c .before .before .before .before .before .before .pre)
 
 meet-at-requires : tie.Need-meet-at-requires Inv-loop μ-loop
-meet-at-requires c κs = meets-can (c .before .before .before .before .before .before .before .loop .inv) (c .before .before .before .before .before .before .loop-test .taken)
+meet-at-requires c κs = meets-can (c .before .before .before .before .before .before .before .loop .inv) (goes-on _ _ (c .before .before .before .before .before .before .before .loop .left) (c .before .before .before .before .before .before .loop-test .taken))
 
 loop-again : tie.Need-loop-again Inv-loop μ-loop
-loop-again c = meets-more (c .before .before .before .before .before .before .before .before .before .before .before .before .loop .inv) (c .before .before .before .before .before .before .before .before .before .before .before .loop-test .taken) (c .before .before .before .before .meet-at .ensures)
+loop-again c = meets-more (c .before .before .before .before .before .before .before .before .before .before .before .before .loop .inv) (goes-on _ _ (c .before .before .before .before .before .before .before .before .before .before .before .before .loop .left) (c .before .before .before .before .before .before .before .before .before .before .before .loop-test .taken)) (c .before .before .before .before .meet-at .ensures)
 
 returns : tie.Need-returns Inv-loop μ-loop
 returns c = meets-end (c .before .before .before .before .before .before .before .before .before .before .before .before .before .before .before .before .before .loop .inv) (c .before .before .before .before .before .before .before .before .before .before .before .before .before .before .before .before .loop-test .left) (c .before .before .before .before .before .before .before .before .before .before .remove-zeros .ensures)
@@ -34,7 +34,7 @@ resolve-in-spec =
     loop-holds
     meet-at-requires
     (λ c. search needs)
-    (λ c. search needs)
+    (λ c. nearer _ _ (c .before .before .before .before .before .before .before .before .before .before .before .before .loop .left) (c .before .before .before .before .before .before .before .before .before .before .before .loop-test .taken))
     loop-again
     (λ c κs. search needs)
     (λ c. search needs)
