@@ -5,9 +5,12 @@ pub mod Handover
 pub mod Overlaps
 pub mod Fails
 pub mod Stretches
+pub mod Gather
+pub mod RunLifts
 pub mod Ranking
 pub mod Cutoff
 pub mod Orders
+pub mod Lifts
 pub mod Room
 pub mod Signed
 pub mod Cells
