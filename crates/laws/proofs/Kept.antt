@@ -133,24 +133,24 @@ pair-off-kept b g i a hi =
 -- Cutoff
 
 module _ (b : Book) (n : length (b .nets) ≡ 1024) (m : length (b .delivered) ≡ 1024) (g : SoundBook b) where
-  new-sound : Every SoundEntry (newEntries (b .day) (orderIn (b .nets)) (b .nets) (b .delivered))
+  new-sound : Every SoundEntry (newEntries (b .day) (orderIn (b .nets) (b .lifts)) (b .nets) (b .delivered))
   new-sound =
-      each-joined SoundEntry (issueEntries (b .day) (orderIn (b .nets)) (b .nets) (b .delivered)) 0 16
+      each-joined SoundEntry (issueEntries (b .day) (orderIn (b .nets) (b .lifts)) (b .nets) (b .delivered)) 0 16
       (λ j h. entries-sound b g n m j (omega arith) (b .day))
 
   all-today : (j : ℕ) (fs : List Fail) → Every (λ e. e .day ≡ b .day) (map (failEntry (b .day) j) fs)
   all-today j [] = tt
   all-today j (f ∷ fs) = (refl, all-today j fs)
 
-  new-today : Every (λ e. e .day ≡ b .day) (newEntries (b .day) (orderIn (b .nets)) (b .nets) (b .delivered))
+  new-today : Every (λ e. e .day ≡ b .day) (newEntries (b .day) (orderIn (b .nets) (b .lifts)) (b .nets) (b .delivered))
   new-today =
-      each-joined (λ e. e .day ≡ b .day) (issueEntries (b .day) (orderIn (b .nets)) (b .nets) (b .delivered)) 0 16
-      (λ j h. all-today j (issueFails (orderIn (b .nets)) (b .nets) (b .delivered) j))
+      each-joined (λ e. e .day ≡ b .day) (issueEntries (b .day) (orderIn (b .nets) (b .lifts)) (b .nets) (b .delivered)) 0 16
+      (λ j h. all-today j (issueFails (orderIn (b .nets) (b .lifts)) (b .nets) (b .delivered) j))
 
-  pub cutoff-kept : b .count + length (newEntries (b .day) (orderIn (b .nets)) (b .nets) (b .delivered)) ≤ mostEntries →
-      SoundBook (withPhase (withLedger b (ledgerOf b ++ newEntries (b .day) (orderIn (b .nets)) (b .nets) (b .delivered))) Cut)
+  pub cutoff-kept : b .count + length (newEntries (b .day) (orderIn (b .nets) (b .lifts)) (b .nets) (b .delivered)) ≤ mostEntries →
+      SoundBook (withPhase (withLedger b (ledgerOf b ++ newEntries (b .day) (orderIn (b .nets) (b .lifts)) (b .nets) (b .delivered))) Cut)
   cutoff-kept few =
-      let new = newEntries (b .day) (orderIn (b .nets)) (b .nets) (b .delivered) in
+      let new = newEntries (b .day) (orderIn (b .nets) (b .lifts)) (b .nets) (b .delivered) in
       let r = with-ledger b (ledgerOf b ++ new) g
       (rw (length-append (ledgerOf b) new, length-ledger b) few)
       (each-append SoundEntry (ledgerOf b) new (g .ledger .each) new-sound)

@@ -180,12 +180,12 @@ length-joined g m k (suc n) h =
     )
 
 -- of the issues' orders
-module _ (today : ℕ) (nets : List ℤ) (delivered : List ℕ) (o : (i : ℕ) → Order (duesOf nets i) (orderIn nets i)) where
+module _ (today : ℕ) (nets : List ℤ) (delivered lifts : List ℕ) (o : (i : ℕ) → Order (duesOf nets i) (orderIn nets lifts i)) where
   pub issue-records : (i : ℕ) → length (row i nets) ≡ 64 → SoundRow (row i nets) (row i delivered) →
-      length (issueRecords today (orderIn nets) nets delivered i) ≤ 127
+      length (issueRecords today (orderIn nets lifts) nets delivered i) ≤ 127
   unfolding issuePartials issueFails
   issue-records i n r =
-      let us = orderIn nets i in
+      let us = orderIn nets lifts i in
       let d = deliveredTotal delivered i in
       let fs = fails unitLots us (obligationsOf nets i) (row i delivered) in
       omega (
@@ -200,11 +200,11 @@ module _ (today : ℕ) (nets : List ℤ) (delivered : List ℕ) (o : (i : ℕ) �
 
   -- 16 issues have at most 16 × 127 records
   pub cutoff-room : ((i : ℕ) → i < 16 → length (row i nets) ≡ 64) → ((i : ℕ) → i < 16 → SoundRow (row i nets) (row i delivered)) →
-      2 * length (cutoffRecords today (orderIn nets) nets delivered) ≤ outputWords
+      2 * length (cutoffRecords today (orderIn nets lifts) nets delivered) ≤ outputWords
   cutoff-room n r =
       omega (
         arith,
-        length-joined (issueRecords today (orderIn nets) nets delivered) 127 0 issueCount
+        length-joined (issueRecords today (orderIn nets lifts) nets delivered) 127 0 issueCount
             (λ i h. issue-records i (n i (omega arith)) (r i (omega arith))),
       )
 
@@ -232,12 +232,12 @@ handovers-few xs us d x o n h g =
       order-gaps xs us o,
     )
 
-pub deliver-room : (nets : List ℤ) (delivered : List ℕ) (i x : ℕ) → Order (duesOf nets i) (orderIn nets i) → length (row i nets) ≡ 64 →
-    SoundRow (row i nets) (row i delivered) → x ≤ mostLots → 2 * length (deliverRecords (orderIn nets) delivered i x) ≤ outputWords
-deliver-room nets delivered i x o n r h =
+pub deliver-room : (nets : List ℤ) (delivered lifts : List ℕ) (i x : ℕ) → Order (duesOf nets i) (orderIn nets lifts i) → length (row i nets) ≡ 64 →
+    SoundRow (row i nets) (row i delivered) → x ≤ mostLots → 2 * length (deliverRecords (orderIn nets lifts) delivered i x) ≤ outputWords
+deliver-room nets delivered lifts i x o n r h =
     omega (
       arith,
-      length-map (handovers (orderIn nets i) (deliveredTotal delivered i) x) (handover i),
-      handovers-few (duesOf nets i) (orderIn nets i) (deliveredTotal delivered i) x o (length-map (row i nets) dueOf ∙ n) h
+      length-map (handovers (orderIn nets lifts i) (deliveredTotal delivered i) x) (handover i),
+      handovers-few (duesOf nets i) (orderIn nets lifts i) (deliveredTotal delivered i) x o (length-map (row i nets) dueOf ∙ n) h
           (delivered-due (row i nets) (row i delivered) r),
     )
