@@ -15,6 +15,7 @@ pub mod Room
 pub mod Signed
 pub mod Cells
 pub mod Sound
+pub mod LiftColumn
 pub mod Ledger
 pub mod SoundRows
 pub mod Meeting

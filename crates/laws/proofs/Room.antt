@@ -17,7 +17,7 @@ use Rattle.rules.specs.Fails.{stretches, lacks, undelivered, shortfalls, fails}
 use Rattle.rules.specs.Book.{tabulate, row, duesOf, obligationsOf, deliveredTotal, orderIn}
 use Rattle.rules.specs.Records.{handover, recordOf}
 use Rattle.rules.specs.Calls.{deliverRecords, issuePartials, issueFails, failEntry, issueRecords, cutoffRecords, joined}
-use Rattle.laws.proofs.Basics.{byTest, Every, total-take-le, total-drop-le, length-put}
+use Rattle.laws.proofs.Basics.{byTest, Every, count-one, total-take-le, total-drop-le, length-put}
 use Rattle.laws.proofs.Units.{UnitSized, Order, ofSmall, isOf}
 use Rattle.laws.proofs.Handover.{partials-length, order-stock, handovers-sum}
 use Rattle.laws.proofs.Fails.{nonzero, nonzero-le, overlaps-count}
@@ -54,10 +54,6 @@ none-due dues a (v ∷ vs) z ps =
     byTest (eqb (v .account) a)
     (λ e. absurd (omega (arith, ap (λ n. getD dues n 0) (eqb-true (v .account) a e), ps .0)))
     (λ e. simp e (omega (arith, none-due dues a vs z (ps .1))))
-
-count-one : (vs : List AccountLots) → total (λ v. 1) vs ≡ length vs
-count-one [] = refl
-count-one (v ∷ vs) = omega (arith, count-one vs)
 
 module _ (xs : List ℕ) (us : List AccountLots) (o : Order xs us) where
   -- at most two stretches a receiver
