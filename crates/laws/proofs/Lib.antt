@@ -27,6 +27,7 @@ pub mod Records
 pub mod Issue
 pub mod Answers
 pub mod Charges
+pub mod LiftsKept
 pub mod Kept
 pub mod Called
 pub mod Scans
