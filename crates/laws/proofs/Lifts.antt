@@ -82,6 +82,10 @@ lifted-order dues (l ∷ ls) us o = lifted-order dues ls (lift l us) (lift-order
 
 -- What is handed
 
+pub each-handed-from : (P : AccountLots → Type 0) (us : List AccountLots) (h d : ℕ) → Every P us → Every P (handedFrom us h d)
+unfolding handedFrom
+each-handed-from P us h d ps = each-take P (covered us d - h) (drop h us) (each-drop P h us ps)
+
 module _ (us : List AccountLots) (d k : ℕ) where
   abbrev vs : List AccountLots
   vs = toFront (k - covered us d) (waiting us d)

@@ -10,19 +10,22 @@ use lib.Dec.{leb, eqb}
 use lib.IntN.{ℤ, pos, negsuc}
 use lib.ListN.{length, getD, length-map, length-append, List·getD-map}
 use borrow.Author.Tests.{leb-true, eqb-true, eqb-false}
+use Rattle.rules.specs.declared.Ticket.{Ticket}
 use Rattle.rules.specs.Measures.{total, sum, dueOf, owedOf, unitLots, mostLots, issueCount, outputWords}
 use Rattle.rules.specs.Units.{AccountLots, byAccount, sumLots, receivers}
 use Rattle.rules.specs.Handover.{covered, waiting, handovers, partials}
+use Rattle.rules.specs.Lifts.{lift, handedFrom}
 use Rattle.rules.specs.Fails.{stretches, lacks, undelivered, shortfalls, fails}
 use Rattle.rules.specs.Book.{tabulate, row, duesOf, obligationsOf, deliveredTotal, orderIn}
 use Rattle.rules.specs.Records.{handover, recordOf}
-use Rattle.rules.specs.Calls.{deliverRecords, issuePartials, issueFails, failEntry, issueRecords, cutoffRecords, joined}
+use Rattle.rules.specs.Calls.{deliverRecords, commitLift, commitRecords, issuePartials, issueFails, failEntry, issueRecords, cutoffRecords, joined}
 use Rattle.laws.proofs.Basics.{byTest, Every, count-one, total-take-le, total-drop-le, length-put}
 use Rattle.laws.proofs.Units.{UnitSized, Order, ofSmall, isOf}
-use Rattle.laws.proofs.Handover.{partials-length, order-stock, handovers-sum}
+use Rattle.laws.proofs.Handover.{partials-length, order-stock, handovers-sum, waits-short}
 use Rattle.laws.proofs.Fails.{nonzero, nonzero-le, overlaps-count}
 use Rattle.laws.proofs.Stretches.{every-stretches, account-stretches, lacks-length}
 use Rattle.laws.proofs.Cutoff.{SoundRow, dues, obligations, delivered-due, shorts-lacks, order-due}
+use Rattle.laws.proofs.Lifts.{lift-few}
 use Rattle.laws.proofs.Orders.{onAccount, tab-add, by-accounts, sum-tab}
 
 -- what a unit lacks of a full one
@@ -237,3 +240,22 @@ deliver-room nets delivered lifts i x o n r h =
       handovers-few (duesOf nets i) (orderIn nets lifts i) (deliveredTotal delivered i) x o (length-map (row i nets) dueOf ∙ n) h
           (delivered-due (row i nets) (row i delivered) r),
     )
+
+-- a commit writes at most one record, whatever the order
+pub commit-few : (us : ℕ → List AccountLots) (delivered : List ℕ) (t : Ticket) →
+    covered (us (t .issue)) (deliveredTotal delivered (t .issue)) ≤ t .unit → t .unit < length (us (t .issue)) →
+    length (commitRecords us delivered t) ≤ 1
+commit-few us delivered t h l =
+    let vs = us (t .issue) in
+    let d = deliveredTotal delivered (t .issue) in
+    let v = commitLift us delivered t in
+    omega (
+      arith,
+      length-map (handedFrom (lift v vs) (v .new) d) (handover (t .issue)),
+      lift-few vs d (t .unit) (waits-short vs d (omega arith)) h l,
+    )
+
+pub commit-room : (us : ℕ → List AccountLots) (delivered : List ℕ) (t : Ticket) →
+    covered (us (t .issue)) (deliveredTotal delivered (t .issue)) ≤ t .unit → t .unit < length (us (t .issue)) →
+    2 * length (commitRecords us delivered t) ≤ outputWords
+commit-room us delivered t h l = omega (arith, commit-few us delivered t h l)
