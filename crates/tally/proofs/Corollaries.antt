@@ -65,7 +65,7 @@ module _ (cs : List Call) where
         arith,
         v .handed i a,
         row-most (s .book .phase) (orderOf (s .book) i) (deliveredTotal (s .book .delivered) i) (s .tally .rows i) a (v .rows i hi),
-        order-in (s .book .nets) i .due a,
+        order-in (s .book .nets) (s .book .lifts) i .due a,
         due-at (s .book .nets) i a ha,
       ))
     where
