@@ -1,20 +1,18 @@
 -- Stretches where full units of an account lie apart. Runs of several full units have the stretches of their units;
 -- and one pass from the front makes them: at the first full run of an account all its full lots, at later ones none.
 use mathlib.Core.Path.{_≡_, refl, sym, ap, _∙_}
-use mathlib.Core.Bool.{Bool, true, false, cond, _&&_, false≢true}
-use mathlib.Core.List.{List, [], _∷_, _++_, append-assoc}
-use Prim.Native.Nat.{ℕ, zero, suc, _+_, _-_, _*_, _≤_, _<_}
+use mathlib.Core.Bool.{true, false, cond, _&&_, false≢true}
+use mathlib.Core.List.{List, [], _∷_, _++_}
+use Prim.Native.Nat.{ℕ, zero, suc, _+_, _*_, _≤_, _<_}
 use native.Mathlib.Omega.{arith}
-use native.Mathlib.Nat.{add-zero, zero-add, one-mul, suc-mul, zero-mul}
+use native.Mathlib.Nat.{add-zero, zero-add, one-mul, suc-mul}
 use lib.Dec.{leb, eqb}
-use lib.ListN.{length, replicate}
-use borrow.Author.Tests.{leb-true, le-leb, lt-leb, eqb-true, eqb-false, eq-eqb, ne-eqb}
-use Rattle.rules.specs.Measures.{total}
+use lib.ListN.{replicate}
+use borrow.Author.Tests.{leb-true, le-leb, eqb-true, eqb-false, eq-eqb, ne-eqb}
 use Rattle.rules.specs.Units.{AccountLots, accountLots, prepend}
 use Rattle.rules.specs.Fails.{isFullOf, fullLots, withoutFulls, join, stretches}
-use Rattle.laws.proofs.Basics.{byTest, either, Every, and-left, and-right, and-both, put-pos}
-use Rattle.laws.proofs.Overlaps.{Additive}
-use Rattle.laws.proofs.Stretches.{NotFull, none-without, without-none, full-lots-none, total-stretches, total-without}
+use Rattle.laws.proofs.Basics.{byTest, and-both, put-pos}
+use Rattle.laws.proofs.Stretches.{none-without, without-none, full-lots-none}
 
 -- an account's full units in front of any list are one run in front of its stretches
 pub run-join : (size : ℕ) → 0 < size → (a q : ℕ) (us : List AccountLots) →

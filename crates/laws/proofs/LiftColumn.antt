@@ -1,12 +1,12 @@
 -- The column of lifts: what a delivery's count and a commit's lift do to an issue's words and to others', and so to the
 -- lifts that stand and to the order.
-use mathlib.Core.Path.{_≡_, refl, sym, ap, _∙_}
+use mathlib.Core.Path.{_≡_, refl, ap, _∙_}
 use mathlib.Core.List.{List, [], _∷_, _++_}
-use Prim.Native.Nat.{ℕ, zero, suc, _+_, _*_, _≤_, _<_}
+use Prim.Native.Nat.{ℕ, zero, suc, _+_, _*_, _<_}
 use native.Mathlib.Omega.{arith}
 use lib.Dec.{eqb, lit<}
 use lib.IntN.{ℤ}
-use lib.ListN.{length, getD, set, take, drop, replicate, length-set, length-drop}
+use lib.ListN.{length, getD, set, drop, replicate, length-set, length-drop}
 use lib.Seq.{drop-set-add, drop-set-lt, getD-set-other, getD-set-same}
 use borrow.Author.Tests.{eqb-true, eqb-false}
 use Rattle.rules.specs.Measures.{unitLots}

@@ -6,15 +6,15 @@ use Prim.Native.Nat.{ℕ, zero, suc, _+_, _-_, _≤_, _<_}
 use native.Mathlib.Omega.{arith}
 use lib.Dec.{leb}
 use lib.ListN.{length, take, drop, length-take}
-use lib.Seq.{take-add, drop-drop, length-take-le, take-append-add, drop-append-add}
-use borrow.Author.Tests.{leb-true, leb-false, lt-leb}
+use lib.Seq.{take-add, take-append-add}
+use borrow.Author.Tests.{lt-leb}
 use Rattle.rules.specs.Measures.{total, unitLots}
 use Rattle.rules.specs.Units.{AccountLots, sumLots, ofAccount}
 use Rattle.rules.specs.Handover.{covered, stock, handed, waiting, firstUnit}
 use Rattle.rules.specs.Lifts.{Lift, liftOf, toFront, lift, lifted, handedFrom}
 use Rattle.laws.proofs.Basics.{byTest, Every, count-one, total-append, total-split, each-append, each-take, each-drop}
 use Rattle.laws.proofs.Units.{UnitSized, Order, ofSmall, isOf}
-use Rattle.laws.proofs.Handover.{covered-le, covered-past, handed-length, handed-stock, handed-waiting, stock-below}
+use Rattle.laws.proofs.Handover.{covered-past, handed-length, handed-stock, stock-below}
 
 -- Sums
 

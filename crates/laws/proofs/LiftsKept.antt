@@ -1,18 +1,18 @@
 -- Each accepted call keeps an issue's lifts sound, beside its order and its delivered total.
-use mathlib.Core.Path.{_≡_, refl, sym, ap, _∙_}
+use mathlib.Core.Path.{_≡_, refl}
 use mathlib.Core.Bool.{true}
 use mathlib.Core.List.{List, [], _∷_, _++_}
 use Prim.Native.Nat.{ℕ, _+_, _≤_, _<_}
 use native.Mathlib.Omega.{arith}
 use lib.Dec.{eqb}
 use lib.IntN.{ℤ}
-use lib.ListN.{length, getD, drop, replicate}
+use lib.ListN.{length, replicate}
 use borrow.Author.Tests.{eqb-true, eqb-false}
 use Rattle.rules.specs.declared.Phase.{Phase}
 use Rattle.rules.specs.Units.{AccountLots}
 use Rattle.rules.specs.Handover.{covered}
-use Rattle.rules.specs.Lifts.{Lift, liftOf, lift}
-use Rattle.rules.specs.Book.{isTaking, block, placesIn, placesSound, liftNumber, countAt, liftsAt, deliveredAt, deliveredTotal, orderIn}
+use Rattle.rules.specs.Lifts.{liftOf, lift}
+use Rattle.rules.specs.Book.{isTaking, block, liftNumber, liftsAt, deliveredAt, deliveredTotal, orderIn}
 use Rattle.rules.specs.Calls.{raisedDelivered, raisedCount, withLift}
 use Rattle.laws.proofs.Basics.{byTest}
 use Rattle.laws.proofs.Handover.{covered-grows}

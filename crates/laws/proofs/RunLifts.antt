@@ -3,11 +3,9 @@ use mathlib.Core.Path.{_≡_, refl, sym, ap, _∙_}
 use mathlib.Core.List.{List, [], _∷_, _++_, append-assoc, append-nil}
 use Prim.Native.Nat.{ℕ, zero, suc, _+_, _-_, _*_, _/_, _%_, _≤_, _<_}
 use native.Mathlib.Omega.{arith}
-use lib.Dec.{leb}
 use lib.ListN.{take, drop, replicate}
-use borrow.Author.Tests.{leb-true, leb-false}
 use Rattle.rules.specs.Units.{AccountLots, accountLots, prepend}
-use Rattle.laws.proofs.Basics.{byTest, put-pos}
+use Rattle.laws.proofs.Basics.{put-pos}
 
 -- as in units/specs/Runs
 abbrev pub runUnits : AccountLots → List AccountLots

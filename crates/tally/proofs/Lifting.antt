@@ -2,23 +2,23 @@
 -- stays a front of it, and the place of the new lift is the row's length.
 use mathlib.Core.Path.{_≡_, refl, sym, ap, _∙_}
 use mathlib.Core.Bool.{true}
-use mathlib.Core.List.{List, [], _∷_, _++_, append-nil}
-use Prim.Native.Nat.{ℕ, _≤_, _<_}
+use mathlib.Core.List.{List, [], _++_, append-nil}
+use Prim.Native.Nat.{ℕ, _<_}
 use native.Mathlib.Omega.{arith}
-use lib.Dec.{leb, ltb, eqb}
+use lib.Dec.{eqb}
 use lib.ListN.{length, getD, drop, length-set}
-use borrow.Author.Tests.{leb-true, ltb-true, eqb-true, eqb-false, eq-eqb, ne-eqb}
+use borrow.Author.Tests.{leb-true, ltb-true, eqb-true, eqb-false, eq-eqb}
 use Rattle.rules.specs.declared.Book.{Book}
 use Rattle.rules.specs.declared.Phase.the-variants.{Settling}
 use Rattle.rules.specs.declared.Ticket.{Ticket}
 use Rattle.rules.specs.Units.{AccountLots, ofAccount}
 use Rattle.rules.specs.Handover.{covered, handed}
-use Rattle.rules.specs.Lifts.{Lift, liftOf, lift, handedFrom}
-use Rattle.rules.specs.Book.{isSettling, block, placesIn, deliveredTotal, liftNumber, liftsAt, orderIn, orderOf, withLifts}
+use Rattle.rules.specs.Lifts.{Lift, lift, handedFrom}
+use Rattle.rules.specs.Book.{isSettling, placesIn, deliveredTotal, liftNumber, liftsAt, orderIn, orderOf, withLifts}
 use Rattle.rules.specs.Records.{Rec, handover}
 use Rattle.rules.specs.Calls.{writes, Ask, Commit, commitLift, withLift, commitRecords, called}
 use Rattle.rules.specs.Tally.{State, recordsOf, joinLift}
-use Rattle.laws.proofs.Basics.{byTest, and-left, and-right, total-append, Every}
+use Rattle.laws.proofs.Basics.{byTest, total-append, Every}
 use Rattle.laws.proofs.Handover.{handed-length}
 use Rattle.laws.proofs.Lifts.{total-lift, each-lift, each-handed-from, lift-handed}
 use Rattle.laws.proofs.Fails.{each-of-map}
