@@ -5,8 +5,8 @@ use mathlib.Core.List.{List, [], _∷_, _++_, append-nil}
 use Prim.Native.Nat.{ℕ, zero, suc, _+_, _-_, _≤_, _<_}
 use native.Mathlib.Omega.{arith}
 use lib.Dec.{leb}
-use lib.ListN.{length, take, drop, length-take}
-use lib.Seq.{take-add, take-append-add}
+use lib.ListN.{length, getD, take, drop, length-take}
+use lib.Seq.{take-add, getD-take, take-append-add}
 use borrow.Author.Tests.{lt-leb}
 use Rattle.rules.specs.Measures.{total, unitLots}
 use Rattle.rules.specs.Units.{AccountLots, sumLots, ofAccount}
@@ -102,20 +102,24 @@ module _ (us : List AccountLots) (d k : ℕ) where
       let e : d - sumLots (handed us d) ≡ stock us d = omega (arith, handed-stock us d) in
       rw (splits, covered-past (handed us d) vs d (omega (arith, handed-stock us d)), e, handed-length us d)
 
+  front : take (covered us d) us′ ≡ handed us d
+  front =
+      let z : covered us d ≡ length (handed us d) + 0 = omega (arith, handed-length us d) in
+      ap (λ m. take m us′) z ∙ ap (take (length (handed us d) + 0)) splits ∙ take-append-add (handed us d) vs 0
+      ∙ append-nil (handed us d)
+
+  -- the units handed keep their places
+  pub lift-stays : (j : ℕ) (p : AccountLots) → j < covered us d → getD us′ j p ≡ getD us j p
+  lift-stays j p h =
+      sym (getD-take (covered us d) us′ j p h) ∙ ap (λ l. getD l j p) front ∙ getD-take (covered us d) us j p h
+
   -- what was handed stays, and units from there on join it
   pub lift-handed : handed us′ d ≡ handed us d ++ handedFrom us′ (covered us d) d
   unfolding handedFrom
   lift-handed =
       let e : covered us′ d ≡ covered us d + (covered us′ d - covered us d) = omega (arith, lift-covered) in
-      let n = handed-length us d in
       ap (λ m. take m us′) e ∙ take-add (covered us d) (covered us′ d - covered us d) us′
       ∙ ap (λ l. l ++ take (covered us′ d - covered us d) (drop (covered us d) us′)) front
-    where
-      front : take (covered us d) us′ ≡ handed us d
-      front =
-          let z : covered us d ≡ length (handed us d) + 0 = omega (arith, handed-length us d) in
-          ap (λ m. take m us′) z ∙ ap (take (length (handed us d) + 0)) splits ∙ take-append-add (handed us d) vs 0
-          ∙ append-nil (handed us d)
 
   -- the rest of the stock is below the next unit, so no second one is handed
   pub lift-one : d < sumLots us → covered us d ≤ k → k < length us → covered us′ d ≤ suc (covered us d)
