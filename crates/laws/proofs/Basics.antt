@@ -91,6 +91,10 @@ pub total-add {ℓ} : {A : Type ℓ} (f g h : A → ℕ) → ((u : A) → f u + 
 total-add f g h e [] = refl
 total-add f g h e (u ∷ us) = omega (arith, e u, total-add f g h e us)
 
+pub count-one {ℓ} : {A : Type ℓ} (xs : List A) → total (λ x. 1) xs ≡ length xs
+count-one [] = refl
+count-one (x ∷ xs) = omega (arith, count-one xs)
+
 -- one element more: what a loop over a list adds
 pub total-take-suc {ℓ} : {A : Type ℓ} (f : A → ℕ) (l : List A) (k : ℕ) (d : A) → k < length l →
     total f (take (suc k) l) ≡ total f (take k l) + f (getD l k d)

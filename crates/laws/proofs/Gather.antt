@@ -30,8 +30,15 @@ run-join size h a (suc q) us =
     and-both (eqb a a) (leb size (x + fullLots size a vs)) (eq-eqb a a refl) (le-leb size (x + fullLots size a vs) (omega arith)) in
     let none = none-without size a vs in
     rw (run-join size h a q us, p)
-    (simp (le-leb size x m, le-leb size size (omega arith), big, full, full-lots-none size a (withoutFulls size a vs) none,
-      without-none size a (withoutFulls size a vs) none, add-zero)
+    (simp (
+      le-leb size x m,
+      le-leb size size (omega arith),
+      big,
+      full,
+      full-lots-none size a (withoutFulls size a vs) none,
+      without-none size a (withoutFulls size a vs) none,
+      add-zero,
+    )
     (ap (λ n. accountLots a n ∷ withoutFulls size a vs) (omega arith)))
 
 -- One pass from the front
@@ -56,11 +63,11 @@ keep-spent size s a [] = refl
 keep-spent size s a (v ∷ vs) =
     byTest (leb size (v .lots))
     (λ f. byTest (eqb (v .account) a)
-      (λ e. simp (f, e) (keep-spent size s a vs))
-      (λ e. simp (f, e) (ap (λ l. cond (eqb (s (v .account)) 0) l (v ∷ l)) (keep-spent size s a vs))))
+    (λ e. simp (f, e) (keep-spent size s a vs))
+    (λ e. simp (f, e) (ap (λ l. cond (eqb (s (v .account)) 0) l (v ∷ l)) (keep-spent size s a vs))))
     (λ f. byTest (eqb (v .account) a)
-      (λ e. simp (f, e) (ap (λ l. v ∷ l) (keep-spent size s a vs)))
-      (λ e. simp (f, e) (ap (λ l. v ∷ l) (keep-spent size s a vs))))
+    (λ e. simp (f, e) (ap (λ l. v ∷ l) (keep-spent size s a vs)))
+    (λ e. simp (f, e) (ap (λ l. v ∷ l) (keep-spent size s a vs))))
 
 -- s is at each account all full lots of the list, or nothing
 abbrev Left : ℕ → (ℕ → ℕ) → List AccountLots → Type 0
@@ -72,15 +79,15 @@ additive-full size a (u ∷ us) =
     let vs = stretches size us in
     byTest (leb size (u .lots))
     (λ f. byTest (eqb (u .account) a)
-      (λ e.
-      let q = eqb-true (u .account) a e in
-      let big = le-leb size (u .lots + fullLots size (u .account) vs) (omega (arith, leb-true size (u .lots) f)) in
-      simp (f, e, big)
-      (rw q (omega (arith, full-lots-none size a (withoutFulls size a vs) (none-without size a vs), additive-full size a us))))
-      (λ e. simp (f, e, zero-add) (other vs (u .account) (eqb-false (u .account) a e) ∙ additive-full size a us)))
+    (λ e.
+    let q = eqb-true (u .account) a e in
+    let big = le-leb size (u .lots + fullLots size (u .account) vs) (omega (arith, leb-true size (u .lots) f)) in
+    simp (f, e, big)
+    (rw q (omega (arith, full-lots-none size a (withoutFulls size a vs) (none-without size a vs), additive-full size a us))))
+    (λ e. simp (f, e, zero-add) (other vs (u .account) (eqb-false (u .account) a e) ∙ additive-full size a us)))
     (λ f. byTest (eqb (u .account) a)
-      (λ e. simp (f, e, zero-add) (additive-full size a us))
-      (λ e. simp (f, e, zero-add) (additive-full size a us)))
+    (λ e. simp (f, e, zero-add) (additive-full size a us))
+    (λ e. simp (f, e, zero-add) (additive-full size a us)))
   where
     other : (vs : List AccountLots) (b : ℕ) → (b ≡ a → ⊥) → fullLots size a (withoutFulls size b vs) ≡ fullLots size a vs
     other [] b ne = refl
@@ -113,6 +120,7 @@ gather-keep size h s (u ∷ us) l =
   where
     small : leb size (u .lots) ≡ false → (b : ℕ) → fullLots size b (u ∷ us) ≡ fullLots size b us
     small f b = byTest (eqb (u .account) b) (λ e. simp (f, e, zero-add)) (λ e. simp (f, e, zero-add))
+
     rest : leb size (u .lots) ≡ true → (b : ℕ) → eqb (spent s (u .account) b) 0 ≡ false → spent s (u .account) b ≡ fullLots size b us
     rest f b ne =
         byTest (eqb b (u .account))

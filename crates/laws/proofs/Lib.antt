@@ -15,6 +15,7 @@ pub mod Room
 pub mod Signed
 pub mod Cells
 pub mod Sound
+pub mod LiftColumn
 pub mod Ledger
 pub mod SoundRows
 pub mod Meeting
@@ -26,6 +27,7 @@ pub mod Records
 pub mod Issue
 pub mod Answers
 pub mod Charges
+pub mod LiftsKept
 pub mod Kept
 pub mod Called
 pub mod Scans

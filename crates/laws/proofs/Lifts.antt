@@ -5,14 +5,14 @@ use mathlib.Core.List.{List, [], _∷_, _++_, append-nil}
 use Prim.Native.Nat.{ℕ, zero, suc, _+_, _-_, _≤_, _<_}
 use native.Mathlib.Omega.{arith}
 use lib.Dec.{leb}
-use lib.ListN.{length, getD, take, drop, take-append-drop, length-append, length-drop}
+use lib.ListN.{length, take, drop, length-take}
 use lib.Seq.{take-add, drop-drop, length-take-le, take-append-add, drop-append-add}
 use borrow.Author.Tests.{leb-true, leb-false, lt-leb}
 use Rattle.rules.specs.Measures.{total, unitLots}
 use Rattle.rules.specs.Units.{AccountLots, sumLots, ofAccount}
 use Rattle.rules.specs.Handover.{covered, stock, handed, waiting, firstUnit}
 use Rattle.rules.specs.Lifts.{Lift, liftOf, toFront, lift, lifted, handedFrom}
-use Rattle.laws.proofs.Basics.{byTest, Every, total-append, total-split, each-append, each-take, each-drop}
+use Rattle.laws.proofs.Basics.{byTest, Every, count-one, total-append, total-split, each-append, each-take, each-drop}
 use Rattle.laws.proofs.Units.{UnitSized, Order, ofSmall, isOf}
 use Rattle.laws.proofs.Handover.{covered-le, covered-past, handed-length, handed-stock, handed-waiting, stock-below}
 
@@ -43,6 +43,14 @@ total-lift f l us =
       total-front f (l .old - l .new) (drop (l .new) us),
       total-split f (l .new) us,
     )
+
+-- the units are as many
+pub length-lift : (l : Lift) (us : List AccountLots) → length (lift l us) ≡ length us
+length-lift l us = sym (count-one (lift l us)) ∙ total-lift (λ u. 1) l us ∙ count-one us
+
+pub length-lifted : (ls : List Lift) (us : List AccountLots) → length (lifted ls us) ≡ length us
+length-lifted [] us = refl
+length-lifted (l ∷ ls) us = length-lifted ls (lift l us) ∙ length-lift l us
 
 -- what each unit has
 
@@ -112,6 +120,7 @@ module _ (us : List AccountLots) (d k : ℕ) where
       after : (k : ℕ) (ws : List AccountLots) (s x : ℕ) → s < firstUnit ws .lots → covered (take (suc k) ws ++ drop (suc (suc k)) ws) (s - x) ≡ 0
       after k [] s x h = absurd (omega arith)
       after k (w ∷ ws) s x h = rw (lt-leb (w .lots) (s - x) (omega arith))
+
       once : (k : ℕ) (ws : List AccountLots) (s : ℕ) → s < firstUnit ws .lots → covered (toFront k ws) s ≤ 1
       once k [] s h = absurd (omega arith)
       once zero (w ∷ ws) s h = rw (lt-leb (w .lots) s h) (omega arith)
@@ -123,3 +132,8 @@ module _ (us : List AccountLots) (d k : ℕ) where
               byTest (leb (v .lots) s)
               (λ t. simp (t, lt-leb (w .lots) (s - v .lots) (omega arith)) (omega arith))
               (λ t. simp t (omega arith))
+
+  -- so at most one handover is written
+  pub lift-few : d < sumLots us → covered us d ≤ k → k < length us → length (handedFrom us′ (covered us d) d) ≤ 1
+  unfolding handedFrom
+  lift-few short h l = rw length-take (omega (arith, lift-one short h l))

@@ -39,8 +39,7 @@ run-split a x k h =
     let e₁ : k * 100000 / 100000 ≡ k = omega arith in
     let e₂ : k * 100000 % 100000 ≡ 0 = omega arith in
     let e₃ : (x - k * 100000) / 100000 ≡ m = omega arith in
-    let e₄ : (x - k * 100000) % 100000 ≡ x % 100000 = omega arith in
-    (
+    let e₄ : (x - k * 100000) % 100000 ≡ x % 100000 = omega arith in (
       rw (e₁, e₂) (append-nil (replicate k f) ∙ sym (take-fulls f k m r) ∙ ap (λ n. take k (replicate n f ++ r)) (sym q)),
       rw (e₃, e₄) (sym (drop-fulls f k m r) ∙ ap (λ n. drop k (replicate n f ++ r)) (sym q)),
     )

@@ -2,7 +2,7 @@
 -- then the same facts at one cell and at one entry, as code reads them.
 use mathlib.Core.Path.{_≡_, refl, sym, ap, _∙_}
 use mathlib.Core.Bool.{Bool, true, false, cond, not, _&&_, false≢true}
-use mathlib.Core.List.{List, [], _∷_}
+use mathlib.Core.List.{List, [], _∷_, _++_}
 use Prim.Native.Nat.{ℕ, zero, suc, _+_, _-_, _*_, _≤_, _<_}
 use native.Mathlib.Omega.{arith}
 use lib.Dec.{leb, ltb, eqb}
@@ -169,8 +169,7 @@ pub parts-lifts : (phase : Phase) (us : ℕ → List AccountLots) (delivered lif
     SoundLifts phase (us i) (deliveredTotal delivered i) lifts i → liftsSound phase us delivered lifts i ≡ true
 unfolding liftsSound liftConditions
 parts-lifts phase us delivered lifts i s =
-    each-all (λ c. c) (liftConditions phase (us i) (deliveredTotal delivered i) lifts i)
-    (
+    each-all (λ c. c) (liftConditions phase (us i) (deliveredTotal delivered i) lifts i) (
       le-leb _ _ (s .few),
       (s .places, (taking-if (isTaking phase) (isZero (liftNumber lifts i)) (λ t. eq-eqb _ 0 (s .taking t)), (le-leb _ _ (s .count), tt))),
     )
@@ -327,3 +326,21 @@ places-among number handed least [] h = tt
 places-among number handed least (l ∷ ls) h =
     let p = place-parts number handed least l ls h in
     (p .0 .among, places-among number handed (l .new) ls (p .1))
+
+-- more units handed leave places sound
+pub places-grow : (number handed handed′ least : ℕ) (ls : List Lift) → handed ≤ handed′ → placesSound number handed least ls ≡ true →
+    placesSound number handed′ least ls ≡ true
+places-grow number handed handed′ least [] g h = refl
+places-grow number handed handed′ least (l ∷ ls) g h =
+    let p = place-parts number handed least l ls h in
+    let q : l .new ≤ handed = p .0 .most in
+    parts-place number handed′ least l ls (record { rises = p .0 .rises; among = p .0 .among; most = omega arith })
+    (places-grow number handed handed′ (l .new) ls g (p .1))
+
+-- and so does one lift more, to the place of the first unit not handed
+pub places-last : (number least : ℕ) (ls : List Lift) (l : Lift) → placesSound number (l .new) least ls ≡ true → least ≤ l .new →
+    Among number l → placesSound number (l .new) least (ls ++ (l ∷ [])) ≡ true
+places-last number least [] l h r a = parts-place number (l .new) least l [] (record { rises = r; among = a; most = omega arith }) refl
+places-last number least (m ∷ ls) l h r a =
+    let p = place-parts number (l .new) least m ls h in
+    parts-place number (l .new) least m (ls ++ (l ∷ [])) (p .0) (places-last number (m .new) ls l (p .1) (p .0 .most) a)
