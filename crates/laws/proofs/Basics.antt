@@ -9,6 +9,7 @@ use native.Mathlib.Nat.{add-zero, add-suc, suc-add}
 use lib.Dec.{ltb}
 use lib.ListN.{length, getD, take, drop, replicate, take-append-drop}
 use Rattle.rules.specs.Measures.{total, sum}
+pub use Rattle.rules.specs.Measures.{Every}
 use Rattle.rules.specs.Units.{AccountLots, accountLots, prepend, byAccount, sumLots, insert, largestFirst}
 use Rattle.rules.specs.Book.{tabulate, all}
 
@@ -160,10 +161,6 @@ length-sort [] = refl
 length-sort (u ∷ us) = length-insert u (largestFirst us) ∙ ap suc (length-sort us)
 
 -- What each element of a list has
-
-abbrev pub Every {ℓ} : {A : Type ℓ} → (A → Type 0) → List A → Type 0
-Every P [] = Unit {0}
-Every P (x ∷ xs) = P x × Every P xs
 
 pub every-of {ℓ} : {A : Type ℓ} (P : A → Type 0) (us : List A) → ((u : A) → P u) → Every P us
 every-of P [] f = tt

@@ -16,6 +16,7 @@ use Rattle.rules.specs.Measures.{mostLots, mostEntries, mostLifts, mostCharge, 
 use Rattle.rules.specs.Units.{AccountLots}
 use Rattle.rules.specs.Handover.{covered}
 use Rattle.rules.specs.Lifts.{Lift}
+pub use Rattle.rules.specs.Lifts.{Among}
 use Rattle.rules.specs.Book.{isTaking, tabulate, all, row, entries, ledgerOf, balanced, withinSize, withinOwed, isZero, entrySound, daysSound, deliveredTotal, liftNumber, countAt, liftsAt, orderOf, placesSound, liftConditions, liftsSound, conditions, sound}
 use Rattle.laws.proofs.Basics.{byTest, and-left, and-right, and-both, total-map, Every, each-map}
 
@@ -282,11 +283,6 @@ module _ (b : Book) (s : SoundBook b) where
   charge-bounded a = each-getD (λ c. natAbs c ≤ mostCharge * b .day) (b .charges) a (pos 0) (s .bounded) (omega arith)
 
 -- The places of lifts
-
--- an old place is a unit's, and the new one is not behind it
-pub record Among (number : ℕ) (l : Lift) : Type 0 where
-  pub back : l .new ≤ l .old
-  pub there : l .old < number
 
 pub record SoundPlace (number handed least : ℕ) (l : Lift) : Type 0 where
   pub rises : least ≤ l .new

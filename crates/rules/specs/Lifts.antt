@@ -1,6 +1,6 @@
 -- Lifts (001, 1(2)): a unit settled first where parties wait for each other; the order as lifted so far.
 use mathlib.Core.List.{List, [], _∷_, _++_}
-use Prim.Native.Nat.{ℕ, suc, _-_}
+use Prim.Native.Nat.{ℕ, suc, _-_, _≤_, _<_}
 use lib.ListN.{take, drop}
 use Rattle.rules.specs.Units.{AccountLots}
 use Rattle.rules.specs.Handover.{covered}
@@ -12,6 +12,11 @@ pub record Lift : Type 0 where
 
 abbrev pub liftOf : ℕ → ℕ → Lift
 liftOf o n = record { old = o; new = n }
+
+-- its old place is that of one of so many units, and the new one is not behind it
+pub record Among (number : ℕ) (l : Lift) : Type 0 where
+  pub back : l .new ≤ l .old
+  pub there : l .old < number
 
 -- the k-th of some units comes before all others of them
 abbrev pub toFront : ℕ → List AccountLots → List AccountLots

@@ -86,6 +86,11 @@ total f (x ∷ xs) = f x + total f xs
 abbrev pub sum : List ℕ → ℕ
 sum xs = total (λ x. x) xs
 
+-- what each element of a list has
+abbrev pub Every {ℓ} : {A : Type ℓ} → (A → Type 0) → List A → Type 0
+Every P [] = Unit {0}
+Every P (x ∷ xs) = P x × Every P xs
+
 -- the lots due to an account: its net where that is positive
 abbrev pub dueOf : ℤ → ℕ
 dueOf (pos n) = n
