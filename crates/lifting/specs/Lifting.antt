@@ -71,6 +71,9 @@ pub record CanPut (lifts : List ℕ) (i : ℕ) : Type 0 where
   pub few : liftNumber lifts i < mostLifts
   pub counted : countAt lifts i < 4294967295
 
+abbrev pub refusedBy : ℕ → Committed
+refusedBy n = record { refusal = n; count = 0 }
+
 -- a refused commit changes nothing
 pub record Refuses (lifts lifts′ out out′ : List ℕ) (r : Committed) : Type 0 where
   pub count : r .count ≡ 0
@@ -86,4 +89,4 @@ pub record Lifts (nets : List ℤ) (delivered lifts lifts′ : List ℕ) (t : Ti
 pub record Commits (phase : Phase) (today : ℕ) (nets : List ℤ) (delivered lifts lifts′ : List ℕ) (t : Ticket) (out out′ : List ℕ) (r : Committed) : Type 0 where
   pub refusal : r .refusal ≡ firstNo (commitAsks phase today (orderIn nets lifts) delivered lifts t)
   pub refuses : (r .refusal ≡ 0 → ⊥) → Refuses lifts lifts′ out out′ r
-  pub lifts : r .refusal ≡ 0 → Lifts nets delivered lifts lifts′ t out out′ r
+  pub accepts : r .refusal ≡ 0 → Lifts nets delivered lifts lifts′ t out out′ r

@@ -14,7 +14,7 @@ ghost use Rattle.rules.specs.Questions.{sameTicket};
 ghost use Rattle.rules.specs.Calls.{withLift, askedAnswer};
 ghost use Rattle.book.specs.Cells.{SoundCells};
 ghost use Rattle.units.specs.Runs.{unitsIn};
-ghost use Rattle.lifting.specs.Lifting.{CanStand, Stands, unhandedTicket, askedOf, commitNo, CanHandOn, HandedOn, CanPut, Commits};
+ghost use Rattle.lifting.specs.Lifting.{CanStand, Stands, unhandedTicket, askedOf, commitNo, CanHandOn, HandedOn, CanPut, refusedBy, Commits};
 
 // An issue's units in a lent array: how many words they take; the delivered total, and how many units it
 // covers.
@@ -125,7 +125,7 @@ fn hand_on(runs: &mut [u32], p: Stand, i: u32, k: u32, out: &mut [u32]) -> usize
     requires { ⌜ CanHandOn (now runs) p i k (now out) ⌝ }
     ensures { λ r. ⌜ HandedOn (unitsIn (now (runs .entry)) (p .n)) p i k (now (out .entry)) (now (out .exit)) r ⌝ }
 {
-    let m = units::lift(runs, p.n, k, p.handed);
+    let m = units::lifting::lift(runs, p.n, k, p.handed);
     let after = units::handover(runs, m, p.total);
     let c = p.handed;
     let new = (after.count - c) as usize;
@@ -153,7 +153,10 @@ pub struct Committed {
     pub count: usize,
 }
 
-fn no_commit(refusal: u32) -> Committed {
+// A refusal: its number, and no record.
+fn refused(refusal: u32) -> Committed
+    ensures { λ r. ⌜ r ≡ refusedBy refusal ⌝ }
+{
     Committed { refusal, count: 0 }
 }
 
@@ -172,10 +175,10 @@ pub fn commit_in<'a>(
     ensures { λ r. ⌜ Commits phase day (now (nets .entry)) (now (delivered .entry)) (now (lifts .entry)) (now (lifts .exit)) t (now (out .entry)) (now (out .exit)) r ⌝ }
 {
     if !book::settling(phase) {
-        return no_commit(3);
+        return refused(3);
     }
     if 15 < t.issue {
-        return no_commit(4);
+        return refused(4);
     }
     let i = t.issue as usize;
     let mut runs = [0u32; 144];
@@ -184,7 +187,7 @@ pub fn commit_in<'a>(
     let asked = ticket_at(&runs, p, day, lifts[s + 1], t.issue, t.unit);
     let no = ticket_asks(t, asked, lifts[s]);
     if no != 0 {
-        return no_commit(no);
+        return refused(no);
     }
     let count = hand_on(&mut runs, p, t.issue, t.unit, out);
     put_lift(lifts, i, t.unit, p.handed);

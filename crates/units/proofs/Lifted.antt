@@ -301,10 +301,11 @@ module _ (nets : List ℤ) (lifts : List ℕ) (i : ℕ) (runs : List ℕ) (n : �
       let e : unitsIn after r ≡ orderIn nets lifts i = a .units ∙ ap (lifted (liftsAt lifts i)) (p .units) in
       record {
         held = record {
-          few = omega (arith, a .few, p .few);
-          there = omega (arith, a .few, p .few);
+          few = omega (arith, a .few, p .few, o .few);
+          there = omega (arith, a .few, p .few, o .few);
           plain = a .plain (p .plain);
           small = λ b. omega (arith, ap (total (ofAccount b)) e, order-in nets lifts i .due b, dues-small nets i (duesOf nets i) refl (o .size) b);
         };
+        few = omega (arith, a .few, p .few);
         units = e;
       }

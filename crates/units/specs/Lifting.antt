@@ -52,6 +52,6 @@ pub record CanLiftAll (words runs : List ℕ) (n : ℕ) : Type 0 where
   pub places : Every (Among (length (unitsIn runs n))) (placesIn (getD words 0 0) (drop 2 words))
 
 pub record AllLifted (words before after : List ℕ) (n r : ℕ) : Type 0 where
-  pub few : r ≤ n + 16
+  pub few : r ≤ n + 2 * getD words 0 0
   pub units : unitsIn after r ≡ lifted (placesIn (getD words 0 0) (drop 2 words)) (unitsIn before n)
   pub plain : PlainIn before n → PlainIn after r

@@ -2,7 +2,7 @@
 use mathlib.Core.Path.{_≡_}
 use mathlib.Core.Bool.{true, cond}
 use mathlib.Core.List.{List, [], _∷_, _++_, map}
-use Prim.Native.Nat.{ℕ, suc, _*_, _/_, _%_, _≤_, _<_}
+use Prim.Native.Nat.{ℕ, suc, _+_, _*_, _/_, _%_, _≤_, _<_}
 use lib.Dec.{ltb}
 use lib.ListN.{length, take, drop, getD, replicate}
 use lib.IntN.{ℤ}
@@ -107,6 +107,7 @@ pub record CanPrepare (nets : List ℤ) (lifts : List ℕ) (i : ℕ) (runs : Lis
 -- the lent array holds the units of the issue in the order of the day
 pub record Prepared (nets : List ℤ) (lifts : List ℕ) (i : ℕ) (runs : List ℕ) (n : ℕ) : Type 0 where
   pub held : Held runs n
+  pub few : n ≤ 128 + 2 * liftNumber lifts i
   pub units : unitsIn runs n ≡ orderIn nets lifts i
 
 abbrev pub foundOf : List AccountLots → Found

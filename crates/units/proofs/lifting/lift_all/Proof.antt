@@ -1,6 +1,6 @@
 -- The invariant: the lifts that are left, from the runs as they are, give what all give from the first ones.
 use mathlib.Core.Path.{_≡_, refl, sym, _∙_}
-use Prim.Native.Nat.{_+_, _≤_}
+use Prim.Native.Nat.{_+_, _*_, _≤_}
 use native.Mathlib.Omega.{arith}
 use borrow.Author.Needs.{needs}
 use denote.Ref.{now}
@@ -15,7 +15,7 @@ use Rattle.units.proofs.lifting.lift_all.Tie as tie
 
 abbrev Inv-loop : tie.InvT-loop
 Inv-loop words runs₀ n left₀ i₀ r₀ runs left i r =
-    (length runs ≡ length runs₀) × (i + (left + left) ≤ 18) × (r + (left + left) ≤ n + 16)
+    (length runs ≡ length runs₀) × (i + (left + left) ≤ 18) × (r + (left + left) ≤ n + 2 * getD words 0 0)
     × (lifted (placesIn (getD words 0 0) (drop 2 words)) (unitsIn runs₀ n) ≡ lifted (placesIn left (drop i words)) (unitsIn runs r))
     × Every (Among (length (unitsIn runs r))) (placesIn left (drop i words))
     × (PlainIn runs₀ n → PlainIn runs r)
@@ -31,7 +31,7 @@ lift-requires c κs =
     let s = c .before .before .before .before .before .before .before .before in
     let l = c .before .before .before .before .loop in
     let m = next-among (now (s .args .words)) (l .i) (l .left) (unitsIn (l .runs) (l .r)) (omega arith) (l .inv .4) in
-    record { held = omega (arith, s .pre .held, l .inv .0); back = m .back; there = m .there }
+    record { held = omega (arith, s .pre .held, s .pre .few, l .inv .0); back = m .back; there = m .there }
 
 loop-again : tie.Need-loop-again Inv-loop μ-loop
 loop-again c =
