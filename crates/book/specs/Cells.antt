@@ -9,6 +9,14 @@ use Rattle.rules.specs.Measures.{Every, mostLots}
 use Rattle.rules.specs.Lifts.{Among}
 use Rattle.rules.specs.Book.{all, row, withinSize, balanced, withinOwed, liftNumber, countAt, liftsAt, orderIn}
 
+-- nets in bounds, and no more delivered than owed
+pub record OwedCells (nets : List ℤ) (delivered : List ℕ) : Type 0 where
+  pub cells : length nets ≡ 1024
+  pub both : length delivered ≡ 1024
+  pub size : all (withinSize mostLots) nets ≡ true
+  pub owed : withinOwed nets delivered ≡ true
+
+-- of a whole sound book
 pub record SoundCells (nets : List ℤ) (delivered lifts : List ℕ) : Type 0 where
   pub cells : length nets ≡ 1024
   pub both : length delivered ≡ 1024

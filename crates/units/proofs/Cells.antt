@@ -17,7 +17,7 @@ use Rattle.laws.proofs.Cutoff.{SoundRow, delivered-due}
 use Rattle.laws.proofs.Cells.{length-row, within-row}
 use Rattle.laws.proofs.Sound.{SoundBook, sound-parts, all-each, each-all, each-getD, within-at, parts-balanced, places-among}
 use Rattle.laws.proofs.SoundRows as books
-use Rattle.book.specs.Cells.{SoundCells}
+use Rattle.book.specs.Cells.{OwedCells, SoundCells}
 use Rattle.units.specs.Runs.{CanOrder}
 
 -- an issue's row, cut out of a column
@@ -77,9 +77,12 @@ pub can-order : (nets : List ℤ) (delivered lifts : List ℕ) (i : ℕ) → Sou
 can-order nets delivered lifts i s h =
     record { cells = s .cells; lifted = s .lifted; issue = h; size = s .size; few = s .few i h; places = s .places i h }
 
+pub owed-cells : (nets : List ℤ) (delivered lifts : List ℕ) → SoundCells nets delivered lifts → OwedCells nets delivered
+owed-cells nets delivered lifts s = record { cells = s .cells; both = s .both; size = s .size; owed = s .owed }
+
 -- what is delivered of a cell is within 20,000,000
-pub cell-owed : (nets : List ℤ) (delivered lifts : List ℕ) → SoundCells nets delivered lifts → (k : ℕ) → getD delivered k 0 ≤ mostLots
-cell-owed nets delivered lifts s k =
+pub cell-owed : (nets : List ℤ) (delivered : List ℕ) → OwedCells nets delivered → (k : ℕ) → getD delivered k 0 ≤ mostLots
+cell-owed nets delivered s k =
     omega (
       arith,
       within-at nets delivered k (s .cells ∙ sym (s .both)) (s .owed),
