@@ -69,7 +69,7 @@ fn put_in(runs: &mut [u32], n: usize, k: u32, word: u32)
 }
 
 // The unit at place old goes to place new; answers the number of runs.
-fn lift(runs: &mut [u32], n: usize, old: u32, new: u32) -> usize
+pub fn lift(runs: &mut [u32], n: usize, old: u32, new: u32) -> usize
     requires { ⌜ CanLift (now runs) n old new ⌝ }
     ensures { λ r. ⌜ LiftedIs (now (runs .entry)) (now (runs .exit)) n old new r ⌝ }
 {
