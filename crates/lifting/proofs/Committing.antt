@@ -12,7 +12,7 @@ use borrow.Author.Tests.{le-leb, lt-leb, leb-true, ltb-true}
 use Rattle.rules.specs.declared.Phase.{Phase}
 use Rattle.rules.specs.declared.Ticket.{Ticket}
 use Rattle.rules.specs.Measures.{mostLifts, outputWords}
-use Rattle.rules.specs.Units.{AccountLots}
+use Rattle.rules.specs.Units.{AccountLots, ofAccount}
 use Rattle.rules.specs.Handover.{covered, handed, waiting}
 use Rattle.rules.specs.Lifts.{liftOf, lift, handedFrom}
 use Rattle.rules.specs.Book.{isSettling, deliveredTotal, liftNumber, countAt, orderIn}
@@ -22,10 +22,23 @@ use Rattle.rules.specs.Calls.{AskAnswer, ticketOf, commitAsks, commitRecords, w
 use Rattle.laws.proofs.Basics.{byTest, and-left, and-right}
 use Rattle.laws.proofs.Answers.{yes}
 use Rattle.laws.proofs.Handover.{covered-le}
-use Rattle.laws.proofs.Lifts.{lift-covered}
+use Rattle.laws.proofs.Lifts.{total-lift, lift-covered}
+use Rattle.laws.proofs.Room.{commit-few}
+use Rattle.units.specs.Runs.{unitsIn, Held}
+use Rattle.units.specs.Lifting.{LiftedIs}
 use Rattle.lifting.specs.declared.Stand.{Stand}
 use Rattle.lifting.specs.declared.Committed.{Committed}
-use Rattle.lifting.specs.Lifting.{Stands, unhandedTicket, commitNo, HandedOn, refusedBy, Commits}
+use Rattle.lifting.specs.Lifting.{Stands, unhandedTicket, commitNo, CanHandOn, HandedOn, refusedBy, Commits}
+
+-- runs with one unit lifted hold units still
+pub still-held : (runs after : List ℕ) (n old new r : ℕ) → Held runs n → n ≤ 142 → 144 ≤ length after → LiftedIs runs after n old new r → Held after r
+still-held runs after n old new r h f l g =
+    record {
+      few = omega (arith, g .few);
+      there = omega (arith, g .few);
+      plain = g .plain (h .plain);
+      small = λ a. rw (g .units, total-lift (ofAccount a) (liftOf old new) (unitsIn runs n)) (h .small a);
+    }
 
 -- a unit lifted before all unhanded ones: what the total covers then, behind those that were handed
 pub record Counted (us vs : List AccountLots) (k h d n : ℕ) : Type 0 where
@@ -62,15 +75,15 @@ module _ (phase : Phase) (today : ℕ) (nets : List ℤ) (delivered lifts : List
   no-issue e l = simp (e, lt-leb (t .issue) 15 l)
 
   -- 16, or 17 and 18, from what asking now gives
-  pub by-ticket : (a : AskAnswer) (n m : ℕ) → isSettling phase ≡ true → t .issue ≤ 15 →
-      a ≡ unhandedTicket us (covered us d) today (countAt lifts (t .issue)) (t .issue) (t .unit) → m ≡ liftNumber lifts (t .issue) →
+  pub by-ticket : (a : AskAnswer) (n m h count : ℕ) (vs : List AccountLots) → isSettling phase ≡ true → t .issue ≤ 15 → vs ≡ us → h ≡ covered us d →
+      count ≡ countAt lifts (t .issue) → a ≡ unhandedTicket vs h today count (t .issue) (t .unit) → m ≡ liftNumber lifts (t .issue) →
       n ≡ commitNo t a m → n ≡ number
   unfolding unhandedTicket
-  by-ticket a n m e l q p r =
+  by-ticket a n m h count vs e l u w k q p r =
       r
       ∙ byTest (leb (covered us d) (t .unit) && ltb (t .unit) (length us))
-      (λ b. rw (q, p) (simp (e, le-leb (t .issue) 15 l, b)))
-      (λ b. rw (q, p) (simp (e, le-leb (t .issue) 15 l, b)))
+      (λ b. rw (q, p, u, w, k) (simp (e, le-leb (t .issue) 15 l, b)))
+      (λ b. rw (q, p, u, w, k) (simp (e, le-leb (t .issue) 15 l, b)))
 
   -- what is known where none is answered 'no'
   pub record Unhanded : Type 0 where
@@ -90,6 +103,26 @@ module _ (phase : Phase) (today : ℕ) (nets : List ℤ) (delivered lifts : List
         handed = leb-true _ _ (and-left (leb (covered us d) (t .unit)) (ltb (t .unit) (length us)) (y16 .first));
         there = ltb-true _ _ (and-right (leb (covered us d) (t .unit)) (ltb (t .unit) (length us)) (y16 .first));
         few = ltb-true _ _ (y18 .first);
+      }
+
+  -- so the unit can be lifted
+  pub can-hand-on : (runs out : List ℕ) (p : Stand) → Unhanded → Stands nets delivered lifts (t .issue) runs p → t .issue ≤ 15 → 144 ≤ length runs →
+      outputWords ≤ length out → CanHandOn runs p (t .issue) (t .unit) out
+  can-hand-on runs out p u s l long room =
+      record {
+        issue = omega arith;
+        held = s .held;
+        few = omega (arith, s .few, u .few);
+        long = long;
+        covers = s .covers ∙ rw (s .units, s .delivers);
+        unhanded = omega (arith, s .covers, u .handed);
+        there = rw (s .units) (u .there);
+        room = rw (s .units, s .covers, s .delivers)
+            (omega (
+              arith,
+              commit-few (orderIn nets lifts) delivered t (u .handed) (u .there),
+              length-map (handedFrom (lift (liftOf (t .unit) (covered us d)) us) (covered us d) d) (handover (t .issue)),
+            ));
       }
 
   module _ (out : List ℕ) where

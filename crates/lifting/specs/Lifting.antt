@@ -17,7 +17,7 @@ use Rattle.rules.specs.Records.{handover, words, over}
 use Rattle.rules.specs.Questions.{ask, firstNo, askTicket, askLifts}
 use Rattle.rules.specs.Calls.{AskAnswer, ticketAnswer, ticketFor, ticketOf, liftAsks, commitAsks, commitLift, commitRecords, withLift}
 use Rattle.book.specs.Cells.{SoundCells}
-use Rattle.units.specs.Runs.{unitsIn}
+use Rattle.units.specs.Runs.{unitsIn, Held}
 use Rattle.lifting.specs.declared.Stand.{Stand}
 use Rattle.lifting.specs.declared.Committed.{Committed}
 
@@ -29,8 +29,8 @@ pub record CanStand (nets : List ℤ) (delivered lifts : List ℕ) (i : ℕ) (ru
 
 -- the array holds the issue's units, and so many are handed
 pub record Stands (nets : List ℤ) (delivered lifts : List ℕ) (i : ℕ) (runs : List ℕ) (r : Stand) : Type 0 where
+  pub held : Held runs (r .n)
   pub few : r .n ≤ 128 + 2 * liftNumber lifts i
-  pub there : r .n ≤ length runs
   pub units : unitsIn runs (r .n) ≡ orderIn nets lifts i
   pub delivers : r .total ≡ deliveredTotal delivered i
   pub covers : r .handed ≡ covered (orderIn nets lifts i) (deliveredTotal delivered i)
@@ -52,8 +52,9 @@ commitNo t a n = cond (a .some) (firstNo (askTicket t (a .ticket) ∷ askLifts n
 -- a unit that can be lifted before the unhanded ones, and room for what is handed over then
 pub record CanHandOn (runs : List ℕ) (p : Stand) (i k : ℕ) (out : List ℕ) : Type 0 where
   pub issue : i < 16
+  pub held : Held runs (p .n)
   pub few : p .n ≤ 142
-  pub held : p .n + 2 ≤ length runs
+  pub long : 144 ≤ length runs
   pub covers : p .handed ≡ covered (unitsIn runs (p .n)) (p .total)
   pub unhanded : p .handed ≤ k
   pub there : k < length (unitsIn runs (p .n))

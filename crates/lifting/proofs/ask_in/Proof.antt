@@ -8,63 +8,19 @@ use Rattle.lifting.proofs.Asking.{not-settling, no-issue, asked-unit}
 use borrow.Author.Needs.{needs}
 use Rattle.lifting.proofs.ask_in.Statement.{statement}
 use Rattle.lifting.proofs.ask_in.Tie as tie
-use Rattle.lifting.proofs.ask_in.Reads as reads
-use Rattle.lifting.proofs.ask_in.Lts as lts
-use Rattle.book.proofs.settling.Reads as settling-reads
-use Rattle.lifting.proofs.stand_of.Reads as stand-of-reads
-use Rattle.lifting.proofs.ticket_at.Reads as ticket-at-reads
 
--- src/lib.rt:85:9
-settling-requires : tie.Need-settling-requires
-settling-requires c κs = search needs
-
--- src/lib.rt:86:9
 returns : tie.Need-returns
 returns c =
     let a = c .before .before .before .before .args in
     not-settling (a .phase) (a .day) (now (a .nets)) (now (a .delivered)) (now (a .lifts)) (a .i) (a .k)
     (sym (c .before .settling .ensures) ∙ not-true _ (c .if1 .taken))
 
--- src/lib.rt:89:9
 returns-2 : tie.Need-returns-2
 returns-2 c =
     let a = c .before .before .before .before .before .args in
     no-issue (a .phase) (a .day) (now (a .nets)) (now (a .delivered)) (now (a .lifts)) (a .i) (a .k)
     (sym (c .before .before .settling .ensures) ∙ not-false _ (c .before .if1 .left)) (c .if2 .taken)
 
--- src/lib.rt:92:58
-slice-aggregate-stand-of : tie.Need-slice-aggregate-stand-of
-slice-aggregate-stand-of c = search needs
-
--- src/lib.rt:92:9
-stand-of-requires : tie.Need-stand-of-requires
-stand-of-requires c κs = search needs
-
--- src/lib.rt:93:14
-mul-at : tie.Need-mul-at
-mul-at c = search needs
-
--- src/lib.rt:93:14
-add-at : tie.Need-add-at
-add-at c = search needs
-
--- src/lib.rt:94:15
-slice-aggregate-ticket-at : tie.Need-slice-aggregate-ticket-at
-slice-aggregate-ticket-at c = search needs
-
--- src/lib.rt:94:30
-mul-ticket-at : tie.Need-mul-ticket-at
-mul-ticket-at c = search needs
-
--- src/lib.rt:94:30
-shared-slice-read-ticket-at : tie.Need-shared-slice-read-ticket-at
-shared-slice-read-ticket-at c = search needs
-
--- src/lib.rt:94:5
-ticket-at-requires : tie.Need-ticket-at-requires
-ticket-at-requires c κs = search needs
-
--- src/lib.rt:73:1
 returns-3 : tie.Need-returns-3
 returns-3 c =
     let a = c .before .before .before .before .before .before .before .before .before .before .before .args in
@@ -78,15 +34,15 @@ pub ask-in-spec : {M : Type 1} → statement M
 ask-in-spec =
     tie.close
     (tie.spec
-    settling-requires
+    (λ c κs. search needs)
     returns
     returns-2
-    slice-aggregate-stand-of
-    stand-of-requires
-    mul-at
-    add-at
-    slice-aggregate-ticket-at
-    mul-ticket-at
-    shared-slice-read-ticket-at
-    ticket-at-requires
+    (λ c. search needs)
+    (λ c κs. search needs)
+    (λ c. search needs)
+    (λ c. search needs)
+    (λ c. search needs)
+    (λ c. search needs)
+    (λ c. search needs)
+    (λ c κs. search needs)
     returns-3)

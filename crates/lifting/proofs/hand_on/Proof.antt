@@ -7,15 +7,10 @@ use lib.ListN.{length-map}
 use Rattle.rules.specs.Lifts.{liftOf, lift, handedFrom}
 use Rattle.rules.specs.Records.{handover, words, over}
 use Rattle.units.specs.Runs.{unitsIn}
-use Rattle.lifting.proofs.Committing.{Counted, counted}
+use Rattle.lifting.proofs.Committing.{still-held, Counted, counted}
 use borrow.Author.Needs.{needs}
 use Rattle.lifting.proofs.hand_on.Statement.{statement}
 use Rattle.lifting.proofs.hand_on.Tie as tie
-use Rattle.lifting.proofs.hand_on.Reads as reads
-use Rattle.lifting.proofs.hand_on.Lts as lts
-use Rattle.lifting.proofs.hand.Reads as hand-reads
-use Rattle.lifting.proofs.lift.Reads as lift-reads
-use Rattle.units.proofs.handover.Reads as handover-reads
 
 -- what the total covers then
 counts : (c : tie.After-handover) →
@@ -26,46 +21,33 @@ counts c =
     let s = c .before .before .before .before .before .before .before .before in
     counted _ _ _ _ _ _ (s .pre .covers) (c .before .before .before .before .lift .ensures .units) (c .handover .ensures .covers)
 
--- src/lib.rt:146:9
 lift-requires : tie.Need-lift-requires
-lift-requires c κs = search needs
+lift-requires c κs =
+    let s = c .before .before .before in
+    record { held = omega (arith, s .pre .few, s .pre .long); back = s .pre .unhanded; there = s .pre .there }
 
--- src/lib.rt:147:9
 handover-requires : tie.Need-handover-requires
 handover-requires c κs =
-    ?
+    let s = c .before .before .before .before .before .before .before in
+    let l = c .before .before .before .lift in
+    still-held (now (s .args .runs)) _ (s .args .p .n) (s .args .k) (s .args .p .handed) (l .result) (s .pre .held) (s .pre .few) (omega (arith, l .kept .0, s .pre .long)) (l .ensures)
 
--- src/lib.rt:149:16
 sub-new : tie.Need-sub-new
 sub-new c =
     counts (c .before) .up
 
--- src/lib.rt:149:15
-cast-new : tie.Need-cast-new
-cast-new c = search needs
-
--- src/lib.rt:150:5
 hand-requires : tie.Need-hand-requires
 hand-requires c κs =
     let k = counts (c .before .before .before) in
     let s = c .before .before .before .before .before .before .before .before .before .before .before in
     let l = c .before .before .before .before .before .before .before .lift in
     record {
-      held = ?;
+      held = omega (arith, l .ensures .few, l .kept .0, s .pre .few, s .pre .long);
       issue = s .pre .issue;
       there = k .there;
       room = omega (arith, k .number, s .pre .room);
     }
 
--- src/lib.rt:142:1
-same-length : tie.Need-same-length
-same-length c = search needs
-
--- src/lib.rt:142:1
-same-length-2 : tie.Need-same-length-2
-same-length-2 c = search needs
-
--- src/lib.rt:142:1
 returns : tie.Need-returns
 returns c =
     let k = counts (c .before .before .before .before .before .before) in
@@ -82,8 +64,8 @@ hand-on-spec =
     lift-requires
     handover-requires
     sub-new
-    cast-new
+    (λ c. search needs)
     hand-requires
-    same-length
-    same-length-2
+    (λ c. search needs)
+    (λ c. search needs)
     returns)

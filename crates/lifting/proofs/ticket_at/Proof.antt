@@ -8,34 +8,12 @@ use Rattle.lifting.proofs.Asking.{is-handed, is-missing, is-waiting}
 use borrow.Author.Needs.{needs}
 use Rattle.lifting.proofs.ticket_at.Statement.{statement}
 use Rattle.lifting.proofs.ticket_at.Tie as tie
-use Rattle.lifting.proofs.ticket_at.Reads as reads
-use Rattle.lifting.proofs.ticket_at.Lts as lts
-use Rattle.units.proofs.next_unit.Reads as next-unit-reads
-use Rattle.units.proofs.seek.Reads as seek-reads
 
--- src/lib.rt:56:9
 returns : tie.Need-returns
 returns c =
     let a = c .before .before .before .args in
     is-handed _ (a .p .handed) (a .day) (a .count) (a .i) (a .k) (c .if1 .taken)
 
--- src/lib.rt:58:9
-seek-requires : tie.Need-seek-requires
-seek-requires c κs = search needs
-
--- src/lib.rt:59:44
-next-unit-requires : tie.Need-next-unit-requires
-next-unit-requires c κs = search needs
-
--- src/lib.rt:59:24
-enum-known-account : tie.Need-enum-known-account
-enum-known-account c = search needs
-
--- src/lib.rt:60:9
-enum-told : tie.Need-enum-told
-enum-told c = search needs
-
--- src/lib.rt:60:9
 returns-2 : tie.Need-returns-2
 returns-2 c =
     let a = c .before .before .before .before .before .before .before .args in
@@ -44,7 +22,6 @@ returns-2 c =
     (sym (c .before .before .before .seek .ensures (now (a .runs)) (a .p .n))
     ∙ unit-end (now (a .runs)) (a .p .n) _ (n .result) (n .ensures) (c .enum-told .given .1))
 
--- src/lib.rt:51:1
 returns-3 : tie.Need-returns-3
 returns-3 c =
     let a = c .before .before .before .before .before .before .before .before .args in
@@ -59,9 +36,9 @@ ticket-at-spec =
     tie.close
     (tie.spec
     returns
-    seek-requires
-    next-unit-requires
-    enum-known-account
-    enum-told
+    (λ c κs. search needs)
+    (λ c κs. search needs)
+    (λ c. search needs)
+    (λ c. search needs)
     returns-2
     returns-3)
