@@ -277,7 +277,7 @@ module _ (ps : List ℕ) (i left : ℕ) (us : List AccountLots) (h : 0 < left) (
   among-next vs e = rw (e, length-lift (liftOf (getD ps i 0) (getD ps (i + 1) 0)) us) ((rw (places-next ps i left h) at ok) .1)
 
 -- the issue's words, cut out of the column
-words-part : (lifts : List ℕ) (i : ℕ) → take (i * 18 + 18 - i * 18) (drop (i * 18) lifts) ≡ block 18 i lifts
+pub words-part : (lifts : List ℕ) (i : ℕ) → take (i * 18 + 18 - i * 18) (drop (i * 18) lifts) ≡ block 18 i lifts
 words-part lifts i = let e : i * 18 + 18 - i * 18 ≡ 18 = omega arith in rw e
 
 -- an issue's runs in the order without lifts can be lifted, and then hold its order
