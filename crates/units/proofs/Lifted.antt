@@ -256,28 +256,28 @@ lift-same us old new e =
     ∙ ap (λ q. take new us ++ q) (sym (take-append-drop 1 (drop new us)) ∙ ap (λ d. toFront d (drop new us)) z)
 
 -- the first of the lifts that are left
-pairs-next : (ps : List ℕ) (i left : ℕ) → 0 < left →
+pub places-next : (ps : List ℕ) (i left : ℕ) → 0 < left →
     placesIn left (drop i ps) ≡ liftOf (getD ps i 0) (getD ps (i + 1) 0) ∷ placesIn (left - 1) (drop (i + 2) ps)
-pairs-next ps i zero h = absurd (omega arith)
-pairs-next ps i (suc l) h =
+places-next ps i zero h = absurd (omega arith)
+places-next ps i (suc l) h =
     let e : suc l - 1 ≡ l = omega arith in
     let z : i + 0 ≡ i = omega arith in
     rw (e, getD-drop i ps 0 0, getD-drop i ps 1 0, drop-drop 2 i ps, z)
 
 module _ (ps : List ℕ) (i left : ℕ) (us : List AccountLots) (h : 0 < left) (ok : Every (Among (length us)) (placesIn left (drop i ps))) where
   pub next-among : Among (length us) (liftOf (getD ps i 0) (getD ps (i + 1) 0))
-  next-among = (rw (pairs-next ps i left h) at ok) .0
+  next-among = (rw (places-next ps i left h) at ok) .0
 
   pub lifted-next : (vs : List AccountLots) → vs ≡ lift (liftOf (getD ps i 0) (getD ps (i + 1) 0)) us →
       lifted (placesIn left (drop i ps)) us ≡ lifted (placesIn (left - 1) (drop (i + 2) ps)) vs
-  lifted-next vs e = rw (pairs-next ps i left h, e)
+  lifted-next vs e = rw (places-next ps i left h, e)
 
   pub among-next : (vs : List AccountLots) → vs ≡ lift (liftOf (getD ps i 0) (getD ps (i + 1) 0)) us →
       Every (Among (length vs)) (placesIn (left - 1) (drop (i + 2) ps))
-  among-next vs e = rw (e, length-lift (liftOf (getD ps i 0) (getD ps (i + 1) 0)) us) ((rw (pairs-next ps i left h) at ok) .1)
+  among-next vs e = rw (e, length-lift (liftOf (getD ps i 0) (getD ps (i + 1) 0)) us) ((rw (places-next ps i left h) at ok) .1)
 
 -- the issue's words, cut out of the column
-words-part : (lifts : List ℕ) (i : ℕ) → take (i * 18 + 18 - i * 18) (drop (i * 18) lifts) ≡ block 18 i lifts
+pub words-part : (lifts : List ℕ) (i : ℕ) → take (i * 18 + 18 - i * 18) (drop (i * 18) lifts) ≡ block 18 i lifts
 words-part lifts i = let e : i * 18 + 18 - i * 18 ≡ 18 = omega arith in rw e
 
 -- an issue's runs in the order without lifts can be lifted, and then hold its order
