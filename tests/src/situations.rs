@@ -4,7 +4,7 @@ use crate::engines::Answer;
 use crate::steps::Call;
 use reference::book::{place, Book, Entry, ENTRIES};
 use reference::measures::{MOST_DAYS, MOST_LOTS, MOST_PRICE, MOST_RATE, UNIT_LOTS};
-use reference::units::{handed, units, Unit};
+use reference::units::{handed, units_of, Unit};
 use std::collections::BTreeMap;
 
 /// The numbers that each call can answer, by the paper; 0 is done.
@@ -102,6 +102,7 @@ impl Coverage {
             Call::Resolve { issue, account, .. } => self.resolve(made, issue, account),
             Call::PairOff { issue, account } => self.pair_off(made, issue, account),
             Call::Roll { days, rate, ref prices } => self.roll(made, days, rate, prices),
+            Call::Ask { .. } | Call::Commit { .. } => {}
             Call::Close | Call::Sound => {}
         }
     }
@@ -151,7 +152,7 @@ impl Coverage {
         if made.answer.number != 0 {
             return;
         }
-        let units = units(made.before.nets_of(issue as usize));
+        let units = units_of(made.before, issue as usize);
         let unit = units.get(k as usize);
         self.meet("unit: found full", unit.is_some_and(|unit| unit.full));
         self.meet("unit: found small", unit.is_some_and(|unit| !unit.full));
@@ -175,7 +176,7 @@ impl Coverage {
             return;
         }
         let issue = issue as usize;
-        let units = units(made.after.nets_of(issue));
+        let units = units_of(made.after, issue);
         let (first, _) = handed(&units, made.before.delivered_total(issue));
         let (count, stock) = handed(&units, made.after.delivered_total(issue));
         let next = units.get(count);
@@ -240,7 +241,7 @@ impl Coverage {
         if total == 0 {
             return;
         }
-        let units = units(book.nets_of(issue));
+        let units = units_of(book, issue);
         let (count, stock) = handed(&units, total);
         if stock > 0 {
             let unit = units[count];

@@ -3,7 +3,7 @@
 use crate::Failure;
 use library::raw::{self, UnitAnswer};
 use reference::book::{Book, Phase};
-use reference::units::units;
+use reference::units::units_of;
 use tests::books::{move_lots, two_of, MENU};
 use tests::convert::{library_book, same_numbers};
 use tests::report::Mismatch;
@@ -44,7 +44,7 @@ fn random_nets(rng: &mut Rng, issue: u32) -> Book {
 /// Asks every k up to the number of units, two more, and some far beyond.
 fn ask_all(book: &Book, issue: u32) -> Result<u64, Mismatch> {
     let asked_book = library_book(book);
-    let units = units(book.nets_of(issue as usize));
+    let units = units_of(book, issue as usize);
     let asked = (0..units.len() as u32 + 2).chain(BEYOND);
     let mut compared = 0;
     for k in asked {
