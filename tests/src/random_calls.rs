@@ -153,7 +153,7 @@ fn random_roll(rng: &mut Rng) -> Call {
 }
 
 /// The length of an output: at the limit mostly.
-fn random_output(rng: &mut Rng) -> usize {
+pub fn random_output(rng: &mut Rng) -> usize {
     match rng.range(0, 39) {
         0 => 0,
         1 => 1,
