@@ -1,12 +1,12 @@
 //! Part lent: what no book of the second engine can hold, and what a call does not use.
 //!
-//! A phase above 2 and columns of other lengths are damage: `sound` says so, the unit question and
-//! every call are refused by 2 (by 1 first, where the output is short) and every column and word
+//! A phase above 2 and columns of other lengths are damage: `sound` says so, the unit question, `ask`
+//! and every call are refused by 2 (by 1 first, where the output is short) and every column and word
 //! stays as it came. A kind that is none is refused by 14 before anything else. Prices and outputs
 //! that a call does not use change nothing.
 
 use crate::Failure;
-use library::raw::{self, Answer, Columns, ColumnsMut, UnitAnswer};
+use library::raw::{self, Answer, AskAnswer, Columns, ColumnsMut, UnitAnswer};
 use library::{Book, Fields, Phase};
 use tests::books::{random_book, Shape};
 use tests::convert::library_book;
@@ -184,7 +184,11 @@ fn refused_by_two(lent: &Lent) -> Result<u64, String> {
     for (issue, k) in [(0, 0), (15, u32::MAX), (16, 0), (u32::MAX, 0)] {
         expect("unit", no_unit, raw::unit(&lent.columns(), issue, k))?;
     }
-    let mut compared = 5;
+    let no_ticket = AskAnswer { refusal: 2, ticket: [0; 6] };
+    for (issue, unit) in [(3, 0), (15, u32::MAX), (16, 0), (u32::MAX, 0)] {
+        expect("ask", no_ticket, raw::ask(&lent.columns(), issue, unit))?;
+    }
+    let mut compared = 9;
     for fields in instructions() {
         for out in OUTPUTS {
             let short = uses_output(fields[0]) && out < 4_096;
@@ -192,7 +196,23 @@ fn refused_by_two(lent: &Lent) -> Result<u64, String> {
             compared += 1;
         }
     }
+    for out in OUTPUTS {
+        commit_refused(lent, out, if out < 4_096 { 1 } else { 2 })?;
+        compared += 1;
+    }
     Ok(compared)
+}
+
+/// A commit that is refused by this number: 0 in every other number, book and output as they came.
+fn commit_refused(lent: &Lent, out: usize, number: u32) -> Result<(), String> {
+    let mut after = lent.clone();
+    let mut output = pattern(out + 2 * MARGIN);
+    let words = &mut output[MARGIN..MARGIN + out];
+    let answer = raw::commit(&mut after.columns_mut(), &[3, 0, 5, 100_000, 0, 0], words);
+    let case = format!("commit with an output of {out} words");
+    expect(&case, Answer { refusal: number, count: 0, cancelled: 0 }, answer)?;
+    expect(&format!("{case}: the book is as it came"), true, after == *lent)?;
+    expect(&format!("{case}: the output is as it came"), true, output == pattern(out + 2 * MARGIN))
 }
 
 /// Kinds that are none, on the book and on a damaged one, with outputs of every length.

@@ -1,10 +1,11 @@
-//! Part units: the unit question on random nets with many ties, beside units stored one by one.
+//! Part units: the unit question on random nets with many ties and with lifts, beside units stored one
+//! by one.
 
 use crate::Failure;
 use library::raw::{self, UnitAnswer};
 use reference::book::{Book, Phase};
 use reference::units::units_of;
-use tests::books::{move_lots, two_of, MENU};
+use tests::books::{lift_some, move_lots, two_of, MENU};
 use tests::convert::{library_book, same_numbers};
 use tests::report::Mismatch;
 use tests::rng::Rng;
@@ -37,6 +38,9 @@ fn random_nets(rng: &mut Rng, issue: u32) -> Book {
     if rng.chance(1, 10) {
         let (from, to) = two_of(rng, &accounts);
         move_lots(&mut book, issue, from, to, rng.range(1, 20_000_000));
+    }
+    if phase != Phase::Taking {
+        lift_some(rng, &mut book, issue as usize);
     }
     book
 }
