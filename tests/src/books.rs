@@ -105,7 +105,7 @@ pub fn move_lots(book: &mut Book, issue: u32, from: u32, to: u32, lots: u32) {
 }
 
 /// Each deliverer has delivered nothing, some or all.
-fn deliver_some(rng: &mut Rng, book: &mut Book) {
+pub fn deliver_some(rng: &mut Rng, book: &mut Book) {
     for at in 0..book.nets.len() {
         let owed = (-book.nets[at]).max(0) as u32;
         book.delivered[at] = match rng.range(0, 3) {

@@ -5,7 +5,7 @@ use crate::Failure;
 use library::raw::{self, UnitAnswer};
 use reference::book::{Book, Phase};
 use reference::units::units_of;
-use tests::books::{lift_some, move_lots, two_of, MENU};
+use tests::books::{deliver_some, lift_some, move_lots, two_of, MENU};
 use tests::convert::{library_book, same_numbers};
 use tests::report::Mismatch;
 use tests::rng::Rng;
@@ -40,6 +40,7 @@ fn random_nets(rng: &mut Rng, issue: u32) -> Book {
         move_lots(&mut book, issue, from, to, rng.range(1, 20_000_000));
     }
     if phase != Phase::Taking {
+        deliver_some(rng, &mut book);
         lift_some(rng, &mut book, issue as usize);
     }
     book
