@@ -137,7 +137,9 @@ static int lift(void)
     printf("%" PRIu32 " lift: from place %" PRIu32 " to place %" PRIu32 "\n",
            lifted.lifts[DAY_LIFT_PLACE(ISSUE, 0)], lifted.lifts[DAY_LIFT_PLACE(ISSUE, 2)],
            lifted.lifts[DAY_LIFT_PLACE(ISSUE, 3)]);
-    return commit_again(ticket) && cut(&lifted) && day_book_sound(&lifted) == 1;
+    int as_expected = commit_again(ticket) && cut(&lifted) && day_book_sound(&lifted) == 1;
+    printf("the day itself, with nothing lifted:\n");
+    return as_expected;
 }
 
 /* The charge on each entry of the ledger, as the roll lays it. */

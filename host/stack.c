@@ -28,29 +28,32 @@ static void make_trades(void)
     }
 }
 
-/* The next day account 0 sells three units to each of the others and fails, so that it has fails both
- * ways, of units that lifts bring apart. */
+/* The next day account 0 sells three units to each of the others, to the last half a unit more, and
+ * fails, so that it has fails both ways, of units that lifts bring apart. */
 static void make_next_trades(void)
 {
     for (uint32_t issue = 0; issue < DAY_ISSUES; issue++) {
         for (uint32_t other = 1; other < DAY_ACCOUNTS; other++) {
             refusal |= day_book_trade(&book, issue, 0, other, 300000).refusal;
         }
+        refusal |= day_book_trade(&book, issue, 0, DAY_ACCOUNTS - 1, 50000).refusal;
     }
     refusal |= day_book_close(&book).refusal;
 }
 
 static void make_sound(void) { refusal |= day_book_sound(&book) != 1; }
 static void make_unit(void) { refusal |= day_book_unit(&book, 15, 0).refusal; }
-static void make_ask(void) { refusal |= day_book_ask(&book, 15, 188).refusal; }
+static void make_ask(void) { refusal |= day_book_ask(&book, 15, 189).refusal; }
 
-/* Eight lifts in each issue, of units of the middle, the last and others between them. */
+/* Eight lifts in each issue: the small unit, which the stock covers, then full ones far apart. */
 static void make_commits(void)
 {
     for (uint32_t issue = 0; issue < DAY_ISSUES; issue++) {
+        refusal |= day_book_deliver(&book, issue, 0, 60000, out).refusal;
         for (uint32_t lift = 0; lift < DAY_LIFTS; lift++) {
-            struct day_ask_answer asked = day_book_ask(&book, issue, 188 - 13 * lift);
-            refusal |= asked.refusal | day_book_commit(&book, asked.ticket, out).refusal;
+            struct day_ask_answer asked = day_book_ask(&book, issue, 189 - 13 * lift);
+            struct day_answer answer = day_book_commit(&book, asked.ticket, out);
+            refusal |= asked.refusal | answer.refusal | (answer.count != (lift == 0));
         }
     }
 }

@@ -58,7 +58,7 @@ fn random_unit(rng: &mut Rng, book: &Book, issue: usize) -> u32 {
         6..=7 => number.saturating_sub(1),
         8..=12 => covered(rng, &units, count, stock).unwrap_or(first),
         13..=16 => not_first_full(rng, &units, count).unwrap_or(first),
-        _ => rng.range(first.min(number), number.max(1) - 1 + u32::from(first == number)),
+        _ => rng.range(first, number.saturating_sub(1).max(first)),
     }
 }
 

@@ -8,7 +8,7 @@ use tests::rng::Rng;
 use tests::steps::Call;
 
 /// The entries of a busy book.
-pub const BUSY_ENTRIES: usize = 1_000;
+const BUSY_ENTRIES: usize = 1_000;
 
 /// Prints the table.
 pub fn run(rounds: usize) {

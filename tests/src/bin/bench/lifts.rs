@@ -1,6 +1,6 @@
 //! The calls of a lift, and what lifts that stand cost the other calls, on a busy book.
 
-use crate::calls::{busy_book, BUSY_ENTRIES};
+use crate::calls::busy_book;
 use crate::timing::{columns, times, COLUMNS};
 use reference::book::{Book, Phase, ISSUES};
 use reference::calls::{ask_on_sound, commit_on_sound, Ticket};
@@ -8,6 +8,8 @@ use reference::units::{handed, units_of};
 use tests::engines::by_reference;
 use tests::steps::Call;
 
+/// The entries of the book: few, so that a cutoff has room.
+const ENTRIES: usize = 200;
 /// The issue of the calls.
 const ISSUE: u32 = 3;
 
@@ -42,7 +44,7 @@ fn measured_calls(book: &Book) -> Vec<Call> {
 
 /// A busy book in Settling with so many lifts in each issue, of units that lie far apart.
 fn lifted_book(lifts: usize) -> Book {
-    let mut book = busy_book(Phase::Settling, BUSY_ENTRIES);
+    let mut book = busy_book(Phase::Settling, ENTRIES);
     for issue in 0..ISSUES as u32 {
         for at in 0..lifts {
             let ticket = ticket(&book, issue, at);
