@@ -1,4 +1,6 @@
 // One function for the seven calls: an instruction made in place on any columns whatever.
+pub mod lifts;
+
 use book::State;
 use rules::Instruction;
 use running::Turn;

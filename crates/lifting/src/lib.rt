@@ -154,7 +154,7 @@ pub struct Committed {
 }
 
 // A refusal: its number, and no record.
-fn refused(refusal: u32) -> Committed
+pub fn refused(refusal: u32) -> Committed
     ensures { λ r. ⌜ r ≡ refusedBy refusal ⌝ }
 {
     Committed { refusal, count: 0 }
