@@ -37,4 +37,4 @@ returns-2 c =
     c .ask-in .ensures ∙ ask-sound _ (book s) (s .args .i) (s .args .k) (good (c .before))
 
 pub ask-spec : {M : Type 1} → statement M
-ask-spec = tie.close (tie.spec sound-requires returns ask-in-requires returns-2)
+ask-spec = tie.close (tie.spec (λ c κs. search needs) returns ask-in-requires returns-2)
