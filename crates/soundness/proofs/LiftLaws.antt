@@ -1,7 +1,7 @@
 -- The scan of lifts: a flag along places and along issues; an issue's tests in turn; places that are right beside any
 -- units handed are right beside all units, so the order can be lifted before it is known what is handed.
 use mathlib.Core.Path.{_≡_, refl, ap, sym, _∙_}
-use mathlib.Core.Bool.{Bool, true, false, cond, not, _&&_, false≢true}
+use mathlib.Core.Bool.{Bool, true, false, cond, _&&_, false≢true}
 use mathlib.Core.List.{List, [], _∷_}
 use Prim.Native.Nat.{ℕ, suc, _+_, _-_, _*_, _≤_, _<_}
 use native.Mathlib.Numerals.{add-one}
@@ -10,17 +10,17 @@ use native.Mathlib.Omega.{arith}
 use lib.Dec.{leb, ltb, lit<}
 use lib.ListN.{length, take, drop, getD}
 use lib.IntN.{ℤ}
-use borrow.Author.Tests.{le-leb, lt-leb, ne-eqb, not-true, not-false}
+use borrow.Author.Tests.{le-leb, lt-leb, ne-eqb}
 use Rattle.rules.specs.declared.Phase.{Phase}
-use Rattle.rules.specs.Measures.{mostLots, unitLots, dueOf, sum}
+use Rattle.rules.specs.Measures.{mostLots, unitLots}
 use Rattle.rules.specs.Units.{unitsOfNets}
 use Rattle.rules.specs.Handover.{covered}
 use Rattle.rules.specs.Lifts.{Lift}
-use Rattle.rules.specs.Book.{Orders, isTaking, isZero, tabulate, all, block, row, balanced, withinSize, withinOwed, deliveredTotal, liftNumber, countAt, placesIn, liftsAt, orderIn, placesSound, liftConditions, liftsSound}
+use Rattle.rules.specs.Book.{Orders, isTaking, isZero, tabulate, all, row, balanced, withinSize, withinOwed, deliveredTotal, liftNumber, countAt, placesIn, liftsAt, orderIn, placesSound, liftConditions, liftsSound}
 use Rattle.laws.proofs.Basics.{byTest, and-left, and-right, all-at, length-tab, getD-tab}
 use Rattle.laws.proofs.Scans.{and-true, and-false, and-assoc}
 use Rattle.laws.proofs.Cells.{length-row, getD-block, within-row}
-use Rattle.laws.proofs.Cutoff.{SoundRow, delivered-due}
+use Rattle.laws.proofs.Cutoff.{delivered-due}
 use Rattle.laws.proofs.Lifts.{length-lifted}
 use Rattle.laws.proofs.Sound.{place-parts, parts-place, places-among}
 use Rattle.units.specs.Runs.{unitsIn, RankedNets, CanOrder, Prepared}

@@ -3,11 +3,10 @@
 use book::taking;
 use rules::Phase;
 ghost use mathlib.Core.Path.{_≡_};
-ghost use mathlib.Core.Bool.{true};
 ghost use Prim.Native.Nat.{_≤_, _<_};
 ghost use lib.ListN.{length, getD, drop};
 ghost use Rattle.rules.specs.Handover.{covered};
-ghost use Rattle.rules.specs.Book.{orderIn, liftNumber, liftsAt, placesIn, placesSound, liftsSound};
+ghost use Rattle.rules.specs.Book.{orderIn, liftsAt, placesIn, placesSound, liftsSound};
 ghost use Rattle.soundness.specs.LiftScan.{allLifts, CanScan, CanPlace};
 
 // Do new places never fall, nor lie behind the old ones, nor these behind the units, nor new ones behind

@@ -10,7 +10,8 @@ ghost use Prim.Native.Nat.{_≤_};
 ghost use lib.ListN.{length};
 ghost use Rattle.rules.specs.Measures.{dueOf, owedOf};
 ghost use Rattle.rules.specs.Ledger.{entry};
-ghost use Rattle.rules.specs.Book.{all, isZero, entries, entrySound, sound as soundOf, bookOf, CellLengths, LedgerLengths, Lengths};
+ghost use Rattle.rules.specs.Book.{all, isZero, entries, entrySound, sound as soundOf, CellLengths, LedgerLengths, Lengths};
+ghost use Rattle.book.specs.States.{stateOf, columns};
 ghost use Rattle.soundness.specs.Scan.{rowSound, netsSound, deliveredSound, entriesSound, unusedZero, ledgerSound, chargesSound, RowLengths};
 
 // Is each net of an issue in bounds, are they in balance, and is no more delivered than owed?
@@ -229,7 +230,7 @@ pub fn sound_columns<'a>(
     days: &'a [u16],
 ) -> bool
     requires { ⌜ Lengths (now nets) (now delivered) (now lifts) (now charges) (now issues) (now froms) (now tos) (now lots) (now days) ⌝ }
-    ensures { λ r. ⌜ r ≡ soundOf (bookOf day phase (now (nets .entry)) (now (delivered .entry)) (now (lifts .entry)) (now (charges .entry)) count (now (issues .entry)) (now (froms .entry)) (now (tos .entry)) (now (lots .entry)) (now (days .entry))) ⌝ }
+    ensures { λ r. ⌜ r ≡ soundOf (columns nets delivered lifts charges issues froms tos lots days .before (stateOf day phase count)) ⌝ }
 {
     let cells = nets_sound(nets, delivered);
     let taken = delivered_sound(phase, delivered);

@@ -8,7 +8,7 @@ use native.Mathlib.Nat.{sub-zero, zero-sub, suc-sub-suc}
 use lib.Dec.{leb, ltb, eqb, lit<}
 use lib.ListN.{length, take, drop, getD, set, replicate, length-set, length-drop, List·getD-append, List·getD-eq-default}
 use native.Mathlib.Numerals.{add-one}
-use lib.Seq.{drop-append-le, drop-cons, drop-set-lt, take-suc, take-suc-set, take-set-lt, length-take-le, take-length, drop-length, take-nil, getD-append-add, take-append-add, take-append-seam, drop-append-add, getD-set-same, getD-set-other}
+use lib.Seq.{drop-cons, drop-set-lt, take-suc, take-suc-set, take-set-lt, length-take-le, take-length, drop-length, take-nil, getD-append-add, take-append-add, take-append-seam, drop-append-add, getD-set-same, getD-set-other}
 use borrow.Author.Tests.{ltb-true, ltb-false, leb-true, leb-false, le-leb, lt-leb, eqb-true, eqb-false, eq-eqb}
 use Rattle.rules.specs.Measures.{total, unitLots}
 use Rattle.rules.specs.Units.{AccountLots, accountLots, prepend, byAccount, ofAccount}

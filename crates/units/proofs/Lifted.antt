@@ -7,7 +7,8 @@ use native.Mathlib.Nat.{min-eq-left, min-eq-right, suc-sub-suc, sub-zero}
 use native.Mathlib.Numerals.{add-one}
 use lib.Dec.{leb}
 use lib.ListN.{length, length-append, take, drop, getD, set, length-set, length-drop, take-append-drop}
-use lib.Seq.{take-suc, take-set-le, take-set-lt, drop-set-lt, getD-set-same, getD-take, getD-drop, drop-drop, take-take, take-all, take-append-seam, drop-append-seam, split-at, length-take-le, take-append-le, take-append-add, drop-append-le, drop-append-add}
+use lib.Seq.{take-suc, take-set-le, take-set-lt, take-take, take-all, take-append-seam, take-append-le, take-append-add}
+use lib.Seq.{drop-set-lt, getD-set-same, getD-take, getD-drop, drop-drop, drop-append-seam, split-at, length-take-le, drop-append-le, drop-append-add}
 use lib.IntN.{ℤ}
 use borrow.Author.Tests.{leb-true, leb-false}
 use Rattle.rules.specs.Measures.{unitLots, total}

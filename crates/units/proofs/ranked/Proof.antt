@@ -1,7 +1,6 @@
 -- The runs of the issue's dues hold its units in the order without lifts.
 use mathlib.Core.Path.{ap, _∙_}
 use mathlib.Core.List.{map}
-use native.Mathlib.Omega.{arith}
 use borrow.Author.Needs.{needs}
 use denote.Ref.{now}
 use Rattle.rules.specs.Measures.{dueOf}
