@@ -61,4 +61,5 @@
 //   of 1 to 7.
 pub mod calls;
 pub mod fields;
+pub mod lifts;
 pub mod reading;
