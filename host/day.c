@@ -1,6 +1,7 @@
 /* day: the settled day P5 to P9 run through the library, as a host in C runs its book. Prints the
- * units in their order, each delivery with what was handed over, a refused delivery, the fails of the
- * cutoff and the charges of the roll. */
+ * units in their order, each delivery with what was handed over, a refused delivery, a lift of unit 7
+ * on a copy of the book with the cutoff that follows from it, then the fails of the day's own cutoff
+ * and the charges of the roll. */
 #include <inttypes.h>
 #include <stdio.h>
 
@@ -10,8 +11,9 @@ enum status { DONE = 0, NOT_AS_EXPECTED = 1, NOT_WRITTEN = 3 };
 
 static const uint32_t ISSUE = 0;
 
-/* The book and its output are static: together they are 43 kilobytes. */
+/* The books and the output are static: together they are 73 kilobytes. */
 static struct day_book book;
+static struct day_book lifted;
 static uint32_t out[DAY_OUT_WORDS];
 
 /* Tells a call that was not done. */
@@ -87,15 +89,57 @@ static int deliver_too_much(void)
 }
 
 /* P8: the cutoff, its partial handover and its fails. */
-static int cut(void)
+static int cut(struct day_book *of)
 {
-    struct day_answer answer = day_book_cutoff(&book, out);
+    struct day_answer answer = day_book_cutoff(of, out);
     if (!done("cutoff", answer)) {
         return 0;
     }
     printf("cutoff: %zu records\n", answer.count);
     show_records(answer.count);
     return 1;
+}
+
+/* Asks for a lift of a unit and prints the ticket. */
+static int ask(uint32_t unit, struct day_ticket *ticket)
+{
+    struct day_ask_answer asked = day_book_ask(&book, ISSUE, unit);
+    *ticket = asked.ticket;
+    printf("ask for unit %" PRIu32 ": account %" PRIu32 ", %" PRIu32 " lots, day %" PRIu32
+           ", count %" PRIu32 "\n",
+           ticket->unit, ticket->account, ticket->lots, ticket->day, ticket->count);
+    return asked.refusal == DAY_DONE;
+}
+
+/* The same ticket again: the count has risen, so it is refused and nothing is changed. */
+static int commit_again(struct day_ticket ticket)
+{
+    struct day_answer answer = day_book_commit(&lifted, ticket, out);
+    printf("the same ticket again: refused by %" PRIu32 ", %s\n", answer.refusal,
+           day_refusal_text(answer.refusal));
+    return answer.refusal == DAY_REFUSED_TICKET && answer.count == 0;
+}
+
+/* On a copy of the book, parties that wait for each other: unit 7 is settled first, then the cutoff. */
+static int lift(void)
+{
+    struct day_ticket ticket;
+    if (!ask(7, &ticket)) {
+        return 0;
+    }
+    lifted = book;
+    struct day_answer answer = day_book_commit(&lifted, ticket, out);
+    if (!done("commit", answer)) {
+        return 0;
+    }
+    printf("commit, on a copy of the book:\n");
+    show_records(answer.count);
+    printf("%" PRIu32 " lift: from place %" PRIu32 " to place %" PRIu32 "\n",
+           lifted.lifts[DAY_LIFT_PLACE(ISSUE, 0)], lifted.lifts[DAY_LIFT_PLACE(ISSUE, 2)],
+           lifted.lifts[DAY_LIFT_PLACE(ISSUE, 3)]);
+    int as_expected = commit_again(ticket) && cut(&lifted) && day_book_sound(&lifted) == 1;
+    printf("the day itself, with nothing lifted:\n");
+    return as_expected;
 }
 
 /* The charge on each entry of the ledger, as the roll lays it. */
@@ -136,7 +180,7 @@ int main(void)
 {
     day_book_fresh(&book);
     int as_expected = take_trades() && show_units() && deliver(5, 345000) && deliver(4, 200000) &&
-                      deliver_too_much() && cut() && roll(1, 300, 100000);
+                      deliver_too_much() && lift() && cut(&book) && roll(1, 300, 100000);
     if (fflush(stdout) != 0 || ferror(stdout)) {
         perror("day: the lines could not be written");
         return NOT_WRITTEN;

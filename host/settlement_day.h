@@ -2,7 +2,8 @@
  *
  * The functions are in three static libraries, which `make libraries` makes:
  *
- *     target/staticlib/libexports.a   day_sound day_unit day_call day_read day_prices day_write
+ *     target/staticlib/libexports.a   day_sound day_unit day_call day_ask day_commit day_read
+ *                                     day_prices day_write
  *     target/staticlib/libdesk.a      day_value day_charge
  *     target/staticlib/libentries.a   entry_meet
  *
@@ -30,13 +31,20 @@ extern "C" {
 #define DAY_ISSUES 16u      /* issues 0 to 15 */
 #define DAY_ACCOUNTS 64u    /* netting accounts 0 to 63 */
 #define DAY_PLACES 1024u    /* nets and delivered lots: issue i and account a stand at i * 64 + a */
+#define DAY_LIFTS 8u        /* the most lifts that stand for an issue */
+#define DAY_LIFT_WORDS 18u  /* of an issue: number of lifts, count, eight times old and new place */
+#define DAY_LIFT_PLACES 288u /* lifts: word w of issue i stands at i * 18 + w */
 #define DAY_ENTRIES 2048u   /* the most fail entries of the ledger */
-#define DAY_OUT_WORDS 4096u /* the output of deliver, cutoff and resolve has at least so many words */
+#define DAY_OUT_WORDS 4096u /* an output of deliver, commit, cutoff, resolve has at least so many words */
 #define DAY_TAPE_WORDS 17u  /* the output of day_write has at least so many words */
-#define DAY_STACK_BYTES 32768u /* the most stack that a call needs; measured: 20,000 */
+#define DAY_STACK_BYTES 32768u /* the most stack that a call needs; measured: 20,400 */
 
 /* The place of an issue and an account, both in range, in nets and delivered lots. */
 #define DAY_PLACE(issue, account) ((size_t)(issue) * DAY_ACCOUNTS + (size_t)(account))
+
+/* The place of an issue's word of lifts, both in range: word 0 is the number of lifts, 1 the count of
+ * the day's accepted deliveries and lifts, 2 and 3 the first lift's old and new place, and so on. */
+#define DAY_LIFT_PLACE(issue, word) ((size_t)(issue) * DAY_LIFT_WORDS + (size_t)(word))
 
 /* ---- numbers of the rules */
 
@@ -87,18 +95,22 @@ extern "C" {
 #define DAY_REFUSED_TAPE 13u    /* the tape ends before the instruction does */
 #define DAY_REFUSED_WORD 14u    /* a kind or unused bits are wrong; a kind that is none of 1 to 7 */
 #define DAY_REFUSED_BITS 15u    /* a number does not fit its bits (writer) */
+#define DAY_REFUSED_UNIT 16u    /* there is no such unit, or it is handed already (ask, commit) */
+#define DAY_REFUSED_TICKET 17u  /* account, lots, day or count is not what asking now gives */
+#define DAY_REFUSED_LIFTS 18u   /* eight lifts stand for the issue */
 
 /* ---- the libraries' functions
  *
- * A book goes in as three numbers and eight columns. A column, the prices, the words and an output
- * are a pointer and a length in this order: nets and delivered 1,024 each, charges 64, the ledger's
- * five columns 2,048 each. A column of another length is a damaged book. The number returned, but
- * for day_sound's, is the refusal's, 0 where it is done. */
+ * A book goes in as three numbers and nine columns. A column, the prices, the words and an output
+ * are a pointer and a length in this order: nets and delivered 1,024 each, lifts 288, charges 64, the
+ * ledger's five columns 2,048 each. A column of another length is a damaged book. The number
+ * returned, but for day_sound's, is the refusal's, 0 where it is done. */
 
 /* 1 where the book is sound, else 0. */
 uint32_t day_sound(uint16_t day, uint32_t phase, size_t entries,
                    const int32_t *nets, size_t nets_length,
                    const uint32_t *delivered, size_t delivered_length,
+                   const uint32_t *lifts, size_t lifts_length,
                    const int64_t *charges, size_t charges_length,
                    const uint8_t *issues, size_t issues_length,
                    const uint8_t *froms, size_t froms_length,
@@ -110,6 +122,7 @@ uint32_t day_sound(uint16_t day, uint32_t phase, size_t entries,
 uint32_t day_unit(uint16_t day, uint32_t phase, size_t entries,
                   const int32_t *nets, size_t nets_length,
                   const uint32_t *delivered, size_t delivered_length,
+                  const uint32_t *lifts, size_t lifts_length,
                   const int64_t *charges, size_t charges_length,
                   const uint8_t *issues, size_t issues_length,
                   const uint8_t *froms, size_t froms_length,
@@ -126,6 +139,7 @@ uint32_t day_call(uint32_t kind, uint32_t a, uint32_t b, uint32_t c, uint32_t d,
                   uint16_t *day, uint32_t *phase, size_t *entries,
                   int32_t *nets, size_t nets_length,
                   uint32_t *delivered, size_t delivered_length,
+                  uint32_t *lifts, size_t lifts_length,
                   int64_t *charges, size_t charges_length,
                   uint8_t *issues, size_t issues_length,
                   uint8_t *froms, size_t froms_length,
@@ -133,6 +147,34 @@ uint32_t day_call(uint32_t kind, uint32_t a, uint32_t b, uint32_t c, uint32_t d,
                   uint32_t *lots, size_t lots_length,
                   uint16_t *days, size_t days_length,
                   uint32_t *out, size_t out_length, size_t *count, uint64_t *cancelled);
+
+/* Asks for a lift of an issue's unit, by its number, in Settling; changes nothing. The ticket is
+ * issue, unit, account, lots, day, count; six times 0 on a refusal. */
+uint32_t day_ask(uint16_t day, uint32_t phase, size_t entries,
+                 const int32_t *nets, size_t nets_length,
+                 const uint32_t *delivered, size_t delivered_length,
+                 const uint32_t *lifts, size_t lifts_length,
+                 const int64_t *charges, size_t charges_length,
+                 const uint8_t *issues, size_t issues_length,
+                 const uint8_t *froms, size_t froms_length,
+                 const uint8_t *tos, size_t tos_length,
+                 const uint32_t *lots, size_t lots_length,
+                 const uint16_t *days, size_t days_length,
+                 uint32_t issue, uint32_t unit, uint32_t ticket[6]);
+
+/* Lifts the ticket's unit before all unhanded ones, in Settling, and hands on as far as stock covers.
+ * Only the lifts and the output are changed; count is that of the records written, 0 on a refusal. */
+uint32_t day_commit(const uint32_t ticket[6], uint16_t day, uint32_t phase, size_t entries,
+                    const int32_t *nets, size_t nets_length,
+                    const uint32_t *delivered, size_t delivered_length,
+                    uint32_t *lifts, size_t lifts_length,
+                    const int64_t *charges, size_t charges_length,
+                    const uint8_t *issues, size_t issues_length,
+                    const uint8_t *froms, size_t froms_length,
+                    const uint8_t *tos, size_t tos_length,
+                    const uint32_t *lots, size_t lots_length,
+                    const uint16_t *days, size_t days_length,
+                    uint32_t *out, size_t out_length, size_t *count);
 
 /* Reads the instruction that begins at the first word: kind, a, b, c, d and its count of words;
  * all 0 on a refusal (13, 14). */
@@ -175,6 +217,7 @@ struct day_book {
     size_t entries; /* of the ledger's columns, so many are used */
     int32_t nets[DAY_PLACES];
     uint32_t delivered[DAY_PLACES];
+    uint32_t lifts[DAY_LIFT_PLACES];
     int64_t charges[DAY_ACCOUNTS];
     uint8_t issues[DAY_ENTRIES];
     uint8_t froms[DAY_ENTRIES];
@@ -198,6 +241,23 @@ struct day_unit_answer {
     uint32_t lots;
 };
 
+/* A ticket for a lift: issue and unit number, the unit's account and lots, the day, and the count of
+ * that day's accepted deliveries and lifts in the issue. */
+struct day_ticket {
+    uint32_t issue;
+    uint32_t unit;
+    uint32_t account;
+    uint32_t lots;
+    uint32_t day;
+    uint32_t count;
+};
+
+/* The answer to asking for a lift; on a refusal the ticket is all 0. */
+struct day_ask_answer {
+    uint32_t refusal;
+    struct day_ticket ticket;
+};
+
 /* A record of an output. */
 struct day_record {
     uint32_t kind;
@@ -217,8 +277,9 @@ static inline void day_book_fresh(struct day_book *book)
 static inline uint32_t day_book_sound(const struct day_book *book)
 {
     return day_sound(book->day, book->phase, book->entries, book->nets, DAY_PLACES,
-                     book->delivered, DAY_PLACES, book->charges, DAY_ACCOUNTS,
-                     book->issues, DAY_ENTRIES, book->froms, DAY_ENTRIES, book->tos, DAY_ENTRIES,
+                     book->delivered, DAY_PLACES, book->lifts, DAY_LIFT_PLACES,
+                     book->charges, DAY_ACCOUNTS, book->issues, DAY_ENTRIES,
+                     book->froms, DAY_ENTRIES, book->tos, DAY_ENTRIES,
                      book->lots, DAY_ENTRIES, book->days, DAY_ENTRIES);
 }
 
@@ -229,10 +290,10 @@ static inline struct day_unit_answer day_book_unit(const struct day_book *book, 
     struct day_unit_answer unit;
     uint32_t answer[3] = {0, 0, 0};
     unit.refusal = day_unit(book->day, book->phase, book->entries, book->nets, DAY_PLACES,
-                            book->delivered, DAY_PLACES, book->charges, DAY_ACCOUNTS,
-                            book->issues, DAY_ENTRIES, book->froms, DAY_ENTRIES,
-                            book->tos, DAY_ENTRIES, book->lots, DAY_ENTRIES,
-                            book->days, DAY_ENTRIES, issue, k, answer);
+                            book->delivered, DAY_PLACES, book->lifts, DAY_LIFT_PLACES,
+                            book->charges, DAY_ACCOUNTS, book->issues, DAY_ENTRIES,
+                            book->froms, DAY_ENTRIES, book->tos, DAY_ENTRIES,
+                            book->lots, DAY_ENTRIES, book->days, DAY_ENTRIES, issue, k, answer);
     unit.found = answer[0];
     unit.account = answer[1];
     unit.lots = answer[2];
@@ -250,11 +311,54 @@ static inline struct day_answer day_book_call(struct day_book *book, uint32_t ki
     answer.cancelled = 0;
     answer.refusal = day_call(kind, a, b, c, d, prices, prices_length, &book->day, &book->phase,
                               &book->entries, book->nets, DAY_PLACES,
-                              book->delivered, DAY_PLACES, book->charges, DAY_ACCOUNTS,
-                              book->issues, DAY_ENTRIES, book->froms, DAY_ENTRIES,
-                              book->tos, DAY_ENTRIES, book->lots, DAY_ENTRIES,
-                              book->days, DAY_ENTRIES, out, out_length, &answer.count,
-                              &answer.cancelled);
+                              book->delivered, DAY_PLACES, book->lifts, DAY_LIFT_PLACES,
+                              book->charges, DAY_ACCOUNTS, book->issues, DAY_ENTRIES,
+                              book->froms, DAY_ENTRIES, book->tos, DAY_ENTRIES,
+                              book->lots, DAY_ENTRIES, book->days, DAY_ENTRIES,
+                              out, out_length, &answer.count, &answer.cancelled);
+    return answer;
+}
+
+/* Asks for a lift of an issue's unit, by its number; changes nothing. */
+static inline struct day_ask_answer day_book_ask(const struct day_book *book, uint32_t issue,
+                                                 uint32_t unit)
+{
+    struct day_ask_answer asked;
+    uint32_t ticket[6] = {0, 0, 0, 0, 0, 0};
+    asked.refusal = day_ask(book->day, book->phase, book->entries, book->nets, DAY_PLACES,
+                            book->delivered, DAY_PLACES, book->lifts, DAY_LIFT_PLACES,
+                            book->charges, DAY_ACCOUNTS, book->issues, DAY_ENTRIES,
+                            book->froms, DAY_ENTRIES, book->tos, DAY_ENTRIES,
+                            book->lots, DAY_ENTRIES, book->days, DAY_ENTRIES, issue, unit, ticket);
+    asked.ticket.issue = ticket[0];
+    asked.ticket.unit = ticket[1];
+    asked.ticket.account = ticket[2];
+    asked.ticket.lots = ticket[3];
+    asked.ticket.day = ticket[4];
+    asked.ticket.count = ticket[5];
+    return asked;
+}
+
+/* Lifts the ticket's unit, and writes to the output what is handed over. */
+static inline struct day_answer day_book_commit(struct day_book *book, struct day_ticket ticket,
+                                                uint32_t out[DAY_OUT_WORDS])
+{
+    struct day_answer answer;
+    uint32_t numbers[6];
+    numbers[0] = ticket.issue;
+    numbers[1] = ticket.unit;
+    numbers[2] = ticket.account;
+    numbers[3] = ticket.lots;
+    numbers[4] = ticket.day;
+    numbers[5] = ticket.count;
+    answer.count = 0;
+    answer.cancelled = 0;
+    answer.refusal = day_commit(numbers, book->day, book->phase, book->entries,
+                                book->nets, DAY_PLACES, book->delivered, DAY_PLACES,
+                                book->lifts, DAY_LIFT_PLACES, book->charges, DAY_ACCOUNTS,
+                                book->issues, DAY_ENTRIES, book->froms, DAY_ENTRIES,
+                                book->tos, DAY_ENTRIES, book->lots, DAY_ENTRIES,
+                                book->days, DAY_ENTRIES, out, DAY_OUT_WORDS, &answer.count);
     return answer;
 }
 
@@ -352,6 +456,9 @@ static inline const char *day_refusal_text(uint32_t refusal)
     case DAY_REFUSED_TAPE: return "the tape ends before the instruction does";
     case DAY_REFUSED_WORD: return "a word's kind or its unused bits are wrong";
     case DAY_REFUSED_BITS: return "a number does not fit its bits";
+    case DAY_REFUSED_UNIT: return "there is no such unhanded unit";
+    case DAY_REFUSED_TICKET: return "the ticket is not what asking now gives";
+    case DAY_REFUSED_LIFTS: return "eight lifts stand for the issue";
     default: return "no refusal of the rules";
     }
 }

@@ -28,19 +28,38 @@ static void make_trades(void)
     }
 }
 
-/* The next day account 0 sells to all others and fails, so that it has fails both ways. */
-static void make_next_day(void)
+/* The next day account 0 sells three units to each of the others, to the last half a unit more, and
+ * fails, so that it has fails both ways, of units that lifts bring apart. */
+static void make_next_trades(void)
 {
     for (uint32_t issue = 0; issue < DAY_ISSUES; issue++) {
         for (uint32_t other = 1; other < DAY_ACCOUNTS; other++) {
-            refusal |= day_book_trade(&book, issue, 0, other, 1001 + other).refusal;
+            refusal |= day_book_trade(&book, issue, 0, other, 300000).refusal;
         }
+        refusal |= day_book_trade(&book, issue, 0, DAY_ACCOUNTS - 1, 50000).refusal;
     }
-    refusal |= day_book_close(&book).refusal | day_book_cutoff(&book, out).refusal;
+    refusal |= day_book_close(&book).refusal;
 }
 
 static void make_sound(void) { refusal |= day_book_sound(&book) != 1; }
 static void make_unit(void) { refusal |= day_book_unit(&book, 15, 0).refusal; }
+static void make_ask(void) { refusal |= day_book_ask(&book, 15, 189).refusal; }
+
+/* Eight lifts in each issue: the small unit, which the stock covers, then full ones far apart. */
+static void make_commits(void)
+{
+    for (uint32_t issue = 0; issue < DAY_ISSUES; issue++) {
+        refusal |= day_book_deliver(&book, issue, 0, 60000, out).refusal;
+        for (uint32_t lift = 0; lift < DAY_LIFTS; lift++) {
+            struct day_ask_answer asked = day_book_ask(&book, issue, 189 - 13 * lift);
+            struct day_answer answer = day_book_commit(&book, asked.ticket, out);
+            refusal |= asked.refusal | answer.refusal | (answer.count != (lift == 0));
+        }
+    }
+}
+
+static void make_unit_lifted(void) { refusal |= day_book_unit(&book, 15, 188).refusal; }
+static void make_lifted(void) { refusal |= day_book_deliver(&book, 15, 0, 450000, out).count != 4; }
 static void make_close(void) { refusal |= day_book_close(&book).refusal; }
 static void make_deliver(void) { refusal |= day_book_deliver(&book, 15, 62, 500, out).refusal; }
 static void make_cutoff(void) { refusal |= day_book_cutoff(&book, out).refusal; }
@@ -81,8 +100,11 @@ static const struct measured measures[] = {
     {"nothing", make_nothing},    {"trade", make_trades},          {"unit", make_unit},
     {"close", make_close},        {"deliver", make_deliver},       {"sound", make_sound},
     {"cutoff", make_cutoff},      {"resolve", make_resolve},       {"roll", make_roll},
-    {"a day", make_next_day},     {"pair-off", make_pair_off},     {"write", make_write},
-    {"read", make_read},          {"value and charge", make_charge},
+    {"a day", make_next_trades},  {"ask", make_ask},               {"commit", make_commits},
+    {"unit, lifted", make_unit_lifted},  {"deliver, lifted", make_lifted},
+    {"sound, lifted", make_sound},       {"cutoff, lifted", make_cutoff},
+    {"pair-off", make_pair_off},  {"write", make_write},           {"read", make_read},
+    {"value and charge", make_charge},
 };
 
 static void *run(void *make)

@@ -1,7 +1,8 @@
-//! The book: day, phase, nets, delivered lots, charges and the ledger of fails, in plain columns.
+//! The book: day, phase, nets, delivered lots, lifts, charges and the ledger of fails, in plain
+//! columns.
 
 use crate::raw::{Columns, ColumnsMut};
-use crate::{Entry, ACCOUNTS, ENTRIES, PLACES};
+use crate::{Entry, ACCOUNTS, ENTRIES, LIFTS, LIFT_PLACES, LIFT_WORDS, PLACES};
 
 /// The phase of the day as its number; any number can be held, and one above 2 is damage.
 #[derive(Clone, Copy, Debug, PartialEq, Eq)]
@@ -23,7 +24,16 @@ impl Phase {
     }
 }
 
-/// A book in plain columns; nets and delivered lots stand at issue × 64 + account.
+/// One lift: the place of a unit in the order before it was moved, and its place after.
+#[derive(Clone, Copy, Debug, PartialEq, Eq)]
+pub struct Lift {
+    pub old: u32,
+    pub new: u32,
+}
+
+/// A book in plain columns; nets and delivered lots stand at issue × 64 + account. An issue's lifts
+/// stand from issue × 18 on: their number, the count of the day's accepted deliveries and lifts, then
+/// eight times an old and a new place.
 ///
 /// Every field can be set to any number. The calls change it only where it is sound.
 #[derive(Clone, Debug, PartialEq, Eq)]
@@ -34,6 +44,7 @@ pub struct Book {
     pub entries: usize,
     pub nets: [i32; PLACES],
     pub delivered: [u32; PLACES],
+    pub lifts: [u32; LIFT_PLACES],
     pub charges: [i64; ACCOUNTS],
     pub issues: [u8; ENTRIES],
     pub froms: [u8; ENTRIES],
@@ -57,6 +68,7 @@ impl Book {
             entries: 0,
             nets: [0; PLACES],
             delivered: [0; PLACES],
+            lifts: [0; LIFT_PLACES],
             charges: [0; ACCOUNTS],
             issues: [0; ENTRIES],
             froms: [0; ENTRIES],
@@ -79,6 +91,26 @@ impl Book {
     /// The lots delivered today in an issue, all accounts together.
     pub fn delivered_total(&self, issue: u32) -> u64 {
         (0..ACCOUNTS as u32).map(|account| u64::from(self.delivered(issue, account))).sum()
+    }
+
+    /// The lifts that stand for an issue, in the order in which they were made; of a number above 8,
+    /// the eight, and none where the issue is out of range.
+    pub fn lifts(&self, issue: u32) -> impl Iterator<Item = Lift> + '_ {
+        let words = self.lift_words(issue);
+        let number = words.first().map_or(0, |&number| (number as usize).min(LIFTS));
+        let places = words.get(2..).unwrap_or_default().chunks_exact(2);
+        places.take(number).map(|place| Lift { old: place[0], new: place[1] })
+    }
+
+    /// The count of the day's accepted deliveries and lifts in an issue; 0 where it is out of range.
+    pub fn count(&self, issue: u32) -> u32 {
+        self.lift_words(issue).get(1).copied().unwrap_or(0)
+    }
+
+    /// An issue's words of lifts; none where it is out of range.
+    fn lift_words(&self, issue: u32) -> &[u32] {
+        let mut issues = self.lifts.chunks_exact(LIFT_WORDS);
+        issues.nth(issue as usize).unwrap_or_default()
     }
 
     /// The used entries of the ledger, in order; of a count above 2,048, the 2,048 there are.
@@ -105,6 +137,7 @@ impl Book {
             entries: self.entries,
             nets: &self.nets,
             delivered: &self.delivered,
+            lifts: &self.lifts,
             charges: &self.charges,
             issues: &self.issues,
             froms: &self.froms,
@@ -122,6 +155,7 @@ impl Book {
             entries: &mut self.entries,
             nets: &mut self.nets,
             delivered: &mut self.delivered,
+            lifts: &mut self.lifts,
             charges: &mut self.charges,
             issues: &mut self.issues,
             froms: &mut self.froms,
@@ -141,7 +175,7 @@ impl Default for Book {
 #[cfg(test)]
 mod tests {
     use super::*;
-    use crate::{calls, Refusal};
+    use crate::{calls, Refusal, Ticket};
 
     /// A book of the largest numbers everywhere.
     fn damaged() -> Book {
@@ -151,6 +185,7 @@ mod tests {
             entries: usize::MAX,
             nets: [i32::MIN; PLACES],
             delivered: [u32::MAX; PLACES],
+            lifts: [u32::MAX; LIFT_PLACES],
             charges: [i64::MIN; ACCOUNTS],
             issues: [u8::MAX; ENTRIES],
             froms: [u8::MAX; ENTRIES],
@@ -168,6 +203,8 @@ mod tests {
         assert_eq!((book.net(15, 63), book.net(16, 0), book.net(0, 64)), (i32::MIN, 0, 0));
         assert_eq!((book.delivered(u32::MAX, 0), book.delivered_total(u32::MAX)), (0, 0));
         assert_eq!((book.entry(ENTRIES), book.entry(usize::MAX)), (None, None));
+        assert_eq!((book.lifts(15).count(), book.lifts(16).count()), (LIFTS, 0));
+        assert_eq!((book.count(15), book.count(u32::MAX)), (u32::MAX, 0));
         assert_eq!(book.phase.name(), None);
     }
 
@@ -176,10 +213,13 @@ mod tests {
         let (mut book, mut out) = (damaged(), [7; crate::OUTPUT_WORDS]);
         assert!(!calls::sound(&book));
         assert_eq!(calls::unit(&book, 0, 0).refusal, Refusal::Book.number());
+        let asked = calls::ask(&book, 0, 0);
+        assert_eq!((asked.refused(), asked.ticket), (Some(Refusal::Book), None));
         let answers = [
             calls::trade(&mut book, 0, 1, 2, 3),
             calls::close(&mut book),
             calls::deliver(&mut book, 0, 1, 2, &mut out),
+            calls::commit(&mut book, &Ticket::default(), &mut out),
             calls::cutoff(&mut book, &mut out),
             calls::resolve(&mut book, 0, 1, 2, &mut out),
             calls::pair_off(&mut book, 0, 1),
@@ -194,5 +234,49 @@ mod tests {
         assert!(calls::sound(&Book::default()));
         assert_eq!((place(0, 0), place(15, 63), place(1, 0)), (Some(0), Some(1_023), Some(64)));
         assert_eq!((place(16, 0), place(0, 64), place(u32::MAX, u32::MAX)), (None, None, None));
+    }
+
+    /// A day in Settling with two units of account 1, and of account 2 one that its deliverer covers.
+    fn ring() -> (Book, [u32; crate::OUTPUT_WORDS]) {
+        let (mut book, mut out) = (Book::fresh(), [7; crate::OUTPUT_WORDS]);
+        assert_eq!(calls::trade(&mut book, 3, 8, 1, 150_000).refusal, 0);
+        assert_eq!(calls::trade(&mut book, 3, 9, 2, 40_000).refusal, 0);
+        assert_eq!(calls::close(&mut book).refusal, 0);
+        assert_eq!(calls::deliver(&mut book, 3, 9, 40_000, &mut out).count, 0);
+        (book, out)
+    }
+
+    #[test]
+    fn a_unit_is_lifted_by_its_ticket_and_the_book_shows_it() {
+        let (mut book, mut out) = ring();
+        let ticket = Ticket { issue: 3, unit: 2, account: 2, lots: 40_000, day: 0, count: 1 };
+        assert_eq!(calls::ask(&book, 3, 2).ticket, Some(ticket));
+        let answer = calls::commit(&mut book, &ticket, &mut out);
+        assert_eq!((answer.refused(), answer.count), (None, 1));
+        assert_eq!(out[..2], [0xa300_2000, 0x8000_9c40]);
+        assert_eq!(book.lifts(3).collect::<Vec<_>>(), [Lift { old: 2, new: 0 }]);
+        assert_eq!(
+            (book.count(3), book.lifts[3 * LIFT_WORDS..][..4].to_vec()),
+            (2, vec![1, 2, 2, 0])
+        );
+        let unit = calls::unit(&book, 3, 0).unit.map(|unit| unit.account);
+        assert_eq!((unit, calls::sound(&book)), (Some(2), true));
+    }
+
+    #[test]
+    fn a_lift_that_is_refused_changes_nothing() {
+        let (mut book, mut out) = ring();
+        let ticket = calls::ask(&book, 3, 2).ticket.unwrap_or_default();
+        let (before, words) = (book.clone(), out);
+        assert_eq!(calls::ask(&book, 3, 3).refused(), Some(Refusal::Unit));
+        let stale = Ticket { count: 0, ..ticket };
+        let missing = Ticket { unit: 3, ..ticket };
+        for (ticket, refusal) in [(stale, Refusal::Ticket), (missing, Refusal::Unit)] {
+            let answer = calls::commit(&mut book, &ticket, &mut out);
+            assert_eq!((answer.refused(), answer.count), (Some(refusal), 0));
+        }
+        let short = calls::commit(&mut book, &ticket, &mut out[1..]);
+        assert_eq!(short.refused(), Some(Refusal::Output));
+        assert!(book == before && out == words);
     }
 }

@@ -1,5 +1,5 @@
-//! The questions and the seven calls on a book. Each asks every question of its own in the paper's
-//! order; a refusal changes nothing, neither book nor output.
+//! The questions and the calls on a book. Each asks every question of its own in the paper's order; a
+//! refusal changes nothing, neither book nor output.
 
 pub use crate::raw::Answer;
 use crate::{raw, Book, Instruction, Refusal};
@@ -26,6 +26,44 @@ pub struct UnitAnswer {
     pub unit: Option<Unit>,
 }
 
+/// A ticket for a lift: issue and unit number, the unit's account and lots, the day, and the count of
+/// that day's accepted deliveries and lifts in the issue.
+#[derive(Clone, Copy, Debug, Default, PartialEq, Eq)]
+pub struct Ticket {
+    pub issue: u32,
+    pub unit: u32,
+    pub account: u32,
+    pub lots: u32,
+    pub day: u32,
+    pub count: u32,
+}
+
+impl Ticket {
+    /// Its numbers, as the library takes them.
+    pub fn numbers(&self) -> raw::TicketNumbers {
+        [self.issue, self.unit, self.account, self.lots, self.day, self.count]
+    }
+
+    /// The ticket of these numbers.
+    pub fn of_numbers([issue, unit, account, lots, day, count]: raw::TicketNumbers) -> Ticket {
+        Ticket { issue, unit, account, lots, day, count }
+    }
+}
+
+/// The answer to asking for a lift: the refusal's number, 0 where it is answered, and the ticket.
+#[derive(Clone, Copy, Debug, PartialEq, Eq)]
+pub struct AskAnswer {
+    pub refusal: u32,
+    pub ticket: Option<Ticket>,
+}
+
+impl AskAnswer {
+    /// The refusal, or none where there is a ticket.
+    pub fn refused(&self) -> Option<Refusal> {
+        Refusal::of(self.refusal)
+    }
+}
+
 /// Is the book sound?
 pub fn sound(book: &Book) -> bool {
     raw::sound(&book.columns()) == 1
@@ -35,6 +73,18 @@ pub fn sound(book: &Book) -> bool {
 pub fn unit(book: &Book, issue: u32, k: u32) -> UnitAnswer {
     let raw::UnitAnswer { refusal, found, account, lots } = raw::unit(&book.columns(), issue, k);
     UnitAnswer { refusal, unit: (found == 1).then_some(Unit { account, lots }) }
+}
+
+/// ask: the ticket for a lift of the issue's unit of this number, in Settling; changes nothing.
+pub fn ask(book: &Book, issue: u32, unit: u32) -> AskAnswer {
+    let raw::AskAnswer { refusal, ticket } = raw::ask(&book.columns(), issue, unit);
+    AskAnswer { refusal, ticket: (refusal == 0).then(|| Ticket::of_numbers(ticket)) }
+}
+
+/// commit: the ticket's unit moves before all unhanded ones, and what stock covers is handed over;
+/// writes 10s to the output, which has at least 4,096 words.
+pub fn commit(book: &mut Book, ticket: &Ticket, out: &mut [u32]) -> Answer {
+    raw::commit(&mut book.columns_mut(), &ticket.numbers(), out)
 }
 
 /// The call of an instruction. Only roll looks at the prices, and only deliver, cutoff and resolve
@@ -73,7 +123,8 @@ pub fn pair_off(book: &mut Book, issue: u32, account: u32) -> Answer {
     call(book, &Instruction::PairOff { issue, account }, &[], &mut [])
 }
 
-/// roll: each entry is charged; nets and delivered lots are 0, day rises by 1, to Taking.
+/// roll: each entry is charged; nets, delivered lots, lifts and counts are 0, day rises by 1, to
+/// Taking.
 pub fn roll(book: &mut Book, days: u32, rate: u32, prices: &[u32]) -> Answer {
     call(book, &Instruction::Roll { days, rate }, prices, &mut [])
 }

@@ -1,5 +1,5 @@
-//! The proved library, called safely from Rust: a book and the calls on it, the tape's reader and
-//! writer, value and charge, entries met.
+//! The proved library, called safely from Rust: a book and the calls on it, lifts of one unit, the
+//! tape's reader and writer, value and charge, entries met.
 //!
 //! ```
 //! use library::{calls, Book, Instruction, OUTPUT_WORDS};
@@ -25,7 +25,8 @@ pub mod raw;
 mod refusal;
 pub mod tape;
 
-pub use book::{place, Book, Phase};
+pub use book::{place, Book, Lift, Phase};
+pub use calls::Ticket;
 pub use entries::Entry;
 pub use instruction::{Fields, Instruction};
 pub use refusal::Refusal;
@@ -36,9 +37,15 @@ pub const ISSUES: usize = 16;
 pub const ACCOUNTS: usize = 64;
 /// The places of nets and of delivered lots: one for each issue and account.
 pub const PLACES: usize = ISSUES * ACCOUNTS;
+/// The most lifts that stand for an issue.
+pub const LIFTS: usize = 8;
+/// An issue's words of lifts: their number, the count, and of each lift its old and its new place.
+pub const LIFT_WORDS: usize = 2 + 2 * LIFTS;
+/// The words of lifts of all issues.
+pub const LIFT_PLACES: usize = ISSUES * LIFT_WORDS;
 /// The most fail entries of the ledger.
 pub const ENTRIES: usize = 2_048;
-/// The words that the output of deliver, cutoff and resolve has at the least.
+/// The words that the output of deliver, commit, cutoff and resolve has at the least.
 pub const OUTPUT_WORDS: usize = 4_096;
 /// The words that the output of the tape writer has at the least.
 pub const WRITER_WORDS: usize = 17;

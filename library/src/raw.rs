@@ -1,15 +1,17 @@
 //! The library's functions over columns of any length and plain numbers, nothing turned into types.
 //!
-//! A book whose columns have other lengths than 1,024, 64 and 2,048, or whose phase is above 2, is
-//! damaged: the library refuses it by 2.
+//! A book whose columns have other lengths than 1,024, 288, 64 and 2,048, or whose phase is above 2,
+//! is damaged: the library refuses it by 2.
 
-use crate::declarations::{day_call, day_prices, day_read, day_sound, day_unit, day_write};
+use crate::declarations::{
+    day_ask, day_call, day_commit, day_prices, day_read, day_sound, day_unit, day_write,
+};
 use crate::{Fields, ISSUES};
 
 /// What stands in a count before the library writes it: no answer has it.
 const NOT_WRITTEN: usize = usize::MAX;
 
-/// A book as it is lent to a question: three numbers and eight columns, of any length.
+/// A book as it is lent to a question: three numbers and nine columns, of any length.
 #[derive(Clone, Copy, Debug, PartialEq, Eq)]
 pub struct Columns<'a> {
     pub day: u16,
@@ -17,6 +19,7 @@ pub struct Columns<'a> {
     pub entries: usize,
     pub nets: &'a [i32],
     pub delivered: &'a [u32],
+    pub lifts: &'a [u32],
     pub charges: &'a [i64],
     pub issues: &'a [u8],
     pub froms: &'a [u8],
@@ -33,6 +36,7 @@ pub struct ColumnsMut<'a> {
     pub entries: &'a mut usize,
     pub nets: &'a mut [i32],
     pub delivered: &'a mut [u32],
+    pub lifts: &'a mut [u32],
     pub charges: &'a mut [i64],
     pub issues: &'a mut [u8],
     pub froms: &'a mut [u8],
@@ -57,6 +61,16 @@ pub struct UnitAnswer {
     pub found: u32,
     pub account: u32,
     pub lots: u32,
+}
+
+/// A ticket's numbers: issue, unit, account, lots, day, count.
+pub type TicketNumbers = [u32; 6];
+
+/// The answer to asking for a lift: the refusal's number, then the ticket, or six zeros.
+#[derive(Clone, Copy, Debug, PartialEq, Eq)]
+pub struct AskAnswer {
+    pub refusal: u32,
+    pub ticket: TicketNumbers,
 }
 
 /// The reader's answer: the refusal's number, the instruction's fields and its count of words.
@@ -86,6 +100,8 @@ pub fn sound(book: &Columns) -> u32 {
             book.nets.len(),
             book.delivered.as_ptr(),
             book.delivered.len(),
+            book.lifts.as_ptr(),
+            book.lifts.len(),
             book.charges.as_ptr(),
             book.charges.len(),
             book.issues.as_ptr(),
@@ -116,6 +132,8 @@ pub fn unit(book: &Columns, issue: u32, k: u32) -> UnitAnswer {
             book.nets.len(),
             book.delivered.as_ptr(),
             book.delivered.len(),
+            book.lifts.as_ptr(),
+            book.lifts.len(),
             book.charges.as_ptr(),
             book.charges.len(),
             book.issues.as_ptr(),
@@ -159,6 +177,8 @@ pub fn call(book: &mut ColumnsMut, fields: &Fields, prices: &[u32], out: &mut [u
             book.nets.len(),
             book.delivered.as_mut_ptr(),
             book.delivered.len(),
+            book.lifts.as_mut_ptr(),
+            book.lifts.len(),
             book.charges.as_mut_ptr(),
             book.charges.len(),
             book.issues.as_mut_ptr(),
@@ -178,6 +198,79 @@ pub fn call(book: &mut ColumnsMut, fields: &Fields, prices: &[u32], out: &mut [u
         )
     };
     Answer { refusal, count, cancelled }
+}
+
+/// The ticket for a lift of an issue's unit, by its number.
+pub fn ask(book: &Columns, issue: u32, unit: u32) -> AskAnswer {
+    let mut ticket = [u32::MAX; 6];
+    // SAFETY: each column is given with its length and lives through the call, which reads it alone;
+    // the ticket has the six numbers that are written.
+    let refusal = unsafe {
+        day_ask(
+            book.day,
+            book.phase,
+            book.entries,
+            book.nets.as_ptr(),
+            book.nets.len(),
+            book.delivered.as_ptr(),
+            book.delivered.len(),
+            book.lifts.as_ptr(),
+            book.lifts.len(),
+            book.charges.as_ptr(),
+            book.charges.len(),
+            book.issues.as_ptr(),
+            book.issues.len(),
+            book.froms.as_ptr(),
+            book.froms.len(),
+            book.tos.as_ptr(),
+            book.tos.len(),
+            book.lots.as_ptr(),
+            book.lots.len(),
+            book.days.as_ptr(),
+            book.days.len(),
+            issue,
+            unit,
+            &mut ticket,
+        )
+    };
+    AskAnswer { refusal, ticket }
+}
+
+/// The lift of a ticket, made in place on any book; of the book only the lifts are lent to be written.
+pub fn commit(book: &mut ColumnsMut, ticket: &TicketNumbers, out: &mut [u32]) -> Answer {
+    let mut count = NOT_WRITTEN;
+    // SAFETY: columns and output are given with their lengths, live through the call, and neither of
+    // the two that it may write overlaps another: each is a reference of its own.
+    let refusal = unsafe {
+        day_commit(
+            ticket,
+            *book.day,
+            *book.phase,
+            *book.entries,
+            book.nets.as_ptr(),
+            book.nets.len(),
+            book.delivered.as_ptr(),
+            book.delivered.len(),
+            book.lifts.as_mut_ptr(),
+            book.lifts.len(),
+            book.charges.as_ptr(),
+            book.charges.len(),
+            book.issues.as_ptr(),
+            book.issues.len(),
+            book.froms.as_ptr(),
+            book.froms.len(),
+            book.tos.as_ptr(),
+            book.tos.len(),
+            book.lots.as_ptr(),
+            book.lots.len(),
+            book.days.as_ptr(),
+            book.days.len(),
+            out.as_mut_ptr(),
+            out.len(),
+            &mut count,
+        )
+    };
+    Answer { refusal, count, cancelled: 0 }
 }
 
 /// Reads the instruction that begins at the first word.

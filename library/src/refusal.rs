@@ -5,7 +5,8 @@ use std::fmt;
 /// Why a call, a question, the reader or the writer refused; the numbers are the paper's.
 #[derive(Clone, Copy, Debug, PartialEq, Eq, PartialOrd, Ord)]
 pub enum Refusal {
-    /// 1: the lent output has fewer than 4,096 words (deliver, cutoff, resolve) or 17 (writer).
+    /// 1: the lent output has fewer than 4,096 words (deliver, commit, cutoff, resolve) or 17
+    /// (writer).
     Output = 1,
     /// 2: the book is not sound: it was changed by something other than the calls.
     Book = 2,
@@ -35,11 +36,17 @@ pub enum Refusal {
     Word = 14,
     /// 15: a number does not fit its bits.
     Bits = 15,
+    /// 16: the issue has no such unit, or it is handed already (ask, commit).
+    Unit = 16,
+    /// 17: the ticket's account, lots, day or count is not what asking now gives (commit).
+    Ticket = 17,
+    /// 18: eight lifts stand for the issue (commit).
+    Lifts = 18,
 }
 
 impl Refusal {
     /// All refusals, by their numbers.
-    pub const ALL: [Refusal; 15] = [
+    pub const ALL: [Refusal; 18] = [
         Refusal::Output,
         Refusal::Book,
         Refusal::Phase,
@@ -55,9 +62,12 @@ impl Refusal {
         Refusal::TapeEnds,
         Refusal::Word,
         Refusal::Bits,
+        Refusal::Unit,
+        Refusal::Ticket,
+        Refusal::Lifts,
     ];
 
-    /// The refusal of a number; none for 0, which is done, and above 15.
+    /// The refusal of a number; none for 0, which is done, and above 18.
     pub fn of(number: u32) -> Option<Refusal> {
         Refusal::ALL.into_iter().find(|refusal| refusal.number() == number)
     }
@@ -88,6 +98,9 @@ impl Refusal {
             Refusal::TapeEnds => "the tape ends before the instruction does",
             Refusal::Word => "a word's kind or its unused bits are wrong",
             Refusal::Bits => "a number does not fit its bits",
+            Refusal::Unit => "there is no such unhanded unit",
+            Refusal::Ticket => "the ticket is not what asking now gives",
+            Refusal::Lifts => "eight lifts stand for the issue",
         }
     }
 }
@@ -103,11 +116,11 @@ mod tests {
     use super::Refusal;
 
     #[test]
-    fn numbers_are_one_to_fifteen_in_order() {
+    fn numbers_are_one_to_eighteen_in_order() {
         let numbers: Vec<u32> = Refusal::ALL.into_iter().map(Refusal::number).collect();
-        assert_eq!(numbers, (1..=15).collect::<Vec<u32>>());
+        assert_eq!(numbers, (1..=18).collect::<Vec<u32>>());
         assert_eq!(Refusal::of(9), Some(Refusal::Owed));
-        assert_eq!([0, 16, u32::MAX].map(Refusal::of), [None; 3]);
+        assert_eq!([0, 19, u32::MAX].map(Refusal::of), [None; 3]);
     }
 
     #[test]

@@ -1,4 +1,4 @@
-//! The book: day, phase, nets, delivered lots, charges and the ledger of fails.
+//! The book: day, phase, nets, delivered lots, lifts, charges and the ledger of fails.
 
 /// Issues 0 to 15.
 pub const ISSUES: usize = 16;
@@ -6,6 +6,8 @@ pub const ISSUES: usize = 16;
 pub const ACCOUNTS: usize = 64;
 /// The most fail entries of the ledger.
 pub const ENTRIES: usize = 2_048;
+/// The most lifts that stand for an issue.
+pub const LIFTS: usize = 8;
 
 /// The phase of the day.
 #[derive(Clone, Copy, Debug, PartialEq, Eq)]
@@ -25,6 +27,22 @@ pub struct Entry {
     pub day: u16,
 }
 
+/// One lift: the place of a unit in the order before it was moved, and its place after.
+#[derive(Clone, Copy, Debug, Default, PartialEq, Eq)]
+pub struct Lift {
+    pub old: u32,
+    pub new: u32,
+}
+
+/// An issue's lifts: how many stand, the count of the day's accepted deliveries and lifts, and the
+/// lifts in the order in which they were made; those after the number are unused.
+#[derive(Clone, Copy, Debug, Default, PartialEq, Eq)]
+pub struct Lifts {
+    pub number: u32,
+    pub count: u32,
+    pub moves: [Lift; LIFTS],
+}
+
 /// The book in plain columns; nets and delivered lots stand at issue × 64 + account.
 #[derive(Clone, Debug, PartialEq, Eq)]
 pub struct Book {
@@ -32,6 +50,7 @@ pub struct Book {
     pub phase: Phase,
     pub nets: [i32; ISSUES * ACCOUNTS],
     pub delivered: [u32; ISSUES * ACCOUNTS],
+    pub lifts: [Lifts; ISSUES],
     pub charges: [i64; ACCOUNTS],
     pub count: usize,
     pub issues: [u8; ENTRIES],
@@ -54,6 +73,7 @@ impl Book {
             phase: Phase::Taking,
             nets: [0; ISSUES * ACCOUNTS],
             delivered: [0; ISSUES * ACCOUNTS],
+            lifts: [Lifts::default(); ISSUES],
             charges: [0; ACCOUNTS],
             count: 0,
             issues: [0; ENTRIES],
@@ -126,6 +146,21 @@ impl Book {
             self.lots[at] = entry.lots;
             self.days[at] = entry.day;
         }
+    }
+}
+
+impl Lifts {
+    /// The lifts that stand, in the order in which they were made; of a number above 8, the eight.
+    pub fn standing(&self) -> &[Lift] {
+        let number = usize::try_from(self.number).unwrap_or(LIFTS);
+        &self.moves[..number.min(LIFTS)]
+    }
+
+    /// One lift more stands, and the count rises by 1; there is room for it.
+    pub fn add(&mut self, lift: Lift) {
+        self.moves[self.standing().len()] = lift;
+        self.number += 1;
+        self.count += 1;
     }
 }
 

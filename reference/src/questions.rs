@@ -1,9 +1,11 @@
 //! The desk's questions: each answers Ok for 'yes' and its number for 'no'.
 
-use crate::book::{place, Book, Phase, ACCOUNTS, ENTRIES, ISSUES};
+use crate::book::{place, Book, Phase, ACCOUNTS, ENTRIES, ISSUES, LIFTS};
+use crate::calls::Ticket;
 use crate::measures::{MOST_DAYS, MOST_LOTS, MOST_PRICE, MOST_RATE};
+use crate::units::{handed, Unit};
 
-/// The words that the output of deliver, cutoff and resolve has at the least.
+/// The words that the output of deliver, commit, cutoff and resolve has at the least.
 pub const CALL_OUTPUT: usize = 4_096;
 /// The words that the output of the tape writer has at the least.
 pub const WRITER_OUTPUT: usize = 17;
@@ -122,4 +124,22 @@ pub fn word_right(yes: bool) -> Result<(), u32> {
 /// 15. Does the field fit its bits?
 pub fn field_fits(number: u32, bits: u32) -> Result<(), u32> {
     ask(15, number >> bits == 0)
+}
+
+/// 16. Is there such a unit that is not handed yet? Gives the unit.
+pub fn unit_unhanded(units: &[Unit], delivered: u64, k: u32) -> Result<Unit, u32> {
+    let (count, _) = handed(units, delivered);
+    let k = usize::try_from(k).map_err(|_| 16_u32)?;
+    ask(16, k >= count)?;
+    units.get(k).copied().ok_or(16)
+}
+
+/// 17. Are the ticket's account, lots, day and count what asking now gives?
+pub fn ticket_is(ticket: &Ticket, now: &Ticket) -> Result<(), u32> {
+    ask(17, ticket == now)
+}
+
+/// 18. Do fewer than eight lifts stand?
+pub fn lifts_have_room(lifts: usize) -> Result<(), u32> {
+    ask(18, lifts < LIFTS)
 }

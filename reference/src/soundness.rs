@@ -1,7 +1,8 @@
 //! Soundness: each condition of a sound book by itself, on any book whatever.
 
-use crate::book::{Book, Phase, ACCOUNTS, ENTRIES, ISSUES};
+use crate::book::{Book, Lift, Phase, ACCOUNTS, ENTRIES, ISSUES, LIFTS};
 use crate::measures::MOST_LOTS;
+use crate::units::{handed, units, units_of};
 
 /// The most one day can add to the size of an account's charge, in yen.
 pub const MOST_CHARGE_A_DAY: i128 = 134_663_013_697_536;
@@ -10,7 +11,7 @@ pub const MOST_CHARGE_A_DAY: i128 = 134_663_013_697_536;
 pub type Condition = fn(&Book) -> bool;
 
 /// Every condition of soundness with its name; a book is sound when all hold.
-pub const CONDITIONS: [(&str, Condition); 14] = [
+pub const CONDITIONS: [(&str, Condition); 21] = [
     ("nets_in_range", nets_in_range),
     ("nets_sum_to_zero", nets_sum_to_zero),
     ("delivered_within_owed", delivered_within_owed),
@@ -25,6 +26,13 @@ pub const CONDITIONS: [(&str, Condition); 14] = [
     ("unused_entries_zero", unused_entries_zero),
     ("charges_sum_to_zero", charges_sum_to_zero),
     ("charges_in_range", charges_in_range),
+    ("at_most_eight_lifts", at_most_eight_lifts),
+    ("lifts_new_at_most_old", lifts_new_at_most_old),
+    ("lifts_old_below_units", lifts_old_below_units),
+    ("lifts_new_never_falls", lifts_new_never_falls),
+    ("lifts_new_at_most_handed", lifts_new_at_most_handed),
+    ("no_lift_in_taking", no_lift_in_taking),
+    ("count_within_delivered_and_lifts", count_within_delivered_and_lifts),
 ];
 
 impl Book {
@@ -114,6 +122,55 @@ pub fn charges_sum_to_zero(book: &Book) -> bool {
 pub fn charges_in_range(book: &Book) -> bool {
     let most = MOST_CHARGE_A_DAY * i128::from(book.day);
     book.charges.iter().all(|&yen| i128::from(yen).abs() <= most)
+}
+
+/// At most eight lifts stand for an issue.
+pub fn at_most_eight_lifts(book: &Book) -> bool {
+    book.lifts.iter().all(|lifts| lifts.number as usize <= LIFTS)
+}
+
+/// No lift's new place is above its old one.
+pub fn lifts_new_at_most_old(book: &Book) -> bool {
+    lifted_issues(book).all(|(_, lifts)| lifts.iter().all(|lift| lift.new <= lift.old))
+}
+
+/// Each lift's old place is below the number of the issue's units.
+pub fn lifts_old_below_units(book: &Book) -> bool {
+    lifted_issues(book).all(|(issue, lifts)| {
+        let number = units(book.nets_of(issue)).len();
+        lifts.iter().all(|lift| (lift.old as usize) < number)
+    })
+}
+
+/// An issue's new places never fall.
+pub fn lifts_new_never_falls(book: &Book) -> bool {
+    lifted_issues(book).all(|(_, lifts)| lifts.windows(2).all(|two| two[0].new <= two[1].new))
+}
+
+/// No new place is above the number of units handed, of the order with all lifts.
+pub fn lifts_new_at_most_handed(book: &Book) -> bool {
+    lifted_issues(book).all(|(issue, lifts)| {
+        let (count, _) = handed(&units_of(book, issue), book.delivered_total(issue));
+        lifts.iter().all(|lift| lift.new as usize <= count)
+    })
+}
+
+/// No lift stands in Taking.
+pub fn no_lift_in_taking(book: &Book) -> bool {
+    book.phase != Phase::Taking || book.lifts.iter().all(|lifts| lifts.number == 0)
+}
+
+/// An issue's count is at most the lots delivered in it plus its lifts.
+pub fn count_within_delivered_and_lifts(book: &Book) -> bool {
+    book.lifts.iter().enumerate().all(|(issue, lifts)| {
+        u64::from(lifts.count) <= book.delivered_total(issue) + u64::from(lifts.number)
+    })
+}
+
+/// The issues with lifts that stand, each with them.
+fn lifted_issues(book: &Book) -> impl Iterator<Item = (usize, &[Lift])> + '_ {
+    let issues = book.lifts.iter().map(|lifts| lifts.standing()).enumerate();
+    issues.filter(|(_, lifts)| !lifts.is_empty())
 }
 
 /// Each net with the lots delivered beside it.

@@ -1,5 +1,6 @@
 //! Units and their order: what each receiver of an issue is handed, one unit after another.
 
+use crate::book::{Book, Lift};
 use crate::measures::UNIT_LOTS;
 use std::cmp::Ordering;
 
@@ -12,7 +13,7 @@ pub struct Unit {
     pub net: u32,
 }
 
-/// The units of a list of nets by account, in order.
+/// The units of a list of nets by account, in order, nothing lifted.
 pub fn units(nets: &[i32]) -> Vec<Unit> {
     let mut units = Vec::new();
     for (account, &net) in (0..).zip(nets) {
@@ -24,9 +25,28 @@ pub fn units(nets: &[i32]) -> Vec<Unit> {
     units
 }
 
-/// The k-th unit of a list of nets, k from 0.
-pub fn kth_unit(nets: &[i32], k: u32) -> Option<Unit> {
-    units(nets).get(usize::try_from(k).ok()?).copied()
+/// The units of an issue in the order of the day: each lift moves a unit of the order before it.
+pub fn units_of(book: &Book, issue: usize) -> Vec<Unit> {
+    let mut units = units(book.nets_of(issue));
+    for lift in book.lifts[issue].standing() {
+        move_unit(&mut units, lift);
+    }
+    units
+}
+
+/// Takes the unit at the old place out and puts it in at the new one; a lift whose places are not
+/// right moves nothing.
+fn move_unit(units: &mut Vec<Unit>, lift: &Lift) {
+    let (old, new) = (lift.old as usize, lift.new as usize);
+    if new <= old && old < units.len() {
+        let unit = units.remove(old);
+        units.insert(new, unit);
+    }
+}
+
+/// The k-th unit of an issue, k from 0.
+pub fn kth_unit(book: &Book, issue: usize, k: u32) -> Option<Unit> {
+    units_of(book, issue).get(usize::try_from(k).ok()?).copied()
 }
 
 /// The units that a delivered total covers, handed over whole in order, and the stock that is left.

@@ -2,9 +2,11 @@
 
 mod common;
 
-use common::{book_of_ledger, book_of_nets, entry, output, p5_book, p8_book};
+use common::{
+    book_of_ledger, book_of_nets, entry, lift, output, p5_book, p7_book, p8_book, ticket,
+};
 use reference::book::{Book, Entry, Phase};
-use reference::calls::{self, Answer, PairOffAnswer, UnitAnswer};
+use reference::calls::{self, Answer, AskAnswer, PairOffAnswer, Ticket, UnitAnswer};
 
 /// A book that is not sound: its nets do not sum to 0.
 fn damaged(book: &Book) -> Book {
@@ -71,6 +73,54 @@ fn deliver_asks_1_2_3_4_5_7_9() {
     refused(&settling, 4_096, 9, deliver(0, 4, 230_001));
     refused(&settling, 4_096, 9, deliver(0, 1, 1));
     refused(&settling, 4_096, 9, deliver(15, 63, 1));
+}
+
+#[test]
+fn ask_asks_2_3_4_16() {
+    let settling = p7_book(0);
+    let refusal = |number| AskAnswer { number, ticket: Ticket::default() };
+    for phase in [Phase::Taking, Phase::Cut] {
+        let mut book = Book { phase, ..settling.clone() };
+        if phase == Phase::Taking {
+            book = p5_book(0);
+        }
+        assert_eq!(calls::ask(&damaged(&book), 16, 99), refusal(2));
+        assert_eq!(calls::ask(&book, 16, 99), refusal(3));
+    }
+    assert_eq!(calls::ask(&settling, 16, 99), refusal(4));
+    assert_eq!(calls::ask(&settling, u32::MAX, 5), refusal(4));
+    for unit in [0, 4, 8, 9, u32::MAX] {
+        assert_eq!(calls::ask(&settling, 0, unit), refusal(16), "unit {unit}");
+    }
+    assert_eq!(calls::ask(&settling, 1, 0), refusal(16));
+    assert_eq!(calls::ask(&settling, 0, 5).number, 0);
+    assert_eq!(calls::ask_on_sound(&damaged(&settling), 16, 99), refusal(4));
+}
+
+#[test]
+fn commit_asks_1_2_3_4_16_17_18() {
+    let taking = p5_book(0);
+    let mut settling = p7_book(0);
+    (0..8).for_each(|_| assert_eq!(lift(&mut settling, 5, &mut output()), 0));
+    let commit = |numbers: [u32; 6]| {
+        move |book: &mut Book, out: &mut [u32]| calls::commit(book, &ticket(numbers), out)
+    };
+    refused(&damaged(&taking), 4_095, 1, commit([16, 99, 64, 0, 1, 1]));
+    refused(&damaged(&taking), 4_096, 2, commit([16, 99, 64, 0, 1, 1]));
+    refused(&taking, 4_096, 3, commit([16, 99, 64, 0, 1, 1]));
+    refused(&settling, 4_096, 4, commit([16, 99, 64, 0, 1, 1]));
+    refused(&settling, 4_096, 16, commit([0, 8, 64, 0, 1, 1]));
+    refused(&settling, 4_096, 16, commit([0, 4, 3, 100_000, 0, 10]));
+    refused(&settling, 4_096, 16, commit([1, 0, 2, 50_000, 0, 10]));
+    refused(&settling, 4_096, 17, commit([0, 5, 64, 50_000, 0, 10]));
+    refused(&settling, 4_096, 17, commit([0, 5, 3, 50_000, 0, 10]));
+    refused(&settling, 4_096, 17, commit([0, 5, 2, 0, 0, 10]));
+    refused(&settling, 4_096, 17, commit([0, 5, 2, u32::MAX, 0, 10]));
+    refused(&settling, 4_096, 17, commit([0, 5, 2, 50_000, 1, 10]));
+    refused(&settling, 4_096, 17, commit([0, 5, 2, 50_000, 65_536, 10]));
+    refused(&settling, 4_096, 17, commit([0, 5, 2, 50_000, 0, 9]));
+    refused(&settling, 4_096, 17, commit([0, 5, 2, 50_000, 0, u32::MAX]));
+    refused(&settling, 4_096, 18, commit([0, 5, 2, 50_000, 0, 10]));
 }
 
 #[test]

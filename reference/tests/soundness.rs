@@ -2,8 +2,8 @@
 
 mod common;
 
-use common::{entry, output, p8_book};
-use reference::book::{place, Book, Phase};
+use common::{book_of_nets, entry, lift, output, p8_book};
+use reference::book::{place, Book, Lift, Phase, LIFTS};
 use reference::calls;
 use reference::soundness::CONDITIONS;
 
@@ -92,6 +92,80 @@ fn conditions_on_charges() {
     });
 }
 
+/// A sound book with a lift that hands a unit over and one behind it: the order is 2, then 1, then 3.
+fn lifted_book() -> Book {
+    let nets = [(1, 100_000), (2, 30_000), (3, 50_000), (4, -180_000)];
+    let mut book = book_of_nets(Phase::Settling, &nets);
+    book.delivered[place(0, 4)] = 30_000;
+    assert_eq!(lift(&mut book, 2, &mut output()), 1);
+    assert_eq!(lift(&mut book, 1, &mut output()), 0);
+    assert_eq!(book.lifts[0].standing(), [Lift { old: 2, new: 0 }, Lift { old: 1, new: 1 }]);
+    assert_eq!(broken(&book), [""; 0]);
+    book
+}
+
+/// Damages the lifted book; exactly these conditions are broken.
+fn breaks_lifts(conditions: &[&str], damage: impl Fn(&mut Book)) {
+    let mut book = lifted_book();
+    damage(&mut book);
+    assert_eq!(broken(&book), conditions);
+    assert_eq!(book.sound(), conditions.is_empty());
+}
+
+#[test]
+fn conditions_on_lifts() {
+    let places = |number, moves: &[(u32, u32)]| {
+        let moves: Vec<Lift> = moves.iter().map(|&(old, new)| Lift { old, new }).collect();
+        move |book: &mut Book| {
+            book.lifts[0].number = number;
+            book.lifts[0].moves[..moves.len()].copy_from_slice(&moves);
+        }
+    };
+    breaks_lifts(&[], places(8, &[(2, 0); LIFTS]));
+    breaks_lifts(&["at_most_eight_lifts"], places(9, &[(2, 0); LIFTS]));
+    breaks_lifts(&["at_most_eight_lifts"], places(u32::MAX, &[(2, 0); LIFTS]));
+    breaks_lifts(&[], places(2, &[(2, 0), (2, 1)]));
+    breaks_lifts(&["lifts_old_below_units"], places(2, &[(2, 0), (3, 1)]));
+    breaks_lifts(&["lifts_old_below_units"], places(2, &[(2, 0), (u32::MAX, 1)]));
+    breaks_lifts(&["lifts_new_at_most_old"], places(2, &[(2, 0), (0, 1)]));
+    breaks_lifts(&["lifts_new_never_falls"], places(3, &[(2, 0), (2, 1), (0, 0)]));
+    breaks_lifts(&["lifts_new_at_most_handed"], places(2, &[(2, 0), (2, 2)]));
+    breaks_lifts(&["lifts_new_at_most_handed"], |book| book.delivered[place(0, 4)] = 29_999);
+    breaks_lifts(&["lifts_new_at_most_handed"], places(1, &[(2, 1)]));
+}
+
+#[test]
+fn conditions_on_the_count_and_on_lifts_in_taking() {
+    breaks_lifts(&[], |book| book.phase = Phase::Cut);
+    breaks_lifts(&[], |book| book.lifts[0].count = 30_002);
+    let too_large = ["count_within_delivered_and_lifts"];
+    breaks_lifts(&too_large, |book| book.lifts[0].count = 30_003);
+    breaks_lifts(&too_large, |book| book.lifts[0].count = u32::MAX);
+    breaks_lifts(&too_large, |book| book.lifts[15].count = 1);
+    let in_taking = |book: &mut Book| {
+        book.phase = Phase::Taking;
+        book.delivered.fill(0);
+        book.lifts[0].count = 0;
+        book.lifts[0].number = 1;
+    };
+    breaks_lifts(&["no_lift_in_taking"], in_taking);
+    breaks_lifts(&[], |book| {
+        in_taking(book);
+        book.lifts[0].number = 0;
+    });
+    breaks_lifts(&too_large, |book| {
+        in_taking(book);
+        book.lifts[0].number = 0;
+        book.lifts[0].count = 1;
+    });
+}
+
+#[test]
+fn unused_lifts_are_in_no_condition() {
+    breaks_lifts(&[], |book| book.lifts[0].moves[2..].fill(Lift { old: u32::MAX, new: 7 }));
+    breaks_lifts(&[], |book| book.lifts[15].moves.fill(Lift { old: 1, new: u32::MAX }));
+}
+
 #[test]
 fn any_book_whatever_is_asked_without_fault() {
     for (net, yen) in [(i32::MIN, i64::MIN), (i32::MAX, i64::MAX)] {
@@ -99,6 +173,10 @@ fn any_book_whatever_is_asked_without_fault() {
         book.nets.fill(net);
         book.delivered.fill(u32::MAX);
         book.charges.fill(yen);
+        for lifts in &mut book.lifts {
+            (lifts.number, lifts.count) = (u32::MAX, u32::MAX);
+            lifts.moves.fill(Lift { old: u32::MAX, new: u32::MAX });
+        }
         book.issues.fill(u8::MAX);
         book.lots.fill(u32::MAX);
         book.days.fill(u16::MAX);
@@ -119,13 +197,17 @@ fn below(state: &mut u64, limit: u32) -> u32 {
 fn random_call(state: &mut u64, book: &mut Book, out: &mut [u32]) -> u32 {
     let (issue, from, to) = (below(state, 2), below(state, 6), below(state, 6));
     let lots = [1, 50, 30_000, 100_000, 250_000, 20_000_000][below(state, 6) as usize];
-    match below(state, 40) {
+    match below(state, 50) {
         0 => calls::close(book).number,
         1 => calls::cutoff(book, out).number,
         2 => calls::roll(book, 1 + below(state, 12), below(state, 10_001), &[100_000; 16]).number,
         3..=4 => calls::pair_off(book, issue, from).number,
         5..=7 => calls::resolve(book, issue, from, lots, out).number,
         8..=23 => calls::deliver(book, issue, from, lots, out).number,
+        24..=33 => {
+            let asked = calls::ask(book, issue, below(state, 8));
+            calls::commit(book, &asked.ticket, out).number
+        }
         _ => calls::trade(book, issue, from, to, lots).number,
     }
 }
@@ -135,12 +217,15 @@ fn lists_of_calls_keep_the_book_sound() {
     let mut state = 0x9e37_79b9_7f4a_7c15;
     let mut book = p8_book(0);
     let mut out = output();
+    let mut most_lifts = 0;
     for _ in 0..20_000 {
         let before = book.clone();
         let number = random_call(&mut state, &mut book, &mut out);
         assert_ne!(number, 2);
         assert!(number == 0 || book == before);
         assert_eq!(broken(&book), [""; 0]);
+        most_lifts = most_lifts.max(book.lifts[0].number);
     }
     assert!(book.day > 20);
+    assert_eq!(most_lifts, 8);
 }

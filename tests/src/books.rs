@@ -1,9 +1,10 @@
 //! Random sound books, and random lots with many equals.
 
 use crate::rng::Rng;
-use reference::book::{place, Book, Entry, Phase, ENTRIES};
+use reference::book::{place, Book, Entry, Lift, Phase, ENTRIES};
 use reference::measures::MOST_LOTS;
 use reference::soundness::MOST_CHARGE_A_DAY;
+use reference::units::{handed, units_of};
 
 /// Lots at the edges of units, of which sums and ties are made.
 pub const MENU: [u32; 16] = [
@@ -83,6 +84,7 @@ pub fn random_book(rng: &mut Rng, shape: &Shape) -> Book {
     }
     if phase != Phase::Taking {
         deliver_some(rng, &mut book);
+        shape.issues.iter().for_each(|&issue| lift_some(rng, &mut book, issue as usize));
     }
     charge_some(rng, &mut book, &shape.accounts);
     let entries = random_entries(rng, shape);
@@ -103,7 +105,7 @@ pub fn move_lots(book: &mut Book, issue: u32, from: u32, to: u32, lots: u32) {
 }
 
 /// Each deliverer has delivered nothing, some or all.
-fn deliver_some(rng: &mut Rng, book: &mut Book) {
+pub fn deliver_some(rng: &mut Rng, book: &mut Book) {
     for at in 0..book.nets.len() {
         let owed = (-book.nets[at]).max(0) as u32;
         book.delivered[at] = match rng.range(0, 3) {
@@ -112,6 +114,43 @@ fn deliver_some(rng: &mut Rng, book: &mut Book) {
             _ => rng.range(0, owed),
         };
     }
+}
+
+/// No lifts or up to eight in an issue, a count within its limit, and any numbers in unused places.
+pub fn lift_some(rng: &mut Rng, book: &mut Book, issue: usize) {
+    if rng.chance(1, 4) {
+        book.lifts[issue].moves.fill_with(|| Lift { old: rng.next_u32(), new: rng.range(0, 3) });
+    }
+    let number = if rng.chance(1, 3) { 0 } else { *rng.pick(&[1, 2, 3, 5, 7, 8]) };
+    let mut least = 0;
+    for at in 0..number {
+        let units = units_of(book, issue);
+        let (count, _) = handed(&units, book.delivered_total(issue));
+        let most = count.min(units.len().saturating_sub(1)) as u32;
+        if units.is_empty() || most < least {
+            break;
+        }
+        let new = between(rng, least, most);
+        let old = between(rng, new, units.len() as u32 - 1);
+        book.lifts[issue].moves[at] = Lift { old, new };
+        book.lifts[issue].number += 1;
+        if !reference::soundness::lifts_new_at_most_handed(book) {
+            book.lifts[issue].number -= 1;
+            break;
+        }
+        least = new;
+    }
+    let most = book.delivered_total(issue) + u64::from(book.lifts[issue].number);
+    book.lifts[issue].count = rng.range(0, most as u32) >> *rng.pick(&[0, 8, 31]);
+    if rng.chance(1, 5) {
+        book.lifts[issue].count = most as u32;
+    }
+}
+
+/// A number from low to high, often one of the two.
+fn between(rng: &mut Rng, low: u32, high: u32) -> u32 {
+    let any = rng.range(low, high);
+    *rng.pick(&[low, high, any, any])
 }
 
 /// Charges that sum to 0, at most the limit of the day.
@@ -164,5 +203,7 @@ mod tests {
         assert!(books.iter().any(|book| book.count == ENTRIES));
         assert!(books.iter().any(|book| book.day == u16::MAX - 1));
         assert!(books.windows(2).any(|pair| pair[0] != pair[1]));
+        let lifts = |number| books.iter().any(|b| b.lifts.iter().any(|l| l.number == number));
+        assert!((0..=8).filter(|&number| lifts(number)).count() > 5);
     }
 }

@@ -1,6 +1,8 @@
 //! Between the library's types and the second engine's, which are each its own.
 
+use library::{LIFT_PLACES, LIFT_WORDS};
 use reference::book;
+use reference::calls::Ticket;
 use reference::tape::Instruction;
 
 /// The library's phase of a phase.
@@ -20,6 +22,7 @@ pub fn library_book(book: &book::Book) -> library::Book {
         entries: book.count,
         nets: book.nets,
         delivered: book.delivered,
+        lifts: lift_words(&book.lifts),
         charges: book.charges,
         issues: book.issues,
         froms: book.froms,
@@ -27,6 +30,36 @@ pub fn library_book(book: &book::Book) -> library::Book {
         lots: book.lots,
         days: book.days,
     }
+}
+
+/// The library's words of lifts: of each issue their number, the count, then each lift's old and new
+/// place, unused ones too.
+pub fn lift_words(lifts: &[book::Lifts; book::ISSUES]) -> [u32; LIFT_PLACES] {
+    let mut words = [0; LIFT_PLACES];
+    for (words, lifts) in words.chunks_exact_mut(LIFT_WORDS).zip(lifts) {
+        let places = lifts.moves.iter().flat_map(|lift| [lift.old, lift.new]);
+        let all = [lifts.number, lifts.count].into_iter().chain(places);
+        words.iter_mut().zip(all).for_each(|(word, number)| *word = number);
+    }
+    words
+}
+
+/// The lifts of each issue, of the library's words.
+pub fn lifts_of_words(words: &[u32; LIFT_PLACES]) -> [book::Lifts; book::ISSUES] {
+    let mut lifts = [book::Lifts::default(); book::ISSUES];
+    for (lifts, words) in lifts.iter_mut().zip(words.chunks_exact(LIFT_WORDS)) {
+        (lifts.number, lifts.count) = (words[0], words[1]);
+        for (lift, place) in lifts.moves.iter_mut().zip(words[2..].chunks_exact(2)) {
+            *lift = book::Lift { old: place[0], new: place[1] };
+        }
+    }
+    lifts
+}
+
+/// The library's ticket of a ticket.
+pub fn library_ticket(ticket: &Ticket) -> library::Ticket {
+    let Ticket { issue, unit, account, lots, day, count } = *ticket;
+    library::Ticket { issue, unit, account, lots, day, count }
 }
 
 /// The second engine's book with the same numbers; none where the phase is above 2.
@@ -41,6 +74,7 @@ pub fn reference_book(book: &library::Book) -> Option<book::Book> {
         },
         nets: book.nets,
         delivered: book.delivered,
+        lifts: lifts_of_words(&book.lifts),
         charges: book.charges,
         count: book.entries,
         issues: book.issues,
@@ -58,6 +92,7 @@ pub fn same_numbers(one: &book::Book, other: &library::Book) -> bool {
         && one.count == other.entries
         && one.nets == other.nets
         && one.delivered == other.delivered
+        && lift_words(&one.lifts) == other.lifts
         && one.charges == other.charges
         && one.issues == other.issues
         && one.froms == other.froms
@@ -129,14 +164,28 @@ mod tests {
     }
 
     #[test]
+    fn each_word_of_lifts_has_its_place() {
+        let mut words = [0; LIFT_PLACES];
+        (1..).zip(&mut words).for_each(|(number, word)| *word = number);
+        let lifts = lifts_of_words(&words);
+        assert_eq!(lift_words(&lifts), words);
+        assert_eq!((lifts[1].number, lifts[1].count), (19, 20));
+        assert_eq!(lifts[1].moves[0], book::Lift { old: 21, new: 22 });
+        assert_eq!(lifts[15].moves[7], book::Lift { old: 287, new: 288 });
+    }
+
+    #[test]
     fn a_difference_in_any_field_is_seen() {
         let fresh = book::Book::fresh();
-        let changes: [fn(&mut library::Book); 11] = [
+        let changes: [fn(&mut library::Book); 14] = [
             |book| book.day = 1,
             |book| book.phase = library::Phase(3),
             |book| book.entries = 1,
             |book| book.nets[1_023] = 1,
             |book| book.delivered[1_023] = 1,
+            |book| book.lifts[0] = 1,
+            |book| book.lifts[15 * 18 + 1] = 1,
+            |book| book.lifts[287] = 1,
             |book| book.charges[63] = 1,
             |book| book.issues[2_047] = 1,
             |book| book.froms[2_047] = 1,

@@ -1,22 +1,22 @@
 //! Both engines on the same steps: answers, whole books and every word of the output compared.
 
-use crate::convert::{library_book, same_numbers};
+use crate::convert::{library_book, library_ticket, same_numbers};
 use crate::steps::{Call, Step};
-use library::raw;
+use library::{raw, LIFT_WORDS};
 use reference::book::{place, Book, ACCOUNTS, ENTRIES, ISSUES};
-use reference::calls;
+use reference::calls::{self, Ticket};
 
 /// The words before and after a lent output, which no call may touch.
 const MARGIN: usize = 8;
 
 /// An answer in plain numbers: the refusal number and every other number, 0 where there is none.
 ///
-/// For `sound` the number is 1 or 0. For `unit` the others are found, account and lots; for the
-/// calls the count (for pair-off, of steps) and the lots cancelled.
+/// For `sound` the number is 1 or 0. For `unit` the others are found, account and lots; for `ask` the
+/// six of the ticket; for the calls the count (for pair-off, of steps) and the lots cancelled.
 #[derive(Clone, Copy, Debug, PartialEq, Eq)]
 pub struct Answer {
     pub number: u32,
-    pub others: [u64; 3],
+    pub others: [u64; 6],
 }
 
 /// The second engine's book and the library's.
@@ -52,7 +52,7 @@ impl Engines {
             Step::Set(edit) => {
                 edit.apply(&mut self.reference);
                 self.library = library_book(&self.reference);
-                Ok(plain(0, [0; 3]))
+                Ok(plain(0, &[]))
             }
             Step::Call(call) => self.call(call),
         }
@@ -67,7 +67,7 @@ impl Engines {
         let library = by_library(&mut self.library, call, inner(&mut other));
         let came = (library, &self.library, other.as_slice());
         if *call == Call::Sound || answer.number != 0 {
-            let nothing = plain(answer.number, [0; 3]);
+            let nothing = plain(answer.number, &[]);
             same("as the call came", (nothing, &self.before, &lent(call)), came)?;
         }
         same("library", (answer, &self.reference, &output), came)?;
@@ -84,7 +84,10 @@ impl Default for Engines {
 /// The output that a call is lent, with a margin on both sides, filled with a pattern.
 fn lent(call: &Call) -> Vec<u32> {
     let words = match *call {
-        Call::Deliver { out, .. } | Call::Cutoff { out } | Call::Resolve { out, .. } => out,
+        Call::Deliver { out, .. }
+        | Call::Commit { out, .. }
+        | Call::Cutoff { out }
+        | Call::Resolve { out, .. } => out,
         _ => return Vec::new(),
     };
     pattern(words + 2 * MARGIN)
@@ -124,8 +127,8 @@ fn same(
 
 /// An answer for people.
 fn answer_text(answer: Answer) -> String {
-    let [a, b, c] = answer.others;
-    format!("number {}, then {a} {b} {c}", answer.number)
+    let others = answer.others.map(|other| other.to_string()).join(" ");
+    format!("number {}, then {others}", answer.number)
 }
 
 /// The first field in which two books differ.
@@ -147,6 +150,15 @@ pub fn book_difference(one: &library::Book, other: &library::Book) -> [String; 2
             return texts;
         }
     }
+    for issue in 0..ISSUES {
+        let texts = both(&|book| {
+            let words = &book.lifts[issue * LIFT_WORDS..][..LIFT_WORDS];
+            format!("issue {issue}: words of lifts {words:?}")
+        });
+        if differs(&texts) {
+            return texts;
+        }
+    }
     for account in 0..ACCOUNTS {
         let texts = both(&|book| format!("account {account}: charge {}", book.charges[account]));
         if differs(&texts) {
@@ -160,23 +172,25 @@ pub fn book_difference(one: &library::Book, other: &library::Book) -> [String; 2
 /// The second engine's answer.
 pub fn by_reference(book: &mut Book, call: &Call, out: &mut [u32]) -> Answer {
     match *call {
-        Call::Sound => plain(u32::from(book.sound()), [0; 3]),
+        Call::Sound => plain(u32::from(book.sound()), &[]),
         Call::Unit { issue, k } => {
             let unit = calls::unit(book, issue, k);
-            plain(unit.number, [u64::from(unit.found), unit.account.into(), unit.lots.into()])
+            plain(unit.number, &[u64::from(unit.found), unit.account.into(), unit.lots.into()])
         }
         Call::Trade { issue, from, to, lots } => counted(calls::trade(book, issue, from, to, lots)),
         Call::Close => counted(calls::close(book)),
         Call::Deliver { issue, account, lots, .. } => {
             counted(calls::deliver(book, issue, account, lots, out))
         }
+        Call::Ask { issue, unit } => asked(calls::ask(book, issue, unit)),
+        Call::Commit { ref ticket, .. } => counted(calls::commit(book, ticket, out)),
         Call::Cutoff { .. } => counted(calls::cutoff(book, out)),
         Call::Resolve { issue, account, lots, .. } => {
             counted(calls::resolve(book, issue, account, lots, out))
         }
         Call::PairOff { issue, account } => {
             let answer = calls::pair_off(book, issue, account);
-            plain(answer.number, [answer.steps.into(), answer.lots, 0])
+            plain(answer.number, &[answer.steps.into(), answer.lots])
         }
         Call::Roll { days, rate, ref prices } => counted(calls::roll(book, days, rate, prices)),
     }
@@ -188,7 +202,7 @@ pub fn by_reference_on_sound(book: &mut Book, call: &Call, out: &mut [u32]) -> A
         Call::Sound => by_reference(book, call, out),
         Call::Unit { issue, k } => {
             let unit = calls::unit_on_sound(book, issue, k);
-            plain(unit.number, [u64::from(unit.found), unit.account.into(), unit.lots.into()])
+            plain(unit.number, &[u64::from(unit.found), unit.account.into(), unit.lots.into()])
         }
         Call::Trade { issue, from, to, lots } => {
             counted(calls::trade_on_sound(book, issue, from, to, lots))
@@ -197,13 +211,15 @@ pub fn by_reference_on_sound(book: &mut Book, call: &Call, out: &mut [u32]) -> A
         Call::Deliver { issue, account, lots, .. } => {
             counted(calls::deliver_on_sound(book, issue, account, lots, out))
         }
+        Call::Ask { issue, unit } => asked(calls::ask_on_sound(book, issue, unit)),
+        Call::Commit { ref ticket, .. } => counted(calls::commit_on_sound(book, ticket, out)),
         Call::Cutoff { .. } => counted(calls::cutoff_on_sound(book, out)),
         Call::Resolve { issue, account, lots, .. } => {
             counted(calls::resolve_on_sound(book, issue, account, lots, out))
         }
         Call::PairOff { issue, account } => {
             let answer = calls::pair_off_on_sound(book, issue, account);
-            plain(answer.number, [answer.steps.into(), answer.lots, 0])
+            plain(answer.number, &[answer.steps.into(), answer.lots])
         }
         Call::Roll { days, rate, ref prices } => {
             counted(calls::roll_on_sound(book, days, rate, prices))
@@ -214,16 +230,23 @@ pub fn by_reference_on_sound(book: &mut Book, call: &Call, out: &mut [u32]) -> A
 /// The library's answer.
 pub fn by_library(book: &mut library::Book, call: &Call, out: &mut [u32]) -> Answer {
     let answer = match *call {
-        Call::Sound => return plain(raw::sound(&book.columns()), [0; 3]),
+        Call::Sound => return plain(raw::sound(&book.columns()), &[]),
         Call::Unit { issue, k } => {
             let unit = raw::unit(&book.columns(), issue, k);
             let others = [unit.found.into(), unit.account.into(), unit.lots.into()];
-            return plain(unit.refusal, others);
+            return plain(unit.refusal, &others);
+        }
+        Call::Ask { issue, unit } => {
+            let asked = raw::ask(&book.columns(), issue, unit);
+            return plain(asked.refusal, &asked.ticket.map(u64::from));
         }
         Call::Trade { issue, from, to, lots } => library::calls::trade(book, issue, from, to, lots),
         Call::Close => library::calls::close(book),
         Call::Deliver { issue, account, lots, .. } => {
             library::calls::deliver(book, issue, account, lots, out)
+        }
+        Call::Commit { ref ticket, .. } => {
+            library::calls::commit(book, &library_ticket(ticket), out)
         }
         Call::Cutoff { .. } => library::calls::cutoff(book, out),
         Call::Resolve { issue, account, lots, .. } => {
@@ -232,15 +255,23 @@ pub fn by_library(book: &mut library::Book, call: &Call, out: &mut [u32]) -> Ans
         Call::PairOff { issue, account } => library::calls::pair_off(book, issue, account),
         Call::Roll { days, rate, ref prices } => library::calls::roll(book, days, rate, prices),
     };
-    plain(answer.refusal, [answer.count as u64, answer.cancelled, 0])
+    plain(answer.refusal, &[answer.count as u64, answer.cancelled])
 }
 
-/// An answer of these numbers.
-fn plain(number: u32, others: [u64; 3]) -> Answer {
+/// An answer of these numbers, and 0 after them.
+fn plain(number: u32, first: &[u64]) -> Answer {
+    let mut others = [0; 6];
+    others[..first.len()].copy_from_slice(first);
     Answer { number, others }
+}
+
+/// The second engine's answer with its ticket.
+fn asked(answer: calls::AskAnswer) -> Answer {
+    let Ticket { issue, unit, account, lots, day, count } = answer.ticket;
+    plain(answer.number, &[issue, unit, account, lots, day, count].map(u64::from))
 }
 
 /// The second engine's answer with its count.
 fn counted(answer: calls::Answer) -> Answer {
-    plain(answer.number, [answer.count.into(), 0, 0])
+    plain(answer.number, &[answer.count.into()])
 }

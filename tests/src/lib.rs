@@ -7,6 +7,7 @@ pub mod engines;
 pub mod options;
 pub mod programs;
 pub mod random_calls;
+pub mod random_lifts;
 pub mod random_tapes;
 pub mod report;
 pub mod rng;

@@ -5,7 +5,7 @@ use crate::rng::Rng;
 use crate::steps::Call;
 use reference::book::{place, Book, Phase, ACCOUNTS};
 use reference::measures::{MOST_DAYS, MOST_LOTS, MOST_PRICE, MOST_RATE};
-use reference::units::{handed, units};
+use reference::units::{handed, units_of};
 
 /// A call that suits the phase mostly, with arguments in range mostly.
 pub fn random_call(rng: &mut Rng, shape: &Shape, book: &Book) -> Call {
@@ -95,7 +95,7 @@ fn deliverers(shape: &Shape, book: &Book) -> Vec<(u32, u32)> {
 
 /// The lots that the next unit lacks beside the stock, 1 where there is no unit.
 fn to_unit_end(book: &Book, issue: usize) -> u32 {
-    let units = units(book.nets_of(issue));
+    let units = units_of(book, issue);
     let (count, stock) = handed(&units, book.delivered_total(issue));
     units.get(count).map_or(1, |unit| unit.lots - stock as u32)
 }
@@ -124,7 +124,7 @@ fn random_resolve(rng: &mut Rng, shape: &Shape, book: &Book) -> Call {
 /// The unit question, mostly of a unit that there is.
 fn random_unit(rng: &mut Rng, shape: &Shape, book: &Book) -> Call {
     let issue = *rng.pick(&shape.issues);
-    let units = units(book.nets_of(issue as usize)).len() as u32;
+    let units = units_of(book, issue as usize).len() as u32;
     let k = match rng.range(0, 5) {
         0 => units,
         1 => units + rng.range(1, 3),
@@ -153,7 +153,7 @@ fn random_roll(rng: &mut Rng) -> Call {
 }
 
 /// The length of an output: at the limit mostly.
-fn random_output(rng: &mut Rng) -> usize {
+pub fn random_output(rng: &mut Rng) -> usize {
     match rng.range(0, 39) {
         0 => 0,
         1 => 1,

@@ -2,17 +2,21 @@
 
 use crate::engines::Answer;
 use crate::steps::Call;
-use reference::book::{place, Book, Entry, ENTRIES};
+use reference::book::{place, Book, Entry, ENTRIES, ISSUES};
+use reference::calls::{ask_on_sound, Ticket};
 use reference::measures::{MOST_DAYS, MOST_LOTS, MOST_PRICE, MOST_RATE, UNIT_LOTS};
-use reference::units::{handed, units, Unit};
+use reference::units::{handed, units, units_of, Unit};
+use std::cmp::Reverse;
 use std::collections::BTreeMap;
 
 /// The numbers that each call can answer, by the paper; 0 is done.
-pub const NUMBERS: [(&str, &[u32]); 8] = [
+pub const NUMBERS: [(&str, &[u32]); 10] = [
     ("unit", &[0, 2, 4]),
     ("trade", &[0, 2, 3, 4, 5, 6, 7, 8]),
     ("close", &[0, 2, 3]),
     ("deliver", &[0, 1, 2, 3, 4, 5, 7, 9]),
+    ("ask", &[0, 2, 3, 4, 16]),
+    ("commit", &[0, 1, 2, 3, 4, 16, 17, 18]),
     ("cutoff", &[0, 1, 2, 3, 10]),
     ("resolve", &[0, 1, 2, 4, 5, 7, 9]),
     ("pair-off", &[0, 2, 4, 5]),
@@ -20,7 +24,7 @@ pub const NUMBERS: [(&str, &[u32]); 8] = [
 ];
 
 /// The situations that a run of random lists must meet.
-const SITUATIONS: [&str; 50] = [
+const SITUATIONS: [&str; 80] = [
     "trade: a net reaches 20,000,000",
     "trade: a net reaches -20,000,000",
     "trade: refused for from's net alone",
@@ -33,6 +37,7 @@ const SITUATIONS: [&str; 50] = [
     "unit: equals among full units",
     "unit: equals among small units of unlike nets",
     "unit: a smaller net has the larger small unit",
+    "unit: of a lifted order",
     "deliver: all that is owed",
     "deliver: ends inside a full unit",
     "deliver: ends inside a small unit",
@@ -42,11 +47,39 @@ const SITUATIONS: [&str; 50] = [
     "deliver: a smaller later unit would be covered",
     "deliver: hands over among equal full units",
     "deliver: hands over among equal small units",
+    "deliver: hands over a lifted unit before one that stood before it",
+    "deliver: with eight lifts standing",
+    "ask: the next unit",
+    "ask: the last unit, not the next",
+    "ask: of a lifted order",
+    "ask: with eight lifts standing",
+    "ask: no unit, all are handed",
+    "ask: a handed unit",
+    "ask: no such unit",
+    "commit: hands over the unit",
+    "commit: hands over nothing",
+    "commit: to its own place",
+    "commit: a full unit past one of another account",
+    "commit: a small unit past a full one",
+    "commit: a unit that was passed by a lifted one before",
+    "commit: the first lift",
+    "commit: the eighth lift",
+    "commit: a place above that of the lift before",
+    "commit: a handed unit",
+    "commit: no such unit",
+    "commit: refused for the account alone",
+    "commit: refused for the lots alone",
+    "commit: refused for the day alone",
+    "commit: refused for the count alone",
+    "commit: a ticket with account above 63 or lots of none",
+    "commit: eight lifts, and the ticket is stale",
     "cutoff: nothing failed",
     "cutoff: nothing delivered",
     "cutoff: stock goes to a full unit",
     "cutoff: stock goes to a small unit",
     "cutoff: stock goes to a full unit with more of its account after it",
+    "cutoff: full units of one account lie apart",
+    "cutoff: stock goes to a full unit, and full ones of its account lie apart",
     "cutoff: a deliverer fails several receivers",
     "cutoff: several deliverers fail a receiver",
     "cutoff: full units and small unit of one account failed by one deliverer",
@@ -71,6 +104,7 @@ const SITUATIONS: [&str; 50] = [
     "roll: highest price, rate and days",
     "roll: day becomes 65,535",
     "roll: lots were delivered",
+    "roll: lifts and counts are cleared",
 ];
 
 /// How often each number and situation was met.
@@ -102,6 +136,8 @@ impl Coverage {
             Call::Resolve { issue, account, .. } => self.resolve(made, issue, account),
             Call::PairOff { issue, account } => self.pair_off(made, issue, account),
             Call::Roll { days, rate, ref prices } => self.roll(made, days, rate, prices),
+            Call::Ask { issue, unit } => self.ask(made, issue, unit),
+            Call::Commit { ref ticket, .. } => self.commit(made, ticket),
             Call::Close | Call::Sound => {}
         }
     }
@@ -151,8 +187,9 @@ impl Coverage {
         if made.answer.number != 0 {
             return;
         }
-        let units = units(made.before.nets_of(issue as usize));
+        let units = units_of(made.before, issue as usize);
         let unit = units.get(k as usize);
+        self.meet("unit: of a lifted order", unit.is_some() && is_lifted(made.before, issue));
         self.meet("unit: found full", unit.is_some_and(|unit| unit.full));
         self.meet("unit: found small", unit.is_some_and(|unit| !unit.full));
         let past = !units.is_empty() && k as usize == units.len();
@@ -175,7 +212,7 @@ impl Coverage {
             return;
         }
         let issue = issue as usize;
-        let units = units(made.after.nets_of(issue));
+        let units = units_of(made.after, issue);
         let (first, _) = handed(&units, made.before.delivered_total(issue));
         let (count, stock) = handed(&units, made.after.delivered_total(issue));
         let next = units.get(count);
@@ -194,6 +231,82 @@ impl Coverage {
             |equal: fn(&Unit, &Unit) -> bool| now.windows(2).any(|two| equal(&two[0], &two[1]));
         self.meet("deliver: hands over among equal full units", among(equal_full));
         self.meet("deliver: hands over among equal small units", among(equal_small));
+        let lifted = "deliver: hands over a lifted unit before one that stood before it";
+        self.meet(lifted, now.windows(2).any(|two| ranks_before(&two[1], &two[0])));
+        let eight = made.after.lifts[issue].number == 8;
+        self.meet("deliver: with eight lifts standing", eight);
+    }
+
+    /// The situations of asking for a lift.
+    fn ask(&mut self, made: &Made, issue: u32, k: u32) {
+        let Some((units, count)) = units_and_handed(made.before, issue) else { return };
+        let (k, number) = (k as usize, made.answer.number);
+        if number == 0 {
+            self.meet("ask: the next unit", k == count);
+            self.meet("ask: the last unit, not the next", k > count && k + 1 == units.len());
+            self.meet("ask: of a lifted order", is_lifted(made.before, issue));
+            let eight = made.before.lifts[issue as usize].number == 8;
+            self.meet("ask: with eight lifts standing", eight);
+        }
+        if number == 16 {
+            let all = count == units.len() && count > 0;
+            self.meet("ask: no unit, all are handed", all && k == count);
+            self.meet("ask: a handed unit", k < count);
+            self.meet("ask: no such unit", k == units.len());
+        }
+    }
+
+    /// The situations of a commit.
+    fn commit(&mut self, made: &Made, ticket: &Ticket) {
+        let Some((units, count)) = units_and_handed(made.before, ticket.issue) else { return };
+        let k = ticket.unit as usize;
+        match made.answer.number {
+            0 => self.lift(made, ticket, &units, count),
+            16 => {
+                self.meet("commit: a handed unit", k < count);
+                self.meet("commit: no such unit", k >= units.len());
+            }
+            17 => self.wrong_ticket(made, ticket),
+            _ => {}
+        }
+    }
+
+    /// The situations of a lift that was made; the units are those before it.
+    fn lift(&mut self, made: &Made, ticket: &Ticket, units: &[Unit], count: usize) {
+        let (k, issue) = (ticket.unit as usize, ticket.issue as usize);
+        let (unit, passed) = (units[k], &units[count..k]);
+        self.meet("commit: hands over the unit", made.answer.others[0] == 1);
+        self.meet("commit: hands over nothing", made.answer.others[0] == 0);
+        self.meet("commit: to its own place", k == count);
+        let other = passed.iter().any(|one| one.full && one.account != unit.account);
+        self.meet("commit: a full unit past one of another account", unit.full && other);
+        self.meet("commit: a small unit past a full one", !unit.full && other);
+        let again = passed.iter().any(|one| ranks_before(&unit, one));
+        self.meet("commit: a unit that was passed by a lifted one before", again);
+        let lifts = made.after.lifts[issue].standing();
+        self.meet("commit: the first lift", lifts.len() == 1);
+        self.meet("commit: the eighth lift", lifts.len() == 8);
+        let rises = lifts.len() > 1 && lifts[lifts.len() - 2].new < lifts[lifts.len() - 1].new;
+        self.meet("commit: a place above that of the lift before", rises);
+    }
+
+    /// The situations of a ticket that is not what asking gives.
+    fn wrong_ticket(&mut self, made: &Made, ticket: &Ticket) {
+        let now = ask_on_sound(made.before, ticket.issue, ticket.unit).ticket;
+        let alone = |same: Ticket| same == now;
+        let account = alone(Ticket { account: now.account, ..*ticket });
+        self.meet("commit: refused for the account alone", account);
+        self.meet(
+            "commit: refused for the lots alone",
+            alone(Ticket { lots: now.lots, ..*ticket }),
+        );
+        self.meet("commit: refused for the day alone", alone(Ticket { day: now.day, ..*ticket }));
+        let count = alone(Ticket { count: now.count, ..*ticket });
+        self.meet("commit: refused for the count alone", count);
+        let range = ticket.account > 63 || ticket.lots == 0;
+        self.meet("commit: a ticket with account above 63 or lots of none", range);
+        let eight = made.before.lifts[ticket.issue as usize].number == 8;
+        self.meet("commit: eight lifts, and the ticket is stale", eight);
     }
 
     /// The situations of a cutoff.
@@ -214,6 +327,7 @@ impl Coverage {
         self.fails(fails);
         for issue in 0..16 {
             self.remaining_stock(made.before, issue);
+            self.units_apart(made.before, issue);
         }
     }
 
@@ -240,7 +354,7 @@ impl Coverage {
         if total == 0 {
             return;
         }
-        let units = units(book.nets_of(issue));
+        let units = units_of(book, issue);
         let (count, stock) = handed(&units, total);
         if stock > 0 {
             let unit = units[count];
@@ -253,6 +367,33 @@ impl Coverage {
                 unit.full && more,
             );
         }
+    }
+
+    /// The situations of full units that lie apart at cutoff.
+    fn units_apart(&mut self, book: &Book, issue: usize) {
+        if book.lifts[issue].number == 0 {
+            return;
+        }
+        let units = units_of(book, issue);
+        let (count, stock) = handed(&units, book.delivered_total(issue));
+        let lacking = &units[count..];
+        let full = |account: u32| {
+            let units = lacking
+                .iter()
+                .enumerate()
+                .filter(move |(_, one)| one.full && one.account == account);
+            units.map(|(at, _)| at).collect::<Vec<_>>()
+        };
+        let apart = |account: u32| full(account).windows(2).any(|two| two[0] + 1 < two[1]);
+        self.meet(
+            "cutoff: full units of one account lie apart",
+            lacking.iter().any(|one| apart(one.account)),
+        );
+        let first = lacking.first().is_some_and(|one| one.full && stock > 0 && apart(one.account));
+        self.meet(
+            "cutoff: stock goes to a full unit, and full ones of its account lie apart",
+            first,
+        );
     }
 
     /// The situations of a resolve.
@@ -310,7 +451,29 @@ impl Coverage {
         self.meet("roll: highest price, rate and days", highest);
         self.meet("roll: day becomes 65,535", made.after.day == u16::MAX);
         self.meet("roll: lots were delivered", made.before.delivered.iter().any(|&lots| lots > 0));
+        let lifted = made.before.lifts.iter().any(|lifts| lifts.number > 0 && lifts.count > 0);
+        self.meet("roll: lifts and counts are cleared", lifted);
     }
+}
+
+/// An issue's units in their order and how many of them are handed; none where there is no such issue.
+fn units_and_handed(book: &Book, issue: u32) -> Option<(Vec<Unit>, usize)> {
+    let issue = usize::try_from(issue).ok().filter(|&issue| issue < ISSUES)?;
+    let units = units_of(book, issue);
+    let (count, _) = handed(&units, book.delivered_total(issue));
+    Some((units, count))
+}
+
+/// Is the issue's order another one by its lifts?
+fn is_lifted(book: &Book, issue: u32) -> bool {
+    units_of(book, issue as usize) != units(book.nets_of(issue as usize))
+}
+
+/// Stands the one unit before the other where nothing is lifted?
+fn ranks_before(one: &Unit, other: &Unit) -> bool {
+    let size = |unit: &Unit| if unit.full { unit.net } else { unit.lots };
+    let key = |unit: &Unit| (unit.full, size(unit), Reverse(unit.account));
+    key(one) > key(other)
 }
 
 /// Would the cutoff be accepted with one entry less in the ledger?

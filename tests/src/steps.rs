@@ -3,7 +3,10 @@
 //! A case is a list of steps on a fresh book. Its text has one step after another with `;`
 //! between them, and can be replayed.
 
+use crate::convert::lift_words;
+use library::LIFT_WORDS;
 use reference::book::{place, Book, Entry, Phase, ACCOUNTS, ENTRIES, ISSUES};
+use reference::calls::Ticket;
 use std::fmt;
 use std::str::FromStr;
 
@@ -29,6 +32,12 @@ pub enum Edit {
         account: usize,
         lots: u32,
     },
+    /// One of an issue's words of lifts: their number, the count, then old and new places.
+    Lifts {
+        issue: usize,
+        word: usize,
+        number: u32,
+    },
     Charge {
         account: usize,
         yen: i64,
@@ -50,6 +59,8 @@ pub enum Call {
     Trade { issue: u32, from: u32, to: u32, lots: u32 },
     Close,
     Deliver { issue: u32, account: u32, lots: u32, out: usize },
+    Ask { issue: u32, unit: u32 },
+    Commit { ticket: Ticket, out: usize },
     Cutoff { out: usize },
     Resolve { issue: u32, account: u32, lots: u32, out: usize },
     PairOff { issue: u32, account: u32 },
@@ -66,12 +77,24 @@ impl Edit {
             Edit::Delivered { issue, account, lots } => {
                 book.delivered[place(issue, account)] = lots;
             }
+            Edit::Lifts { issue, word, number } => *lift_word(book, issue, word) = number,
             Edit::Charge { account, yen } => book.charges[account] = yen,
             Edit::Count(count) => book.count = count,
             Edit::Entries { first, end, entry } => {
                 (first..end).for_each(|at| set_entry(book, at, entry));
             }
         }
+    }
+}
+
+/// One of an issue's words of lifts.
+pub fn lift_word(book: &mut Book, issue: usize, word: usize) -> &mut u32 {
+    let lifts = &mut book.lifts[issue];
+    match word {
+        0 => &mut lifts.number,
+        1 => &mut lifts.count,
+        _ if word % 2 == 0 => &mut lifts.moves[word / 2 - 1].old,
+        _ => &mut lifts.moves[word / 2 - 1].new,
     }
 }
 
@@ -108,6 +131,7 @@ pub fn steps_to(book: &Book) -> Vec<Step> {
             edits.push(Edit::Delivered { issue, account, lots: book.delivered[at] });
         }
     }
+    edits.extend(lift_edits(book));
     let charges = (0..ACCOUNTS).filter(|&account| book.charges[account] != 0);
     edits.extend(charges.map(|account| Edit::Charge { account, yen: book.charges[account] }));
     let mut at = 0;
@@ -122,6 +146,15 @@ pub fn steps_to(book: &Book) -> Vec<Step> {
     edits.into_iter().map(Step::Set).collect()
 }
 
+/// The edits that set the words of lifts that are not 0.
+fn lift_edits(book: &Book) -> Vec<Edit> {
+    let words = lift_words(&book.lifts);
+    let edits = words.iter().enumerate().filter(|(_, &number)| number != 0);
+    let edit =
+        |(at, &number)| Edit::Lifts { issue: at / LIFT_WORDS, word: at % LIFT_WORDS, number };
+    edits.map(edit).collect()
+}
+
 impl Call {
     /// The call's name.
     pub fn name(&self) -> &'static str {
@@ -131,6 +164,8 @@ impl Call {
             Call::Trade { .. } => "trade",
             Call::Close => "close",
             Call::Deliver { .. } => "deliver",
+            Call::Ask { .. } => "ask",
+            Call::Commit { .. } => "commit",
             Call::Cutoff { .. } => "cutoff",
             Call::Resolve { .. } => "resolve",
             Call::PairOff { .. } => "pair-off",
@@ -157,6 +192,7 @@ impl fmt::Display for Edit {
             Edit::Delivered { issue, account, lots } => {
                 write!(text, "delivered {issue} {account} {lots}")
             }
+            Edit::Lifts { issue, word, number } => write!(text, "lifts {issue} {word} {number}"),
             Edit::Charge { account, yen } => write!(text, "charge {account} {yen}"),
             Edit::Count(count) => write!(text, "count {count}"),
             Edit::Entries { first, end, entry } => {
@@ -177,6 +213,10 @@ impl fmt::Display for Call {
             Call::Deliver { issue, account, lots, out }
             | Call::Resolve { issue, account, lots, out } => {
                 write!(text, " {issue} {account} {lots} out {out}")
+            }
+            Call::Ask { issue, unit } => write!(text, " {issue} {unit}"),
+            Call::Commit { ticket: Ticket { issue, unit, account, lots, day, count }, out } => {
+                write!(text, " {issue} {unit} {account} {lots} {day} {count} out {out}")
             }
             Call::Cutoff { out } => write!(text, " out {out}"),
             Call::PairOff { issue, account } => write!(text, " {issue} {account}"),
@@ -226,6 +266,11 @@ fn edit_of(words: &mut Words) -> Result<Edit, String> {
             account: words.below(ACCOUNTS)?,
             lots: words.number()?,
         },
+        "lifts" => Edit::Lifts {
+            issue: words.below(ISSUES)?,
+            word: words.below(LIFT_WORDS)?,
+            number: words.number()?,
+        },
         "charge" => Edit::Charge { account: words.below(ACCOUNTS)?, yen: words.number()? },
         "count" => Edit::Count(words.number()?),
         "entries" => Edit::Entries {
@@ -259,6 +304,8 @@ fn call_of(name: &str, words: &mut Words) -> Result<Call, String> {
             let (issue, account, lots) = (words.number()?, words.number()?, words.number()?);
             Call::Deliver { issue, account, lots, out: words.out()? }
         }
+        "ask" => Call::Ask { issue: words.number()?, unit: words.number()? },
+        "commit" => Call::Commit { ticket: words.ticket()?, out: words.out()? },
         "cutoff" => Call::Cutoff { out: words.out()? },
         "resolve" => {
             let (issue, account, lots) = (words.number()?, words.number()?, words.number()?);
@@ -295,6 +342,18 @@ impl<'a> Words<'a> {
             return Ok(place);
         }
         Err(format!("{place} is not below {limit}"))
+    }
+
+    /// The six numbers of a ticket.
+    fn ticket(&mut self) -> Result<Ticket, String> {
+        Ok(Ticket {
+            issue: self.number()?,
+            unit: self.number()?,
+            account: self.number()?,
+            lots: self.number()?,
+            day: self.number()?,
+            count: self.number()?,
+        })
     }
 
     /// `out` and the length of the output.
@@ -340,16 +399,18 @@ mod tests {
     #[test]
     fn every_step_is_read_back() {
         let text = "set day 65535; set phase cut; set net 15 63 -20000001; \
-            set delivered 0 1 4294967295; set charge 63 -9223372036854775808; \
+            set delivered 0 1 4294967295; set lifts 15 17 4294967295; set charge 63 -9223372036854775808; \
             set count 18446744073709551615; set entries 0 2048 255 255 255 4294967295 65535; \
             sound; unit 16 4294967295; trade 0 1 2 3; close; deliver 0 5 345000 out 4096; \
-            cutoff out 0; resolve 1 2 3 out 4095; pair-off 0 2; roll 1 300 1 2 3; roll 1 2";
+            ask 0 7; commit 0 7 1 30000 0 2 out 4096; cutoff out 0; resolve 1 2 3 out 4095; pair-off 0 2; roll 1 300 1 2 3; roll 1 2";
         assert_eq!(text_of(&parse(text).unwrap()), text);
     }
 
     #[test]
     fn wrong_steps_are_named() {
-        for text in ["sell 1 2", "trade 1 2 3", "close 1", "set net 16 0 1", "cutoff 4096"] {
+        for text in
+            ["sell 1 2", "trade 1 2 3", "close 1", "set net 16 0 1", "cutoff 4096", "commit 0 7"]
+        {
             assert!(parse(text).unwrap_err().contains(text), "{text}");
         }
     }
@@ -357,7 +418,8 @@ mod tests {
     #[test]
     fn a_book_is_made_by_its_steps() {
         let steps = "set day 7; set phase settling; set count 3; set net 0 1 -5; \
-            set delivered 0 1 3; set net 0 2 5; set charge 0 -4; set charge 1 4; set entries 0 2 0 1 2 3 4; \
+            set delivered 0 1 3; set net 0 2 5; set lifts 0 0 1; set lifts 0 1 2; \
+            set lifts 15 16 3; set lifts 15 17 4; set charge 0 -4; set charge 1 4; set entries 0 2 0 1 2 3 4; \
             set entries 2 3 0 1 2 3 7";
         let mut book = Book::fresh();
         for step in parse(steps).unwrap() {

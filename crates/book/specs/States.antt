@@ -29,19 +29,19 @@ abbrev pub nextDay : State → State
 nextDay s = stateOf (s .day + 1) Taking (s .entries)
 
 -- the book of a state and all columns
-abbrev pub bookIn : State → List ℤ → List ℕ → List ℤ → List ℕ → List ℕ → List ℕ → List ℕ → List ℕ → Book
-bookIn s nets delivered charges issues froms tos lots days =
-    bookOf (s .day) (s .phase) nets delivered charges (s .entries) issues froms tos lots days
+abbrev pub bookIn : State → List ℤ → List ℕ → List ℕ → List ℤ → List ℕ → List ℕ → List ℕ → List ℕ → List ℕ → Book
+bookIn s nets delivered lifts charges issues froms tos lots days =
+    bookOf (s .day) (s .phase) nets delivered lifts charges (s .entries) issues froms tos lots days
 
 -- columns of a book's lengths that are a sound book
-pub record SoundColumns (s : State) (nets : List ℤ) (delivered : List ℕ) (charges : List ℤ) (issues froms tos lots days : List ℕ) : Type 0 where
-  pub lengths : Lengths nets delivered charges issues froms tos lots days
-  pub sound : sound (bookIn s nets delivered charges issues froms tos lots days) ≡ true
+pub record SoundColumns (s : State) (nets : List ℤ) (delivered lifts : List ℕ) (charges : List ℤ) (issues froms tos lots days : List ℕ) : Type 0 where
+  pub lengths : Lengths nets delivered lifts charges issues froms tos lots days
+  pub sound : sound (bookIn s nets delivered lifts charges issues froms tos lots days) ≡ true
 
 -- and beside them an output that is long enough
-pub record Ready (s : State) (nets : List ℤ) (delivered : List ℕ) (charges : List ℤ) (issues froms tos lots days out : List ℕ) : Type 0 where
-  pub lengths : Lengths nets delivered charges issues froms tos lots days
-  pub sound : sound (bookIn s nets delivered charges issues froms tos lots days) ≡ true
+pub record Ready (s : State) (nets : List ℤ) (delivered lifts : List ℕ) (charges : List ℤ) (issues froms tos lots days out : List ℕ) : Type 0 where
+  pub lengths : Lengths nets delivered lifts charges issues froms tos lots days
+  pub sound : sound (bookIn s nets delivered lifts charges issues froms tos lots days) ≡ true
   pub room : outputWords ≤ length out
 
 -- a column as a contract has it: lent, and before and after
@@ -57,21 +57,21 @@ pub record Columns : Type 0 where
   pub after : State → Book
 
 abbrev pub columns :
-    Column ℤ → Column ℕ → Column ℤ → Column ℕ → Column ℕ → Column ℕ → Column ℕ → Column ℕ → Columns
-columns nets delivered charges issues froms tos lots days =
+    Column ℤ → Column ℕ → Column ℕ → Column ℤ → Column ℕ → Column ℕ → Column ℕ → Column ℕ → Column ℕ → Columns
+columns nets delivered lifts charges issues froms tos lots days =
     record {
-      before = λ s. bookIn s (now (nets .entry)) (now (delivered .entry)) (now (charges .entry)) (now (issues .entry)) (now (froms .entry)) (now (tos .entry)) (now (lots .entry)) (now (days .entry));
-      after = λ s. bookIn s (now (nets .exit)) (now (delivered .exit)) (now (charges .exit)) (now (issues .exit)) (now (froms .exit)) (now (tos .exit)) (now (lots .exit)) (now (days .exit));
+      before = λ s. bookIn s (now (nets .entry)) (now (delivered .entry)) (now (lifts .entry)) (now (charges .entry)) (now (issues .entry)) (now (froms .entry)) (now (tos .entry)) (now (lots .entry)) (now (days .entry));
+      after = λ s. bookIn s (now (nets .exit)) (now (delivered .exit)) (now (lifts .exit)) (now (charges .exit)) (now (issues .exit)) (now (froms .exit)) (now (tos .exit)) (now (lots .exit)) (now (days .exit));
     }
 
-abbrev pub soundColumns : State → Lent ℤ → Lent ℕ → Lent ℤ → Lent ℕ → Lent ℕ → Lent ℕ → Lent ℕ → Lent ℕ → Type 0
-soundColumns s nets delivered charges issues froms tos lots days =
-    SoundColumns s (now nets) (now delivered) (now charges) (now issues) (now froms) (now tos) (now lots) (now days)
+abbrev pub soundColumns : State → Lent ℤ → Lent ℕ → Lent ℕ → Lent ℤ → Lent ℕ → Lent ℕ → Lent ℕ → Lent ℕ → Lent ℕ → Type 0
+soundColumns s nets delivered lifts charges issues froms tos lots days =
+    SoundColumns s (now nets) (now delivered) (now lifts) (now charges) (now issues) (now froms) (now tos) (now lots) (now days)
 
-abbrev pub ready : State → Lent ℤ → Lent ℕ → Lent ℤ → Lent ℕ → Lent ℕ → Lent ℕ → Lent ℕ → Lent ℕ → Lent ℕ → Type 0
-ready s nets delivered charges issues froms tos lots days out =
-    Ready s (now nets) (now delivered) (now charges) (now issues) (now froms) (now tos) (now lots) (now days) (now out)
+abbrev pub ready : State → Lent ℤ → Lent ℕ → Lent ℕ → Lent ℤ → Lent ℕ → Lent ℕ → Lent ℕ → Lent ℕ → Lent ℕ → Lent ℕ → Type 0
+ready s nets delivered lifts charges issues froms tos lots days out =
+    Ready s (now nets) (now delivered) (now lifts) (now charges) (now issues) (now froms) (now tos) (now lots) (now days) (now out)
 
-abbrev pub readyAfter : State → Column ℤ → Column ℕ → Column ℤ → Column ℕ → Column ℕ → Column ℕ → Column ℕ → Column ℕ → Column ℕ → Type 0
-readyAfter s nets delivered charges issues froms tos lots days out =
-    ready s (nets .exit) (delivered .exit) (charges .exit) (issues .exit) (froms .exit) (tos .exit) (lots .exit) (days .exit) (out .exit)
+abbrev pub readyAfter : State → Column ℤ → Column ℕ → Column ℕ → Column ℤ → Column ℕ → Column ℕ → Column ℕ → Column ℕ → Column ℕ → Column ℕ → Type 0
+readyAfter s nets delivered lifts charges issues froms tos lots days out =
+    ready s (nets .exit) (delivered .exit) (lifts .exit) (charges .exit) (issues .exit) (froms .exit) (tos .exit) (lots .exit) (days .exit) (out .exit)

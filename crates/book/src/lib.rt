@@ -148,6 +148,7 @@ pub fn book_in(
     s: State,
     nets: [i32; 1024],
     delivered: [u32; 1024],
+    lifts: [u32; 288],
     charges: [i64; 64],
     issues: [u8; 2048],
     froms: [u8; 2048],
@@ -155,7 +156,7 @@ pub fn book_in(
     lots: [u32; 2048],
     days: [u16; 2048],
 ) -> Book
-    ensures { λ r. ⌜ r ≡ bookIn s nets delivered charges issues froms tos lots days ⌝ }
+    ensures { λ r. ⌜ r ≡ bookIn s nets delivered lifts charges issues froms tos lots days ⌝ }
 {
     let phase = s.phase;
     Book {
@@ -163,6 +164,7 @@ pub fn book_in(
         phase,
         nets,
         delivered,
+        lifts,
         charges,
         count: s.entries,
         issues,
@@ -214,6 +216,7 @@ pub fn fresh() -> Book
         phase: Phase::Taking,
         nets: [0; 1024],
         delivered: [0; 1024],
+        lifts: [0; 288],
         charges: [0; 64],
         count: 0,
         issues: [0; 2048],

@@ -25,39 +25,39 @@ use Rattle.units.specs.Cursor.{overlapsFrom, Started}
 use Rattle.units.proofs.Cells.{owed-sized, sound-row, total-due}
 use Rattle.cutoff.specs.Issue.{IsReady}
 
-module _ (nets : List ℤ) (delivered : List ℕ) (i : ℕ) (h : i < 16) (s : SoundCells nets delivered) where
+module _ (nets : List ℤ) (delivered lifts : List ℕ) (i : ℕ) (h : i < 16) (s : SoundCells nets delivered lifts) where
   -- an issue has at most 126 fails
-  pub few : length (issueFails (orderIn nets) nets delivered i) ≤ 126
+  pub few : length (issueFails (orderIn nets lifts) nets delivered i) ≤ 126
   unfolding issueFails
-  few = issue-fails (row i nets) (row i delivered) (orderIn nets i) (order-in nets i) (length-row nets i (s .cells) h) (sound-row nets delivered s i h)
+  few = issue-fails (row i nets) (row i delivered) (orderIn nets lifts i) (order-in nets lifts i) (length-row nets i (s .cells) h) (sound-row nets delivered lifts s i h)
 
   pub owing : (out : List ℕ) → length out ≡ 64 → Owing (row i nets) (row i delivered) out
   owing out l =
-      let r = sound-row nets delivered s i h in
+      let r = sound-row nets delivered lifts s i h in
       record {
         both = sym (r .lengths);
         room = l ∙ sym (length-row nets i (s .cells) h);
         most = λ a. within-at (row i nets) (row i delivered) a (r .lengths) (r .owed);
       }
 
-  module _ (runs out : List ℕ) (n d : ℕ) (r : Position) (p : Prepared nets i runs n) (t : d ≡ deliveredTotal delivered i)
-      (o : out ≡ undelivered (obligationsOf nets i) (row i delivered)) (l : length out ≡ 64) (st : Started runs n d r) where
-    issue-cursor : overlapsFrom runs n out (r .cursor) ≡ issueFails (orderIn nets) nets delivered i
+  module _ (runs after out : List ℕ) (n d : ℕ) (r : Position) (p : Prepared nets lifts i runs n) (t : d ≡ deliveredTotal delivered i)
+      (o : out ≡ undelivered (obligationsOf nets i) (row i delivered)) (l : length out ≡ 64) (w : n ≤ length after) (st : Started runs after n d r) where
+    issue-cursor : overlapsFrom after n out (r .cursor) ≡ issueFails (orderIn nets lifts) nets delivered i
     unfolding issueFails fails
     issue-cursor =
         st .lacking out ∙ ap (λ l. overlaps (byAccount 0 l) (lacks unitLots (unitsIn runs n) d)) o
         ∙ ap (λ us. overlaps (byAccount 0 (undelivered (obligationsOf nets i) (row i delivered))) (lacks unitLots us d)) (p .units)
-        ∙ ap (λ k. overlaps (byAccount 0 (undelivered (obligationsOf nets i) (row i delivered))) (lacks unitLots (orderIn nets i) k)) t
+        ∙ ap (λ k. overlaps (byAccount 0 (undelivered (obligationsOf nets i) (row i delivered))) (lacks unitLots (orderIn nets lifts i) k)) t
 
-    issue-stock : prepend (r .cursor .to) (r .stock) [] ≡ issuePartials (orderIn nets) delivered i
+    issue-stock : prepend (r .cursor .to) (r .stock) [] ≡ issuePartials (orderIn nets lifts) delivered i
     unfolding issuePartials partials
     issue-stock = rw (st .next, st .left, p .units, t)
 
-    pub ready : IsReady nets delivered i runs out (record { n = n; cursor = r .cursor; stock = r .stock })
+    pub ready : IsReady nets delivered lifts i after out (record { n = n; cursor = r .cursor; stock = r .stock })
     ready =
         record {
           advance = record {
-            there = p .held .there;
+            there = w;
             shortfalls = record {
               accounts = l;
               small = λ a. rw o
@@ -69,7 +69,7 @@ module _ (nets : List ℤ) (delivered : List ℕ) (i : ℕ) (h : i < 16) (s : So
           stock = omega (
             arith,
             rw (p .units, t) at (st .left),
-            order-stock (duesOf nets i) (orderIn nets i) (deliveredTotal delivered i) (order-in nets i) (total-due nets delivered s i h),
+            order-stock (duesOf nets i) (orderIn nets lifts i) (deliveredTotal delivered i) (order-in nets lifts i) (total-due nets delivered lifts s i h),
           );
           fails = issue-cursor;
           partials = issue-stock;

@@ -53,25 +53,25 @@ pub record WasHanded (i a x v : ℕ) (before after : List ℕ) : Type 0 where
   pub records : v ≡ length (prepend a x [])
   pub out : after ≡ over (words (map (handover i) (prepend a x []))) before
 
-pub record CanReady (nets : List ℤ) (delivered : List ℕ) (i : ℕ) (runs missing : List ℕ) : Type 0 where
-  pub sound : SoundCells nets delivered
+pub record CanReady (nets : List ℤ) (delivered lifts : List ℕ) (i : ℕ) (runs missing : List ℕ) : Type 0 where
+  pub sound : SoundCells nets delivered lifts
   pub issue : i < 16
-  pub held : 128 ≤ length runs
+  pub held : 144 ≤ length runs
   pub accounts : length missing ≡ 64
 
 -- an issue's units and shortfalls: the cursor stands for its fails, and the stock for its partial fail
-pub record IsReady (nets : List ℤ) (delivered : List ℕ) (i : ℕ) (runs missing : List ℕ) (r : Ready) : Type 0 where
+pub record IsReady (nets : List ℤ) (delivered lifts : List ℕ) (i : ℕ) (runs missing : List ℕ) (r : Ready) : Type 0 where
   pub advance : CanAdvance runs (r .n) missing
   pub range : InRange (r .cursor)
   pub stock : r .stock ≤ 99999
-  pub fails : overlapsFrom runs (r .n) missing (r .cursor) ≡ issueFails (orderIn nets) nets delivered i
-  pub partials : prepend (r .cursor .to) (r .stock) [] ≡ issuePartials (orderIn nets) delivered i
+  pub fails : overlapsFrom runs (r .n) missing (r .cursor) ≡ issueFails (orderIn nets lifts) nets delivered i
+  pub partials : prepend (r .cursor .to) (r .stock) [] ≡ issuePartials (orderIn nets lifts) delivered i
 
-pub record CanCut (nets : List ℤ) (delivered : List ℕ) (day i n : ℕ) (a : Lent) : Type 0 where
-  pub sound : SoundCells nets delivered
+pub record CanCut (nets : List ℤ) (delivered lifts : List ℕ) (day i n : ℕ) (a : Lent) : Type 0 where
+  pub sound : SoundCells nets delivered lifts
   pub issue : i < 16
-  pub write : CanWrite (issueEntries day (orderIn nets) nets delivered i) (issueRecords day (orderIn nets) nets delivered i) n a
+  pub write : CanWrite (issueEntries day (orderIn nets lifts) nets delivered i) (issueRecords day (orderIn nets lifts) nets delivered i) n a
 
-pub record WasCut (nets : List ℤ) (delivered : List ℕ) (day i n : ℕ) (a : Lent) (r : Counts) (b : Lent) : Type 0 where
-  pub wrote : Wrote (issueEntries day (orderIn nets) nets delivered i) (issueRecords day (orderIn nets) nets delivered i) n a (r .entries) b
-  pub records : r .records ≡ length (issueRecords day (orderIn nets) nets delivered i)
+pub record WasCut (nets : List ℤ) (delivered lifts : List ℕ) (day i n : ℕ) (a : Lent) (r : Counts) (b : Lent) : Type 0 where
+  pub wrote : Wrote (issueEntries day (orderIn nets lifts) nets delivered i) (issueRecords day (orderIn nets lifts) nets delivered i) n a (r .entries) b
+  pub records : r .records ≡ length (issueRecords day (orderIn nets lifts) nets delivered i)

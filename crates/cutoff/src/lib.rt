@@ -124,16 +124,17 @@ fn hand_stock(out: &mut [u32], i: u32, to: u32, lots: u32) -> usize
 fn prepare(
     nets: &[i32],
     delivered: &[u32],
+    lifts: &[u32],
     i: usize,
     runs: &mut [u32],
     missing: &mut [u32],
 ) -> Ready
-    requires { ⌜ CanReady (now nets) (now delivered) i (now runs) (now missing) ⌝ }
-    ensures { λ r. ⌜ IsReady (now (nets .entry)) (now (delivered .entry)) i (now (runs .exit)) (now (missing .exit)) r ⌝ }
+    requires { ⌜ CanReady (now nets) (now delivered) (now lifts) i (now runs) (now missing) ⌝ }
+    ensures { λ r. ⌜ IsReady (now (nets .entry)) (now (delivered .entry)) (now (lifts .entry)) i (now (runs .exit)) (now (missing .exit)) r ⌝ }
 {
     let s = i * 64;
     let e = s + 64;
-    let n = units::prepare(nets, i, runs);
+    let n = units::prepare(nets, lifts, i, runs);
     let d = book::total(&delivered[s..e]);
     book::missing_of(&nets[s..e], &delivered[s..e], missing);
     let p = units::start(runs, n, d);
@@ -161,6 +162,7 @@ fn numbers(entries: usize, records: usize) -> Counts
 fn cut_issue(
     nets: &[i32],
     delivered: &[u32],
+    lifts: &[u32],
     i: usize,
     day: u16,
     n: usize,
@@ -171,12 +173,12 @@ fn cut_issue(
     days: &mut [u16],
     out: &mut [u32],
 ) -> Counts
-    requires { ⌜ CanCut (now nets) (now delivered) day i n (lending issues froms tos lots days out) ⌝ }
-    ensures { λ r. ⌜ WasCut (now (nets .entry)) (now (delivered .entry)) day i n (lentBefore issues froms tos lots days out) r (lentAfter issues froms tos lots days out) ⌝ }
+    requires { ⌜ CanCut (now nets) (now delivered) (now lifts) day i n (lending issues froms tos lots days out) ⌝ }
+    ensures { λ r. ⌜ WasCut (now (nets .entry)) (now (delivered .entry)) (now (lifts .entry)) day i n (lentBefore issues froms tos lots days out) r (lentAfter issues froms tos lots days out) ⌝ }
 {
-    let mut runs = [0u32; 128];
+    let mut runs = [0u32; 144];
     let mut missing = [0u32; 64];
-    let p = prepare(nets, delivered, i, &mut runs, &mut missing);
+    let p = prepare(nets, delivered, lifts, i, &mut runs, &mut missing);
     let c = p.cursor;
     let v = hand_stock(out, i as u32, c.to, p.stock);
     let m = lay(
@@ -197,41 +199,47 @@ fn cut_issue(
 }
 
 // How many fails an issue has.
-fn count_issue(nets: &[i32], delivered: &[u32], i: usize) -> usize
-    requires { ⌜ SoundCells (now nets) (now delivered) × (i < 16) ⌝ }
-    ensures { λ r. ⌜ r ≡ length (issueFails (orderIn (now (nets .entry))) (now (nets .entry)) (now (delivered .entry)) i) ⌝ }
+fn count_issue(nets: &[i32], delivered: &[u32], lifts: &[u32], i: usize) -> usize
+    requires { ⌜ SoundCells (now nets) (now delivered) (now lifts) × (i < 16) ⌝ }
+    ensures { λ r. ⌜ r ≡ length (issueFails (orderIn (now (nets .entry)) (now (lifts .entry))) (now (nets .entry)) (now (delivered .entry)) i) ⌝ }
 {
-    let mut runs = [0u32; 128];
+    let mut runs = [0u32; 144];
     let mut missing = [0u32; 64];
-    let p = prepare(nets, delivered, i, &mut runs, &mut missing);
+    let p = prepare(nets, delivered, lifts, i, &mut runs, &mut missing);
     let k = p.n;
     let c = p.cursor;
     units::count(&runs, k, &missing, c)
 }
 
 // How many entries a cutoff of all issues makes.
-fn count<'a>(nets: &'a [i32], delivered: &'a [u32]) -> usize
-    requires { ⌜ SoundCells (now nets) (now delivered) ⌝ }
-    ensures { λ r. ⌜ Counted (now (nets .entry)) (now (delivered .entry)) r ⌝ }
+fn count<'a>(nets: &'a [i32], delivered: &'a [u32], lifts: &'a [u32]) -> usize
+    requires { ⌜ SoundCells (now nets) (now delivered) (now lifts) ⌝ }
+    ensures { λ r. ⌜ Counted (now (nets .entry)) (now (delivered .entry)) (now (lifts .entry)) r ⌝ }
 {
     let mut i: usize = 0;
     let mut n: usize = 0;
     while i < 16 {
-        n += count_issue(nets, delivered, i);
+        n += count_issue(nets, delivered, lifts, i);
         i += 1;
     }
     n
 }
 
 // Questions 3 and 10 of a cutoff, of a sound book: the number of the first 'no', or 0.
-pub fn cutoff_asks<'a>(phase: Phase, old: usize, nets: &'a [i32], delivered: &'a [u32]) -> u32
-    requires { ⌜ SoundCells (now nets) (now delivered) × (old ≤ 2048) ⌝ }
-    ensures { λ r. ⌜ Asked phase old (now (nets .entry)) (now (delivered .entry)) r ⌝ }
+pub fn cutoff_asks<'a>(
+    phase: Phase,
+    old: usize,
+    nets: &'a [i32],
+    delivered: &'a [u32],
+    lifts: &'a [u32],
+) -> u32
+    requires { ⌜ SoundCells (now nets) (now delivered) (now lifts) × (old ≤ 2048) ⌝ }
+    ensures { λ r. ⌜ Asked phase old (now (nets .entry)) (now (delivered .entry)) (now (lifts .entry)) r ⌝ }
 {
     if !book::settling(phase) {
         return 3;
     }
-    if 2048 < old + count(nets, delivered) {
+    if 2048 < old + count(nets, delivered, lifts) {
         return 10;
     }
     0
@@ -242,6 +250,7 @@ pub fn cutoff_asks<'a>(phase: Phase, old: usize, nets: &'a [i32], delivered: &'a
 pub fn cutoff_in<'a>(
     nets: &'a [i32],
     delivered: &'a [u32],
+    lifts: &'a [u32],
     day: u16,
     count: usize,
     issues: &mut [u8],
@@ -251,8 +260,8 @@ pub fn cutoff_in<'a>(
     days: &mut [u16],
     out: &mut [u32],
 ) -> Counts
-    requires { ⌜ CanCutAll (now nets) (now delivered) day count (lending issues froms tos lots days out) ⌝ }
-    ensures { λ r. ⌜ WasCutAll (now (nets .entry)) (now (delivered .entry)) day count (lentBefore issues froms tos lots days out) r (lentAfter issues froms tos lots days out) ⌝ }
+    requires { ⌜ CanCutAll (now nets) (now delivered) (now lifts) day count (lending issues froms tos lots days out) ⌝ }
+    ensures { λ r. ⌜ WasCutAll (now (nets .entry)) (now (delivered .entry)) (now (lifts .entry)) day count (lentBefore issues froms tos lots days out) r (lentAfter issues froms tos lots days out) ⌝ }
 {
     let mut i: usize = 0;
     let mut n = count;
@@ -261,6 +270,7 @@ pub fn cutoff_in<'a>(
         let k = cut_issue(
             nets,
             delivered,
+            lifts,
             i,
             day,
             n,

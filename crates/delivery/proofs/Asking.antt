@@ -17,9 +17,9 @@ use Rattle.book.specs.Cells.{SoundCells}
 use Rattle.laws.proofs.Answers.{yes}
 use Rattle.delivery.specs.Deliver.{CanDeliver}
 
-pub can-deliver : (phase : Phase) (nets : List ℤ) (delivered : List ℕ) (i a x : ℕ) (out : List ℕ) → SoundCells nets delivered →
-    firstNo (deliverAsks phase nets delivered i a x) ≡ 0 → outputWords ≤ length out → CanDeliver nets delivered i a x out
-can-deliver phase nets delivered i a x out s h long =
+pub can-deliver : (phase : Phase) (nets : List ℤ) (delivered lifts : List ℕ) (i a x : ℕ) (out : List ℕ) → SoundCells nets delivered lifts →
+    firstNo (deliverAsks phase nets delivered i a x) ≡ 0 → outputWords ≤ length out → CanDeliver nets delivered lifts i a x out
+can-deliver phase nets delivered lifts i a x out s h long =
     let q9 = askOwedToday nets delivered i a x ∷ [] in
     let y3 = yes 2 (isSettling phase) (askIssue i ∷ askAccount a ∷ askLots x ∷ q9) h in
     let y4 = yes 3 (leb i 15) (askAccount a ∷ askLots x ∷ q9) (y3 .others) in

@@ -1,31 +1,51 @@
 -- What a delivery may assume gives what its issue's part may: room for the records of at most 264 units.
-use mathlib.Core.Path.{_≡_, _∙_}
+use mathlib.Core.Path.{_≡_, sym, ap, _∙_}
 use mathlib.Core.List.{List}
-use Prim.Native.Nat.{ℕ, _+_, _≤_}
+use Prim.Native.Nat.{ℕ, _+_, _*_, _≤_, _<_}
 use native.Mathlib.Omega.{arith}
-use lib.ListN.{length-set}
+use lib.Dec.{lit<}
+use lib.ListN.{getD, set, drop, length-set}
+use lib.Seq.{getD-take, getD-drop}
 use lib.IntN.{ℤ}
 use Rattle.rules.specs.Measures.{sum}
-use Rattle.rules.specs.Book.{cell, duesOf, deliveredTotal, orderIn}
-use Rattle.rules.specs.Calls.{raisedDelivered}
-use Rattle.laws.proofs.Cells.{length-dues, delivered-rises, within-set}
+use Rattle.rules.specs.Units.{AccountLots}
+use Rattle.rules.specs.Book.{row, cell, duesOf, deliveredTotal, orderIn}
+use Rattle.rules.specs.Calls.{raisedDelivered, raisedCount}
+use Rattle.laws.proofs.Cells.{length-row, length-dues, delivered-rises, within-row, within-set}
+use Rattle.laws.proofs.Cutoff.{SoundRow, delivered-due}
 use Rattle.laws.proofs.SoundRows.{order-in}
 use Rattle.laws.proofs.Room.{handovers-few}
 use Rattle.book.specs.Cells.{SoundCells}
-use Rattle.units.proofs.Cells.{dues-sum, total-due}
-use Rattle.delivery.specs.Deliver.{CanServe, CanDeliver}
+use Rattle.units.proofs.Cells.{dues-sum, can-order}
+use Rattle.delivery.specs.Deliver.{CanServe, Served, CanDeliver}
 
-module _ (nets : List ℤ) (delivered out : List ℕ) (i a x : ℕ) (can : CanDeliver nets delivered i a x out) where
-  -- the account's lots raised, the cells are those of a sound book
-  raised : SoundCells nets (raisedDelivered delivered i a x)
+-- the store at an issue's count
+pub raised-count : (lifts : List ℕ) (i : ℕ) → set lifts (i * 18 + 1) (getD lifts (i * 18 + 1) 0 + 1) ≡ raisedCount lifts i
+raised-count lifts i =
+    ap (λ n. set lifts (i * 18 + 1) (n + 1))
+    (sym (getD-take 18 (drop (i * 18) lifts) 1 0 (lit< tt) ∙ getD-drop (i * 18) lifts 1 0))
+
+-- and that it is within the word
+pub count-fits : (nets : List ℤ) (delivered lifts : List ℕ) (i : ℕ) → SoundCells nets delivered lifts → i < 16 →
+    getD lifts (i * 18 + 1) 0 + 1 < 4294967296
+count-fits nets delivered lifts i s h =
+    omega (arith, s .counted i h, getD-take 18 (drop (i * 18) lifts) 1 0 (lit< tt), getD-drop (i * 18) lifts 1 0)
+
+-- what is served after a total that is another by name
+pub served-after : (us : List AccountLots) (i d e x : ℕ) (before after : List ℕ) (r : ℕ) → d ≡ e →
+    Served us i d x before after r → Served us i e x before after r
+served-after us i d e x before after r q s = rw (← q) s
+
+module _ (nets : List ℤ) (delivered lifts out : List ℕ) (i a x : ℕ) (can : CanDeliver nets delivered lifts i a x out) where
+  -- the account's lots raised, the issue is one of a sound book
+  raised : SoundRow (row i nets) (row i (raisedDelivered delivered i a x))
   raised =
       let s = can .sound in
+      let n = length-set delivered (cell i a) _ ∙ s .both in
       record {
-        cells = s .cells;
-        both = length-set delivered (cell i a) _ ∙ s .both;
-        size = s .size;
-        balance = s .balance;
-        owed = within-set nets delivered (cell i a) _ (s .owed) (can .owed);
+        lengths = length-row nets i (s .cells) (can .issue) ∙ sym (length-row (raisedDelivered delivered i a x) i n (can .issue));
+        balance = s .balance i (can .issue);
+        owed = within-row i nets (raisedDelivered delivered i a x) (within-set nets delivered (cell i a) _ (s .owed) (can .owed));
       }
 
   due : deliveredTotal delivered i + x ≤ sum (duesOf nets i)
@@ -33,20 +53,20 @@ module _ (nets : List ℤ) (delivered out : List ℕ) (i a x : ℕ) (can : CanDe
       omega (
         arith,
         delivered-rises delivered i a x (can .sound .both) (can .issue) (can .account),
-        total-due nets (raisedDelivered delivered i a x) raised i (can .issue),
+        delivered-due (row i nets) (row i (raisedDelivered delivered i a x)) raised,
       )
 
-  pub can-serve : (d : ℕ) → d ≡ deliveredTotal delivered i → CanServe nets i d x out
+  pub can-serve : (d : ℕ) → d ≡ deliveredTotal delivered i → CanServe nets lifts i d x out
   can-serve d e =
       let s = can .sound in
       record {
-        order = record { cells = s .cells; issue = can .issue; size = s .size };
+        order = can-order nets delivered lifts i s (can .issue);
         small = omega (arith, due, dues-sum nets i (s .size) (s .cells) (can .issue));
         room =
             omega (
               arith,
               can .room,
-              handovers-few (duesOf nets i) (orderIn nets i) d x (order-in nets i) (length-dues nets i (s .cells) (can .issue)) (can .lots)
+              handovers-few (duesOf nets i) (orderIn nets lifts i) d x (order-in nets lifts i) (length-dues nets i (s .cells) (can .issue)) (can .lots)
                   (omega (arith, due)),
             );
       }

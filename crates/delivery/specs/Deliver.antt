@@ -9,7 +9,7 @@ use Rattle.rules.specs.Units.{AccountLots}
 use Rattle.rules.specs.Handover.{handovers}
 use Rattle.rules.specs.Book.{netAt, deliveredAt, orderIn}
 use Rattle.rules.specs.Records.{Rec, handover, words, over}
-use Rattle.rules.specs.Calls.{raisedDelivered, deliverRecords}
+use Rattle.rules.specs.Calls.{raisedDelivered, raisedCount, deliverRecords}
 use Rattle.book.specs.Cells.{SoundCells}
 use Rattle.units.specs.Runs.{unitsIn, CanOrder}
 
@@ -25,10 +25,10 @@ abbrev pub handRecords : ℕ → ℕ → List AccountLots → List Rec
 handRecords i count us = map (handover i) (take count us)
 
 -- an issue of which d lots are delivered, and x more can be
-pub record CanServe (nets : List ℤ) (i d x : ℕ) (out : List ℕ) : Type 0 where
-  pub order : CanOrder nets i
+pub record CanServe (nets : List ℤ) (lifts : List ℕ) (i d x : ℕ) (out : List ℕ) : Type 0 where
+  pub order : CanOrder nets lifts i
   pub small : d + x < 4294967296
-  pub room : 2 * length (handovers (orderIn nets i) d x) ≤ length out
+  pub room : 2 * length (handovers (orderIn nets lifts i) d x) ≤ length out
 
 -- the records of the units that x more lots hand over stand in front of the output
 pub record Served (us : List AccountLots) (i d x : ℕ) (before after : List ℕ) (r : ℕ) : Type 0 where
@@ -36,15 +36,16 @@ pub record Served (us : List AccountLots) (i d x : ℕ) (before after : List ℕ
   pub output : after ≡ over (words (map (handover i) (handovers us d x))) before
 
 -- what a sound book and the answered questions give
-pub record CanDeliver (nets : List ℤ) (delivered : List ℕ) (i a x : ℕ) (out : List ℕ) : Type 0 where
-  pub sound : SoundCells nets delivered
+pub record CanDeliver (nets : List ℤ) (delivered lifts : List ℕ) (i a x : ℕ) (out : List ℕ) : Type 0 where
+  pub sound : SoundCells nets delivered lifts
   pub issue : i < 16
   pub account : a < 64
   pub lots : x ≤ mostLots
   pub owed : deliveredAt delivered i a + x ≤ owedOf (netAt nets i a)
   pub room : outputWords ≤ length out
 
-pub record Delivered (nets : List ℤ) (before after : List ℕ) (i a x : ℕ) (lent out : List ℕ) (r : ℕ) : Type 0 where
+pub record Delivered (nets : List ℤ) (before after lifts raised : List ℕ) (i a x : ℕ) (lent out : List ℕ) (r : ℕ) : Type 0 where
   pub column : after ≡ raisedDelivered before i a x
-  pub count : r ≡ length (deliverRecords (orderIn nets) before i x)
-  pub output : out ≡ over (words (deliverRecords (orderIn nets) before i x)) lent
+  pub counted : raised ≡ raisedCount lifts i
+  pub count : r ≡ length (deliverRecords (orderIn nets lifts) before i x)
+  pub output : out ≡ over (words (deliverRecords (orderIn nets lifts) before i x)) lent

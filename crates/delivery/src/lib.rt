@@ -7,12 +7,12 @@ ghost use Rattle.rules.specs.Questions.{firstNo};
 ghost use Rattle.rules.specs.Book.{orderIn};
 ghost use Rattle.rules.specs.Calls.{deliverAsks};
 ghost use Rattle.rules.specs.Records.{words, over};
-ghost use Rattle.book.specs.Cells.{SoundCells};
+ghost use Rattle.book.specs.Cells.{OwedCells};
 ghost use Rattle.units.specs.Runs.{unitsIn};
 ghost use Rattle.delivery.specs.Deliver.{CanHand, handRecords, CanServe, Served, CanDeliver, Delivered};
 
 // Hands over `count` units from unit c on: one record each.
-fn hand(runs: &[u32], n: usize, i: u32, c: u32, count: usize, out: &mut [u32])
+pub fn hand(runs: &[u32], n: usize, i: u32, c: u32, count: usize, out: &mut [u32])
     requires { ⌜ CanHand (now runs) n i c count (now out) ⌝ }
     ensures { λ _. ⌜ now (out .exit) ≡ over (words (handRecords i count (drop c (unitsIn (now (runs .entry)) n)))) (now (out .entry)) ⌝ }
 {
@@ -29,12 +29,12 @@ fn hand(runs: &[u32], n: usize, i: u32, c: u32, count: usize, out: &mut [u32])
 }
 
 // The units of an issue that x more lots hand over, where d were delivered before; answers their number.
-fn serve(nets: &[i32], i: u32, d: u32, x: u32, out: &mut [u32]) -> usize
-    requires { ⌜ CanServe (now nets) i d x (now out) ⌝ }
-    ensures { λ r. ⌜ Served (orderIn (now (nets .entry)) i) i d x (now (out .entry)) (now (out .exit)) r ⌝ }
+fn serve(nets: &[i32], lifts: &[u32], i: u32, d: u32, x: u32, out: &mut [u32]) -> usize
+    requires { ⌜ CanServe (now nets) (now lifts) i d x (now out) ⌝ }
+    ensures { λ r. ⌜ Served (orderIn (now (nets .entry)) (now (lifts .entry)) i) i d x (now (out .entry)) (now (out .exit)) r ⌝ }
 {
-    let mut runs = [0u32; 128];
-    let n = units::prepare(nets, i as usize, &mut runs);
+    let mut runs = [0u32; 144];
+    let n = units::prepare(nets, lifts, i as usize, &mut runs);
     let before = units::handover(&runs, n, d);
     let after = units::handover(&runs, n, d + x);
     let c = before.count;
@@ -43,24 +43,29 @@ fn serve(nets: &[i32], i: u32, d: u32, x: u32, out: &mut [u32]) -> usize
     new
 }
 
-// A delivery in place: the account's delivered lots rise by x; answers the number of records written.
+// A delivery in place: the account's delivered lots rise by x, and the issue's count by 1; answers the
+// number of records written.
 pub fn deliver_in(
     nets: &[i32],
     delivered: &mut [u32],
+    lifts: &mut [u32],
     i: u32,
     a: u32,
     x: u32,
     out: &mut [u32],
 ) -> usize
-    requires { ⌜ CanDeliver (now nets) (now delivered) i a x (now out) ⌝ }
-    ensures { λ r. ⌜ Delivered (now (nets .entry)) (now (delivered .entry)) (now (delivered .exit)) i a x (now (out .entry)) (now (out .exit)) r ⌝ }
+    requires { ⌜ CanDeliver (now nets) (now delivered) (now lifts) i a x (now out) ⌝ }
+    ensures { λ r. ⌜ Delivered (now (nets .entry)) (now (delivered .entry)) (now (delivered .exit)) (now (lifts .entry)) (now (lifts .exit)) i a x (now (out .entry)) (now (out .exit)) r ⌝ }
 {
     let s = i as usize * 64;
     let e = s + 64;
     let d = book::total(&delivered[s..e]);
     let at = s + a as usize;
     delivered[at] = delivered[at] + x;
-    serve(nets, i, d, x, out)
+    let n = serve(nets, lifts, i, d, x, out);
+    let c = i as usize * 18 + 1;
+    lifts[c] = lifts[c] + 1;
+    n
 }
 
 // Questions 3, 4, 5, 7 and 9 of a delivery: the number of the first 'no', 0 where there is none.
@@ -72,7 +77,7 @@ pub fn deliver_asks<'a>(
     a: u32,
     x: u32,
 ) -> u32
-    requires { ⌜ SoundCells (now nets) (now delivered) ⌝ }
+    requires { ⌜ OwedCells (now nets) (now delivered) ⌝ }
     ensures { λ r. ⌜ r ≡ firstNo (deliverAsks phase (now (nets .entry)) (now (delivered .entry)) i a x) ⌝ }
 {
     if !book::settling(phase) {

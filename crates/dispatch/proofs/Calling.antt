@@ -12,7 +12,7 @@ use Rattle.rules.specs.declared.Instruction.the-variants as instruction
 use Rattle.rules.specs.Measures.{outputWords}
 use Rattle.rules.specs.Book.{sound}
 use Rattle.rules.specs.Questions.{Question, ask, firstNo}
-use Rattle.rules.specs.Calls.{Call, Trade, Close, Deliver, Cutoff, Resolve, PairOff, Roll, Effect, answer, lentTo, outputAsks, HasRoom, ownAsks, effect, called}
+use Rattle.rules.specs.Calls.{Call, Trade, Close, Deliver, Ask, Commit, Cutoff, Resolve, PairOff, Roll, Effect, answer, lentTo, outputAsks, HasRoom, ownAsks, effect, called}
 use Rattle.rules.specs.Run.{callOf}
 use Rattle.laws.proofs.Answers.{said-yes, said-no, yes}
 use Rattle.book.specs.declared.State.{State}
@@ -44,6 +44,8 @@ others : (c : Call) (qs : List Question) → HasRoom c → firstNo (outputAsks c
 others (Trade i f t x) qs h = refl
 others Close qs h = refl
 others (Deliver i a x out) qs h = said-yes 1 (leb outputWords (length out)) qs (yes 0 (leb outputWords (length out)) [] h .first)
+others (Ask i k) qs h = refl
+others (Commit t out) qs h = said-yes 1 (leb outputWords (length out)) qs (yes 0 (leb outputWords (length out)) [] h .first)
 others (Cutoff out) qs h = said-yes 1 (leb outputWords (length out)) qs (yes 0 (leb outputWords (length out)) [] h .first)
 others (Resolve i a x out) qs h = said-yes 1 (leb outputWords (length out)) qs (yes 0 (leb outputWords (length out)) [] h .first)
 others (PairOff i a) qs h = refl

@@ -1,4 +1,6 @@
 // One function for the seven calls: an instruction made in place on any columns whatever.
+pub mod lifts;
+
 use book::State;
 use rules::Instruction;
 use running::Turn;
@@ -47,6 +49,7 @@ pub fn call(
     s: State,
     nets: &mut [i32],
     delivered: &mut [u32],
+    lifts: &mut [u32],
     charges: &mut [i64],
     issues: &mut [u8],
     froms: &mut [u8],
@@ -55,13 +58,24 @@ pub fn call(
     days: &mut [u16],
     out: &mut [u32],
 ) -> Turn
-    ensures { λ r. ⌜ Called x prices out s r (columns nets delivered charges issues froms tos lots days) ⌝ }
+    ensures { λ r. ⌜ Called x prices out s r (columns nets delivered lifts charges issues froms tos lots days) ⌝ }
 {
     let no = output_asks(x, out);
     if no != 0 {
         return refused(no, s);
     }
-    if !soundness::sound(s, nets, delivered, charges, issues, froms, tos, lots, days) {
+    if !soundness::sound(
+        s,
+        nets,
+        delivered,
+        lifts,
+        charges,
+        issues,
+        froms,
+        tos,
+        lots,
+        days,
+    ) {
         return refused(2, s);
     }
     running::answer(
@@ -70,6 +84,7 @@ pub fn call(
         s,
         nets,
         delivered,
+        lifts,
         charges,
         issues,
         froms,

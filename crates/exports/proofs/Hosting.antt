@@ -86,24 +86,24 @@ as-it-came d p b n s out e t =
     }
 
 -- else they are those of the state after the call
-pub as-turned : (d : Answer) (p q : ℕ) (b : Book) (nets : List ℤ) (delivered : List ℕ) (charges : List ℤ) (issues froms tos lots days : List ℕ)
+pub as-turned : (d : Answer) (p q : ℕ) (b : Book) (nets : List ℤ) (delivered lifts : List ℕ) (charges : List ℤ) (issues froms tos lots days : List ℕ)
     (r : Turn) (out : List ℕ) → p ≤ 2 → q ≡ numberOf (r .state .phase) →
-    TurnIs d r (bookIn (r .state) nets delivered charges issues froms tos lots days) out →
+    TurnIs d r (bookIn (r .state) nets delivered lifts charges issues froms tos lots days) out →
     CallIs d
     (record {
       phase = p;
       before = b;
       phaseAfter = q;
-      after = bookIn (stateOf (r .state .day) (phaseOf q) (r .state .entries)) nets delivered charges issues froms tos lots days;
+      after = bookIn (stateOf (r .state .day) (phaseOf q) (r .state .entries)) nets delivered lifts charges issues froms tos lots days;
     })
     (r .refusal) (r .count) (r .cancelled) out
-as-turned d p q b nets delivered charges issues froms tos lots days r out h e t =
+as-turned d p q b nets delivered lifts charges issues froms tos lots days r out h e t =
     record {
       refusal = t .refusal;
       count = t .count;
       cancelled = t .cancelled;
       book =
-          ap (λ u. bookIn (stateOf (r .state .day) u (r .state .entries)) nets delivered charges issues froms tos lots days)
+          ap (λ u. bookIn (stateOf (r .state .day) u (r .state .entries)) nets delivered lifts charges issues froms tos lots days)
           (ap phaseOf e ∙ back (r .state .phase))
           ∙ t .book;
       stage = rw (le-leb p 2 h) (e ∙ ap (λ c. numberOf (c .phase)) (t .book));

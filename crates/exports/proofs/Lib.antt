@@ -1,4 +1,5 @@
 pub mod Numbers
 pub mod Hosting
+pub mod LiftHosts
 pub mod Writing
 pub mod Fed

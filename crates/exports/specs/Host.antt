@@ -1,4 +1,4 @@
--- A host's book is three numbers and eight columns, and its answers are plain numbers.
+-- A host's book is three numbers and nine columns, and its answers are plain numbers.
 use mathlib.Core.Path.{_≡_}
 use mathlib.Core.Bool.{Bool, cond, _&&_}
 use mathlib.Core.List.{List, [], _∷_}

@@ -1,3 +1,4 @@
 pub mod Fields
 pub mod Host
 pub mod Words
+pub mod Lifts

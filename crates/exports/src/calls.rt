@@ -18,6 +18,7 @@ pub extern "C" fn day_sound<'a>(
     entries: usize,
     nets: &'a [i32],
     delivered: &'a [u32],
+    lifts: &'a [u32],
     charges: &'a [i64],
     issues: &'a [u8],
     froms: &'a [u8],
@@ -25,13 +26,24 @@ pub extern "C" fn day_sound<'a>(
     lots: &'a [u32],
     days: &'a [u16],
 ) -> u32
-    ensures { λ r. ⌜ r ≡ soundNumber phase (bookAt day phase entries (columns nets delivered charges issues froms tos lots days)) ⌝ }
+    ensures { λ r. ⌜ r ≡ soundNumber phase (bookAt day phase entries (columns nets delivered lifts charges issues froms tos lots days)) ⌝ }
 {
     if 2 < phase {
         return 0;
     }
     let s = state_of(day, phase, entries);
-    if soundness::sound(s, nets, delivered, charges, issues, froms, tos, lots, days) {
+    if soundness::sound(
+        s,
+        nets,
+        delivered,
+        lifts,
+        charges,
+        issues,
+        froms,
+        tos,
+        lots,
+        days,
+    ) {
         return 1;
     }
     0
@@ -65,6 +77,7 @@ pub extern "C" fn day_unit<'a>(
     entries: usize,
     nets: &'a [i32],
     delivered: &'a [u32],
+    lifts: &'a [u32],
     charges: &'a [i64],
     issues: &'a [u8],
     froms: &'a [u8],
@@ -75,7 +88,7 @@ pub extern "C" fn day_unit<'a>(
     k: u32,
     answer: &mut [u32; 3],
 ) -> u32
-    ensures { λ r. ⌜ UnitIs (dayUnit phase (bookAt day phase entries (columns nets delivered charges issues froms tos lots days)) issue k) r (now (answer .exit)) ⌝ }
+    ensures { λ r. ⌜ UnitIs (dayUnit phase (bookAt day phase entries (columns nets delivered lifts charges issues froms tos lots days)) issue k) r (now (answer .exit)) ⌝ }
 {
     if 2 < phase {
         return told(Found::Refused(2), answer);
@@ -85,6 +98,7 @@ pub extern "C" fn day_unit<'a>(
         s,
         nets,
         delivered,
+        lifts,
         charges,
         issues,
         froms,
@@ -111,6 +125,7 @@ pub extern "C" fn day_call(
     entries: &mut usize,
     nets: &mut [i32],
     delivered: &mut [u32],
+    lifts: &mut [u32],
     charges: &mut [i64],
     issues: &mut [u8],
     froms: &mut [u8],
@@ -121,7 +136,7 @@ pub extern "C" fn day_call(
     count: &mut usize,
     cancelled: &mut u64,
 ) -> u32
-    ensures { λ r. ⌜ DayCalled kind (instructionOf kind a b c d) prices out r count cancelled (host day phase entries (columns nets delivered charges issues froms tos lots days)) ⌝ }
+    ensures { λ r. ⌜ DayCalled kind (instructionOf kind a b c d) prices out r count cancelled (host day phase entries (columns nets delivered lifts charges issues froms tos lots days)) ⌝ }
 {
     *count = 0;
     *cancelled = 0;
@@ -144,6 +159,7 @@ pub extern "C" fn day_call(
         s,
         nets,
         delivered,
+        lifts,
         charges,
         issues,
         froms,

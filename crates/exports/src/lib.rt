@@ -1,10 +1,12 @@
 // The settlement-day book for hosts: C functions over plain numbers and lent columns.
 //
-// A book goes in as three numbers and eight columns:
+// A book goes in as three numbers and nine columns:
 //   day      uint16_t   0 to 65,535
 //   phase    uint32_t   0 Taking, 1 Settling, 2 Cut; any other number is a damaged book
 //   entries  size_t     the number of fail entries, at most 2,048
 //   nets, delivered     1,024 each, int32_t and uint32_t; issue i and account a stand at i * 64 + a
+//   lifts               288, uint32_t; of issue i the words from i * 18 on: number of lifts, count, then eight
+//                       times an old and a new place
 //   charges             64, int64_t
 //   issues, froms, tos  2,048 each, uint8_t; the ledger's columns
 //   lots, days          2,048 each, uint32_t and uint16_t
@@ -23,19 +25,20 @@
 //   7 roll      days, rate (the sixteen prices stand beside it)
 //
 // uint32_t day_sound(uint16_t day, uint32_t phase, size_t entries,
-//     const int32_t *nets, size_t, const uint32_t *delivered, size_t, const int64_t *charges, size_t,
+//     const int32_t *nets, size_t, const uint32_t *delivered, size_t, const uint32_t *lifts, size_t,
+//     const int64_t *charges, size_t,
 //     const uint8_t *issues, size_t, const uint8_t *froms, size_t, const uint8_t *tos, size_t,
 //     const uint32_t *lots, size_t, const uint16_t *days, size_t);
 //   1 where the book is sound, else 0.
 //
-// uint32_t day_unit(uint16_t day, uint32_t phase, size_t entries, <the eight columns as above>,
+// uint32_t day_unit(uint16_t day, uint32_t phase, size_t entries, <the nine columns as above>,
 //     uint32_t issue, uint32_t k, uint32_t answer[3]);
 //   The k-th unit of an issue, k from 0. Refused by 2 and 4. The answer is 1, account, lots; or 0, 0, 0
 //   where there is no such unit, and on a refusal.
 //
 // uint32_t day_call(uint32_t kind, uint32_t a, uint32_t b, uint32_t c, uint32_t d,
 //     const uint32_t *prices, size_t, uint16_t *day, uint32_t *phase, size_t *entries,
-//     int32_t *nets, size_t, uint32_t *delivered, size_t, int64_t *charges, size_t,
+//     int32_t *nets, size_t, uint32_t *delivered, size_t, uint32_t *lifts, size_t, int64_t *charges, size_t,
 //     uint8_t *issues, size_t, uint8_t *froms, size_t, uint8_t *tos, size_t,
 //     uint32_t *lots, size_t, uint16_t *days, size_t,
 //     uint32_t *out, size_t, size_t *count, uint64_t *cancelled);
@@ -58,4 +61,5 @@
 //   of 1 to 7.
 pub mod calls;
 pub mod fields;
+pub mod lifts;
 pub mod reading;

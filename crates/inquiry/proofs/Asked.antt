@@ -28,10 +28,10 @@ module _ (good : Bool) (b : Book) (i k : ℕ) where
   unfolding unitWhere
   refused-issue e h = rw (e, lt-leb i 15 h)
 
-  pub answered : (r : Found) → good ≡ true → i ≤ 15 → r ≡ foundOf (drop k (orderIn (b .nets) i)) →
+  pub answered : (r : Found) → good ≡ true → i ≤ 15 → r ≡ foundOf (drop k (orderIn (b .nets) (b .lifts) i)) →
       foundAnswer r ≡ unitWhere good b i k
   unfolding unitWhere
-  answered r e h f = rw (e, le-leb i 15 h, f) (found-first (drop k (orderIn (b .nets) i)))
+  answered r e h f = rw (e, le-leb i 15 h, f) (found-first (drop k (orderIn (b .nets) (b .lifts) i)))
 
 -- on columns of the right lengths it is the unit question of the book in them
 pub unit-in : (b : Book) (i k : ℕ) → lengthsRight b ≡ true → unitIn b i k ≡ unit b i k

@@ -10,13 +10,13 @@ ghost use Rattle.book.specs.States.{columns};
 ghost use Rattle.units.specs.Runs.{foundOf, CanOrder};
 ghost use Rattle.inquiry.specs.Units.{unitIn};
 
-// The k-th unit of an issue, from all nets.
-fn unit_of(nets: &[i32], i: usize, k: u32) -> Found
-    requires { ⌜ CanOrder (now nets) i ⌝ }
-    ensures { λ r. ⌜ r ≡ foundOf (drop k (orderIn (now (nets .entry)) i)) ⌝ }
+// The k-th unit of an issue, from all nets and lifts.
+fn unit_of(nets: &[i32], lifts: &[u32], i: usize, k: u32) -> Found
+    requires { ⌜ CanOrder (now nets) (now lifts) i ⌝ }
+    ensures { λ r. ⌜ r ≡ foundOf (drop k (orderIn (now (nets .entry)) (now (lifts .entry)) i)) ⌝ }
 {
-    let mut runs = [0u32; 128];
-    let n = units::prepare(nets, i, &mut runs);
+    let mut runs = [0u32; 144];
+    let n = units::prepare(nets, lifts, i, &mut runs);
     let s = units::seek(k);
     let NextUnit::Unit(a, x, _) = units::next_unit(&runs, n, s) else {
         return Found::Nothing;
@@ -30,6 +30,7 @@ pub fn unit<'a>(
     s: State,
     nets: &'a [i32],
     delivered: &'a [u32],
+    lifts: &'a [u32],
     charges: &'a [i64],
     issues: &'a [u8],
     froms: &'a [u8],
@@ -39,13 +40,24 @@ pub fn unit<'a>(
     i: u32,
     k: u32,
 ) -> Found
-    ensures { λ r. ⌜ foundAnswer r ≡ unitIn (columns nets delivered charges issues froms tos lots days .before s) i k ⌝ }
+    ensures { λ r. ⌜ foundAnswer r ≡ unitIn (columns nets delivered lifts charges issues froms tos lots days .before s) i k ⌝ }
 {
-    if !soundness::sound(s, nets, delivered, charges, issues, froms, tos, lots, days) {
+    if !soundness::sound(
+        s,
+        nets,
+        delivered,
+        lifts,
+        charges,
+        issues,
+        froms,
+        tos,
+        lots,
+        days,
+    ) {
         return Found::Refused(2);
     }
     if 15 < i {
         return Found::Refused(4);
     }
-    unit_of(nets, i as usize, k)
+    unit_of(nets, lifts, i as usize, k)
 }

@@ -14,7 +14,7 @@ use Rattle.rules.specs.declared.Instruction.the-variants as instruction
 use Rattle.rules.specs.Measures.{outputWords}
 use Rattle.rules.specs.Book.{sound}
 use Rattle.rules.specs.Questions.{Question, ask, firstNo, askOutput, askSound}
-use Rattle.rules.specs.Calls.{Call, Trade, Close, Deliver, Cutoff, Resolve, PairOff, Roll, Answer, Effect, answer, lentTo, HasRoom, ownAsks, asks, effect, called}
+use Rattle.rules.specs.Calls.{Call, Trade, Close, Deliver, Ask, Commit, Cutoff, Resolve, PairOff, Roll, Answer, Effect, answer, lentTo, HasRoom, ownAsks, asks, effect, called}
 use Rattle.rules.specs.Run.{callOf}
 
 -- The first 'no' of a list
@@ -84,6 +84,8 @@ numbered : (b : Book) (c : Call) → Numbered (asks b c)
 numbered b (Trade i f t x) = omega arith
 numbered b Close = omega arith
 numbered b (Deliver i a x out) = omega arith
+numbered b (Ask i k) = omega arith
+numbered b (Commit t out) = omega arith
 numbered b (Cutoff out) = omega arith
 numbered b (Resolve i a x out) = omega arith
 numbered b (PairOff i a) = omega arith
@@ -115,6 +117,8 @@ room : (b : Book) (c : Call) → HasRoom c → firstNo (asks b c) ≡ firstNo (a
 room b (Trade i f t x) h = refl
 room b Close h = refl
 room b (Deliver i a x out) h = said-yes 1 (leb outputWords (length out)) (askSound b ∷ ownAsks b (Deliver i a x out)) (yes 0 (leb outputWords (length out)) [] h .first)
+room b (Ask i k) h = refl
+room b (Commit t out) h = said-yes 1 (leb outputWords (length out)) (askSound b ∷ ownAsks b (Commit t out)) (yes 0 (leb outputWords (length out)) [] h .first)
 room b (Cutoff out) h = said-yes 1 (leb outputWords (length out)) (askSound b ∷ ownAsks b (Cutoff out)) (yes 0 (leb outputWords (length out)) [] h .first)
 room b (Resolve i a x out) h = said-yes 1 (leb outputWords (length out)) (askSound b ∷ ownAsks b (Resolve i a x out)) (yes 0 (leb outputWords (length out)) [] h .first)
 room b (PairOff i a) h = refl

@@ -9,6 +9,7 @@ use native.Mathlib.Nat.{add-zero, add-suc, suc-add}
 use lib.Dec.{ltb}
 use lib.ListN.{length, getD, take, drop, replicate, take-append-drop}
 use Rattle.rules.specs.Measures.{total, sum}
+pub use Rattle.rules.specs.Measures.{Every}
 use Rattle.rules.specs.Units.{AccountLots, accountLots, prepend, byAccount, sumLots, insert, largestFirst}
 use Rattle.rules.specs.Book.{tabulate, all}
 
@@ -90,6 +91,10 @@ pub total-add {ℓ} : {A : Type ℓ} (f g h : A → ℕ) → ((u : A) → f u + 
 total-add f g h e [] = refl
 total-add f g h e (u ∷ us) = omega (arith, e u, total-add f g h e us)
 
+pub count-one {ℓ} : {A : Type ℓ} (xs : List A) → total (λ x. 1) xs ≡ length xs
+count-one [] = refl
+count-one (x ∷ xs) = omega (arith, count-one xs)
+
 -- one element more: what a loop over a list adds
 pub total-take-suc {ℓ} : {A : Type ℓ} (f : A → ℕ) (l : List A) (k : ℕ) (d : A) → k < length l →
     total f (take (suc k) l) ≡ total f (take k l) + f (getD l k d)
@@ -156,10 +161,6 @@ length-sort [] = refl
 length-sort (u ∷ us) = length-insert u (largestFirst us) ∙ ap suc (length-sort us)
 
 -- What each element of a list has
-
-abbrev pub Every {ℓ} : {A : Type ℓ} → (A → Type 0) → List A → Type 0
-Every P [] = Unit {0}
-Every P (x ∷ xs) = P x × Every P xs
 
 pub every-of {ℓ} : {A : Type ℓ} (P : A → Type 0) (us : List A) → ((u : A) → P u) → Every P us
 every-of P [] f = tt

@@ -5,26 +5,28 @@ use mathlib.Core.Bool.{true, _&&_}
 use mathlib.Core.List.{List}
 use Prim.Native.Nat.{ℕ, _<_}
 use native.Mathlib.Omega.{arith}
-use lib.Dec.{leb, eqb}
+use lib.Dec.{leb, ltb, eqb}
 use lib.ListN.{length, length-set, length-replicate}
 use lib.IntN.{pos}
-use borrow.Author.Tests.{leb-true, eqb-false, not-true}
+use borrow.Author.Tests.{leb-true, ltb-true, eqb-false, not-true}
 use Rattle.rules.specs.declared.Book.{Book}
 use Rattle.rules.specs.declared.Phase.the-variants.{Settling}
-use Rattle.rules.specs.Measures.{issueCount, mostDays, mostRate, between}
-use Rattle.rules.specs.Book.{all, ledgerOf, sound, conditions, withNets, withPhase, withDelivered, fresh}
+use Rattle.rules.specs.Measures.{issueCount, mostLots, mostDays, mostRate, between}
+use Rattle.rules.specs.Handover.{covered}
+use Rattle.rules.specs.Book.{all, deliveredTotal, orderOf, ledgerOf, liftConditions, liftsSound, sound, conditions, withNets, withPhase, fresh}
 use Rattle.rules.specs.Questions.{priceRight}
-use Rattle.rules.specs.Calls.{Call, Trade, Close, Deliver, Cutoff, Resolve, PairOff, Roll, Answer, tradedNets, raisedDelivered, lentTo, asks, effect, called}
+use Rattle.rules.specs.Calls.{Call, Trade, Close, Deliver, Ask, Commit, Cutoff, Resolve, PairOff, Roll, Answer, tradedNets, lentTo, asks, effect, called}
 use Rattle.laws.proofs.Basics.{and-left, and-right}
 use Rattle.laws.proofs.Sound.{SoundBook, sound-parts, parts-sound}
 use Rattle.laws.proofs.Answers.{AllYes, by-answer}
 use Rattle.laws.proofs.Charges.{charged-length, prices-most}
-use Rattle.laws.proofs.Kept.{trade-kept, close-kept, deliver-kept, cutoff-kept, resolve-kept, pair-off-kept, roll-kept}
+use Rattle.laws.proofs.Kept.{trade-kept, close-kept, deliver-kept, commit-kept, cutoff-kept, resolve-kept, pair-off-kept, roll-kept}
 
 -- as a book's fields are
 pub record Sizes (b : Book) : Type 0 where
   pub nets : length (b .nets) ≡ 1024
   pub delivered : length (b .delivered) ≡ 1024
+  pub lifts : length (b .lifts) ≡ 288
   pub charges : length (b .charges) ≡ 64
 
 pub record Standing (b : Book) : Type 0 where
@@ -32,32 +34,54 @@ pub record Standing (b : Book) : Type 0 where
   pub parts : SoundBook b
 
 abbrev resized : (b b′ : Book) → Type 0
-resized b b′ = (length (b′ .nets) ≡ length (b .nets)) × (length (b′ .delivered) ≡ length (b .delivered)) × (length (b′ .charges) ≡ length (b .charges))
+resized b b′ =
+    (length (b′ .nets) ≡ length (b .nets)) × (length (b′ .delivered) ≡ length (b .delivered)) × (length (b′ .lifts) ≡ length (b .lifts))
+    × (length (b′ .charges) ≡ length (b .charges))
 
 -- a book whose sizes are another's
 as-before : (b b′ : Book) → Standing b → resized b b′ → SoundBook b′ → Standing b′
 as-before b b′ s r g =
-    record { sizes = record { nets = r .0 ∙ s .sizes .nets; delivered = r .1 ∙ s .sizes .delivered; charges = r .2 ∙ s .sizes .charges }; parts = g }
+    record {
+      sizes = record {
+        nets = r .0 ∙ s .sizes .nets;
+        delivered = r .1 ∙ s .sizes .delivered;
+        lifts = r .2 ∙ s .sizes .lifts;
+        charges = r .3 ∙ s .sizes .charges;
+      };
+      parts = g;
+    }
 
 -- what a call does keeps a sound book's parts, where no question is answered 'no'
 keeps : (b : Book) (c : Call) → AllYes (asks b c) → Standing b → Standing (effect b c .book)
 keeps b (Trade i f c x) y s =
-    as-before b (withNets b (tradedNets (b .nets) i f c x)) s (simp length-set, refl, refl)
+    as-before b (withNets b (tradedNets (b .nets) i f c x)) s (simp length-set, refl, refl, refl)
     (trade-kept b (s .sizes .nets) (s .parts) i f c x (omega (arith, leb-true i 15 (y .1 .1 .0)))
     (omega (arith, leb-true f 63 (and-left (leb f 63) (leb c 63) (y .1 .1 .1 .0))))
     (omega (arith, leb-true c 63 (and-right (leb f 63) (leb c 63) (y .1 .1 .1 .0))))
     (eqb-false f c (not-true (eqb f c) (y .1 .1 .1 .1 .0))) (y .1 .0) (y .1 .1 .1 .1 .1 .1 .0))
-keeps b Close y s = as-before b (withPhase b Settling) s (refl, refl, refl) (close-kept b (s .parts))
+keeps b Close y s = as-before b (withPhase b Settling) s (refl, refl, refl, refl) (close-kept b (s .parts))
 keeps b (Deliver i a x out) y s =
-    as-before b (withDelivered b (raisedDelivered (b .delivered) i a x)) s (refl, simp length-set, refl)
-    (deliver-kept b (s .parts) i a x (y .1 .1 .0) (leb-true _ _ (y .1 .1 .1 .1 .1 .1 .0)))
+    as-before b (effect b (Deliver i a x out) .book) s (refl, simp length-set, simp length-set, refl)
+    (deliver-kept b (s .sizes .delivered) (s .sizes .lifts) (s .parts) i a x (omega (arith, leb-true i 15 (y .1 .1 .1 .0)))
+    (omega (arith, leb-true a 63 (y .1 .1 .1 .1 .0)))
+    (leb-true 1 x (and-left (leb 1 x) (leb x mostLots) (y .1 .1 .1 .1 .1 .0))) (y .1 .1 .0) (leb-true _ _ (y .1 .1 .1 .1 .1 .1 .0)))
+keeps b (Ask i k) y s = s
+keeps b (Commit t out) y s =
+    let us = orderOf b (t .issue) in
+    let h = covered us (deliveredTotal (b .delivered) (t .issue)) in
+    let there = y .1 .1 .1 .1 .0 in
+    as-before b (effect b (Commit t out) .book) s (refl, refl, simp length-set, refl)
+    (commit-kept b (s .sizes .lifts) (s .parts) t (omega (arith, leb-true (t .issue) 15 (y .1 .1 .1 .0))) (y .1 .1 .0)
+    (leb-true h (t .unit) (and-left (leb h (t .unit)) (ltb (t .unit) (length us)) there))
+    (ltb-true (t .unit) (length us) (and-right (leb h (t .unit)) (ltb (t .unit) (length us)) there))
+    (ltb-true _ _ (y .1 .1 .1 .1 .1 .1 .0)))
 keeps b (Cutoff out) y s =
-    as-before b (effect b (Cutoff out) .book) s (refl, refl, refl)
+    as-before b (effect b (Cutoff out) .book) s (refl, refl, refl, refl)
     (cutoff-kept b (s .sizes .nets) (s .sizes .delivered) (s .parts) (leb-true _ _ (y .1 .1 .1 .0)))
 keeps b (Resolve i a x out) y s =
-    as-before b (effect b (Resolve i a x out) .book) s (refl, refl, refl) (resolve-kept b (s .parts) i a x)
+    as-before b (effect b (Resolve i a x out) .book) s (refl, refl, refl, refl) (resolve-kept b (s .parts) i a x)
 keeps b (PairOff i a) y s =
-    as-before b (effect b (PairOff i a) .book) s (refl, refl, refl)
+    as-before b (effect b (PairOff i a) .book) s (refl, refl, refl, refl)
     (pair-off-kept b (s .parts) i a (omega (arith, leb-true i 15 (y .1 .0))))
 keeps b (Roll days rate prices) y s =
     let c₁ = between 1 mostDays days in
@@ -70,6 +94,7 @@ keeps b (Roll days rate prices) y s =
       sizes = record {
         nets = length-replicate 1024 (pos 0);
         delivered = length-replicate {A = ℕ} 1024 0;
+        lifts = length-replicate {A = ℕ} 288 0;
         charges = charged-length days rate prices (ledgerOf b) (b .charges) ∙ s .sizes .charges;
       };
       parts = roll-kept b (s .sizes .charges) (s .parts) days rate prices
@@ -89,7 +114,7 @@ pub called-sizes : (b : Book) (c : Call) → Sizes b → sound b ≡ true → Si
 called-sizes b c z h = stands b c (record { sizes = z; parts = sound-parts b h }) .sizes
 
 pub fresh-sound : sound fresh ≡ true
-unfolding sound conditions
+unfolding sound conditions liftsSound liftConditions
 fresh-sound = refl
 
 -- A refused call

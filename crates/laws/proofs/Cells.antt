@@ -1,18 +1,18 @@
--- Cells and rows of a list of 16 times 64: what a store at one cell does to the others, to its row and
+-- Cells and rows of a list of 16 times 64, or of any width: what a store at one cell does to the others, to its row and
 -- to a sum. A store at i * 64 + a is one at a in the part that begins at i * 64.
 use mathlib.Core.Path.{_≡_, refl, sym, ap, _∙_}
 use mathlib.Core.Bool.{Bool, true, false, cond, _&&_, false≢true}
 use mathlib.Core.List.{List, [], _∷_}
 use Prim.Native.Nat.{ℕ, zero, suc, _+_, _-_, _*_, _≤_, _<_}
 use native.Mathlib.Omega.{arith}
-use native.Mathlib.Nat.{zero-add}
+use native.Mathlib.Nat.{zero-add, mul-le-mul-right}
 use lib.Dec.{leb, ltb, eqb}
 use lib.ListN.{length, getD, set, take, drop, replicate, length-take, length-drop, length-map, List·getD-map}
 use lib.Seq.{drop-set-add, take-set-lt, take-set-le, drop-set-lt, getD-set-other, getD-set-same, getD-take, getD-drop, ext-getD}
 use lib.IntN.{ℤ, pos}
 use borrow.Author.Tests.{ltb-true, ltb-false, eqb-true, eq-eqb, le-leb}
 use Rattle.rules.specs.Measures.{total, sum, dueOf, owedOf}
-use Rattle.rules.specs.Book.{tabulate, row, cell, duesOf, obligationsOf, netAt, deliveredAt, deliveredTotal, withinOwed, all, isZero}
+use Rattle.rules.specs.Book.{tabulate, block, row, cell, duesOf, obligationsOf, netAt, deliveredAt, deliveredTotal, withinOwed, all, isZero}
 use Rattle.laws.proofs.Basics.{byTest, and-left, and-right, and-both, length-tab, getD-tab, total-replicate, total-take-le, total-drop-le, Every}
 
 -- is it this issue and this account?
@@ -41,25 +41,41 @@ module _ {ℓ} {A : Type ℓ} where
       simp (e, n) (getD-set-same l (cell i a) v d k))
       (λ e. simp e (getD-set-other l (cell i a) (cell j c) v d (here-ne i a j c e ha hc)))
 
-  pub length-row : (l : List A) (i : ℕ) → length l ≡ 1024 → i < 16 → length (row i l) ≡ 64
-  length-row l i h k = simp (length-take, length-drop) (omega arith)
+  -- the words of an issue, in a column that has so many of each
+  pub length-block : (w : ℕ) (l : List A) (i : ℕ) → i * w + w ≤ length l → length (block w i l) ≡ w
+  length-block w l i h = simp (length-take, length-drop) (omega arith)
 
-  pub getD-row : (l : List A) (i a : ℕ) (d : A) → a < 64 → getD (row i l) a d ≡ getD l (cell i a) d
-  getD-row l i a d h = getD-take 64 (drop (i * 64) l) a d h ∙ getD-drop (i * 64) l a d
+  pub getD-block : (w : ℕ) (l : List A) (i a : ℕ) (d : A) → a < w → getD (block w i l) a d ≡ getD l (i * w + a) d
+  getD-block w l i a d h = getD-take w (drop (i * w) l) a d h ∙ getD-drop (i * w) l a d
 
-  -- a store in an issue's row, and in another's
-  pub row-same : (l : List A) (i a : ℕ) (v : A) → a < 64 → row i (set l (cell i a) v) ≡ set (row i l) a v
-  row-same l i a v h = rw (drop-set-add (i * 64) l a v, take-set-lt 64 (drop (i * 64) l) a v h)
+  -- a store in an issue's words, and in another's
+  pub block-same : (w : ℕ) (l : List A) (i a : ℕ) (v : A) → a < w → block w i (set l (i * w + a) v) ≡ set (block w i l) a v
+  block-same w l i a v h = rw (drop-set-add (i * w) l a v, take-set-lt w (drop (i * w) l) a v h)
 
-  pub row-other : (l : List A) (i a j : ℕ) (v : A) → a < 64 → (j ≡ i → ⊥) → row j (set l (cell i a) v) ≡ row j l
-  row-other l i a j v h ne =
+  pub block-other : (w : ℕ) (l : List A) (i a j : ℕ) (v : A) → a < w → (j ≡ i → ⊥) → block w j (set l (i * w + a) v) ≡ block w j l
+  block-other w l i a j v h ne =
       byTest (ltb j i)
       (λ e.
-      let k = ltb-true j i e in
-      let m = i * 64 + a - j * 64 in
-      let q : i * 64 + a ≡ j * 64 + m = omega arith in
-      rw (q, drop-set-add (j * 64) l m v, take-set-le 64 (drop (j * 64) l) m v (omega arith)) refl)
-      (λ e. ap (take 64) (drop-set-lt (j * 64) l (i * 64 + a) v (omega (arith, ltb-false j i e))))
+      let k : suc j * w ≤ i * w = mul-le-mul-right w (ltb-true j i e) in
+      let m = i * w + a - j * w in
+      let q : i * w + a ≡ j * w + m = omega arith in
+      rw (q, drop-set-add (j * w) l m v, take-set-le w (drop (j * w) l) m v (omega arith)) refl)
+      (λ e.
+      let k : suc i * w ≤ j * w = mul-le-mul-right w (let n = ltb-false j i e in omega arith) in
+      ap (take w) (drop-set-lt (j * w) l (i * w + a) v (omega arith)))
+
+  -- an issue's row
+  pub length-row : (l : List A) (i : ℕ) → length l ≡ 1024 → i < 16 → length (row i l) ≡ 64
+  length-row l i h k = length-block 64 l i (omega arith)
+
+  pub getD-row : (l : List A) (i a : ℕ) (d : A) → a < 64 → getD (row i l) a d ≡ getD l (cell i a) d
+  getD-row = getD-block 64
+
+  pub row-same : (l : List A) (i a : ℕ) (v : A) → a < 64 → row i (set l (cell i a) v) ≡ set (row i l) a v
+  row-same = block-same 64
+
+  pub row-other : (l : List A) (i a j : ℕ) (v : A) → a < 64 → (j ≡ i → ⊥) → row j (set l (cell i a) v) ≡ row j l
+  row-other = block-other 64
 
   -- a row is the table of its cells
   pub tab-row : (f : ℕ → A) (l : List A) (i : ℕ) (d : A) → length l ≡ 1024 → i < 16 →

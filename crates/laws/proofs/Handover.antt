@@ -149,6 +149,14 @@ covered-past (u ∷ us) vs d h =
     let e : d - u .lots - sumLots us ≡ d - (u .lots + sumLots us) = omega arith in
     rw (le-leb (u .lots) d (omega arith), covered-past us vs (d - u .lots) (omega arith), e) (omega arith)
 
+-- while a unit waits, the total is short of all units
+pub waits-short : (us : List AccountLots) (d : ℕ) → covered us d < length us → d < sumLots us
+waits-short [] d h = absurd (omega arith)
+waits-short (u ∷ us) d h =
+    byTest (leb (u .lots) d)
+    (λ e. let k = leb-true (u .lots) d e in omega (arith, waits-short us (d - u .lots) (let q = simp e at h in omega arith)))
+    (λ e. omega (arith, leb-false (u .lots) d e))
+
 pub stock-past : (us vs : List AccountLots) (d : ℕ) → sumLots us ≤ d → stock (us ++ vs) d ≡ stock vs (d - sumLots us)
 stock-past [] vs d h = rw sub-zero
 stock-past (u ∷ us) vs d h =

@@ -14,15 +14,18 @@ use borrow.Author.Tests.{leb-true, eqb-true, eqb-false}
 use Rattle.rules.specs.declared.Book.{Book}
 use Rattle.rules.specs.declared.Phase.{Phase}
 use Rattle.rules.specs.declared.Phase.the-variants.{Taking, Settling, Cut}
+use Rattle.rules.specs.declared.Ticket.{Ticket}
 use Rattle.rules.specs.Measures.{mostLots, mostEntries, mostCharge, mostDays, mostRate, mostPrice, total, dueOf, owedOf}
+use Rattle.rules.specs.Handover.{covered}
 use Rattle.rules.specs.Fails.{Fail}
 use Rattle.rules.specs.Ledger.{isFrom, meet, pairing, charged}
-use Rattle.rules.specs.Book.{isTaking, isSettling, isZero, row, cell, netAt, deliveredAt, ledgerOf, withinSize, withPhase, withNets, withDelivered, withLedger, orderIn}
-use Rattle.rules.specs.Calls.{tradedNets, raisedDelivered, failEntry, issueEntries, issueFails, newEntries, rolled}
+use Rattle.rules.specs.Book.{isTaking, isSettling, isZero, row, cell, netAt, deliveredAt, deliveredTotal, liftNumber, orderIn, orderOf, ledgerOf, withinSize, withPhase, withNets, withDelivered, withLifts, withLedger}
+use Rattle.rules.specs.Calls.{tradedNets, raisedDelivered, raisedCount, commitLift, withLift, failEntry, issueEntries, issueFails, newEntries, rolled}
 use Rattle.laws.proofs.Basics.{byTest, and-left, and-right, all-replicate, Every, each-append, each-map, each-take, each-drop, each-replicate}
 use Rattle.laws.proofs.Signed.{rises, falls}
 use Rattle.laws.proofs.Cells.{row-same, row-other, getD-row, length-row, total-set, each-set, within-set, within-zeros}
 use Rattle.laws.proofs.Sound.{SoundEntry, SoundBook}
+use Rattle.laws.proofs.LiftsKept.{lifts-taking, lifts-later, lifts-delivered, lifts-committed, lifts-none}
 use Rattle.laws.proofs.Ledger.{length-ledger, with-ledger}
 use Rattle.laws.proofs.Meeting.{length-meet, sound-meet, days-meet, days-append, days-later}
 use Rattle.laws.proofs.Stepping.{pairing-sound}
@@ -84,6 +87,7 @@ trade-kept b n g i f c x hi hf hc ne ph sm =
       ledger = g .ledger;
       balance = g .balance;
       bounded = g .bounded;
+      lifts = λ j hj. lifts-taking (b .phase) (orderOf b j) (orderIn (tradedNets ns i f c x) (b .lifts) j) (deliveredTotal (b .delivered) j) (b .lifts) j ph (g .lifts j hj);
     }
 
 -- Close and deliver
@@ -97,6 +101,7 @@ close-kept b g = record {
   ledger = g .ledger;
   balance = g .balance;
   bounded = g .bounded;
+  lifts = λ j hj. lifts-later (b .phase) Settling (orderOf b j) (deliveredTotal (b .delivered) j) (b .lifts) j false≢true (g .lifts j hj);
 }
 
 not-taking : (p : Phase) → isSettling p ≡ true → isTaking p ≡ true → ⊥
@@ -104,9 +109,10 @@ not-taking Taking h k = false≢true h
 not-taking Settling h k = false≢true k
 not-taking Cut h k = false≢true h
 
-pub deliver-kept : (b : Book) → SoundBook b → (i a x : ℕ) → isSettling (b .phase) ≡ true →
-    deliveredAt (b .delivered) i a + x ≤ owedOf (netAt (b .nets) i a) → SoundBook (withDelivered b (raisedDelivered (b .delivered) i a x))
-deliver-kept b g i a x ph o = record {
+pub deliver-kept : (b : Book) → length (b .delivered) ≡ 1024 → length (b .lifts) ≡ 288 → SoundBook b → (i a x : ℕ) → i < 16 → a < 64 → 1 ≤ x →
+    isSettling (b .phase) ≡ true → deliveredAt (b .delivered) i a + x ≤ owedOf (netAt (b .nets) i a) →
+    SoundBook (withLifts (withDelivered b (raisedDelivered (b .delivered) i a x)) (raisedCount (b .lifts) i))
+deliver-kept b m n g i a x hi ha hx ph o = record {
   size = g .size;
   rows = g .rows;
   owed = within-set (b .nets) (b .delivered) (cell i a) (deliveredAt (b .delivered) i a + x) (g .owed) o;
@@ -114,6 +120,25 @@ deliver-kept b g i a x ph o = record {
   ledger = g .ledger;
   balance = g .balance;
   bounded = g .bounded;
+  lifts = λ j hj. lifts-delivered (b .phase) (b .nets) (b .delivered) (b .lifts) i a x m n hi ha hx j (g .lifts j hj);
+}
+
+-- Commit
+
+pub commit-kept : (b : Book) → length (b .lifts) ≡ 288 → SoundBook b → (t : Ticket) → t .issue < 16 → isSettling (b .phase) ≡ true →
+    covered (orderOf b (t .issue)) (deliveredTotal (b .delivered) (t .issue)) ≤ t .unit → t .unit < length (orderOf b (t .issue)) →
+    liftNumber (b .lifts) (t .issue) < 8 →
+    SoundBook (withLifts b (withLift (b .lifts) (t .issue) (commitLift (orderOf b) (b .delivered) t)))
+commit-kept b n g t hi ph h l few = record {
+  size = g .size;
+  rows = g .rows;
+  owed = g .owed;
+  taking = g .taking;
+  ledger = g .ledger;
+  balance = g .balance;
+  bounded = g .bounded;
+  lifts = λ j hj.
+      lifts-committed (b .phase) (b .nets) (b .delivered) (b .lifts) (t .issue) (t .unit) n hi few h l (not-taking (b .phase) ph) j (g .lifts j hj);
 }
 
 -- Resolve and pair-off
@@ -133,24 +158,24 @@ pair-off-kept b g i a hi =
 -- Cutoff
 
 module _ (b : Book) (n : length (b .nets) ≡ 1024) (m : length (b .delivered) ≡ 1024) (g : SoundBook b) where
-  new-sound : Every SoundEntry (newEntries (b .day) (orderIn (b .nets)) (b .nets) (b .delivered))
+  new-sound : Every SoundEntry (newEntries (b .day) (orderOf b) (b .nets) (b .delivered))
   new-sound =
-      each-joined SoundEntry (issueEntries (b .day) (orderIn (b .nets)) (b .nets) (b .delivered)) 0 16
+      each-joined SoundEntry (issueEntries (b .day) (orderOf b) (b .nets) (b .delivered)) 0 16
       (λ j h. entries-sound b g n m j (omega arith) (b .day))
 
   all-today : (j : ℕ) (fs : List Fail) → Every (λ e. e .day ≡ b .day) (map (failEntry (b .day) j) fs)
   all-today j [] = tt
   all-today j (f ∷ fs) = (refl, all-today j fs)
 
-  new-today : Every (λ e. e .day ≡ b .day) (newEntries (b .day) (orderIn (b .nets)) (b .nets) (b .delivered))
+  new-today : Every (λ e. e .day ≡ b .day) (newEntries (b .day) (orderOf b) (b .nets) (b .delivered))
   new-today =
-      each-joined (λ e. e .day ≡ b .day) (issueEntries (b .day) (orderIn (b .nets)) (b .nets) (b .delivered)) 0 16
-      (λ j h. all-today j (issueFails (orderIn (b .nets)) (b .nets) (b .delivered) j))
+      each-joined (λ e. e .day ≡ b .day) (issueEntries (b .day) (orderOf b) (b .nets) (b .delivered)) 0 16
+      (λ j h. all-today j (issueFails (orderOf b) (b .nets) (b .delivered) j))
 
-  pub cutoff-kept : b .count + length (newEntries (b .day) (orderIn (b .nets)) (b .nets) (b .delivered)) ≤ mostEntries →
-      SoundBook (withPhase (withLedger b (ledgerOf b ++ newEntries (b .day) (orderIn (b .nets)) (b .nets) (b .delivered))) Cut)
+  pub cutoff-kept : b .count + length (newEntries (b .day) (orderOf b) (b .nets) (b .delivered)) ≤ mostEntries →
+      SoundBook (withPhase (withLedger b (ledgerOf b ++ newEntries (b .day) (orderOf b) (b .nets) (b .delivered))) Cut)
   cutoff-kept few =
-      let new = newEntries (b .day) (orderIn (b .nets)) (b .nets) (b .delivered) in
+      let new = newEntries (b .day) (orderOf b) (b .nets) (b .delivered) in
       let r = with-ledger b (ledgerOf b ++ new) g
       (rw (length-append (ledgerOf b) new, length-ledger b) few)
       (each-append SoundEntry (ledgerOf b) new (g .ledger .each) new-sound)
@@ -163,6 +188,7 @@ module _ (b : Book) (n : length (b .nets) ≡ 1024) (m : length (b .delivered) �
         ledger = r .ledger;
         balance = r .balance;
         bounded = r .bounded;
+        lifts = λ j hj. lifts-later (b .phase) Cut (orderOf b j) (deliveredTotal (b .delivered) j) (b .lifts) j false≢true (g .lifts j hj);
       }
 
 -- Roll
@@ -198,4 +224,5 @@ roll-kept b n g days rate prices hd hr hp =
           (λ c. natAbs c ≤ mostCharge * (b .day + 1)) (λ c q. omega (arith, q, l, f .count))
           (charged days rate prices (ledgerOf b) (b .charges))
           (charged-most days rate prices (ledgerOf b) (b .charges) (mostCharge * b .day) hd hr hp (f .each) (g .bounded));
+      lifts = λ j hj. lifts-none Taking (orderIn (replicate 1024 (pos 0)) (replicate 288 0) j) (deliveredTotal (replicate 1024 0) j) j 288;
     }

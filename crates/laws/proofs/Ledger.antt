@@ -205,4 +205,5 @@ with-ledger b es g n s d = record {
   ledger = ledger-sound (b .day) es n s d;
   balance = g .balance;
   bounded = g .bounded;
+  lifts = g .lifts;
 }

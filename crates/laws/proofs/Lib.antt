@@ -5,13 +5,17 @@ pub mod Handover
 pub mod Overlaps
 pub mod Fails
 pub mod Stretches
+pub mod Gather
+pub mod RunLifts
 pub mod Ranking
 pub mod Cutoff
 pub mod Orders
+pub mod Lifts
 pub mod Room
 pub mod Signed
 pub mod Cells
 pub mod Sound
+pub mod LiftColumn
 pub mod Ledger
 pub mod SoundRows
 pub mod Meeting
@@ -23,6 +27,7 @@ pub mod Records
 pub mod Issue
 pub mod Answers
 pub mod Charges
+pub mod LiftsKept
 pub mod Kept
 pub mod Called
 pub mod Scans

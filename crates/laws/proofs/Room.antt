@@ -10,19 +10,22 @@ use lib.Dec.{leb, eqb}
 use lib.IntN.{ℤ, pos, negsuc}
 use lib.ListN.{length, getD, length-map, length-append, List·getD-map}
 use borrow.Author.Tests.{leb-true, eqb-true, eqb-false}
+use Rattle.rules.specs.declared.Ticket.{Ticket}
 use Rattle.rules.specs.Measures.{total, sum, dueOf, owedOf, unitLots, mostLots, issueCount, outputWords}
 use Rattle.rules.specs.Units.{AccountLots, byAccount, sumLots, receivers}
 use Rattle.rules.specs.Handover.{covered, waiting, handovers, partials}
+use Rattle.rules.specs.Lifts.{lift, handedFrom}
 use Rattle.rules.specs.Fails.{stretches, lacks, undelivered, shortfalls, fails}
 use Rattle.rules.specs.Book.{tabulate, row, duesOf, obligationsOf, deliveredTotal, orderIn}
 use Rattle.rules.specs.Records.{handover, recordOf}
-use Rattle.rules.specs.Calls.{deliverRecords, issuePartials, issueFails, failEntry, issueRecords, cutoffRecords, joined}
-use Rattle.laws.proofs.Basics.{byTest, Every, total-take-le, total-drop-le, length-put}
+use Rattle.rules.specs.Calls.{deliverRecords, commitLift, commitRecords, issuePartials, issueFails, failEntry, issueRecords, cutoffRecords, joined}
+use Rattle.laws.proofs.Basics.{byTest, Every, count-one, total-take-le, total-drop-le, length-put}
 use Rattle.laws.proofs.Units.{UnitSized, Order, ofSmall, isOf}
-use Rattle.laws.proofs.Handover.{partials-length, order-stock, handovers-sum}
+use Rattle.laws.proofs.Handover.{partials-length, order-stock, handovers-sum, waits-short}
 use Rattle.laws.proofs.Fails.{nonzero, nonzero-le, overlaps-count}
 use Rattle.laws.proofs.Stretches.{every-stretches, account-stretches, lacks-length}
 use Rattle.laws.proofs.Cutoff.{SoundRow, dues, obligations, delivered-due, shorts-lacks, order-due}
+use Rattle.laws.proofs.Lifts.{lift-few}
 use Rattle.laws.proofs.Orders.{onAccount, tab-add, by-accounts, sum-tab}
 
 -- what a unit lacks of a full one
@@ -54,10 +57,6 @@ none-due dues a (v ∷ vs) z ps =
     byTest (eqb (v .account) a)
     (λ e. absurd (omega (arith, ap (λ n. getD dues n 0) (eqb-true (v .account) a e), ps .0)))
     (λ e. simp e (omega (arith, none-due dues a vs z (ps .1))))
-
-count-one : (vs : List AccountLots) → total (λ v. 1) vs ≡ length vs
-count-one [] = refl
-count-one (v ∷ vs) = omega (arith, count-one vs)
 
 module _ (xs : List ℕ) (us : List AccountLots) (o : Order xs us) where
   -- at most two stretches a receiver
@@ -180,12 +179,12 @@ length-joined g m k (suc n) h =
     )
 
 -- of the issues' orders
-module _ (today : ℕ) (nets : List ℤ) (delivered : List ℕ) (o : (i : ℕ) → Order (duesOf nets i) (orderIn nets i)) where
+module _ (today : ℕ) (nets : List ℤ) (delivered lifts : List ℕ) (o : (i : ℕ) → Order (duesOf nets i) (orderIn nets lifts i)) where
   pub issue-records : (i : ℕ) → length (row i nets) ≡ 64 → SoundRow (row i nets) (row i delivered) →
-      length (issueRecords today (orderIn nets) nets delivered i) ≤ 127
+      length (issueRecords today (orderIn nets lifts) nets delivered i) ≤ 127
   unfolding issuePartials issueFails
   issue-records i n r =
-      let us = orderIn nets i in
+      let us = orderIn nets lifts i in
       let d = deliveredTotal delivered i in
       let fs = fails unitLots us (obligationsOf nets i) (row i delivered) in
       omega (
@@ -200,11 +199,11 @@ module _ (today : ℕ) (nets : List ℤ) (delivered : List ℕ) (o : (i : ℕ) �
 
   -- 16 issues have at most 16 × 127 records
   pub cutoff-room : ((i : ℕ) → i < 16 → length (row i nets) ≡ 64) → ((i : ℕ) → i < 16 → SoundRow (row i nets) (row i delivered)) →
-      2 * length (cutoffRecords today (orderIn nets) nets delivered) ≤ outputWords
+      2 * length (cutoffRecords today (orderIn nets lifts) nets delivered) ≤ outputWords
   cutoff-room n r =
       omega (
         arith,
-        length-joined (issueRecords today (orderIn nets) nets delivered) 127 0 issueCount
+        length-joined (issueRecords today (orderIn nets lifts) nets delivered) 127 0 issueCount
             (λ i h. issue-records i (n i (omega arith)) (r i (omega arith))),
       )
 
@@ -232,12 +231,31 @@ handovers-few xs us d x o n h g =
       order-gaps xs us o,
     )
 
-pub deliver-room : (nets : List ℤ) (delivered : List ℕ) (i x : ℕ) → Order (duesOf nets i) (orderIn nets i) → length (row i nets) ≡ 64 →
-    SoundRow (row i nets) (row i delivered) → x ≤ mostLots → 2 * length (deliverRecords (orderIn nets) delivered i x) ≤ outputWords
-deliver-room nets delivered i x o n r h =
+pub deliver-room : (nets : List ℤ) (delivered lifts : List ℕ) (i x : ℕ) → Order (duesOf nets i) (orderIn nets lifts i) → length (row i nets) ≡ 64 →
+    SoundRow (row i nets) (row i delivered) → x ≤ mostLots → 2 * length (deliverRecords (orderIn nets lifts) delivered i x) ≤ outputWords
+deliver-room nets delivered lifts i x o n r h =
     omega (
       arith,
-      length-map (handovers (orderIn nets i) (deliveredTotal delivered i) x) (handover i),
-      handovers-few (duesOf nets i) (orderIn nets i) (deliveredTotal delivered i) x o (length-map (row i nets) dueOf ∙ n) h
+      length-map (handovers (orderIn nets lifts i) (deliveredTotal delivered i) x) (handover i),
+      handovers-few (duesOf nets i) (orderIn nets lifts i) (deliveredTotal delivered i) x o (length-map (row i nets) dueOf ∙ n) h
           (delivered-due (row i nets) (row i delivered) r),
     )
+
+-- a commit writes at most one record, whatever the order
+pub commit-few : (us : ℕ → List AccountLots) (delivered : List ℕ) (t : Ticket) →
+    covered (us (t .issue)) (deliveredTotal delivered (t .issue)) ≤ t .unit → t .unit < length (us (t .issue)) →
+    length (commitRecords us delivered t) ≤ 1
+commit-few us delivered t h l =
+    let vs = us (t .issue) in
+    let d = deliveredTotal delivered (t .issue) in
+    let v = commitLift us delivered t in
+    omega (
+      arith,
+      length-map (handedFrom (lift v vs) (v .new) d) (handover (t .issue)),
+      lift-few vs d (t .unit) (waits-short vs d (omega arith)) h l,
+    )
+
+pub commit-room : (us : ℕ → List AccountLots) (delivered : List ℕ) (t : Ticket) →
+    covered (us (t .issue)) (deliveredTotal delivered (t .issue)) ≤ t .unit → t .unit < length (us (t .issue)) →
+    2 * length (commitRecords us delivered t) ≤ outputWords
+commit-room us delivered t h l = omega (arith, commit-few us delivered t h l)

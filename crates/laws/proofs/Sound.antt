@@ -2,17 +2,22 @@
 -- then the same facts at one cell and at one entry, as code reads them.
 use mathlib.Core.Path.{_≡_, refl, sym, ap, _∙_}
 use mathlib.Core.Bool.{Bool, true, false, cond, not, _&&_, false≢true}
-use mathlib.Core.List.{List, [], _∷_}
+use mathlib.Core.List.{List, [], _∷_, _++_}
 use Prim.Native.Nat.{ℕ, zero, suc, _+_, _-_, _*_, _≤_, _<_}
 use native.Mathlib.Omega.{arith}
-use lib.Dec.{leb, eqb}
+use lib.Dec.{leb, ltb, eqb}
 use lib.ListN.{length, getD, drop}
 use lib.IntN.{ℤ, pos, natAbs}
-use borrow.Author.Tests.{leb-true, le-leb, eqb-true, eqb-false, eq-eqb, ne-eqb, not-true}
+use borrow.Author.Tests.{leb-true, le-leb, ltb-true, lt-ltb, eqb-true, eqb-false, eq-eqb, ne-eqb, not-true}
 use Rattle.rules.specs.declared.Book.{Book}
 use Rattle.rules.specs.declared.Entry.{Entry}
-use Rattle.rules.specs.Measures.{mostLots, mostEntries, mostCharge, between, total, dueOf, owedOf}
-use Rattle.rules.specs.Book.{isTaking, tabulate, all, row, entries, ledgerOf, balanced, withinSize, withinOwed, isZero, entrySound, daysSound, conditions, sound}
+use Rattle.rules.specs.declared.Phase.{Phase}
+use Rattle.rules.specs.Measures.{mostLots, mostEntries, mostLifts, mostCharge, between, total, dueOf, owedOf}
+use Rattle.rules.specs.Units.{AccountLots}
+use Rattle.rules.specs.Handover.{covered}
+use Rattle.rules.specs.Lifts.{Lift}
+pub use Rattle.rules.specs.Lifts.{Among}
+use Rattle.rules.specs.Book.{isTaking, tabulate, all, row, entries, ledgerOf, balanced, withinSize, withinOwed, isZero, entrySound, daysSound, deliveredTotal, liftNumber, countAt, liftsAt, orderOf, placesSound, liftConditions, liftsSound, conditions, sound}
 use Rattle.laws.proofs.Basics.{byTest, and-left, and-right, and-both, total-map, Every, each-map}
 
 -- Tests of all elements
@@ -108,6 +113,13 @@ pub record SoundLedger (today n : ℕ) (is fs ts xs ds : List ℕ) : Type 0 wher
   pub unusedLots : all isZero (drop n xs) ≡ true
   pub unusedDays : all isZero (drop n ds) ≡ true
 
+-- an issue's lifts, beside its units in their order and its delivered total
+pub record SoundLifts (phase : Phase) (us : List AccountLots) (d : ℕ) (lifts : List ℕ) (i : ℕ) : Type 0 where
+  pub few : liftNumber lifts i ≤ mostLifts
+  pub places : placesSound (length us) (covered us d) 0 (liftsAt lifts i) ≡ true
+  pub taking : isTaking phase ≡ true → liftNumber lifts i ≡ 0
+  pub count : countAt lifts i ≤ d + liftNumber lifts i
+
 -- what a sound book has
 pub record SoundBook (b : Book) : Type 0 where
   -- each net lies in −20,000,000..20,000,000
@@ -122,6 +134,8 @@ pub record SoundBook (b : Book) : Type 0 where
   -- charges sum to 0, and each is bounded by the day
   pub balance : total dueOf (b .charges) ≡ total owedOf (b .charges)
   pub bounded : Every (λ c. natAbs c ≤ mostCharge * b .day) (b .charges)
+  -- each issue's lifts are sound
+  pub lifts : (i : ℕ) → i < 16 → SoundLifts (b .phase) (orderOf b i) (deliveredTotal (b .delivered) i) (b .lifts) i
 
 -- in balance: by the test, and as an equation of sums
 pub balanced-parts : (ns : List ℤ) → balanced ns ≡ true → total dueOf ns ≡ total owedOf ns
@@ -137,6 +151,28 @@ if-taking false d h k = absurd (false≢true k)
 taking-if : (c d : Bool) → (c ≡ true → d ≡ true) → cond c d true ≡ true
 taking-if true d h = h refl
 taking-if false d h = refl
+
+-- lifts: by the test, and by their parts
+pub lifts-parts : (phase : Phase) (us : ℕ → List AccountLots) (delivered lifts : List ℕ) (i : ℕ) → liftsSound phase us delivered lifts i ≡ true →
+    SoundLifts phase (us i) (deliveredTotal delivered i) lifts i
+unfolding liftsSound liftConditions
+lifts-parts phase us delivered lifts i h =
+    let e : Every (λ c. c ≡ true) (liftConditions phase (us i) (deliveredTotal delivered i) lifts i) = all-each (λ c. c) (liftConditions phase (us i) (deliveredTotal delivered i) lifts i) h in
+    record {
+      few = leb-true _ _ (e .0);
+      places = e .1 .0;
+      taking = λ t. eqb-true _ 0 (if-taking (isTaking phase) (isZero (liftNumber lifts i)) (e .1 .1 .0) t);
+      count = leb-true _ _ (e .1 .1 .1 .0);
+    }
+
+pub parts-lifts : (phase : Phase) (us : ℕ → List AccountLots) (delivered lifts : List ℕ) (i : ℕ) →
+    SoundLifts phase (us i) (deliveredTotal delivered i) lifts i → liftsSound phase us delivered lifts i ≡ true
+unfolding liftsSound liftConditions
+parts-lifts phase us delivered lifts i s =
+    each-all (λ c. c) (liftConditions phase (us i) (deliveredTotal delivered i) lifts i) (
+      le-leb _ _ (s .few),
+      (s .places, (taking-if (isTaking phase) (isZero (liftNumber lifts i)) (λ t. eq-eqb _ 0 (s .taking t)), (le-leb _ _ (s .count), tt))),
+    )
 
 pub sound-parts : (b : Book) → sound b ≡ true → SoundBook b
 unfolding sound conditions
@@ -168,6 +204,9 @@ sound-parts b h =
       balance = balanced-parts (b .charges) (e₁₁ .1 .0);
       bounded = each-map (λ c. withinSize (mostCharge * b .day) c ≡ true) (λ c. natAbs c ≤ mostCharge * b .day)
           (λ c q. leb-true _ _ q) (b .charges) (all-each (withinSize (mostCharge * b .day)) (b .charges) (e₁₁ .1 .1 .0));
+      lifts = λ i l. lifts-parts (b .phase) (orderOf b) (b .delivered) (b .lifts) i
+          (tab-each (λ j. liftsSound (b .phase) (orderOf b) (b .delivered) (b .lifts) j ≡ true) (λ j. j) 0 16 i
+          (all-each (liftsSound (b .phase) (orderOf b) (b .delivered) (b .lifts)) (tabulate (λ j. j) 0 16) (e₁₁ .1 .1 .1 .0)) (omega arith) (omega arith));
     }
 
 pub parts-sound : (b : Book) → SoundBook b → sound b ≡ true
@@ -206,7 +245,12 @@ parts-sound b g =
                               (
                                 each-all (withinSize (mostCharge * b .day)) (b .charges)
                                     (each-map _ (λ c. withinSize (mostCharge * b .day) c ≡ true) (λ c h. le-leb _ _ h) (b .charges) (g .bounded)),
-                                tt,
+                                (
+                                  each-all (liftsSound (b .phase) (orderOf b) (b .delivered) (b .lifts)) (tabulate (λ i. i) 0 16)
+                                      (each-tab (λ i. liftsSound (b .phase) (orderOf b) (b .delivered) (b .lifts) i ≡ true) (λ i. i) 0 16
+                                      (λ i h. parts-lifts (b .phase) (orderOf b) (b .delivered) (b .lifts) i (g .lifts i (omega arith)))),
+                                  tt,
+                                ),
                               ),
                             ),
                           ),
@@ -237,3 +281,66 @@ module _ (b : Book) (s : SoundBook b) where
 
   pub charge-bounded : (a : ℕ) → natAbs (getD (b .charges) a (pos 0)) ≤ mostCharge * b .day
   charge-bounded a = each-getD (λ c. natAbs c ≤ mostCharge * b .day) (b .charges) a (pos 0) (s .bounded) (omega arith)
+
+-- The places of lifts
+
+pub record SoundPlace (number handed least : ℕ) (l : Lift) : Type 0 where
+  pub rises : least ≤ l .new
+  pub among : Among number l
+  pub most : l .new ≤ handed
+
+pub place-parts : (number handed least : ℕ) (l : Lift) (ls : List Lift) → placesSound number handed least (l ∷ ls) ≡ true →
+    SoundPlace number handed least l × (placesSound number handed (l .new) ls ≡ true)
+place-parts number handed least l ls h =
+    let a = leb least (l .new) in
+    let b = leb (l .new) (l .old) in
+    let c = ltb (l .old) number in
+    let d = leb (l .new) handed in
+    let r = placesSound number handed (l .new) ls in
+    let h₁ = and-left (a && b && c && d) r h in
+    let h₂ = and-left (a && b && c) d h₁ in
+    let h₃ = and-left (a && b) c h₂ in (
+      record {
+        rises = leb-true _ _ (and-left a b h₃);
+        among = record { back = leb-true _ _ (and-right a b h₃); there = ltb-true _ _ (and-right (a && b) c h₂) };
+        most = leb-true _ _ (and-right (a && b && c) d h₁);
+      },
+      and-right (a && b && c && d) r h,
+    )
+
+pub parts-place : (number handed least : ℕ) (l : Lift) (ls : List Lift) → SoundPlace number handed least l →
+    placesSound number handed (l .new) ls ≡ true → placesSound number handed least (l ∷ ls) ≡ true
+parts-place number handed least l ls s h =
+    let a = leb least (l .new) in
+    let b = leb (l .new) (l .old) in
+    let c = ltb (l .old) number in
+    let d = leb (l .new) handed in
+    and-both (a && b && c && d) (placesSound number handed (l .new) ls)
+    (and-both (a && b && c) d
+    (and-both (a && b) c (and-both a b (le-leb _ _ (s .rises)) (le-leb _ _ (s .among .back))) (lt-ltb _ _ (s .among .there)))
+    (le-leb _ _ (s .most)))
+    h
+
+pub places-among : (number handed least : ℕ) (ls : List Lift) → placesSound number handed least ls ≡ true → Every (Among number) ls
+places-among number handed least [] h = tt
+places-among number handed least (l ∷ ls) h =
+    let p = place-parts number handed least l ls h in
+    (p .0 .among, places-among number handed (l .new) ls (p .1))
+
+-- more units handed leave places sound
+pub places-grow : (number handed handed′ least : ℕ) (ls : List Lift) → handed ≤ handed′ → placesSound number handed least ls ≡ true →
+    placesSound number handed′ least ls ≡ true
+places-grow number handed handed′ least [] g h = refl
+places-grow number handed handed′ least (l ∷ ls) g h =
+    let p = place-parts number handed least l ls h in
+    let q : l .new ≤ handed = p .0 .most in
+    parts-place number handed′ least l ls (record { rises = p .0 .rises; among = p .0 .among; most = omega arith })
+    (places-grow number handed handed′ (l .new) ls g (p .1))
+
+-- and so does one lift more, to the place of the first unit not handed
+pub places-last : (number least : ℕ) (ls : List Lift) (l : Lift) → placesSound number (l .new) least ls ≡ true → least ≤ l .new →
+    Among number l → placesSound number (l .new) least (ls ++ (l ∷ [])) ≡ true
+places-last number least [] l h r a = parts-place number (l .new) least l [] (record { rises = r; among = a; most = omega arith }) refl
+places-last number least (m ∷ ls) l h r a =
+    let p = place-parts number (l .new) least m ls h in
+    parts-place number (l .new) least m (ls ++ (l ∷ [])) (p .0) (places-last number (m .new) ls l (p .1) (p .0 .most) a)

@@ -9,11 +9,13 @@ use lib.ListN.{length, drop}
 use Rattle.rules.specs.declared.Book.{Book}
 use Rattle.rules.specs.Measures.{sum, owedOf, unitLots, mostLots, outputWords}
 use Rattle.rules.specs.Handover.{stock}
-use Rattle.rules.specs.Book.{row, duesOf, obligationsOf, deliveredTotal, orderIn}
+use Rattle.rules.specs.Units.{unitsOfNets}
+use Rattle.rules.specs.Book.{row, duesOf, obligationsOf, deliveredTotal, liftsAt, orderIn}
 use Rattle.rules.specs.Calls.{deliverRecords, issueFails, cutoffRecords}
 use Rattle.laws.proofs.Basics.{Every, each-map, each-take, each-drop}
 use Rattle.laws.proofs.Units.{Order}
 use Rattle.laws.proofs.Orders.{units-order}
+use Rattle.laws.proofs.Lifts.{lifted-order}
 use Rattle.laws.proofs.Handover.{order-stock}
 use Rattle.laws.proofs.Fails.{Bounded, each-of-map}
 use Rattle.laws.proofs.Cutoff.{SoundRow, Deliverer, Receiver, delivered-due, fails-bounded}
@@ -23,9 +25,9 @@ use Rattle.laws.proofs.Signed.{size-of}
 use Rattle.laws.proofs.Sound.{SoundBook, parts-balanced}
 
 -- the order of an issue has what laws assume of an order: here alone is it known that it is `units`
-pub order-in : (nets : List ℤ) (i : ℕ) → Order (duesOf nets i) (orderIn nets i)
+pub order-in : (nets : List ℤ) (lifts : List ℕ) (i : ℕ) → Order (duesOf nets i) (orderIn nets lifts i)
 unfolding orderIn
-order-in nets i = units-order (duesOf nets i)
+order-in nets lifts i = lifted-order (duesOf nets i) (liftsAt lifts i) (unitsOfNets unitLots (row i nets)) (units-order (duesOf nets i))
 
 module _ (b : Book) (s : SoundBook b) (n : length (b .nets) ≡ 1024) (d : length (b .delivered) ≡ 1024) where
   module _ (i : ℕ) (h : i < 16) where
@@ -42,9 +44,9 @@ module _ (b : Book) (s : SoundBook b) (n : length (b .nets) ≡ 1024) (d : lengt
     total-due = delivered-due (row i (b .nets)) (row i (b .delivered)) sound-row
 
     -- the stock is at most 99,999
-    pub stock-small : stock (orderIn (b .nets) i) (deliveredTotal (b .delivered) i) ≤ 99999
+    pub stock-small : stock (orderIn (b .nets) (b .lifts) i) (deliveredTotal (b .delivered) i) ≤ 99999
     stock-small =
-        order-stock (duesOf (b .nets) i) (orderIn (b .nets) i) (deliveredTotal (b .delivered) i) (order-in (b .nets) i) total-due
+        order-stock (duesOf (b .nets) i) (orderIn (b .nets) (b .lifts) i) (deliveredTotal (b .delivered) i) (order-in (b .nets) (b .lifts) i) total-due
 
     -- nobody owes more than 20,000,000
     pub owed-small : Every (λ x. x ≤ mostLots) (obligationsOf (b .nets) i)
@@ -56,22 +58,22 @@ module _ (b : Book) (s : SoundBook b) (n : length (b .nets) ≡ 1024) (d : lengt
 
     -- an issue's fails run from deliverers to receivers and have 1 to 20,000,000 lots
     pub issue-bounded :
-        Every (Bounded (Deliverer (row i (b .nets))) (Receiver (row i (b .nets))) mostLots) (issueFails (orderIn (b .nets)) (b .nets) (b .delivered) i)
+        Every (Bounded (Deliverer (row i (b .nets))) (Receiver (row i (b .nets))) mostLots) (issueFails (orderIn (b .nets) (b .lifts)) (b .nets) (b .delivered) i)
     unfolding issueFails
     issue-bounded =
-        fails-bounded (row i (b .nets)) (row i (b .delivered)) (orderIn (b .nets) i) unitLots mostLots (order-in (b .nets) i)
+        fails-bounded (row i (b .nets)) (row i (b .delivered)) (orderIn (b .nets) (b .lifts) i) unitLots mostLots (order-in (b .nets) (b .lifts) i)
         (sound-row .lengths) owed-small
 
     -- and are at most 126
-    pub issue-few : length (issueFails (orderIn (b .nets)) (b .nets) (b .delivered) i) ≤ 126
+    pub issue-few : length (issueFails (orderIn (b .nets) (b .lifts)) (b .nets) (b .delivered) i) ≤ 126
     unfolding issueFails
     issue-few =
-        issue-fails (row i (b .nets)) (row i (b .delivered)) (orderIn (b .nets) i) (order-in (b .nets) i) (length-row (b .nets) i n h) sound-row
+        issue-fails (row i (b .nets)) (row i (b .delivered)) (orderIn (b .nets) (b .lifts) i) (order-in (b .nets) (b .lifts) i) (length-row (b .nets) i n h) sound-row
 
     -- the records of a delivery fit
-    pub deliver-fits : (x : ℕ) → x ≤ mostLots → 2 * length (deliverRecords (orderIn (b .nets)) (b .delivered) i x) ≤ outputWords
-    deliver-fits x l = deliver-room (b .nets) (b .delivered) i x (order-in (b .nets) i) (length-row (b .nets) i n h) sound-row l
+    pub deliver-fits : (x : ℕ) → x ≤ mostLots → 2 * length (deliverRecords (orderIn (b .nets) (b .lifts)) (b .delivered) i x) ≤ outputWords
+    deliver-fits x l = deliver-room (b .nets) (b .delivered) (b .lifts) i x (order-in (b .nets) (b .lifts) i) (length-row (b .nets) i n h) sound-row l
 
   -- and so do those of a cutoff
-  pub cutoff-fits : 2 * length (cutoffRecords (b .day) (orderIn (b .nets)) (b .nets) (b .delivered)) ≤ outputWords
-  cutoff-fits = cutoff-room (b .day) (b .nets) (b .delivered) (order-in (b .nets)) (λ i h. length-row (b .nets) i n h) (λ i h. sound-row i h)
+  pub cutoff-fits : 2 * length (cutoffRecords (b .day) (orderIn (b .nets) (b .lifts)) (b .nets) (b .delivered)) ≤ outputWords
+  cutoff-fits = cutoff-room (b .day) (b .nets) (b .delivered) (b .lifts) (order-in (b .nets) (b .lifts)) (λ i h. length-row (b .nets) i n h) (λ i h. sound-row i h)

@@ -48,6 +48,7 @@ fn run_on(
     let s = book::state_of(b.day, phase, b.count);
     let mut nets = b.nets;
     let mut delivered = b.delivered;
+    let mut lifts = b.lifts;
     let mut charges = b.charges;
     let mut issues = b.issues;
     let mut froms = b.froms;
@@ -62,6 +63,7 @@ fn run_on(
         s,
         &mut nets,
         &mut delivered,
+        &mut lifts,
         &mut charges,
         &mut issues,
         &mut froms,
@@ -76,6 +78,7 @@ fn run_on(
         after,
         nets,
         delivered,
+        lifts,
         charges,
         issues,
         froms,

@@ -48,14 +48,16 @@ pub record Chargeable (days rate : ℕ) (prices : List ℕ) (n : ℕ) (is fs ts 
 pub record Charged (days rate : ℕ) (prices : List ℕ) (n : ℕ) (is fs ts xs : List ℕ) (cs after : List ℤ) : Type 0 where
   pub charges : (ds : List ℕ) → after ≡ charged days rate prices (entries n is fs ts xs ds) cs
 
-pub record Cells (ns : List ℤ) (ds : List ℕ) : Type 0 where
+pub record Cells (ns : List ℤ) (ds ls : List ℕ) : Type 0 where
   pub nets : length ns ≡ 1024
   pub delivered : length ds ≡ 1024
+  pub lifts : length ls ≡ 288
 
--- nets and delivered lots are 0
-pub record Rolled (ns : List ℤ) (ds : List ℕ) : Type 0 where
+-- nets and delivered lots are 0, lifts and counts are cleared
+pub record Rolled (ns : List ℤ) (ds ls : List ℕ) : Type 0 where
   pub nets : ns ≡ replicate 1024 (pos 0)
   pub delivered : ds ≡ replicate 1024 0
+  pub lifts : ls ≡ replicate 288 0
 
 -- the same of lent columns
 abbrev pub canCharge : ℕ → ℕ → Lent ℕ → ℕ → Lent ℕ → Lent ℕ → Lent ℕ → Lent ℕ → Lent ℤ → Type 0

@@ -108,18 +108,18 @@ fn clear_nets(nets: &mut [i32])
     }
 }
 
-// All delivered lots are 0.
-fn clear_delivered(delivered: &mut [u32])
-    ensures { λ _. ⌜ now (delivered .exit) ≡ replicate (length (now (delivered .entry))) 0 ⌝ }
+// All words are 0.
+fn clear_words(words: &mut [u32])
+    ensures { λ _. ⌜ now (words .exit) ≡ replicate (length (now (words .entry))) 0 ⌝ }
 {
     let mut i: usize = 0;
-    while i < delivered.len() {
-        delivered[i] = 0;
+    while i < words.len() {
+        words[i] = 0;
         i += 1;
     }
 }
 
-// Entries are charged; then nets and delivered lots are 0.
+// Entries are charged; then nets and delivered lots are 0, and lifts and counts are cleared.
 pub fn roll_in<'a>(
     days: u32,
     rate: u32,
@@ -132,11 +132,13 @@ pub fn roll_in<'a>(
     charges: &mut [i64],
     nets: &mut [i32],
     delivered: &mut [u32],
+    lifts: &mut [u32],
 )
-    requires { ⌜ canCharge days rate prices count issues froms tos lots charges × Cells (now nets) (now delivered) ⌝ }
-    ensures { λ _. ⌜ wasCharged days rate prices count issues froms tos lots charges × Rolled (now (nets .exit)) (now (delivered .exit)) ⌝ }
+    requires { ⌜ canCharge days rate prices count issues froms tos lots charges × Cells (now nets) (now delivered) (now lifts) ⌝ }
+    ensures { λ _. ⌜ wasCharged days rate prices count issues froms tos lots charges × Rolled (now (nets .exit)) (now (delivered .exit)) (now (lifts .exit)) ⌝ }
 {
     charge_entries(days, rate, prices, count, issues, froms, tos, lots, charges);
     clear_nets(nets);
-    clear_delivered(delivered);
+    clear_words(delivered);
+    clear_words(lifts);
 }

@@ -3,16 +3,17 @@ use mathlib.Core.Path.{_≡_}
 use mathlib.Core.Bool.{Bool, true, false, cond, not, _&&_}
 use mathlib.Core.List.{List, [], _∷_, _++_, map, tail}
 use Prim.Native.Nat.{ℕ, zero, suc, _+_, _-_, _*_}
-use lib.Dec.{leb, eqb}
+use lib.Dec.{leb, ltb, eqb}
 use lib.ListN.{length, getD, take, drop, replicate}
 use lib.IntN.{ℤ, pos, natAbs}
 use Rattle.rules.specs.declared.Book.{Book}
 use Rattle.rules.specs.declared.Entry.{Entry}
 use Rattle.rules.specs.declared.Phase.{Phase}
 use Rattle.rules.specs.declared.Phase.the-variants.{Taking, Settling, Cut}
-use Rattle.rules.specs.Measures.{issueCount, lastIssue, accountCount, lastAccount, cellCount, unitLots, mostLots, mostEntries, mostCharge, between, sum, dueOf, owedOf}
+use Rattle.rules.specs.Measures.{issueCount, lastIssue, accountCount, lastAccount, cellCount, unitLots, mostLots, mostEntries, mostLifts, liftWords, liftCells, mostCharge, between, sum, dueOf, owedOf}
 use Rattle.rules.specs.Units.{AccountLots, unitsOfNets}
-use Rattle.rules.specs.Handover.{stock}
+use Rattle.rules.specs.Handover.{covered, stock}
+use Rattle.rules.specs.Lifts.{Lift, liftOf, lifted}
 use Rattle.rules.specs.Ledger.{entry}
 
 abbrev pub isTaking : Phase → Bool
@@ -42,12 +43,15 @@ all p (x ∷ xs) = p x && all p xs
 
 -- Views
 
--- for each issue and account: where its number stands, and the numbers of an issue
+-- for each issue and account: where its number stands, and the numbers of an issue, in a column that has so many of each
 abbrev pub cell : ℕ → ℕ → ℕ
 cell i a = i * accountCount + a
 
+abbrev pub block {ℓ} : {A : Type ℓ} → ℕ → ℕ → List A → List A
+block width i xs = take width (drop (i * width) xs)
+
 abbrev pub row {ℓ} : {A : Type ℓ} → ℕ → List A → List A
-row i xs = take accountCount (drop (i * accountCount) xs)
+row i xs = block accountCount i xs
 
 abbrev pub netAt : List ℤ → ℕ → ℕ → ℤ
 netAt nets i a = getD nets (cell i a) (pos 0)
@@ -65,16 +69,34 @@ obligationsOf nets i = map owedOf (row i nets)
 abbrev pub deliveredTotal : List ℕ → ℕ → ℕ
 deliveredTotal delivered i = sum (row i delivered)
 
--- the issue's units in the order of the day
-unfoldable pub orderIn : List ℤ → ℕ → List AccountLots
-orderIn nets i = unitsOfNets unitLots (row i nets)
+-- an issue's words of lifts: where they stand; how many lifts there are; the count of the day's accepted deliveries and
+-- lifts; and of each lift its old and its new place
+abbrev pub liftCell : ℕ → ℕ → ℕ
+liftCell i j = i * liftWords + j
+
+abbrev pub liftNumber : List ℕ → ℕ → ℕ
+liftNumber lifts i = getD (block liftWords i lifts) 0 0
+
+abbrev pub countAt : List ℕ → ℕ → ℕ
+countAt lifts i = getD (block liftWords i lifts) 1 0
+
+abbrev pub placesIn : ℕ → List ℕ → List Lift
+placesIn zero ws = []
+placesIn (suc n) ws = liftOf (getD ws 0 0) (getD ws 1 0) ∷ placesIn n (drop 2 ws)
+
+abbrev pub liftsAt : List ℕ → ℕ → List Lift
+liftsAt lifts i = placesIn (liftNumber lifts i) (drop 2 (block liftWords i lifts))
+
+-- the issue's units in the order of the day: the order without lifts, as lifted so far
+unfoldable pub orderIn : List ℤ → List ℕ → ℕ → List AccountLots
+orderIn nets lifts i = lifted (liftsAt lifts i) (unitsOfNets unitLots (row i nets))
 
 -- of each issue; the calls take a book's orders from here
 abbrev pub Orders : Type 0
 Orders = ℕ → List AccountLots
 
 abbrev pub orderOf : Book → Orders
-orderOf b = orderIn (b .nets)
+orderOf b = orderIn (b .nets) (b .lifts)
 
 abbrev pub stockOf : Book → ℕ → ℕ
 stockOf b i = stock (orderOf b i) (deliveredTotal (b .delivered) i)
@@ -122,6 +144,29 @@ abbrev pub daysSound : ℕ → ℕ → List Entry → Bool
 daysSound least today [] = leb least today
 daysSound least today (e ∷ es) = leb least (e .day) && daysSound (e .day) today es
 
+-- new ≤ old < number of units, new places never falling, from `least` on, and at most the units handed
+abbrev pub placesSound : ℕ → ℕ → ℕ → List Lift → Bool
+placesSound number handed least [] = true
+placesSound number handed least (l ∷ ls) =
+    leb least (l .new) && leb (l .new) (l .old) && ltb (l .old) number && leb (l .new) handed
+    && placesSound number handed (l .new) ls
+
+-- what an issue's lifts have
+unfoldable pub liftConditions : Phase → List AccountLots → ℕ → List ℕ → ℕ → List Bool
+liftConditions phase us d lifts i =
+    -- at most eight lifts stand for an issue
+    leb (liftNumber lifts i) mostLifts
+    -- their places
+    ∷ placesSound (length us) (covered us d) 0 (liftsAt lifts i)
+    -- no lift in Taking
+    ∷ cond (isTaking phase) (isZero (liftNumber lifts i)) true
+    -- the count is at most lots delivered plus lifts
+    ∷ leb (countAt lifts i) (d + liftNumber lifts i)
+    ∷ []
+
+unfoldable pub liftsSound : Phase → Orders → List ℕ → List ℕ → ℕ → Bool
+liftsSound phase us delivered lifts i = all (λ c. c) (liftConditions phase (us i) (deliveredTotal delivered i) lifts i)
+
 -- what a sound book has
 unfoldable pub conditions : Book → List Bool
 conditions b =
@@ -147,6 +192,8 @@ conditions b =
     ∷ balanced (b .charges)
     -- each of size at most 134,663,013,697,536 × day
     ∷ all (withinSize (mostCharge * b .day)) (b .charges)
+    -- each issue's lifts are sound
+    ∷ all (liftsSound (b .phase) (orderOf b) (b .delivered) (b .lifts)) (tabulate (λ i. i) 0 issueCount)
     ∷ []
 
 -- a book is sound when all of them hold
@@ -158,13 +205,14 @@ sound b = all (λ c. c) (conditions b)
 
 -- a book of all its columns
 abbrev pub bookOf :
-    ℕ → Phase → List ℤ → List ℕ → List ℤ → ℕ → List ℕ → List ℕ → List ℕ → List ℕ → List ℕ → Book
-bookOf day phase nets delivered charges count issues froms tos lots days =
+    ℕ → Phase → List ℤ → List ℕ → List ℕ → List ℤ → ℕ → List ℕ → List ℕ → List ℕ → List ℕ → List ℕ → Book
+bookOf day phase nets delivered lifts charges count issues froms tos lots days =
     record {
       day = day;
       phase = phase;
       nets = nets;
       delivered = delivered;
+      lifts = lifts;
       charges = charges;
       count = count;
       issues = issues;
@@ -176,22 +224,26 @@ bookOf day phase nets delivered charges count issues froms tos lots days =
 
 abbrev pub withDay : Book → ℕ → Phase → Book
 withDay b d p =
-    bookOf d p (b .nets) (b .delivered) (b .charges) (b .count) (b .issues) (b .froms) (b .tos) (b .lots) (b .days)
+    bookOf d p (b .nets) (b .delivered) (b .lifts) (b .charges) (b .count) (b .issues) (b .froms) (b .tos) (b .lots) (b .days)
 
 abbrev pub withPhase : Book → Phase → Book
 withPhase b p = withDay b (b .day) p
 
 abbrev pub withNets : Book → List ℤ → Book
 withNets b ns =
-    bookOf (b .day) (b .phase) ns (b .delivered) (b .charges) (b .count) (b .issues) (b .froms) (b .tos) (b .lots) (b .days)
+    bookOf (b .day) (b .phase) ns (b .delivered) (b .lifts) (b .charges) (b .count) (b .issues) (b .froms) (b .tos) (b .lots) (b .days)
 
 abbrev pub withDelivered : Book → List ℕ → Book
 withDelivered b ds =
-    bookOf (b .day) (b .phase) (b .nets) ds (b .charges) (b .count) (b .issues) (b .froms) (b .tos) (b .lots) (b .days)
+    bookOf (b .day) (b .phase) (b .nets) ds (b .lifts) (b .charges) (b .count) (b .issues) (b .froms) (b .tos) (b .lots) (b .days)
+
+abbrev pub withLifts : Book → List ℕ → Book
+withLifts b ls =
+    bookOf (b .day) (b .phase) (b .nets) (b .delivered) ls (b .charges) (b .count) (b .issues) (b .froms) (b .tos) (b .lots) (b .days)
 
 abbrev pub withCharges : Book → List ℤ → Book
 withCharges b cs =
-    bookOf (b .day) (b .phase) (b .nets) (b .delivered) cs (b .count) (b .issues) (b .froms) (b .tos) (b .lots) (b .days)
+    bookOf (b .day) (b .phase) (b .nets) (b .delivered) (b .lifts) cs (b .count) (b .issues) (b .froms) (b .tos) (b .lots) (b .days)
 
 -- a column of a ledger, 0 where it is not used
 abbrev pub column : (Entry → ℕ) → List Entry → List ℕ
@@ -199,7 +251,7 @@ column f es = map f es ++ replicate (mostEntries - length es) 0
 
 abbrev pub withLedger : Book → List Entry → Book
 withLedger b es =
-    bookOf (b .day) (b .phase) (b .nets) (b .delivered) (b .charges) (length es)
+    bookOf (b .day) (b .phase) (b .nets) (b .delivered) (b .lifts) (b .charges) (length es)
     (column (λ e. e .issue) es) (column (λ e. e .from) es) (column (λ e. e .to) es) (column (λ e. e .lots) es)
     (column (λ e. e .day) es)
 
@@ -216,13 +268,14 @@ pub record LedgerLengths (is fs ts xs ds : List ℕ) : Type 0 where
   pub lots : length xs ≡ mostEntries
   pub days : length ds ≡ mostEntries
 
-pub record Lengths (ns : List ℤ) (ds : List ℕ) (cs : List ℤ) (is fs ts xs es : List ℕ) : Type 0 where
+pub record Lengths (ns : List ℤ) (ds ls : List ℕ) (cs : List ℤ) (is fs ts xs es : List ℕ) : Type 0 where
   pub cells : CellLengths ns ds
+  pub lifts : length ls ≡ liftCells
   pub charges : length cs ≡ accountCount
   pub ledger : LedgerLengths is fs ts xs es
 
 -- a fresh book is day 0, Taking, all zero, ledger empty
 abbrev pub fresh : Book
 fresh =
-    bookOf 0 Taking (replicate cellCount (pos 0)) (replicate cellCount 0) (replicate accountCount (pos 0)) 0
+    bookOf 0 Taking (replicate cellCount (pos 0)) (replicate cellCount 0) (replicate liftCells 0) (replicate accountCount (pos 0)) 0
     (replicate mostEntries 0) (replicate mostEntries 0) (replicate mostEntries 0) (replicate mostEntries 0) (replicate mostEntries 0)

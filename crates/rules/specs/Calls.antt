@@ -2,9 +2,11 @@
 use mathlib.Core.Path.{_≡_}
 use mathlib.Core.Bool.{Bool, true, false}
 use mathlib.Core.List.{List, [], _∷_, _++_, map}
-use Prim.Native.Nat.{ℕ, zero, suc, _+_}
+use Prim.Native.Nat.{ℕ, zero, suc, _+_, _*_}
 use lib.ListN.{length, set, drop, replicate}
 use lib.IntN.{ℤ, pos, _+ℤ_, _-ℤ_}
+use Rattle.rules.specs.declared.Asked.{Asked}
+use Rattle.rules.specs.declared.Asked.the-variants as asking
 use Rattle.rules.specs.declared.Amount.{Amount}
 use Rattle.rules.specs.declared.Amount.the-variants.{Yen, Refused}
 use Rattle.rules.specs.declared.Book.{Book}
@@ -13,20 +15,24 @@ use Rattle.rules.specs.declared.Found.{Found}
 use Rattle.rules.specs.declared.Found.the-variants as found
 use Rattle.rules.specs.declared.Phase.{Phase}
 use Rattle.rules.specs.declared.Phase.the-variants.{Taking, Settling, Cut}
-use Rattle.rules.specs.Measures.{issueCount, cellCount, unitLots, outputWords, valueOf, chargeOf}
+use Rattle.rules.specs.declared.Ticket.{Ticket}
+use Rattle.rules.specs.Measures.{issueCount, cellCount, liftCells, unitLots, outputWords, valueOf, chargeOf}
 use Rattle.rules.specs.Units.{AccountLots}
-use Rattle.rules.specs.Handover.{handovers, partials}
+use Rattle.rules.specs.Handover.{covered, firstUnit, handovers, partials}
+use Rattle.rules.specs.Lifts.{Lift, liftOf, lift, handedFrom}
 use Rattle.rules.specs.Fails.{Fail, fails}
 use Rattle.rules.specs.Ledger.{entry, isFrom, meet, met, Pairing, pairing, charged}
-use Rattle.rules.specs.Book.{tabulate, row, cell, netAt, deliveredAt, obligationsOf, deliveredTotal, Orders, orderOf, ledgerOf, withDay, withPhase, withNets, withDelivered, withCharges, withLedger}
+use Rattle.rules.specs.Book.{tabulate, row, cell, netAt, deliveredAt, obligationsOf, deliveredTotal, liftCell, liftNumber, countAt, Orders, orderOf, ledgerOf, withDay, withPhase, withNets, withDelivered, withLifts, withCharges, withLedger}
 use Rattle.rules.specs.Records.{Rec, handover, recordOf, words, over}
-use Rattle.rules.specs.Questions.{Question, firstNo, askOutput, askSound, askTaking, askSettling, askCut, askIssue, askAccount, askAccounts, askDiffer, askLots, askNets, askOwedToday, askOwedInLedger, askEntries, askRoll, askPrice, askTerm, askDay}
+use Rattle.rules.specs.Questions.{Question, firstNo, askOutput, askSound, askTaking, askSettling, askCut, askIssue, askAccount, askAccounts, askDiffer, askLots, askNets, askOwedToday, askOwedInLedger, askEntries, askRoll, askPrice, askTerm, askDay, askUnhanded, askTicket, askLifts}
 
 -- a call with its arguments and the output lent to it
 pub data Call : Type 0 where
   Trade : ℕ → ℕ → ℕ → ℕ → Call
   Close : Call
   Deliver : ℕ → ℕ → ℕ → List ℕ → Call
+  Ask : ℕ → ℕ → Call
+  Commit : Ticket → List ℕ → Call
   Cutoff : List ℕ → Call
   Resolve : ℕ → ℕ → ℕ → List ℕ → Call
   PairOff : ℕ → ℕ → Call
@@ -80,8 +86,45 @@ deliverAsks phase nets delivered i a x =
 abbrev pub raisedDelivered : List ℕ → ℕ → ℕ → ℕ → List ℕ
 raisedDelivered delivered i a x = set delivered (cell i a) (deliveredAt delivered i a + x)
 
+-- and the count of the day's accepted deliveries and lifts by 1
+abbrev pub raisedCount : List ℕ → ℕ → List ℕ
+raisedCount lifts i = set lifts (liftCell i 1) (countAt lifts i + 1)
+
 abbrev pub deliverRecords : Orders → List ℕ → ℕ → ℕ → List Rec
 deliverRecords us delivered i x = map (handover i) (handovers (us i) (deliveredTotal delivered i) x)
+
+-- ask issue, unit (Settling): the ticket has these two, account, lots, day and count; nothing changes
+abbrev pub liftAsks : Phase → Orders → List ℕ → ℕ → ℕ → List Question
+liftAsks phase us delivered i k = askSettling phase ∷ askIssue i ∷ askUnhanded (us i) (deliveredTotal delivered i) k ∷ []
+
+abbrev pub ticketFor : ℕ → ℕ → AccountLots → ℕ → ℕ → Ticket
+ticketFor i k u today n =
+    record { issue = i; unit = k; account = u .account; lots = u .lots; day = today; count = n }
+
+abbrev pub ticketOf : ℕ → Orders → List ℕ → ℕ → ℕ → Ticket
+ticketOf today us lifts i k = ticketFor i k (firstUnit (drop k (us i))) today (countAt lifts i)
+
+-- commit ticket (Settling)
+abbrev pub commitAsks : Phase → ℕ → Orders → List ℕ → List ℕ → Ticket → List Question
+commitAsks phase today us delivered lifts t =
+    liftAsks phase us delivered (t .issue) (t .unit)
+    ++ (askTicket t (ticketOf today us lifts (t .issue) (t .unit)) ∷ askLifts (liftNumber lifts (t .issue)) ∷ [])
+
+-- the unit moves before all unhanded ones
+abbrev pub commitLift : Orders → List ℕ → Ticket → Lift
+commitLift us delivered t = liftOf (t .unit) (covered (us (t .issue)) (deliveredTotal delivered (t .issue)))
+
+-- one lift more stands, and the count rises by 1
+abbrev pub withLift : List ℕ → ℕ → Lift → List ℕ
+withLift lifts i l =
+    let n = liftNumber lifts i in
+    set (set (set (raisedCount lifts i) (liftCell i 0) (n + 1)) (liftCell i (2 * n + 2)) (l .old)) (liftCell i (2 * n + 3)) (l .new)
+
+-- what is handed on as far as stock covers, written as deliver does
+abbrev pub commitRecords : Orders → List ℕ → Ticket → List Rec
+commitRecords us delivered t =
+    map (handover (t .issue))
+    (handedFrom (lift (commitLift us delivered t) (us (t .issue))) (commitLift us delivered t .new) (deliveredTotal delivered (t .issue)))
 
 -- cutoff (Settling): for issues ascending, the stock to the next unit, then the fails. To Cut
 unfoldable pub issuePartials : Orders → List ℕ → ℕ → List AccountLots
@@ -126,16 +169,19 @@ resolveRecords es i a x = map (recordOf 11) (met (isFrom i a) x es)
 abbrev pub pairOffAsks : ℕ → ℕ → List Question
 pairOffAsks i a = askIssue i ∷ askAccount a ∷ []
 
--- roll days, rate, sixteen prices (Cut): charges; then nets and delivered lots are 0, day rises by 1, to Taking
+-- roll days, rate, sixteen prices (Cut): charges; then nets and delivered lots are 0, lifts and count are cleared, day rises
+-- by 1, to Taking
 abbrev pub rollAsks : Phase → ℕ → ℕ → ℕ → List ℕ → List Question
 rollAsks phase today days rate prices = askCut phase ∷ askRoll days rate prices ∷ askDay today ∷ []
 
 abbrev pub rolled : Book → ℕ → ℕ → List ℕ → Book
 rolled b days rate prices =
     withDay
+    (withLifts
     (withDelivered
     (withNets (withCharges b (charged days rate prices (ledgerOf b) (b .charges))) (replicate cellCount (pos 0)))
     (replicate cellCount 0))
+    (replicate liftCells 0))
     (b .day + 1)
     Taking
 
@@ -146,16 +192,20 @@ abbrev pub lentTo : Call → List ℕ
 lentTo (Trade i f t x) = []
 lentTo Close = []
 lentTo (Deliver i a x out) = out
+lentTo (Ask i k) = []
+lentTo (Commit t out) = out
 lentTo (Cutoff out) = out
 lentTo (Resolve i a x out) = out
 lentTo (PairOff i a) = []
 lentTo (Roll days rate prices) = []
 
--- question 1 is asked of deliver, cutoff and resolve
+-- question 1 is asked of deliver, commit, cutoff and resolve
 abbrev pub outputAsks : Call → List Question
 outputAsks (Trade i f t x) = []
 outputAsks Close = []
 outputAsks (Deliver i a x out) = askOutput outputWords out ∷ []
+outputAsks (Ask i k) = []
+outputAsks (Commit t out) = askOutput outputWords out ∷ []
 outputAsks (Cutoff out) = askOutput outputWords out ∷ []
 outputAsks (Resolve i a x out) = askOutput outputWords out ∷ []
 outputAsks (PairOff i a) = []
@@ -170,6 +220,8 @@ abbrev pub ownAsks : Book → Call → List Question
 ownAsks b (Trade i f t x) = tradeAsks (b .phase) (b .nets) i f t x
 ownAsks b Close = closeAsks (b .phase)
 ownAsks b (Deliver i a x out) = deliverAsks (b .phase) (b .nets) (b .delivered) i a x
+ownAsks b (Ask i k) = liftAsks (b .phase) (orderOf b) (b .delivered) i k
+ownAsks b (Commit t out) = commitAsks (b .phase) (b .day) (orderOf b) (b .delivered) (b .lifts) t
 ownAsks b (Cutoff out) = cutoffAsks (b .phase) (b .count) (length (newEntries (b .day) (orderOf b) (b .nets) (b .delivered)))
 ownAsks b (Resolve i a x out) = resolveAsks (ledgerOf b) i a x
 ownAsks b (PairOff i a) = pairOffAsks i a
@@ -187,7 +239,12 @@ abbrev pub effect : Book → Call → Effect
 effect b (Trade i f t x) = changes (withNets b (tradedNets (b .nets) i f t x))
 effect b Close = changes (withPhase b Settling)
 effect b (Deliver i a x out) =
-    writes (withDelivered b (raisedDelivered (b .delivered) i a x)) (deliverRecords (orderOf b) (b .delivered) i x)
+    writes (withLifts (withDelivered b (raisedDelivered (b .delivered) i a x)) (raisedCount (b .lifts) i))
+    (deliverRecords (orderOf b) (b .delivered) i x)
+effect b (Ask i k) = changes b
+effect b (Commit t out) =
+    writes (withLifts b (withLift (b .lifts) (t .issue) (commitLift (orderOf b) (b .delivered) t)))
+    (commitRecords (orderOf b) (b .delivered) t)
 effect b (Cutoff out) =
     writes (withPhase (withLedger b (ledgerOf b ++ newEntries (b .day) (orderOf b) (b .nets) (b .delivered))) Cut)
     (cutoffRecords (b .day) (orderOf b) (b .nets) (b .delivered))
@@ -198,6 +255,32 @@ effect b (Roll days rate prices) = changes (rolled b days rate prices)
 -- a call's answer, on any book and any output
 unfoldable pub called : Book → Call → Answer
 called b c = answer (firstNo (asks b c)) b (lentTo c) (effect b c)
+
+-- what asking answers: number, whether there is a ticket, and the ticket
+pub record AskAnswer : Type 0 where
+  pub refusal : ℕ
+  pub some : Bool
+  pub ticket : Ticket
+
+abbrev pub someTicket : Ticket → AskAnswer
+someTicket t = record { refusal = 0; some = true; ticket = t }
+
+-- a refusal gives its number, with 0 for every number of the ticket
+abbrev pub noTicket : ℕ → AskAnswer
+noTicket r =
+    record { refusal = r; some = false; ticket = record { issue = 0; unit = 0; account = 0; lots = 0; day = 0; count = 0 } }
+
+abbrev pub ticketAnswer : ℕ → Ticket → AskAnswer
+ticketAnswer zero t = someTicket t
+ticketAnswer (suc r) t = noTicket (suc r)
+
+unfoldable pub asked : Book → ℕ → ℕ → AskAnswer
+asked b i k = ticketAnswer (firstNo (asks b (Ask i k))) (ticketOf (b .day) (orderOf b) (b .lifts) i k)
+
+-- the paper's number and ticket for each case of the enum
+abbrev pub askedAnswer : Asked → AskAnswer
+askedAnswer (asking.Ticket t) = someTicket t
+askedAnswer (asking.Refused r) = noTicket r
 
 -- the k-th unit of an issue, k from 0: account and lots, or 'none' exactly when k is not below the number of units;
 -- a refusal is neither, and has its number

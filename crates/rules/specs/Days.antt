@@ -2,18 +2,21 @@
 use mathlib.Core.Path.{_≡_, refl}
 use mathlib.Core.Bool.{true, false}
 use mathlib.Core.List.{List, [], _∷_, _++_}
-use Prim.Native.Nat.{ℕ, _-_}
+use Prim.Native.Nat.{ℕ, zero, suc, _+_, _-_}
 use lib.ListN.{replicate, take}
 use lib.IntN.{pos, negsuc}
+use Rattle.rules.specs.declared.Book.{Book}
 use Rattle.rules.specs.declared.Entry.{Entry}
 use Rattle.rules.specs.declared.Name.the-variants as name
+use Rattle.rules.specs.declared.Ticket.{Ticket}
 use Rattle.rules.specs.Measures.{unitLots, valueOf, chargeOf}
 use Rattle.rules.specs.Units.{accountLots, units, unitsOfNets, sumLots}
 use Rattle.rules.specs.Handover.{handovers, partials}
+use Rattle.rules.specs.Lifts.{liftOf, lift, handedFrom}
 use Rattle.rules.specs.Fails.{lacks, fails}
 use Rattle.rules.specs.Ledger.{entry, pairing}
-use Rattle.rules.specs.Book.{conditions, sound, orderIn, orderOf, stockOf, ledgerOf, withLedger, fresh}
-use Rattle.rules.specs.Calls.{Trade, Close, Deliver, Cutoff, Resolve, PairOff, Roll, Answer, oneUnit, noUnit, someYen, noYen, called, unit, value, charge, issuePartials, issueFails}
+use Rattle.rules.specs.Book.{liftConditions, liftsSound, conditions, sound, liftsAt, countAt, orderIn, orderOf, stockOf, ledgerOf, withLedger, fresh}
+use Rattle.rules.specs.Calls.{Trade, Close, Deliver, Commit, Cutoff, Resolve, PairOff, Roll, Answer, ticketFor, someTicket, noTicket, oneUnit, noUnit, someYen, noYen, called, asked, unit, value, charge, issuePartials, issueFails}
 use Rattle.rules.specs.Tape.{readOf, pricesOf}
 use Rattle.rules.specs.Run.{Ran, runOf, answerOf, failLines, chargeLines, line}
 use Rattle.rules.specs.Text.{decimal, lineText, failText, chargeText, ranOf, closingText, printedOf}
@@ -63,6 +66,34 @@ pairedOff = called (withLedger fresh (fail 1 2 30 ∷ fail 2 3 20 ∷ fail 2 1 5
 -- after P8, 4 delivers 6,000 of what it failed: its first entry is met and removed, its second falls
 unfoldable pub resolved : Answer
 resolved = called (cut .book) (Resolve 0 4 6000 lent)
+
+-- after P7, unit 7 (account 1, 30,000 lots) is lifted while 45,000 lots are in stock
+abbrev pub ticket7 : Ticket
+ticket7 = ticketFor 0 7 (accountLots 1 30000) 0 2
+
+unfoldable pub committed7 : Answer
+committed7 = called (delivered2 .book) (Commit ticket7 lent)
+
+-- the next unit is lifted to its own place, n times one after the other
+abbrev pub ticket5 : ℕ → Ticket
+ticket5 n = ticketFor 0 5 (accountLots 2 50000) 0 (2 + n)
+
+abbrev pub ownPlaces : ℕ → Book
+ownPlaces zero = delivered2 .book
+ownPlaces (suc n) = called (ownPlaces n) (Commit (ticket5 n) lent) .book
+
+unfoldable pub eightLifts : Book
+eightLifts = ownPlaces 8
+
+-- 3 sells 300,000 to 1 and 200,000 to 2; unit 3 of the units 1 1 1 2 2 is lifted, 50,000 are delivered, cutoff
+unfoldable pub parted : State
+parted =
+    afterAll start
+    (Trade 0 3 1 300000 ∷ Trade 0 3 2 200000 ∷ Close ∷ Commit (ticketFor 0 3 (accountLots 2 100000) 0 0) lent
+    ∷ Deliver 0 3 50000 lent ∷ [])
+
+unfoldable pub partedCut : Answer
+partedCut = called (parted .book) (Cutoff lent)
 
 -- the example of 'The program'
 abbrev pub exampleTape : List ℕ
@@ -187,11 +218,44 @@ ownDays =
     (250000 ∷ 101000 ∷ 206000 ∷ [])
     ∷ []
 
+-- days with lifts
+abbrev pub liftDays : List Case
+liftDays =
+    -- unit 7 after P7: the ticket, and what the commit hands over
+    case (asked (delivered2 .book) 0 7) (someTicket ticket7)
+    ∷ case (numbers 3 committed7) (0 ∷ 1 ∷ 0xa0001000 ∷ 0x80007530 ∷ 7 ∷ [])
+    ∷ case (orderOf (committed7 .book) 0)
+    (accountLots 2 100000 ∷ accountLots 2 100000 ∷ accountLots 1 100000 ∷ accountLots 1 100000 ∷ accountLots 3 100000
+    ∷ accountLots 1 30000 ∷ accountLots 2 50000 ∷ accountLots 3 50000 ∷ [])
+    ∷ case (stockOf (committed7 .book) 0) 15000
+    -- the same ticket used twice: unit 7 is another one now
+    ∷ case (numbers 1 (called (committed7 .book) (Commit ticket7 lent))) (17 ∷ 0 ∷ 7 ∷ [])
+    ∷ case (asked (committed7 .book) 0 7) (someTicket (ticketFor 0 7 (accountLots 3 50000) 0 3))
+    -- a unit that is handed, and one that there is not
+    ∷ case (asked (committed7 .book) 0 5) (noTicket 16)
+    ∷ case (asked (committed7 .book) 0 8) (noTicket 16)
+    -- a lift to its own place stands and is counted, and hands nothing over
+    ∷ case (numbers 1 (called (delivered2 .book) (Commit (ticket5 0) lent))) (0 ∷ 0 ∷ 7 ∷ [])
+    ∷ case (liftsAt (ownPlaces 2 .lifts) 0) (liftOf 5 5 ∷ liftOf 5 5 ∷ [])
+    ∷ case (countAt (ownPlaces 2 .lifts) 0) 4
+    -- a ninth lift
+    ∷ case (numbers 1 (called eightLifts (Commit (ticket5 8) lent))) (18 ∷ 0 ∷ 7 ∷ [])
+    -- full units of 2 that lie apart fail as one stretch, at the place of the first
+    ∷ case (orderOf (parted .book) 0)
+    (accountLots 2 100000 ∷ accountLots 1 100000 ∷ accountLots 1 100000 ∷ accountLots 1 100000 ∷ accountLots 2 100000 ∷ [])
+    ∷ case (numbers 7 partedCut)
+    (0 ∷ 3 ∷ 0xa0002000 ∷ 0x8000c350 ∷ 0xc00c2000 ∷ 0x800249f0 ∷ 0xc00c1000 ∷ 0x800493e0 ∷ 7 ∷ [])
+    -- the tally knows the lift from the commit
+    ∷ case (parted .tally .lifts 0) (liftOf 3 0 ∷ [])
+    -- a roll clears lifts and count
+    ∷ case (called (partedCut .book) (Roll 1 300 (replicate 16 100000)) .book .lifts) (replicate 288 0)
+    ∷ []
+
 unfoldable pub settledDays : List Case
-settledDays = unitDays ++ bookDays ++ ledgerDays ++ programDays ++ ownDays
+settledDays = unitDays ++ bookDays ++ ledgerDays ++ programDays ++ ownDays ++ liftDays
 
 -- each by computing what the definitions give
 pub settled : Holds settledDays
-unfolding settledDays units handovers partials lacks fails pairing valueOf chargeOf conditions sound orderIn issuePartials issueFails called unit value charge readOf pricesOf answerOf runOf decimal lineText failText chargeText ranOf closingText printedOf inIssue traded1 traded2 traded3 closed delivered1 delivered2 cut rolled1 pairedOff resolved exampleRun tallied talliedCut
+unfolding settledDays units handovers partials lacks fails pairing valueOf chargeOf liftConditions liftsSound conditions sound lift handedFrom orderIn issuePartials issueFails called asked unit value charge readOf pricesOf answerOf runOf decimal lineText failText chargeText ranOf closingText printedOf inIssue traded1 traded2 traded3 closed delivered1 delivered2 cut rolled1 pairedOff resolved committed7 eightLifts parted partedCut exampleRun tallied talliedCut
 settled =
-    (refl, (refl, (refl, (refl, (refl, (refl, (refl, (refl, (refl, (refl, (refl, (refl, (refl, (refl, (refl, (refl, (refl, (refl, (refl, (refl, (refl, (refl, (refl, (refl, (refl, (refl, (refl, (refl, (refl, (refl, (refl, (refl, (refl, (refl, (refl, tt)))))))))))))))))))))))))))))))))))
+    (refl, (refl, (refl, (refl, (refl, (refl, (refl, (refl, (refl, (refl, (refl, (refl, (refl, (refl, (refl, (refl, (refl, (refl, (refl, (refl, (refl, (refl, (refl, (refl, (refl, (refl, (refl, (refl, (refl, (refl, (refl, (refl, (refl, (refl, (refl, (refl, (refl, (refl, (refl, (refl, (refl, (refl, (refl, (refl, (refl, (refl, (refl, (refl, (refl, (refl, (refl, tt)))))))))))))))))))))))))))))))))))))))))))))))))))

@@ -2,6 +2,7 @@
 pub mod Measures
 pub mod Units
 pub mod Handover
+pub mod Lifts
 pub mod Fails
 pub mod Ledger
 pub mod Book

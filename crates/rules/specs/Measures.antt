@@ -55,7 +55,18 @@ mostPrice = 200000
 abbrev pub mostCharge : ℕ
 mostCharge = 134663013697536
 
--- the output lent to deliver, cutoff or resolve has at least 4,096 words
+-- at most eight lifts stand for an issue
+abbrev pub mostLifts : ℕ
+mostLifts = 8
+
+-- an issue's words of lifts: their number, the count, eight times an old and a new place; and those of all issues
+abbrev pub liftWords : ℕ
+liftWords = 18
+
+abbrev pub liftCells : ℕ
+liftCells = 288
+
+-- the output lent to deliver, commit, cutoff or resolve has at least 4,096 words
 abbrev pub outputWords : ℕ
 outputWords = 4096
 
@@ -74,6 +85,11 @@ total f (x ∷ xs) = f x + total f xs
 
 abbrev pub sum : List ℕ → ℕ
 sum xs = total (λ x. x) xs
+
+-- what each element of a list has
+abbrev pub Every {ℓ} : {A : Type ℓ} → (A → Type 0) → List A → Type 0
+Every P [] = Unit {0}
+Every P (x ∷ xs) = P x × Every P xs
 
 -- the lots due to an account: its net where that is positive
 abbrev pub dueOf : ℤ → ℕ

@@ -8,7 +8,10 @@ use lib.IntN.{ℤ, pos, _+ℤ_, _-ℤ_}
 use Rattle.rules.specs.declared.Book.{Book}
 use Rattle.rules.specs.declared.Entry.{Entry}
 use Rattle.rules.specs.declared.Phase.{Phase}
-use Rattle.rules.specs.Measures.{issueCount, lastIssue, lastAccount, mostLots, mostEntries, lastDay, mostDays, mostRate, mostPrice, between, owedOf}
+use Rattle.rules.specs.declared.Ticket.{Ticket}
+use Rattle.rules.specs.Measures.{issueCount, lastIssue, lastAccount, mostLots, mostEntries, mostLifts, lastDay, mostDays, mostRate, mostPrice, between, owedOf}
+use Rattle.rules.specs.Units.{AccountLots}
+use Rattle.rules.specs.Handover.{covered}
 use Rattle.rules.specs.Ledger.{isFrom, lotsOf}
 use Rattle.rules.specs.Book.{isTaking, isSettling, isCut, all, withinSize, netAt, deliveredAt, sound}
 
@@ -93,5 +96,21 @@ askTerm days rate = ask 11 (termRight days rate)
 -- 12. Is the day below 65,535?
 abbrev pub askDay : ℕ → Question
 askDay today = ask 12 (ltb today lastDay)
+
+-- 16. Is there such an unhanded unit?
+abbrev pub askUnhanded : List AccountLots → ℕ → ℕ → Question
+askUnhanded us d k = ask 16 (leb (covered us d) k && ltb k (length us))
+
+-- 17. Are the ticket's account, lots, day and count what asking now gives?
+abbrev pub sameTicket : Ticket → Ticket → Bool
+sameTicket t u =
+    eqb (t .account) (u .account) && eqb (t .lots) (u .lots) && eqb (t .day) (u .day) && eqb (t .count) (u .count)
+
+abbrev pub askTicket : Ticket → Ticket → Question
+askTicket t u = ask 17 (sameTicket t u)
+
+-- 18. Do fewer than eight lifts stand?
+abbrev pub askLifts : ℕ → Question
+askLifts n = ask 18 (ltb n mostLifts)
 
 -- 13 and 14 are asked of a tape's words one by one, and 15 of the writer's fields: see Tape

@@ -7,12 +7,14 @@ use lib.Dec.{eqb}
 use lib.ListN.{length, getD}
 use lib.IntN.{ℤ, pos, _+ℤ_, _-ℤ_}
 use Rattle.rules.specs.declared.Book.{Book}
+use Rattle.rules.specs.declared.Ticket.{Ticket}
 use Rattle.rules.specs.Measures.{issueCount, accountCount, unitLots, total, sum}
 use Rattle.rules.specs.Units.{AccountLots, accountLots, sumLots, ofAccount, unitsOfNets}
+use Rattle.rules.specs.Lifts.{Lift, liftOf, lifted}
 use Rattle.rules.specs.Ledger.{isFrom, isTo, lotsOf}
 use Rattle.rules.specs.Book.{tabulate, ledgerOf, fresh}
 use Rattle.rules.specs.Records.{Rec, recordsIn}
-use Rattle.rules.specs.Calls.{Call, Trade, Close, Deliver, Cutoff, Resolve, PairOff, Roll, Answer, called}
+use Rattle.rules.specs.Calls.{Call, Trade, Close, Deliver, Ask, Commit, Cutoff, Resolve, PairOff, Roll, Answer, called}
 
 -- the records of a kind in an issue: to whom, and how many lots
 abbrev pub recordsOf : ℕ → ℕ → List Rec → List AccountLots
@@ -56,15 +58,17 @@ bothCounts x y =
       handed = plus (x .handed) (y .handed);
     }
 
--- each once for today and once in all; for each issue, a row of today's 10s
+-- each once for today and once in all; for each issue, a row of today's 10s, and the lifts of the commits accepted since
+-- the last roll
 pub record Tally : Type 0 where
   pub today : Counts
   pub inAll : Counts
   pub rows : ℕ → List AccountLots
+  pub lifts : ℕ → List Lift
 
--- a fresh tally is all 0, rows empty
+-- a fresh tally is all 0, rows empty, no lift
 abbrev pub freshTally : Tally
-freshTally = record { today = noCounts; inAll = noCounts; rows = λ i. [] }
+freshTally = record { today = noCounts; inAll = noCounts; rows = λ i. []; lifts = λ i. [] }
 
 -- sold of from and bought of to rise by the lots
 abbrev pub countTrade : ℕ → ℕ → ℕ → ℕ → Counts → Counts
@@ -85,28 +89,38 @@ countHanded k rs n =
 abbrev pub joinRows : List Rec → (ℕ → List AccountLots) → ℕ → List AccountLots
 joinRows rs rows i = rows i ++ recordsOf 10 i rs
 
+-- the ticket's unit moves before all unhanded ones: each 10 of the row is a unit handed
+abbrev pub joinLift : Ticket → (ℕ → List AccountLots) → (ℕ → List Lift) → ℕ → List Lift
+joinLift t rows ls i = ls i ++ cond (eqb i (t .issue)) (liftOf (t .unit) (length (rows i)) ∷ []) []
+
 -- what an accepted call does to the tally
 abbrev pub counted : Call → List Rec → Tally → Tally
-counted (Trade i f c x) rs t = record { today = countTrade i f c x (t .today); inAll = t .inAll; rows = t .rows }
+counted (Trade i f c x) rs t = record { today = countTrade i f c x (t .today); inAll = t .inAll; rows = t .rows; lifts = t .lifts }
 counted Close rs t = t
 counted (Deliver i a x out) rs t =
-    record { today = countHanded 10 rs (countGiven i a x (t .today)); inAll = t .inAll; rows = joinRows rs (t .rows) }
+    record { today = countHanded 10 rs (countGiven i a x (t .today)); inAll = t .inAll; rows = joinRows rs (t .rows); lifts = t .lifts }
+counted (Ask i k) rs t = t
+counted (Commit w out) rs t =
+    record { today = countHanded 10 rs (t .today); inAll = t .inAll; rows = joinRows rs (t .rows); lifts = joinLift w (t .rows) (t .lifts) }
 counted (Cutoff out) rs t =
     record {
       today = countHanded 10 rs (t .today);
       inAll = bothCounts (t .inAll) (countHanded 10 rs (t .today));
       rows = joinRows rs (t .rows);
+      lifts = t .lifts;
     }
 counted (Resolve i a x out) rs t =
-    record { today = t .today; inAll = countHanded 11 rs (countGiven i a x (t .inAll)); rows = t .rows }
+    record { today = t .today; inAll = countHanded 11 rs (countGiven i a x (t .inAll)); rows = t .rows; lifts = t .lifts }
 counted (PairOff i a) rs t = t
-counted (Roll days rate prices) rs t = record { today = noCounts; inAll = t .inAll; rows = λ i. [] }
+counted (Roll days rate prices) rs t = record { today = noCounts; inAll = t .inAll; rows = λ i. []; lifts = λ i. [] }
 
 -- 'between close and cutoff': a close was accepted and no cutoff since
 abbrev pub settlingAfter : Call → Bool → Bool
 settlingAfter (Trade i f c x) s = s
 settlingAfter Close s = true
 settlingAfter (Deliver i a x out) s = s
+settlingAfter (Ask i k) s = s
+settlingAfter (Commit w out) s = s
 settlingAfter (Cutoff out) s = false
 settlingAfter (Resolve i a x out) s = s
 settlingAfter (PairOff i a) s = s
@@ -162,8 +176,9 @@ inIssue g i = sum (tabulate (g i) 0 accountCount)
 abbrev pub netsToday : Tally → ℕ → List ℤ
 netsToday t i = tabulate (λ a. pos (t .today .bought i a) -ℤ pos (t .today .sold i a)) 0 accountCount
 
+-- in the order as lifted so far
 abbrev pub unitsToday : Tally → ℕ → List AccountLots
-unitsToday t i = unitsOfNets unitLots (netsToday t i)
+unitsToday t i = lifted (t .lifts i) (unitsOfNets unitLots (netsToday t i))
 
 -- 'delivered today less those handed on' is 0 to 99,999 lots, and 0 except between close and cutoff
 pub record StockHeld (given handed : ℕ) (settling : Bool) : Type 0 where

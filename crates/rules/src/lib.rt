@@ -19,13 +19,16 @@ pub enum Phase {
     Cut,
 }
 
-// The book. Nets and delivered lots of issue i and account a stand at i * 64 + a. The ledger's
-// entries are the first `count` of five columns: issue, from, to, lots, day.
+// The book. Nets and delivered lots of issue i and account a stand at i * 64 + a. Of issue i the words
+// of lifts from i * 18 on are: the number of lifts, the count of the day's accepted deliveries and lifts,
+// and of each lift its old and its new place. The ledger's entries are the first `count` of five columns:
+// issue, from, to, lots, day.
 pub struct Book {
     pub day: u16,
     pub phase: Phase,
     pub nets: [i32; 1024],
     pub delivered: [u32; 1024],
+    pub lifts: [u32; 288],
     pub charges: [i64; 64],
     pub count: usize,
     pub issues: [u8; 2048],
@@ -49,6 +52,23 @@ pub struct Entry {
 pub enum Found {
     Unit(u32, u32),
     Nothing,
+    Refused(u32),
+}
+
+// A ticket for a lift: issue and unit number, and what stands there: account and lots of the unit, the
+// day, and the count of that day's accepted deliveries and lifts in the issue.
+pub struct Ticket {
+    pub issue: u32,
+    pub unit: u32,
+    pub account: u32,
+    pub lots: u32,
+    pub day: u32,
+    pub count: u32,
+}
+
+// What asking for a lift answers: the ticket, or the refusal's number.
+pub enum Asked {
+    Ticket(Ticket),
     Refused(u32),
 }
 

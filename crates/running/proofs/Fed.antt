@@ -4,7 +4,7 @@ use mathlib.Core.List.{List, []}
 use Prim.Native.Nat.{ℕ}
 use Rattle.rules.specs.declared.Book.{Book}
 use Rattle.rules.specs.declared.Instruction.{Instruction}
-use Rattle.rules.specs.Calls.{Call, Trade, Close, Deliver, Cutoff, Resolve, PairOff, Roll, Answer, called}
+use Rattle.rules.specs.Calls.{Call, Trade, Close, Deliver, Ask, Commit, Cutoff, Resolve, PairOff, Roll, Answer, called}
 use Rattle.rules.specs.Run.{callOf}
 use Rattle.rules.specs.Tally.{State, Demand3}
 use Rattle.laws.proofs.Answers.{by-answer}
@@ -17,6 +17,8 @@ abbrev pub wordsLent : Call → List ℕ → List ℕ
 wordsLent (Trade i f t x) out = []
 wordsLent Close out = []
 wordsLent (Deliver i a x lent) out = out
+wordsLent (Ask i k) out = []
+wordsLent (Commit t lent) out = out
 wordsLent (Cutoff lent) out = out
 wordsLent (Resolve i a x lent) out = out
 wordsLent (PairOff i a) out = []
@@ -31,6 +33,8 @@ words-lent : (b : Book) (c : Call) (r : Turn) (b′ : Book) (out out′ : List �
 words-lent b (Trade i f t x) r b′ out out′ g = by-answer (λ d. [] ≡ d .out) b (Trade i f t x) (λ y. refl) (λ n. refl)
 words-lent b Close r b′ out out′ g = by-answer (λ d. [] ≡ d .out) b Close (λ y. refl) (λ n. refl)
 words-lent b (Deliver i a x lent) r b′ out out′ g = g .words
+words-lent b (Ask i k) r b′ out out′ g = by-answer (λ d. [] ≡ d .out) b (Ask i k) (λ y. refl) (λ n. refl)
+words-lent b (Commit t lent) r b′ out out′ g = g .words
 words-lent b (Cutoff lent) r b′ out out′ g = g .words
 words-lent b (Resolve i a x lent) r b′ out out′ g = g .words
 words-lent b (PairOff i a) r b′ out out′ g = by-answer (λ d. [] ≡ d .out) b (PairOff i a) (λ y. refl) (λ n. refl)

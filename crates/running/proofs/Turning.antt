@@ -74,17 +74,17 @@ traded s nets after i f t x b e =
 pub closed : (s s′ : State) (b : Book) → s′ ≡ withPhase s Settling → Does (effect (inState s b) Close) [] 0 0 (inState s′ b) []
 closed s s′ b e = record { count = refl; cancelled = refl; book = ap (λ (t : State). inState t b) e; out = refl }
 
-pub delivered-to : (s : State) (nets : List ℤ) (delivered after : List ℕ) (i a x : ℕ) (lent out : List ℕ) (k : ℕ) (b : Book) →
-    Delivered nets delivered after i a x lent out k →
-    Does (effect (withinCells s nets delivered b) (Deliver i a x lent)) lent k 0 (withinCells s nets after b) out
-delivered-to s nets delivered after i a x lent out k b d =
-    record { count = d .count; cancelled = refl; book = ap (λ (l : List ℕ). withinCells s nets l b) (d .column); out = d .output }
+pub delivered-to : (s : State) (nets : List ℤ) (delivered after lifts raised : List ℕ) (i a x : ℕ) (lent out : List ℕ) (k : ℕ) (b : Book) →
+    Delivered nets delivered after lifts raised i a x lent out k →
+    Does (effect (withinCells s nets delivered lifts b) (Deliver i a x lent)) lent k 0 (withinCells s nets after raised b) out
+delivered-to s nets delivered after lifts raised i a x lent out k b d =
+    record { count = d .count; cancelled = refl; book = rw (d .column, d .counted); out = d .output }
 
-pub was-cut : (s s′ : State) (nets : List ℤ) (delivered is fs ts xs ds out : List ℕ) (r : CutCounts) (is′ fs′ ts′ xs′ ds′ out′ : List ℕ) (b : Book) →
+pub was-cut : (s s′ : State) (nets : List ℤ) (delivered lifts is fs ts xs ds out : List ℕ) (r : CutCounts) (is′ fs′ ts′ xs′ ds′ out′ : List ℕ) (b : Book) →
     s′ ≡ withEntries (withPhase s Cut) (r .entries) →
-    WasCutAll nets delivered (s .day) (s .entries) (lent is fs ts xs ds out) r (lent is′ fs′ ts′ xs′ ds′ out′) →
-    Does (effect (butCharges s nets delivered is fs ts xs ds b) (Cutoff out)) out (r .records) 0 (butCharges s′ nets delivered is′ fs′ ts′ xs′ ds′ b) out′
-was-cut s s′ nets delivered is fs ts xs ds out r is′ fs′ ts′ xs′ ds′ out′ b e w =
+    WasCutAll nets delivered lifts (s .day) (s .entries) (lent is fs ts xs ds out) r (lent is′ fs′ ts′ xs′ ds′ out′) →
+    Does (effect (butCharges s nets delivered lifts is fs ts xs ds b) (Cutoff out)) out (r .records) 0 (butCharges s′ nets delivered lifts is′ fs′ ts′ xs′ ds′ b) out′
+was-cut s s′ nets delivered lifts is fs ts xs ds out r is′ fs′ ts′ xs′ ds′ out′ b e w =
     let c = w .columns in
     record {
       count = w .records;
@@ -117,13 +117,13 @@ paired-off s s′ is fs ts xs ds i a r is′ fs′ ts′ xs′ ds′ b e w =
       out = refl;
     }
 
-pub rolled-on : (s s′ : State) (nets : List ℤ) (delivered : List ℕ) (charges : List ℤ) (is fs ts xs : List ℕ) (days rate : ℕ) (prices : List ℕ)
-    (nets′ : List ℤ) (delivered′ : List ℕ) (charges′ : List ℤ) (b : Book) → s′ ≡ nextDay s →
+pub rolled-on : (s s′ : State) (nets : List ℤ) (delivered lifts : List ℕ) (charges : List ℤ) (is fs ts xs : List ℕ) (days rate : ℕ) (prices : List ℕ)
+    (nets′ : List ℤ) (delivered′ lifts′ : List ℕ) (charges′ : List ℤ) (b : Book) → s′ ≡ nextDay s →
     charges′ ≡ charged days rate prices (entries (s .entries) is fs ts xs (b .days)) charges →
-    nets′ ≡ replicate 1024 (pos 0) → delivered′ ≡ replicate 1024 0 →
-    Does (effect (butDays s nets delivered charges is fs ts xs b) (Roll days rate prices)) [] 0 0 (butDays s′ nets′ delivered′ charges′ is fs ts xs b) []
-rolled-on s s′ nets delivered charges is fs ts xs days rate prices nets′ delivered′ charges′ b e c n d =
-    record { count = refl; cancelled = refl; book = rw (e, c, n, d); out = refl }
+    nets′ ≡ replicate 1024 (pos 0) → delivered′ ≡ replicate 1024 0 → lifts′ ≡ replicate 288 0 →
+    Does (effect (butDays s nets delivered lifts charges is fs ts xs b) (Roll days rate prices)) [] 0 0 (butDays s′ nets′ delivered′ lifts′ charges′ is fs ts xs b) []
+rolled-on s s′ nets delivered lifts charges is fs ts xs days rate prices nets′ delivered′ lifts′ charges′ b e c n d l =
+    record { count = refl; cancelled = refl; book = rw (e, c, n, d, l); out = refl }
 
 -- the lengths of the ledger's columns, as others ask for them
 pub whole : (is fs ts xs ds : List ℕ) → LedgerLengths is fs ts xs ds → Whole is fs ts xs ds

@@ -9,9 +9,9 @@ use lib.IntN.{ℤ}
 use denote.Ref.{now}
 use Rattle.rules.specs.declared.Book.{Book}
 use Rattle.rules.specs.declared.Instruction.{Instruction}
-use Rattle.rules.specs.Measures.{outputWords}
+use Rattle.rules.specs.Measures.{liftCells, outputWords}
 use Rattle.rules.specs.Book.{sound, CellLengths, LedgerLengths}
-use Rattle.rules.specs.Calls.{Call, Trade, Close, Deliver, Cutoff, Resolve, PairOff, Roll, Answer, called}
+use Rattle.rules.specs.Calls.{Call, Trade, Close, Deliver, Ask, Commit, Cutoff, Resolve, PairOff, Roll, Answer, called}
 use Rattle.rules.specs.Run.{callOf}
 use Rattle.book.specs.declared.State.{State}
 use Rattle.book.specs.States.{bookIn, Lent, Column, Columns}
@@ -27,11 +27,13 @@ pub record TurnIs (d : Answer) (r : Turn) (b : Book) (words : List ℕ) : Type 0
 
 -- Any instruction, on all columns
 
--- what an output holds after a call: only deliver, cutoff and resolve are lent it
+-- what an output holds after a call: only deliver, commit, cutoff and resolve are lent it
 abbrev pub outAfter : Call → List ℕ → Answer → List ℕ
 outAfter (Trade i f t x) out d = out
 outAfter Close out d = out
 outAfter (Deliver i a x lent) out d = d .out
+outAfter (Ask i k) out d = out
+outAfter (Commit t lent) out d = d .out
 outAfter (Cutoff lent) out d = d .out
 outAfter (Resolve i a x lent) out d = d .out
 outAfter (PairOff i a) out d = out
@@ -59,22 +61,22 @@ pub record Within : Type 0 where
 
 -- any book with this state, and with these columns
 abbrev pub inState : State → Book → Book
-inState s b = bookIn s (b .nets) (b .delivered) (b .charges) (b .issues) (b .froms) (b .tos) (b .lots) (b .days)
+inState s b = bookIn s (b .nets) (b .delivered) (b .lifts) (b .charges) (b .issues) (b .froms) (b .tos) (b .lots) (b .days)
 
 abbrev pub withinNets : State → List ℤ → Book → Book
-withinNets s nets b = bookIn s nets (b .delivered) (b .charges) (b .issues) (b .froms) (b .tos) (b .lots) (b .days)
+withinNets s nets b = bookIn s nets (b .delivered) (b .lifts) (b .charges) (b .issues) (b .froms) (b .tos) (b .lots) (b .days)
 
-abbrev pub withinCells : State → List ℤ → List ℕ → Book → Book
-withinCells s nets delivered b = bookIn s nets delivered (b .charges) (b .issues) (b .froms) (b .tos) (b .lots) (b .days)
+abbrev pub withinCells : State → List ℤ → List ℕ → List ℕ → Book → Book
+withinCells s nets delivered lifts b = bookIn s nets delivered lifts (b .charges) (b .issues) (b .froms) (b .tos) (b .lots) (b .days)
 
 abbrev pub withinLedger : State → List ℕ → List ℕ → List ℕ → List ℕ → List ℕ → Book → Book
-withinLedger s issues froms tos lots days b = bookIn s (b .nets) (b .delivered) (b .charges) issues froms tos lots days
+withinLedger s issues froms tos lots days b = bookIn s (b .nets) (b .delivered) (b .lifts) (b .charges) issues froms tos lots days
 
-abbrev pub butCharges : State → List ℤ → List ℕ → List ℕ → List ℕ → List ℕ → List ℕ → List ℕ → Book → Book
-butCharges s nets delivered issues froms tos lots days b = bookIn s nets delivered (b .charges) issues froms tos lots days
+abbrev pub butCharges : State → List ℤ → List ℕ → List ℕ → List ℕ → List ℕ → List ℕ → List ℕ → List ℕ → Book → Book
+butCharges s nets delivered lifts issues froms tos lots days b = bookIn s nets delivered lifts (b .charges) issues froms tos lots days
 
-abbrev pub butDays : State → List ℤ → List ℕ → List ℤ → List ℕ → List ℕ → List ℕ → List ℕ → Book → Book
-butDays s nets delivered charges issues froms tos lots b = bookIn s nets delivered charges issues froms tos lots (b .days)
+abbrev pub butDays : State → List ℤ → List ℕ → List ℕ → List ℤ → List ℕ → List ℕ → List ℕ → List ℕ → Book → Book
+butDays s nets delivered lifts charges issues froms tos lots b = bookIn s nets delivered lifts charges issues froms tos lots (b .days)
 
 abbrev pub onState : Within
 onState = record { before = inState; after = inState }
@@ -83,11 +85,11 @@ abbrev pub onNets : Column ℤ → Within
 onNets nets =
     record { before = λ s. withinNets s (now (nets .entry)); after = λ s. withinNets s (now (nets .exit)) }
 
-abbrev pub onDelivered : Column ℤ → Column ℕ → Within
-onDelivered nets delivered =
+abbrev pub onDelivered : Column ℤ → Column ℕ → Column ℕ → Within
+onDelivered nets delivered lifts =
     record {
-      before = λ s. withinCells s (now (nets .entry)) (now (delivered .entry));
-      after = λ s. withinCells s (now (nets .entry)) (now (delivered .exit));
+      before = λ s. withinCells s (now (nets .entry)) (now (delivered .entry)) (now (lifts .entry));
+      after = λ s. withinCells s (now (nets .entry)) (now (delivered .exit)) (now (lifts .exit));
     }
 
 abbrev pub onLedger : Column ℕ → Column ℕ → Column ℕ → Column ℕ → Column ℕ → Within
@@ -97,18 +99,18 @@ onLedger issues froms tos lots days =
       after = λ s. withinLedger s (now (issues .exit)) (now (froms .exit)) (now (tos .exit)) (now (lots .exit)) (now (days .exit));
     }
 
-abbrev pub onFails : Column ℤ → Column ℕ → Column ℕ → Column ℕ → Column ℕ → Column ℕ → Column ℕ → Within
-onFails nets delivered issues froms tos lots days =
+abbrev pub onFails : Column ℤ → Column ℕ → Column ℕ → Column ℕ → Column ℕ → Column ℕ → Column ℕ → Column ℕ → Within
+onFails nets delivered lifts issues froms tos lots days =
     record {
-      before = λ s. butCharges s (now (nets .entry)) (now (delivered .entry)) (now (issues .entry)) (now (froms .entry)) (now (tos .entry)) (now (lots .entry)) (now (days .entry));
-      after = λ s. butCharges s (now (nets .entry)) (now (delivered .entry)) (now (issues .exit)) (now (froms .exit)) (now (tos .exit)) (now (lots .exit)) (now (days .exit));
+      before = λ s. butCharges s (now (nets .entry)) (now (delivered .entry)) (now (lifts .entry)) (now (issues .entry)) (now (froms .entry)) (now (tos .entry)) (now (lots .entry)) (now (days .entry));
+      after = λ s. butCharges s (now (nets .entry)) (now (delivered .entry)) (now (lifts .entry)) (now (issues .exit)) (now (froms .exit)) (now (tos .exit)) (now (lots .exit)) (now (days .exit));
     }
 
-abbrev pub onCharges : Column ℤ → Column ℕ → Column ℤ → Column ℕ → Column ℕ → Column ℕ → Column ℕ → Within
-onCharges nets delivered charges issues froms tos lots =
+abbrev pub onCharges : Column ℤ → Column ℕ → Column ℕ → Column ℤ → Column ℕ → Column ℕ → Column ℕ → Column ℕ → Within
+onCharges nets delivered lifts charges issues froms tos lots =
     record {
-      before = λ s. butDays s (now (nets .entry)) (now (delivered .entry)) (now (charges .entry)) (now (issues .entry)) (now (froms .entry)) (now (tos .entry)) (now (lots .entry));
-      after = λ s. butDays s (now (nets .exit)) (now (delivered .exit)) (now (charges .exit)) (now (issues .entry)) (now (froms .entry)) (now (tos .entry)) (now (lots .entry));
+      before = λ s. butDays s (now (nets .entry)) (now (delivered .entry)) (now (lifts .entry)) (now (charges .entry)) (now (issues .entry)) (now (froms .entry)) (now (tos .entry)) (now (lots .entry));
+      after = λ s. butDays s (now (nets .exit)) (now (delivered .exit)) (now (lifts .exit)) (now (charges .exit)) (now (issues .entry)) (now (froms .entry)) (now (tos .entry)) (now (lots .entry));
     }
 
 -- the answer of a call, of every sound book with what is lent
@@ -124,31 +126,34 @@ pub record SomeSound (within : Book → Book) : Type 0 where
 abbrev pub tradeReady : State → Lent ℤ → Type 0
 tradeReady s nets = (length (now nets) ≡ 1024) × SomeSound (withinNets s (now nets))
 
-abbrev pub deliverReady : State → Lent ℤ → Lent ℕ → Lent ℕ → Type 0
-deliverReady s nets delivered out =
-    CellLengths (now nets) (now delivered) × SomeSound (withinCells s (now nets) (now delivered)) × (outputWords ≤ length (now out))
+abbrev pub deliverReady : State → Lent ℤ → Lent ℕ → Lent ℕ → Lent ℕ → Type 0
+deliverReady s nets delivered lifts out =
+    CellLengths (now nets) (now delivered) × (length (now lifts) ≡ liftCells)
+    × SomeSound (withinCells s (now nets) (now delivered) (now lifts))
+    × (outputWords ≤ length (now out))
 
 abbrev pub ledgerReady : State → Lent ℕ → Lent ℕ → Lent ℕ → Lent ℕ → Lent ℕ → Type 0
 ledgerReady s issues froms tos lots days =
     LedgerLengths (now issues) (now froms) (now tos) (now lots) (now days)
     × SomeSound (withinLedger s (now issues) (now froms) (now tos) (now lots) (now days))
 
-abbrev pub cutoffReady : State → Lent ℤ → Lent ℕ → Lent ℕ → Lent ℕ → Lent ℕ → Lent ℕ → Lent ℕ → Lent ℕ → Type 0
-cutoffReady s nets delivered issues froms tos lots days out =
-    CellLengths (now nets) (now delivered) × LedgerLengths (now issues) (now froms) (now tos) (now lots) (now days)
-    × SomeSound (butCharges s (now nets) (now delivered) (now issues) (now froms) (now tos) (now lots) (now days))
+abbrev pub cutoffReady : State → Lent ℤ → Lent ℕ → Lent ℕ → Lent ℕ → Lent ℕ → Lent ℕ → Lent ℕ → Lent ℕ → Lent ℕ → Type 0
+cutoffReady s nets delivered lifts issues froms tos lots days out =
+    CellLengths (now nets) (now delivered) × (length (now lifts) ≡ liftCells) × LedgerLengths (now issues) (now froms) (now tos) (now lots) (now days)
+    × SomeSound (butCharges s (now nets) (now delivered) (now lifts) (now issues) (now froms) (now tos) (now lots) (now days))
     × (outputWords ≤ length (now out))
 
 -- the lengths of the columns that a roll reads or changes
-pub record RollLengths (nets : List ℤ) (delivered : List ℕ) (charges : List ℤ) (issues froms tos lots : List ℕ) : Type 0 where
+pub record RollLengths (nets : List ℤ) (delivered lifts : List ℕ) (charges : List ℤ) (issues froms tos lots : List ℕ) : Type 0 where
   pub cells : CellLengths nets delivered
+  pub words : length lifts ≡ liftCells
   pub accounts : length charges ≡ 64
   pub issue : length issues ≡ 2048
   pub from : length froms ≡ 2048
   pub to : length tos ≡ 2048
   pub lot : length lots ≡ 2048
 
-abbrev pub rollReady : State → Lent ℤ → Lent ℕ → Lent ℤ → Lent ℕ → Lent ℕ → Lent ℕ → Lent ℕ → Type 0
-rollReady s nets delivered charges issues froms tos lots =
-    RollLengths (now nets) (now delivered) (now charges) (now issues) (now froms) (now tos) (now lots)
-    × SomeSound (butDays s (now nets) (now delivered) (now charges) (now issues) (now froms) (now tos) (now lots))
+abbrev pub rollReady : State → Lent ℤ → Lent ℕ → Lent ℕ → Lent ℤ → Lent ℕ → Lent ℕ → Lent ℕ → Lent ℕ → Type 0
+rollReady s nets delivered lifts charges issues froms tos lots =
+    RollLengths (now nets) (now delivered) (now lifts) (now charges) (now issues) (now froms) (now tos) (now lots)
+    × SomeSound (butDays s (now nets) (now delivered) (now lifts) (now charges) (now issues) (now froms) (now tos) (now lots))

@@ -67,18 +67,20 @@ fn close(s: State) -> Turn
     }
 }
 
-// deliver: the account's delivered lots, unless it is refused; the records go to the output.
+// deliver: the account's delivered lots and the issue's count, unless it is refused; the records go to
+// the output.
 fn deliver(
     s: State,
     nets: &[i32],
     delivered: &mut [u32],
+    lifts: &mut [u32],
     i: u32,
     a: u32,
     x: u32,
     out: &mut [u32],
 ) -> Turn
-    requires { ⌜ deliverReady s nets delivered out ⌝ }
-    ensures { λ r. ⌜ Turns (onDelivered nets delivered) s (Deliver i a x (now (out .entry))) r (now (out .exit)) ⌝ }
+    requires { ⌜ deliverReady s nets delivered lifts out ⌝ }
+    ensures { λ r. ⌜ Turns (onDelivered nets delivered lifts) s (Deliver i a x (now (out .entry))) r (now (out .exit)) ⌝ }
 {
     let phase = s.phase;
     let no = delivery::deliver_asks(phase, nets, delivered, i, a, x);
@@ -90,7 +92,7 @@ fn deliver(
             state: s,
         };
     }
-    let count = delivery::deliver_in(nets, delivered, i, a, x, out);
+    let count = delivery::deliver_in(nets, delivered, lifts, i, a, x, out);
     Turn {
         refusal: 0,
         count,
@@ -105,6 +107,7 @@ fn cutoff<'a>(
     s: State,
     nets: &'a [i32],
     delivered: &'a [u32],
+    lifts: &'a [u32],
     issues: &mut [u8],
     froms: &mut [u8],
     tos: &mut [u8],
@@ -112,13 +115,13 @@ fn cutoff<'a>(
     days: &mut [u16],
     out: &mut [u32],
 ) -> Turn
-    requires { ⌜ cutoffReady s nets delivered issues froms tos lots days out ⌝ }
-    ensures { λ r. ⌜ Turns (onFails nets delivered issues froms tos lots days) s (Cutoff (now (out .entry))) r (now (out .exit)) ⌝ }
+    requires { ⌜ cutoffReady s nets delivered lifts issues froms tos lots days out ⌝ }
+    ensures { λ r. ⌜ Turns (onFails nets delivered lifts issues froms tos lots days) s (Cutoff (now (out .entry))) r (now (out .exit)) ⌝ }
 {
     let day = s.day;
     let phase = s.phase;
     let old = s.entries;
-    let no = cutoff::cutoff_asks(phase, old, nets, delivered);
+    let no = cutoff::cutoff_asks(phase, old, nets, delivered, lifts);
     if no != 0 {
         return Turn {
             refusal: no,
@@ -130,6 +133,7 @@ fn cutoff<'a>(
     let k = cutoff::cutoff_in(
         nets,
         delivered,
+        lifts,
         day,
         old,
         issues,
@@ -219,11 +223,12 @@ fn pair_off(
     }
 }
 
-// roll: charges, nets and delivered lots, day and phase, unless it is refused.
+// roll: charges, nets, delivered lots and lifts, day and phase, unless it is refused.
 fn roll<'a>(
     s: State,
     nets: &mut [i32],
     delivered: &mut [u32],
+    lifts: &mut [u32],
     charges: &mut [i64],
     issues: &'a [u8],
     froms: &'a [u8],
@@ -233,8 +238,8 @@ fn roll<'a>(
     rate: u32,
     prices: &[u32],
 ) -> Turn
-    requires { ⌜ rollReady s nets delivered charges issues froms tos lots ⌝ }
-    ensures { λ r. ⌜ Turns (onCharges nets delivered charges issues froms tos lots) s (Roll days rate (now (prices .entry))) r [] ⌝ }
+    requires { ⌜ rollReady s nets delivered lifts charges issues froms tos lots ⌝ }
+    ensures { λ r. ⌜ Turns (onCharges nets delivered lifts charges issues froms tos lots) s (Roll days rate (now (prices .entry))) r [] ⌝ }
 {
     let today = s.day;
     let phase = s.phase;
@@ -260,6 +265,7 @@ fn roll<'a>(
         charges,
         nets,
         delivered,
+        lifts,
     );
     let next = book::next_day(s);
     Turn {
@@ -278,6 +284,7 @@ pub fn answer(
     s: State,
     nets: &mut [i32],
     delivered: &mut [u32],
+    lifts: &mut [u32],
     charges: &mut [i64],
     issues: &mut [u8],
     froms: &mut [u8],
@@ -286,20 +293,32 @@ pub fn answer(
     days: &mut [u16],
     out: &mut [u32],
 ) -> Turn
-    requires { ⌜ soundColumns s nets delivered charges issues froms tos lots days × HasRoom (callOf x (now prices) (now out)) ⌝ }
-    ensures { λ r. ⌜ Answered x prices out s r (columns nets delivered charges issues froms tos lots days) ⌝ }
+    requires { ⌜ soundColumns s nets delivered lifts charges issues froms tos lots days × HasRoom (callOf x (now prices) (now out)) ⌝ }
+    ensures { λ r. ⌜ Answered x prices out s r (columns nets delivered lifts charges issues froms tos lots days) ⌝ }
 {
     match x {
         Instruction::Trade(i, f, t, x) => trade(s, nets, i, f, t, x),
-        Instruction::Deliver(i, a, x) => deliver(s, nets, delivered, i, a, x, out),
+        Instruction::Deliver(i, a, x) => deliver(s, nets, delivered, lifts, i, a, x, out),
         Instruction::Resolve(i, a, x) => resolve(s, issues, froms, tos, lots, days, i, a, x, out),
         Instruction::PairOff(i, a) => pair_off(s, issues, froms, tos, lots, days, i, a),
         Instruction::Close => close(s),
-        Instruction::Cutoff => cutoff(s, nets, delivered, issues, froms, tos, lots, days, out),
+        Instruction::Cutoff => cutoff(
+            s,
+            nets,
+            delivered,
+            lifts,
+            issues,
+            froms,
+            tos,
+            lots,
+            days,
+            out,
+        ),
         Instruction::Roll(term, rate) => roll(
             s,
             nets,
             delivered,
+            lifts,
             charges,
             issues,
             froms,

@@ -1,3 +1,4 @@
 pub mod ScanLaws
+pub mod LiftLaws
 pub mod Halves
 pub mod Told

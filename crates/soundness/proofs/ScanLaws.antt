@@ -13,10 +13,12 @@ use Rattle.rules.specs.Measures.{issueCount, mostLots, mostEntries, mostCharge,
 use Rattle.rules.specs.declared.Book.{Book}
 use Rattle.rules.specs.declared.Entry.{Entry}
 use Rattle.rules.specs.Ledger.{entry}
-use Rattle.rules.specs.Book.{isTaking, tabulate, all, row, entries, ledgerOf, isZero, balanced, withinSize, withinOwed, entrySound, daysSound, conditions, sound}
+use Rattle.rules.specs.Book.{isTaking, tabulate, all, row, entries, ledgerOf, isZero, balanced, withinSize, withinOwed, entrySound, daysSound, liftsSound, orderOf, conditions, sound}
+use Rattle.laws.proofs.Basics.{and-left}
 use Rattle.laws.proofs.Ledger.{noEntry, length-entries, entry-at}
 use Rattle.laws.proofs.Scans.{and-false, and-true, and-assoc, and-swap, and-turn}
 use Rattle.soundness.specs.Scan.{rowSound, netsSound, deliveredSound, entriesSound, unusedZero, ledgerSound, chargesSound}
+use Rattle.soundness.specs.LiftScan.{allLifts}
 
 -- An issue's row
 
@@ -149,29 +151,32 @@ rest-all n xs h e = take-all (length xs - n) (drop n xs) (omega (arith, length-d
 
 -- All parts
 
-joined : (a b c d e f g h i j k l m n : Bool) →
-    (((a && (b && c)) && d) && (e && ((f && g) && (h && i && j && k && l)))) && (m && n)
-    ≡ a && (b && (c && (d && (e && (f && (g && (h && (i && (j && (k && (l && (m && (n && true)))))))))))))
-joined false b c d e f g h i j k l m n = refl
-joined true false c d e f g h i j k l m n = refl
-joined true true false d e f g h i j k l m n = refl
-joined true true true false e f g h i j k l m n = refl
-joined true true true true false f g h i j k l m n = refl
-joined true true true true true false g h i j k l m n = refl
-joined true true true true true true false h i j k l m n = refl
-joined true true true true true true true false i j k l m n = refl
-joined true true true true true true true true false j k l m n = refl
-joined true true true true true true true true true false k l m n = refl
-joined true true true true true true true true true true false l m n = refl
-joined true true true true true true true true true true true false m n = refl
-joined true true true true true true true true true true true true m n = ap (λ t. m && t) (sym (and-true n))
+joined : (a b c d e f g h i j k l m n o : Bool) →
+    ((((a && (b && c)) && d) && (e && ((f && g) && (h && i && j && k && l)))) && (m && n)) && o
+    ≡ a && (b && (c && (d && (e && (f && (g && (h && (i && (j && (k && (l && (m && (n && (o && true))))))))))))))
+joined false b c d e f g h i j k l m n o = refl
+joined true false c d e f g h i j k l m n o = refl
+joined true true false d e f g h i j k l m n o = refl
+joined true true true false e f g h i j k l m n o = refl
+joined true true true true false f g h i j k l m n o = refl
+joined true true true true true false g h i j k l m n o = refl
+joined true true true true true true false h i j k l m n o = refl
+joined true true true true true true true false i j k l m n o = refl
+joined true true true true true true true true false j k l m n o = refl
+joined true true true true true true true true true false k l m n o = refl
+joined true true true true true true true true true true false l m n o = refl
+joined true true true true true true true true true true true false m n o = refl
+joined true true true true true true true true true true true true m n o = and-assoc m n o ∙ ap (λ t. m && (n && t)) (sym (and-true o))
 
-pub sound-joined : (b : Book) →
+-- the tests but those of lifts
+abbrev pub others : Book → Bool
+others b =
     ((netsSound (b .nets) (b .delivered) && deliveredSound (b .phase) (b .delivered))
     && ledgerSound (b .day) (b .count) (b .issues) (b .froms) (b .tos) (b .lots) (b .days))
     && chargesSound (b .day) (b .charges)
-    ≡ sound b
-unfolding netsSound deliveredSound ledgerSound entriesSound unusedZero chargesSound sound conditions
+
+sound-joined : (b : Book) → others b && allLifts (b .phase) (b .nets) (b .delivered) (b .lifts) ≡ sound b
+unfolding netsSound deliveredSound ledgerSound entriesSound unusedZero chargesSound allLifts sound conditions
 sound-joined b =
     joined (all (withinSize mostLots) (b .nets)) (all (λ i. balanced (row i (b .nets))) (tabulate (λ i. i) 0 issueCount))
     (withinOwed (b .nets) (b .delivered)) (cond (isTaking (b .phase)) (all isZero (b .delivered)) true)
@@ -179,3 +184,19 @@ sound-joined b =
     (all isZero (drop (b .count) (b .issues))) (all isZero (drop (b .count) (b .froms)))
     (all isZero (drop (b .count) (b .tos))) (all isZero (drop (b .count) (b .lots)))
     (all isZero (drop (b .count) (b .days))) (balanced (b .charges)) (all (withinSize (mostCharge * b .day)) (b .charges))
+    (all (liftsSound (b .phase) (orderOf b) (b .delivered) (b .lifts)) (tabulate (λ i. i) 0 issueCount))
+
+module _ (b : Book) where
+  pub others-as : (n d l c : Bool) → n ≡ netsSound (b .nets) (b .delivered) → d ≡ deliveredSound (b .phase) (b .delivered) →
+      l ≡ ledgerSound (b .day) (b .count) (b .issues) (b .froms) (b .tos) (b .lots) (b .days) → c ≡ chargesSound (b .day) (b .charges) →
+      ((n && d) && l) && c ≡ others b
+  others-as n d l c en ed el ec = rw (en, ed, el, ec)
+
+  pub others-no : others b ≡ false → false ≡ sound b
+  others-no e = ap (λ t. t && allLifts (b .phase) (b .nets) (b .delivered) (b .lifts)) (sym e) ∙ sound-joined b
+
+  pub others-yes : others b ≡ true → (r : Bool) → r ≡ allLifts (b .phase) (b .nets) (b .delivered) (b .lifts) → r ≡ sound b
+  others-yes e r f = f ∙ ap (λ t. t && allLifts (b .phase) (b .nets) (b .delivered) (b .lifts)) (sym e) ∙ sound-joined b
+
+  pub nets-yes : others b ≡ true → netsSound (b .nets) (b .delivered) ≡ true
+  nets-yes e = and-left _ _ (and-left _ _ (and-left _ _ e))

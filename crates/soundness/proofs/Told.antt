@@ -12,21 +12,23 @@ use Rattle.laws.proofs.Sound.{all-each}
 use Rattle.soundness.specs.Sound.{lengths, lengthsRight, soundIn}
 use Rattle.laws.proofs.Scans.{and-true}
 
--- the eight tests as they are put together in the code
-eight : (a b c d e f g h : Bool) →
-    (((a && b && c) && (d && e && f)) && g) && h ≡ all (λ c. c) (a ∷ b ∷ c ∷ d ∷ e ∷ f ∷ g ∷ h ∷ [])
-eight false b c d e f g h = refl
-eight true false c d e f g h = refl
-eight true true false d e f g h = refl
-eight true true true false e f g h = refl
-eight true true true true false f g h = refl
-eight true true true true true false g h = refl
-eight true true true true true true false h = refl
-eight true true true true true true true h = sym (and-true h)
+-- the nine tests as they are put together in the code
+nine : (a b l c d e f g h : Bool) →
+    ((((a && b) && (l && c)) && (d && e && f)) && g) && h ≡ all (λ c. c) (a ∷ b ∷ l ∷ c ∷ d ∷ e ∷ f ∷ g ∷ h ∷ [])
+nine false b l c d e f g h = refl
+nine true false l c d e f g h = refl
+nine true true false c d e f g h = refl
+nine true true true false d e f g h = refl
+nine true true true true false e f g h = refl
+nine true true true true true false f g h = refl
+nine true true true true true true false g h = refl
+nine true true true true true true true false h = refl
+nine true true true true true true true true h = sym (and-true h)
 
 abbrev pub tests : Book → Bool
 tests b =
-    (((eqb (length (b .nets)) 1024 && eqb (length (b .delivered)) 1024 && eqb (length (b .charges)) 64)
+    ((((eqb (length (b .nets)) 1024 && eqb (length (b .delivered)) 1024)
+    && (eqb (length (b .lifts)) 288 && eqb (length (b .charges)) 64))
     && (eqb (length (b .issues)) 2048 && eqb (length (b .froms)) 2048 && eqb (length (b .tos)) 2048))
     && eqb (length (b .lots)) 2048)
     && eqb (length (b .days)) 2048
@@ -34,20 +36,21 @@ tests b =
 pub tested : (b : Book) → tests b ≡ lengthsRight b
 unfolding lengthsRight
 tested b =
-    eight (eqb (length (b .nets)) 1024) (eqb (length (b .delivered)) 1024) (eqb (length (b .charges)) 64) (eqb (length (b .issues)) 2048)
-    (eqb (length (b .froms)) 2048) (eqb (length (b .tos)) 2048) (eqb (length (b .lots)) 2048) (eqb (length (b .days)) 2048)
+    nine (eqb (length (b .nets)) 1024) (eqb (length (b .delivered)) 1024) (eqb (length (b .lifts)) 288) (eqb (length (b .charges)) 64)
+    (eqb (length (b .issues)) 2048) (eqb (length (b .froms)) 2048) (eqb (length (b .tos)) 2048) (eqb (length (b .lots)) 2048) (eqb (length (b .days)) 2048)
 
 abbrev pub LengthsOf : Book → Type 0
-LengthsOf b = Lengths (b .nets) (b .delivered) (b .charges) (b .issues) (b .froms) (b .tos) (b .lots) (b .days)
+LengthsOf b = Lengths (b .nets) (b .delivered) (b .lifts) (b .charges) (b .issues) (b .froms) (b .tos) (b .lots) (b .days)
 
 pub lengths-right : (b : Book) → lengthsRight b ≡ true → LengthsOf b
 unfolding lengthsRight
 lengths-right b h =
     let e : Every (λ c. c ≡ true) (lengths b) = all-each (λ c. c) (lengths b) h in
-    let l = e .1 .1 .1 in
+    let l = e .1 .1 .1 .1 in
     record {
       cells = record { nets = eqb-true _ _ (e .0); delivered = eqb-true _ _ (e .1 .0) };
-      charges = eqb-true _ _ (e .1 .1 .0);
+      lifts = eqb-true _ _ (e .1 .1 .0);
+      charges = eqb-true _ _ (e .1 .1 .1 .0);
       ledger = record {
         issues = eqb-true _ _ (l .0);
         froms = eqb-true _ _ (l .1 .0);

@@ -11,6 +11,7 @@ abbrev pub lengths : Book → List Bool
 lengths b =
     eqb (length (b .nets)) 1024
     ∷ eqb (length (b .delivered)) 1024
+    ∷ eqb (length (b .lifts)) 288
     ∷ eqb (length (b .charges)) 64
     ∷ eqb (length (b .issues)) 2048
     ∷ eqb (length (b .froms)) 2048

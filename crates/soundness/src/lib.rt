@@ -1,4 +1,5 @@
 // Soundness of a book in columns of any length and content.
+pub mod lifts;
 pub mod scan;
 
 use book::State;
@@ -11,6 +12,7 @@ pub fn sound<'a>(
     s: State,
     nets: &'a [i32],
     delivered: &'a [u32],
+    lifts: &'a [u32],
     charges: &'a [i64],
     issues: &'a [u8],
     froms: &'a [u8],
@@ -18,11 +20,12 @@ pub fn sound<'a>(
     lots: &'a [u32],
     days: &'a [u16],
 ) -> bool
-    ensures { λ r. ⌜ r ≡ soundIn (columns nets delivered charges issues froms tos lots days .before s) ⌝ }
+    ensures { λ r. ⌜ r ≡ soundIn (columns nets delivered lifts charges issues froms tos lots days .before s) ⌝ }
 {
-    let cells = (nets.len() == 1024) & (delivered.len() == 1024) & (charges.len() == 64);
+    let cells = (nets.len() == 1024) & (delivered.len() == 1024);
+    let flat = (lifts.len() == 288) & (charges.len() == 64);
     let accounts = (issues.len() == 2048) & (froms.len() == 2048) & (tos.len() == 2048);
-    if !(cells & accounts & (lots.len() == 2048) & (days.len() == 2048)) {
+    if !(cells & flat & accounts & (lots.len() == 2048) & (days.len() == 2048)) {
         return false;
     }
     let day = s.day;
@@ -33,6 +36,7 @@ pub fn sound<'a>(
         phase,
         nets,
         delivered,
+        lifts,
         charges,
         count,
         issues,

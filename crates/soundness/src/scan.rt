@@ -1,4 +1,5 @@
 // The scan of a book for soundness: one pass over each column. Any content is scanned, no sum wraps.
+use crate::lifts::lifts_sound;
 use book::due;
 use book::owed;
 use book::taking;
@@ -9,7 +10,8 @@ ghost use Prim.Native.Nat.{_≤_};
 ghost use lib.ListN.{length};
 ghost use Rattle.rules.specs.Measures.{dueOf, owedOf};
 ghost use Rattle.rules.specs.Ledger.{entry};
-ghost use Rattle.rules.specs.Book.{all, isZero, entries, entrySound, sound as soundOf, bookOf, CellLengths, LedgerLengths, Lengths};
+ghost use Rattle.rules.specs.Book.{all, isZero, entries, entrySound, sound as soundOf, CellLengths, LedgerLengths, Lengths};
+ghost use Rattle.book.specs.States.{stateOf, columns};
 ghost use Rattle.soundness.specs.Scan.{rowSound, netsSound, deliveredSound, entriesSound, unusedZero, ledgerSound, chargesSound, RowLengths};
 
 // Is each net of an issue in bounds, are they in balance, and is no more delivered than owed?
@@ -218,6 +220,7 @@ pub fn sound_columns<'a>(
     phase: Phase,
     nets: &'a [i32],
     delivered: &'a [u32],
+    lifts: &'a [u32],
     charges: &'a [i64],
     count: usize,
     issues: &'a [u8],
@@ -226,12 +229,15 @@ pub fn sound_columns<'a>(
     lots: &'a [u32],
     days: &'a [u16],
 ) -> bool
-    requires { ⌜ Lengths (now nets) (now delivered) (now charges) (now issues) (now froms) (now tos) (now lots) (now days) ⌝ }
-    ensures { λ r. ⌜ r ≡ soundOf (bookOf day phase (now (nets .entry)) (now (delivered .entry)) (now (charges .entry)) count (now (issues .entry)) (now (froms .entry)) (now (tos .entry)) (now (lots .entry)) (now (days .entry))) ⌝ }
+    requires { ⌜ Lengths (now nets) (now delivered) (now lifts) (now charges) (now issues) (now froms) (now tos) (now lots) (now days) ⌝ }
+    ensures { λ r. ⌜ r ≡ soundOf (columns nets delivered lifts charges issues froms tos lots days .before (stateOf day phase count)) ⌝ }
 {
     let cells = nets_sound(nets, delivered);
     let taken = delivered_sound(phase, delivered);
     let ledger = ledger_sound(day, count, issues, froms, tos, lots, days);
     let yen = charges_sound(day, charges);
-    cells & taken & ledger & yen
+    if !(cells & taken & ledger & yen) {
+        return false;
+    }
+    lifts_sound(phase, nets, delivered, lifts)
 }

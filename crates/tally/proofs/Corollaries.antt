@@ -4,23 +4,26 @@ use mathlib.Core.Bool.{true}
 use mathlib.Core.List.{List}
 use Prim.Native.Nat.{ℕ, _-_, _≤_, _<_}
 use native.Mathlib.Omega.{arith}
-use lib.Dec.{leb}
+use lib.Dec.{leb, ltb}
 use lib.ListN.{length, getD}
-use borrow.Author.Tests.{leb-true, leb-false}
+use borrow.Author.Tests.{leb-true, leb-false, ltb-true}
 use Rattle.rules.specs.declared.Phase.{Phase}
 use Rattle.rules.specs.declared.Phase.the-variants.{Taking, Settling, Cut}
+use Rattle.rules.specs.declared.Ticket.{Ticket}
 use Rattle.rules.specs.Measures.{unitLots, total, dueOf, owedOf}
 use Rattle.rules.specs.Units.{AccountLots, ofAccount}
-use Rattle.rules.specs.Handover.{handed, partials}
+use Rattle.rules.specs.Handover.{covered, handed, partials}
 use Rattle.rules.specs.Book.{cell, netAt, deliveredTotal, orderOf, sound}
-use Rattle.rules.specs.Calls.{Call, Cutoff, called}
+use Rattle.rules.specs.Calls.{Call, Commit, Cutoff, called}
 use Rattle.rules.specs.Tally.{State, after, afterAll, start, noLots, unitsToday}
-use Rattle.laws.proofs.Basics.{byTest, total-append}
+use Rattle.laws.proofs.Basics.{byTest, and-left, and-right, total-append}
 use Rattle.laws.proofs.Fails.{additive-account}
 use Rattle.laws.proofs.Cutoff.{settled}
 use Rattle.laws.proofs.Cells.{due-at}
 use Rattle.laws.proofs.Sound.{delivered-owed}
 use Rattle.laws.proofs.SoundRows.{order-in}
+use Rattle.laws.proofs.Room.{commit-few}
+use Rattle.laws.proofs.Answers.{by-answer}
 use Rattle.tally.proofs.Signs.{less}
 use Rattle.tally.proofs.Invariant.{RowIs}
 use Rattle.tally.proofs.Demand.{reached, demand3}
@@ -65,7 +68,7 @@ module _ (cs : List Call) where
         arith,
         v .handed i a,
         row-most (s .book .phase) (orderOf (s .book) i) (deliveredTotal (s .book .delivered) i) (s .tally .rows i) a (v .rows i hi),
-        order-in (s .book .nets) i .due a,
+        order-in (s .book .nets) (s .book .lifts) i .due a,
         due-at (s .book .nets) i a ha,
       ))
     where
@@ -91,3 +94,16 @@ module _ (cs : List Call) where
   -- what is failed to it, and what it owes is what it gave and what it fails
   pub a-cutoff-settles-the-day : (out : List ℕ) → called (s .book) (Cutoff out) .refusal ≡ 0 → Settled s (after s (Cutoff out))
   a-cutoff-settles-the-day out h = cutoff-settles s (reached cs) out h
+
+  -- a commit hands at most one unit over
+  pub a-commit-hands-at-most-one-unit : (t : Ticket) (out : List ℕ) → called (s .book) (Commit t out) .count ≤ 1
+  a-commit-hands-at-most-one-unit t out =
+      let b = s .book in
+      let us = orderOf b (t .issue) in
+      let h = covered us (deliveredTotal (b .delivered) (t .issue)) in
+      by-answer (λ r. r .count ≤ 1) b (Commit t out)
+      (λ y.
+      let there = y .1 .1 .1 .1 .0 in
+      commit-few (orderOf b) (b .delivered) t (leb-true h (t .unit) (and-left (leb h (t .unit)) (ltb (t .unit) (length us)) there))
+      (ltb-true (t .unit) (length us) (and-right (leb h (t .unit)) (ltb (t .unit) (length us)) there)))
+      (λ r. omega arith)

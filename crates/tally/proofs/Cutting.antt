@@ -15,7 +15,7 @@ use Rattle.rules.specs.Units.{ofAccount}
 use Rattle.rules.specs.Handover.{handed, partials}
 use Rattle.rules.specs.Fails.{Fail}
 use Rattle.rules.specs.Ledger.{isFrom, isTo, lotsOf}
-use Rattle.rules.specs.Book.{isSettling, tabulate, netAt, deliveredTotal, orderOf, ledgerOf, withPhase, withLedger, orderIn}
+use Rattle.rules.specs.Book.{isSettling, tabulate, netAt, deliveredTotal, orderOf, ledgerOf, withPhase, withLedger}
 use Rattle.rules.specs.Records.{Rec, handover, recordOf}
 use Rattle.rules.specs.Calls.{writes, Cutoff, issuePartials, issueFails, failEntry, issueEntries, issueRecords, joined, newEntries, cutoffRecords, called}
 use Rattle.rules.specs.Tally.{State, recordsOf}
@@ -90,26 +90,26 @@ other-to day i j a (f ∷ fs) ne = simp (ne-eqb i j ne) (omega (arith, other-to 
 
 -- the fails of an issue among the new entries
 pub new-from : (b : Book) (j a : ℕ) → j < 16 →
-    lotsOf (isFrom j a) (newEntries (b .day) (orderIn (b .nets)) (b .nets) (b .delivered)) ≡ total (lotsFrom a) (issueFails (orderIn (b .nets)) (b .nets) (b .delivered) j)
+    lotsOf (isFrom j a) (newEntries (b .day) (orderOf b) (b .nets) (b .delivered)) ≡ total (lotsFrom a) (issueFails (orderOf b) (b .nets) (b .delivered) j)
 new-from b j a hj =
-    total-joined (λ e. cond (isFrom j a e) (e .lots) 0) j (issueEntries (b .day) (orderIn (b .nets)) (b .nets) (b .delivered)) 0 16
-    (λ i ne. other-from (b .day) i j a (issueFails (orderIn (b .nets)) (b .nets) (b .delivered) i) ne) (omega arith) (omega arith)
-    ∙ entries-from (b .day) j a (issueFails (orderIn (b .nets)) (b .nets) (b .delivered) j)
+    total-joined (λ e. cond (isFrom j a e) (e .lots) 0) j (issueEntries (b .day) (orderOf b) (b .nets) (b .delivered)) 0 16
+    (λ i ne. other-from (b .day) i j a (issueFails (orderOf b) (b .nets) (b .delivered) i) ne) (omega arith) (omega arith)
+    ∙ entries-from (b .day) j a (issueFails (orderOf b) (b .nets) (b .delivered) j)
 
 pub new-to : (b : Book) (j a : ℕ) → j < 16 →
-    lotsOf (isTo j a) (newEntries (b .day) (orderIn (b .nets)) (b .nets) (b .delivered)) ≡ total (lotsTo a) (issueFails (orderIn (b .nets)) (b .nets) (b .delivered) j)
+    lotsOf (isTo j a) (newEntries (b .day) (orderOf b) (b .nets) (b .delivered)) ≡ total (lotsTo a) (issueFails (orderOf b) (b .nets) (b .delivered) j)
 new-to b j a hj =
-    total-joined (λ e. cond (isTo j a e) (e .lots) 0) j (issueEntries (b .day) (orderIn (b .nets)) (b .nets) (b .delivered)) 0 16
-    (λ i ne. other-to (b .day) i j a (issueFails (orderIn (b .nets)) (b .nets) (b .delivered) i) ne) (omega arith) (omega arith)
-    ∙ entries-to (b .day) j a (issueFails (orderIn (b .nets)) (b .nets) (b .delivered) j)
+    total-joined (λ e. cond (isTo j a e) (e .lots) 0) j (issueEntries (b .day) (orderOf b) (b .nets) (b .delivered)) 0 16
+    (λ i ne. other-to (b .day) i j a (issueFails (orderOf b) (b .nets) (b .delivered) i) ne) (omega arith) (omega arith)
+    ∙ entries-to (b .day) j a (issueFails (orderOf b) (b .nets) (b .delivered) j)
 
 -- an issue's 10s among all records
 pub cutoff-tens : (b : Book) (j : ℕ) → j < 16 →
-    recordsOf 10 j (cutoffRecords (b .day) (orderIn (b .nets)) (b .nets) (b .delivered)) ≡ issuePartials (orderIn (b .nets)) (b .delivered) j
+    recordsOf 10 j (cutoffRecords (b .day) (orderOf b) (b .nets) (b .delivered)) ≡ issuePartials (orderOf b) (b .delivered) j
 cutoff-tens b j hj =
-    let ps = issuePartials (orderIn (b .nets)) (b .delivered) in
-    let es = issueEntries (b .day) (orderIn (b .nets)) (b .nets) (b .delivered) in
-    records-joined 10 j (issueRecords (b .day) (orderIn (b .nets)) (b .nets) (b .delivered)) 0 16
+    let ps = issuePartials (orderOf b) (b .delivered) in
+    let es = issueEntries (b .day) (orderOf b) (b .nets) (b .delivered) in
+    records-joined 10 j (issueRecords (b .day) (orderOf b) (b .nets) (b .delivered)) 0 16
     (λ i ne.
     recordsOf-append 10 j (map (handover i) (ps i)) (map (recordOf 12) (es i))
     ∙ ap (λ l. l ++ recordsOf 10 j (map (recordOf 12) (es i))) (tens-other i j (ps i) ne)
@@ -125,14 +125,14 @@ module _ (s : State) (v : Inv s) (g : SoundBook (s .book)) (p : isSettling (s .b
   b = s .book
 
   abbrev rs : List Rec
-  rs = cutoffRecords (b .day) (orderIn (b .nets)) (b .nets) (b .delivered)
+  rs = cutoffRecords (b .day) (orderOf b) (b .nets) (b .delivered)
 
   abbrev new : List Entry
-  new = newEntries (b .day) (orderIn (b .nets)) (b .nets) (b .delivered)
+  new = newEntries (b .day) (orderOf b) (b .nets) (b .delivered)
 
   pub all-fit : Every Fits rs
   all-fit =
-      each-joined Fits (issueRecords (b .day) (orderIn (b .nets)) (b .nets) (b .delivered)) 0 16
+      each-joined Fits (issueRecords (b .day) (orderOf b) (b .nets) (b .delivered)) 0 16
       (λ j h. records-fit b g (v .sizeNets) (v .sizeDelivered) j (omega arith) (b .day))
 
   row-cut : (j : ℕ) → j < 16 → s .tally .rows j ++ recordsOf 10 j rs ≡ cutRow (orderOf b j) (deliveredTotal (b .delivered) j)
@@ -159,12 +159,14 @@ module _ (s : State) (v : Inv s) (g : SoundBook (s .book)) (p : isSettling (s .b
   cut-inv = record {
     sizeNets = v .sizeNets;
     sizeDelivered = v .sizeDelivered;
+    sizeLifts = v .sizeLifts;
     sizeCharges = v .sizeCharges;
     nets = v .nets;
     given = v .given;
     handed = λ j c. omega (arith, v .handed j c, total-append (ofAccount c) (s .tally .rows j) (recordsOf 10 j rs));
     phase = refl;
     rows = λ j hj. (row-cut j hj, delivered-units b g (v .sizeNets) (v .sizeDelivered) j hj);
+    lifts = v .lifts;
     balance = λ j a hj ha.
         rw (ledger-written b (ledgerOf b ++ new))
         (omega (
@@ -186,7 +188,7 @@ module _ (s : State) (v : Inv s) (g : SoundBook (s .book)) (p : isSettling (s .b
 pub keeps-cutoff : (s : State) → Inv s → (out : List ℕ) → Keeps (Cutoff out) s (called (s .book) (Cutoff out))
 keeps-cutoff s v out =
     let b = s .book in
-    let rs = cutoffRecords (b .day) (orderIn (b .nets)) (b .nets) (b .delivered) in
+    let rs = cutoffRecords (b .day) (orderOf b) (b .nets) (b .delivered) in
     by-answer (Keeps (Cutoff out) s) b (Cutoff out)
     (λ y.
     let g = sound-parts b (y .1 .0) in

@@ -13,14 +13,15 @@ use Rattle.rules.specs.declared.Phase.the-variants.{Taking, Settling, Cut}
 use Rattle.rules.specs.Measures.{owedOf}
 use Rattle.rules.specs.Units.{AccountLots, ofAccount}
 use Rattle.rules.specs.Handover.{handed, handovers}
-use Rattle.rules.specs.Book.{isSettling, cell, netAt, deliveredAt, deliveredTotal, orderOf, withDelivered, orderIn}
+use Rattle.rules.specs.Book.{isSettling, cell, netAt, deliveredAt, deliveredTotal, orderIn, orderOf, withDelivered, withLifts}
 use Rattle.rules.specs.Records.{Rec, handover}
-use Rattle.rules.specs.Calls.{writes, Deliver, raisedDelivered, deliverRecords, called}
+use Rattle.rules.specs.Calls.{writes, Deliver, raisedDelivered, raisedCount, deliverRecords, called}
 use Rattle.rules.specs.Tally.{State, recordsOf}
 use Rattle.laws.proofs.Basics.{byTest, total-append, Every}
 use Rattle.laws.proofs.Handover.{handed-extends, each-handovers}
 use Rattle.laws.proofs.Fails.{each-of-map}
 use Rattle.laws.proofs.Cells.{here, here-eq, cell-set, row-other, delivered-rises, within-set}
+use Rattle.laws.proofs.LiftColumn.{raised-lifts, raised-order}
 use Rattle.laws.proofs.Sound.{SoundBook, sound-parts}
 use Rattle.laws.proofs.Records.{Fits, records-read, tens-same, tens-other}
 use Rattle.laws.proofs.Issue.{within-units, units-fit}
@@ -32,7 +33,7 @@ to-settling Taking us d l h x = absurd (false≢true h)
 to-settling Settling us d l h x = x
 to-settling Cut us d l h x = absurd (false≢true h)
 
-of-settling : (p : Phase) (us : List AccountLots) (d : ℕ) (l : List AccountLots) → isSettling p ≡ true → RowIs Settling us d l → RowIs p us d l
+pub of-settling : (p : Phase) (us : List AccountLots) (d : ℕ) (l : List AccountLots) → isSettling p ≡ true → RowIs Settling us d l → RowIs p us d l
 of-settling Taking us d l h x = absurd (false≢true h)
 of-settling Settling us d l h x = x
 of-settling Cut us d l h x = absurd (false≢true h)
@@ -50,12 +51,12 @@ module _ (s : State) (v : Inv s) (i a x : ℕ) (hi : i < 16) (ha : a < 64) (g : 
   ds = raisedDelivered (s .book .delivered) i a x
 
   abbrev rs : List Rec
-  rs = deliverRecords (orderIn (s .book .nets)) (s .book .delivered) i x
+  rs = deliverRecords (orderOf (s .book)) (s .book .delivered) i x
 
   all-fit : Every Fits rs
   all-fit =
       each-of-map Fits (handover i) (handovers us d x)
-      (each-handovers (λ u. Fits (handover i u)) us d x (units-fit (s .book .nets) i hi (v .sizeNets)))
+      (each-handovers (λ u. Fits (handover i u)) us d x (units-fit (s .book .nets) (s .book .lifts) i hi (v .sizeNets)))
 
   row-here : RowIs Settling us (deliveredTotal ds i) (s .tally .rows i ++ recordsOf 10 i rs)
   row-here =
@@ -72,9 +73,10 @@ module _ (s : State) (v : Inv s) (i a x : ℕ) (hi : i < 16) (ha : a < 64) (g : 
       )
 
   row-at : (j : ℕ) → j < 16 →
-      RowIs (s .book .phase) (orderOf (s .book) j) (deliveredTotal ds j) (s .tally .rows j ++ recordsOf 10 j rs)
+      RowIs (s .book .phase) (orderIn (s .book .nets) (raisedCount (s .book .lifts) i) j) (deliveredTotal ds j) (s .tally .rows j ++ recordsOf 10 j rs)
   row-at j hj =
-      byTest (eqb j i)
+      rw (raised-order (s .book .lifts) i (s .book .nets) j)
+      (byTest (eqb j i)
       (λ e. rw (eqb-true j i e) (of-settling (s .book .phase) us (deliveredTotal ds i) (s .tally .rows i ++ recordsOf 10 i rs) p row-here))
       (λ e.
       let ne = eqb-false j i e in
@@ -82,12 +84,13 @@ module _ (s : State) (v : Inv s) (i a x : ℕ) (hi : i < 16) (ha : a < 64) (g : 
         row-other (s .book .delivered) i a j (deliveredAt (s .book .delivered) i a + x) ha ne,
         tens-other i j (handovers us d x) (λ q. ne (sym q)),
         append-nil (s .tally .rows j),
-      ) (v .rows j hj))
+      ) (v .rows j hj)))
 
-  delivered-inv : Inv (did (Deliver i a x []) (writes (withDelivered (s .book) ds) rs) s)
+  delivered-inv : Inv (did (Deliver i a x []) (writes (withLifts (withDelivered (s .book) ds) (raisedCount (s .book .lifts) i)) rs) s)
   delivered-inv = record {
     sizeNets = v .sizeNets;
     sizeDelivered = simp length-set (v .sizeDelivered);
+    sizeLifts = simp length-set (v .sizeLifts);
     sizeCharges = v .sizeCharges;
     nets = v .nets;
     given = λ j c hj hc.
@@ -99,6 +102,7 @@ module _ (s : State) (v : Inv s) (i a x : ℕ) (hi : i < 16) (ha : a < 64) (g : 
     handed = λ j c. omega (arith, v .handed j c, total-append (ofAccount c) (s .tally .rows j) (recordsOf 10 j rs));
     phase = v .phase;
     rows = row-at;
+    lifts = λ j hj. v .lifts j hj ∙ sym (raised-lifts (s .book .lifts) i j);
     balance = v .balance;
     charges = v .charges;
   }
@@ -106,7 +110,7 @@ module _ (s : State) (v : Inv s) (i a x : ℕ) (hi : i < 16) (ha : a < 64) (g : 
 pub keeps-deliver : (s : State) → Inv s → (i a x : ℕ) (out : List ℕ) → Keeps (Deliver i a x out) s (called (s .book) (Deliver i a x out))
 keeps-deliver s v i a x out =
     let b = s .book in
-    let rs = deliverRecords (orderIn (b .nets)) (b .delivered) i x in
+    let rs = deliverRecords (orderOf b) (b .delivered) i x in
     by-answer (Keeps (Deliver i a x out) s) b (Deliver i a x out)
     (λ y.
     let hi : i < 16 = omega (arith, leb-true i 15 (y .1 .1 .1 .0)) in

@@ -1,12 +1,13 @@
 -- Demand 3, of every list of calls: the invariant is there at the start, each call keeps it, and it
 -- says what demand 3 asks.
 use mathlib.Core.List.{List, [], _∷_}
-use Rattle.rules.specs.Calls.{Call, Trade, Close, Deliver, Cutoff, Resolve, PairOff, Roll}
+use Rattle.rules.specs.Calls.{Call, Trade, Close, Deliver, Ask, Commit, Cutoff, Resolve, PairOff, Roll}
 use Rattle.rules.specs.Tally.{State, after, afterAll, start, Demand3OfAll}
 use Rattle.tally.proofs.Invariant.{Inv}
 use Rattle.tally.proofs.Shown.{shown}
 use Rattle.tally.proofs.Taking.{starts, keeps-trade, keeps-close}
 use Rattle.tally.proofs.Delivering.{keeps-deliver}
+use Rattle.tally.proofs.Lifting.{keeps-ask, keeps-commit}
 use Rattle.tally.proofs.Cutting.{keeps-cutoff}
 use Rattle.tally.proofs.Resolving.{keeps-resolve}
 use Rattle.tally.proofs.PairingOff.{keeps-pair-off}
@@ -16,6 +17,8 @@ pub keeps : (s : State) (c : Call) → Inv s → Inv (after s c)
 keeps s (Trade i f t x) v = keeps-trade s v i f t x
 keeps s Close v = keeps-close s v
 keeps s (Deliver i a x out) v = keeps-deliver s v i a x out
+keeps s (Ask i k) v = keeps-ask s v i k
+keeps s (Commit t out) v = keeps-commit s v t out
 keeps s (Cutoff out) v = keeps-cutoff s v out
 keeps s (Resolve i a x out) v = keeps-resolve s v i a x out
 keeps s (PairOff i a) v = keeps-pair-off s v i a

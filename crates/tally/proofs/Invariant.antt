@@ -1,5 +1,5 @@
 -- The invariant of demand 3: the tally's numbers beside the book's. Today's nets are bought less sold,
--- given is what the book has as delivered, and an issue's row of 10s is a front of its units, by phase.
+-- given is what the book has as delivered, an issue's row of 10s is a front of its units, by phase, and its lifts are the book's.
 -- The balance is said in natural numbers, with terms on both sides.
 use mathlib.Core.Path.{_≡_}
 use mathlib.Core.List.{List, [], _++_}
@@ -11,7 +11,7 @@ use Rattle.rules.specs.Measures.{total, dueOf, owedOf}
 use Rattle.rules.specs.Units.{AccountLots, sumLots, ofAccount}
 use Rattle.rules.specs.Handover.{handed, partials}
 use Rattle.rules.specs.Ledger.{isFrom, isTo, lotsOf}
-use Rattle.rules.specs.Book.{isSettling, netAt, deliveredAt, deliveredTotal, orderOf, ledgerOf}
+use Rattle.rules.specs.Book.{isSettling, netAt, deliveredAt, deliveredTotal, liftsAt, orderOf, ledgerOf}
 use Rattle.rules.specs.Calls.{Call, Answer, Effect}
 use Rattle.rules.specs.Tally.{State, counted, settlingAfter, answered}
 
@@ -28,6 +28,7 @@ RowIs Cut us d row = (row ≡ cutRow us d) × (d ≤ sumLots us)
 pub record Inv (s : State) : Type 0 where
   pub sizeNets : length (s .book .nets) ≡ 1024
   pub sizeDelivered : length (s .book .delivered) ≡ 1024
+  pub sizeLifts : length (s .book .lifts) ≡ 288
   pub sizeCharges : length (s .book .charges) ≡ 64
   pub nets : (i a : ℕ) → i < 16 → a < 64 →
       dueOf (netAt (s .book .nets) i a) + s .tally .today .sold i a
@@ -37,6 +38,7 @@ pub record Inv (s : State) : Type 0 where
   pub phase : s .settling ≡ isSettling (s .book .phase)
   pub rows : (i : ℕ) → i < 16 →
       RowIs (s .book .phase) (orderOf (s .book) i) (deliveredTotal (s .book .delivered) i) (s .tally .rows i)
+  pub lifts : (i : ℕ) → i < 16 → s .tally .lifts i ≡ liftsAt (s .book .lifts) i
   pub balance : (i a : ℕ) → i < 16 → a < 64 →
       s .tally .inAll .bought i a + s .tally .inAll .given i a + lotsOf (isFrom i a) (ledgerOf (s .book))
       ≡ s .tally .inAll .sold i a + s .tally .inAll .handed i a + lotsOf (isTo i a) (ledgerOf (s .book))

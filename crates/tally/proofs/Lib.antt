@@ -4,6 +4,7 @@ pub mod Invariant
 pub mod Shown
 pub mod Taking
 pub mod Delivering
+pub mod Lifting
 pub mod Cutting
 pub mod Resolving
 pub mod PairingOff

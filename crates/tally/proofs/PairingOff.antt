@@ -151,12 +151,14 @@ keeps-pair-off s v i a =
     (λ y. record {
       sizeNets = v .sizeNets;
       sizeDelivered = v .sizeDelivered;
+      sizeLifts = v .sizeLifts;
       sizeCharges = v .sizeCharges;
       nets = v .nets;
       given = v .given;
       handed = v .handed;
       phase = v .phase;
       rows = v .rows;
+      lifts = v .lifts;
       balance = λ j c hj hc.
           rw (ledger-written b (p .ledger))
           (shift _ _ _ _ _ _ (v .balance j c hj hc)

@@ -20,7 +20,7 @@ pub reached-standing : (cs : List Call) → Standing (afterAll start cs .book)
 reached-standing cs =
     stands-all start cs
     (record {
-      sizes = record { nets = starts .sizeNets; delivered = starts .sizeDelivered; charges = starts .sizeCharges };
+      sizes = record { nets = starts .sizeNets; delivered = starts .sizeDelivered; lifts = starts .sizeLifts; charges = starts .sizeCharges };
       parts = sound-parts fresh fresh-sound;
     })
 

@@ -30,12 +30,14 @@ module _ (s : State) (v : Inv s) (i a x : ℕ) (o : x ≤ lotsOf (isFrom i a) (l
   resolved-inv = record {
     sizeNets = v .sizeNets;
     sizeDelivered = v .sizeDelivered;
+    sizeLifts = v .sizeLifts;
     sizeCharges = v .sizeCharges;
     nets = v .nets;
     given = v .given;
     handed = v .handed;
     phase = v .phase;
     rows = v .rows;
+    lifts = v .lifts;
     balance = λ j c hj hc.
         rw (ledger-written (s .book) (meet (isFrom i a) x es))
         (omega (

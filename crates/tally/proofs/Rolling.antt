@@ -1,6 +1,6 @@
 -- Roll keeps the invariant: each charge is taken from one account and given to another, so that charges
 -- go on summing to 0; today's numbers are 0 in book and tally.
-use mathlib.Core.Path.{_≡_, refl, _∙_}
+use mathlib.Core.Path.{_≡_, refl, sym, _∙_}
 use mathlib.Core.Bool.{true, false, false≢true}
 use mathlib.Core.List.{List}
 use Prim.Native.Nat.{ℕ}
@@ -12,6 +12,7 @@ use Rattle.rules.specs.Book.{isSettling, isCut, ledgerOf}
 use Rattle.rules.specs.Calls.{Roll, called}
 use Rattle.rules.specs.Tally.{State}
 use Rattle.laws.proofs.Cells.{row-zeros}
+use Rattle.laws.proofs.LiftColumn.{no-lifts}
 use Rattle.laws.proofs.Sound.{sound-parts}
 use Rattle.laws.proofs.Charges.{charged-length, charged-balance}
 use Rattle.laws.proofs.Answers.{by-answer}
@@ -30,12 +31,14 @@ keeps-roll s v days rate prices =
     (λ y. record {
       sizeNets = length-replicate 1024 (pos 0);
       sizeDelivered = length-replicate {A = ℕ} 1024 0;
+      sizeLifts = length-replicate {A = ℕ} 288 0;
       sizeCharges = charged-length days rate prices (ledgerOf b) (b .charges) ∙ v .sizeCharges;
       nets = λ i a h k. rw (no-net i a h k) refl;
       given = none-delivered;
       handed = λ i a. refl;
       phase = v .phase ∙ cut-not-settling (b .phase) (y .1 .0);
       rows = λ i h. (refl, row-zeros i 1024);
+      lifts = λ i h. sym (no-lifts i 288);
       balance = v .balance;
       charges = charged-balance days rate prices (ledgerOf b) (b .charges) (v .sizeCharges)
           (sound-parts b (y .0) .ledger .each) (v .charges);

@@ -10,7 +10,7 @@ use Rattle.rules.specs.declared.Phase.the-variants.{Cut}
 use Rattle.rules.specs.Measures.{dueOf, owedOf}
 use Rattle.rules.specs.Units.{sumLots, ofAccount}
 use Rattle.rules.specs.Ledger.{isFrom, isTo}
-use Rattle.rules.specs.Book.{isSettling, netAt, ledgerOf, withPhase, withLedger, orderIn}
+use Rattle.rules.specs.Book.{isSettling, netAt, orderOf, ledgerOf, withPhase, withLedger}
 use Rattle.rules.specs.Calls.{writes, Cutoff, called, newEntries, cutoffRecords}
 use Rattle.rules.specs.Tally.{State, Tally, answered, after, recordsOf, inIssue, failsTo, failsBy}
 use Rattle.laws.proofs.Basics.{total-append}
@@ -49,11 +49,11 @@ module _ (s : State) (v : Inv s) (g : SoundBook (s .book)) (p : isSettling (s .b
   settles :
       Settled s
       (did (Cutoff [])
-      (writes (withPhase (withLedger b (ledgerOf b ++ newEntries (b .day) (orderIn (b .nets)) (b .nets) (b .delivered))) Cut)
-      (cutoffRecords (b .day) (orderIn (b .nets)) (b .nets) (b .delivered))) s)
+      (writes (withPhase (withLedger b (ledgerOf b ++ newEntries (b .day) (orderOf b) (b .nets) (b .delivered))) Cut)
+      (cutoffRecords (b .day) (orderOf b) (b .nets) (b .delivered))) s)
   settles =
-      let rs = cutoffRecords (b .day) (orderIn (b .nets)) (b .nets) (b .delivered) in
-      let new = newEntries (b .day) (orderIn (b .nets)) (b .nets) (b .delivered) in
+      let rs = cutoffRecords (b .day) (orderOf b) (b .nets) (b .delivered) in
+      let new = newEntries (b .day) (orderOf b) (b .nets) (b .delivered) in
       record {
         nothingHeld = λ i h. shown _ (cut-inv s v g p) .stock i h .handedOn refl;
         due = λ i a hi ha.
@@ -79,7 +79,7 @@ module _ (s : State) (v : Inv s) (g : SoundBook (s .book)) (p : isSettling (s .b
 pub cutoff-settles : (s : State) → Inv s → (out : List ℕ) → called (s .book) (Cutoff out) .refusal ≡ 0 → Settled s (after s (Cutoff out))
 cutoff-settles s v out =
     let b = s .book in
-    let rs = cutoffRecords (b .day) (orderIn (b .nets)) (b .nets) (b .delivered) in
+    let rs = cutoffRecords (b .day) (orderOf b) (b .nets) (b .delivered) in
     by-answer (λ r. r .refusal ≡ 0 → Settled s (answered (Cutoff out) r s)) b (Cutoff out)
     (λ y h.
     let g = sound-parts b (y .1 .0) in

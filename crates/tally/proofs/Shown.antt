@@ -1,7 +1,7 @@
 -- Demand 3 from the invariant.
-use mathlib.Core.Path.{_≡_, refl, sym, ap}
+use mathlib.Core.Path.{_≡_, refl, sym, ap, _∙_}
 use mathlib.Core.Bool.{Bool, false≢true}
-use mathlib.Core.List.{List, [], _∷_, map}
+use mathlib.Core.List.{List, [], _∷_}
 use Prim.Native.Nat.{ℕ, zero, suc, _-_, _≤_, _<_}
 use native.Mathlib.Omega.{arith}
 use lib.Dec.{leb}
@@ -10,10 +10,11 @@ use lib.IntN.{pos, _-ℤ_}
 use borrow.Author.Tests.{leb-true, leb-false}
 use Rattle.rules.specs.declared.Phase.{Phase}
 use Rattle.rules.specs.declared.Phase.the-variants.{Taking, Settling, Cut}
-use Rattle.rules.specs.Measures.{unitLots, sum, dueOf}
-use Rattle.rules.specs.Units.{AccountLots, prepend, sumLots, units}
+use Rattle.rules.specs.Measures.{unitLots, sum}
+use Rattle.rules.specs.Units.{AccountLots, prepend, sumLots, unitsOfNets}
 use Rattle.rules.specs.Handover.{stock, handed, partials}
-use Rattle.rules.specs.Book.{isSettling, row, netAt, deliveredTotal, orderIn, orderOf}
+use Rattle.rules.specs.Lifts.{lifted}
+use Rattle.rules.specs.Book.{isSettling, row, netAt, deliveredTotal, liftsAt, orderIn, orderOf}
 use Rattle.rules.specs.Tally.{State, Demand3, StockHeld, InTurn, netsToday, unitsToday, inIssue}
 use Rattle.laws.proofs.Basics.{byTest, total-append, Every, each-map}
 use Rattle.laws.proofs.Units.{UnitSized}
@@ -109,12 +110,14 @@ module _ (s : State) (v : Inv s) (i : ℕ) (h : i < 16) where
 
   pub units-today : unitsToday (s .tally) i ≡ orderOf (s .book) i
   unfolding orderIn
-  units-today = ap (λ l. units unitLots (map dueOf l)) nets-today
+  units-today =
+      ap (λ ls. lifted ls (unitsOfNets unitLots (netsToday (s .tally) i))) (v .lifts i h)
+      ∙ ap (λ l. lifted (liftsAt (s .book .lifts) i) (unitsOfNets unitLots l)) nets-today
 
   facts : Facts (orderOf (s .book) i) (deliveredTotal (s .book .delivered) i) (s .tally .rows i) (isSettling (s .book .phase))
   facts =
       row-facts (s .book .phase) (orderOf (s .book) i) (deliveredTotal (s .book .delivered) i) (s .tally .rows i)
-      (order-in (s .book .nets) i .sized) (v .rows i h)
+      (order-in (s .book .nets) (s .book .lifts) i .sized) (v .rows i h)
 
 pub shown : (s : State) → Inv s → Demand3 s
 shown s v = record {

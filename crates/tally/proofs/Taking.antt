@@ -19,6 +19,7 @@ use Rattle.rules.specs.Tally.{State, start}
 use Rattle.laws.proofs.Basics.{byTest, and-left, and-right, Every}
 use Rattle.laws.proofs.Units.{UnitSized}
 use Rattle.laws.proofs.Cells.{here, here-eq, cell-set, row-zeros}
+use Rattle.laws.proofs.LiftColumn.{no-lifts}
 use Rattle.laws.proofs.Signed.{rises, falls}
 use Rattle.laws.proofs.SoundRows.{order-in}
 use Rattle.laws.proofs.Answers.{by-answer}
@@ -36,12 +37,14 @@ pub starts : Inv start
 starts = record {
   sizeNets = length-replicate 1024 (pos 0);
   sizeDelivered = length-replicate {A = ℕ} 1024 0;
+  sizeLifts = length-replicate {A = ℕ} 288 0;
   sizeCharges = refl;
   nets = λ i a h k. rw (no-net i a h k) refl;
   given = none-delivered;
   handed = λ i a. refl;
   phase = refl;
   rows = λ i h. (refl, row-zeros i 1024);
+  lifts = λ i h. sym (no-lifts i 288);
   balance = λ i a h k. refl;
   charges = refl;
 }
@@ -92,12 +95,14 @@ keeps-trade s v i f c x =
     record {
       sizeNets = simp length-set (v .sizeNets);
       sizeDelivered = v .sizeDelivered;
+      sizeLifts = v .sizeLifts;
       sizeCharges = v .sizeCharges;
       nets = traded-net s v i f c x hi hf hc ne;
       given = v .given;
       handed = v .handed;
       phase = v .phase;
       rows = λ j h. taking-row (b .phase) _ _ _ (s .tally .rows j) (y .1 .0) (v .rows j h);
+      lifts = v .lifts;
       balance = v .balance;
       charges = v .charges;
     })
@@ -121,12 +126,14 @@ keeps-close s v =
     (λ y. record {
       sizeNets = v .sizeNets;
       sizeDelivered = v .sizeDelivered;
+      sizeLifts = v .sizeLifts;
       sizeCharges = v .sizeCharges;
       nets = v .nets;
       given = v .given;
       handed = v .handed;
       phase = refl;
-      rows = λ j h. closed-row (b .phase) _ _ (s .tally .rows j) (order-in (b .nets) j .sized) (y .1 .0) (v .rows j h);
+      rows = λ j h. closed-row (b .phase) _ _ (s .tally .rows j) (order-in (b .nets) (b .lifts) j .sized) (y .1 .0) (v .rows j h);
+      lifts = v .lifts;
       balance = v .balance;
       charges = v .charges;
     })

@@ -75,6 +75,7 @@ fn turn(
     s: State,
     nets: &mut [i32],
     delivered: &mut [u32],
+    lifts: &mut [u32],
     charges: &mut [i64],
     issues: &mut [u8],
     froms: &mut [u8],
@@ -85,8 +86,8 @@ fn turn(
     text: &mut [u8],
     at: usize,
 ) -> Step
-    requires { ⌜ Begins (now words) x × ready s nets delivered charges issues froms tos lots days out × (at + 72 ≤ length (now text)) ⌝ }
-    ensures { λ r. ⌜ (let c = columns nets delivered charges issues froms tos lots days in Stepped (now (words .entry)) x index (c .before s) (now (text .entry)) (now (text .exit)) at r (c .after (r .state))) ⌝ }
+    requires { ⌜ Begins (now words) x × ready s nets delivered lifts charges issues froms tos lots days out × (at + 72 ≤ length (now text)) ⌝ }
+    ensures { λ r. ⌜ (let c = columns nets delivered lifts charges issues froms tos lots days in Stepped (now (words .entry)) x index (c .before s) (now (text .entry)) (now (text .exit)) at r (c .after (r .state))) ⌝ }
 {
     let mut prices = [0u32; 16];
     prices_of(words, x, &mut prices);
@@ -96,6 +97,7 @@ fn turn(
         s,
         nets,
         delivered,
+        lifts,
         charges,
         issues,
         froms,
@@ -150,6 +152,7 @@ pub fn run(
     s: State,
     nets: &mut [i32],
     delivered: &mut [u32],
+    lifts: &mut [u32],
     charges: &mut [i64],
     issues: &mut [u8],
     froms: &mut [u8],
@@ -159,8 +162,8 @@ pub fn run(
     out: &mut [u32],
     text: &mut [u8],
 ) -> Part
-    requires { ⌜ ready s nets delivered charges issues froms tos lots days out × (72 * (length (now words) + 1) ≤ length (now text)) × (index + length (now words) < 2 ^ 64) ⌝ }
-    ensures { λ r. ⌜ (let c = columns nets delivered charges issues froms tos lots days in Went (now (words .entry)) last stray index (c .before s) (now (text .exit)) (r .used) (r .end) (r .over) (c .after (r .state))) ⌝ }
+    requires { ⌜ ready s nets delivered lifts charges issues froms tos lots days out × (72 * (length (now words) + 1) ≤ length (now text)) × (index + length (now words) < 2 ^ 64) ⌝ }
+    ensures { λ r. ⌜ (let c = columns nets delivered lifts charges issues froms tos lots days in Went (now (words .entry)) last stray index (c .before s) (now (text .exit)) (r .used) (r .end) (r .over) (c .after (r .state))) ⌝ }
 {
     let mut at = 0;
     let mut end = 0;
@@ -184,6 +187,7 @@ pub fn run(
             state,
             nets,
             delivered,
+            lifts,
             charges,
             issues,
             froms,

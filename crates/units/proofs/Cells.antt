@@ -1,4 +1,4 @@
--- Nets and delivered lots of a sound book: the rows of an issue, their bounds and their order.
+-- Nets, delivered lots and lifts of a sound book: the rows of an issue, their bounds and their order.
 use mathlib.Core.Path.{_≡_, sym, _∙_}
 use mathlib.Core.Bool.{true}
 use mathlib.Core.List.{List, [], _∷_, map}
@@ -9,14 +9,16 @@ use lib.IntN.{ℤ, pos, natAbs}
 use borrow.Author.Tests.{leb-true, le-leb}
 use Rattle.rules.specs.declared.Book.{Book}
 use Rattle.rules.specs.Measures.{mostLots, sum, dueOf, owedOf}
-use Rattle.rules.specs.Book.{all, sound, row, withinSize, duesOf, obligationsOf, deliveredTotal}
+use Rattle.rules.specs.Book.{all, sound, row, withinSize, duesOf, obligationsOf, deliveredTotal, liftsAt}
 use Rattle.laws.proofs.Basics.{Every, each-map, each-take, each-drop}
 use Rattle.laws.proofs.Signed.{size-of}
 use Rattle.laws.proofs.Fails.{each-of-map}
 use Rattle.laws.proofs.Cutoff.{SoundRow, delivered-due}
 use Rattle.laws.proofs.Cells.{length-row, within-row}
-use Rattle.laws.proofs.Sound.{SoundBook, sound-parts, all-each, each-all, each-getD, within-at, parts-balanced}
-use Rattle.book.specs.Cells.{SoundCells}
+use Rattle.laws.proofs.Sound.{SoundBook, sound-parts, all-each, each-all, each-getD, within-at, parts-balanced, places-among}
+use Rattle.laws.proofs.SoundRows as books
+use Rattle.book.specs.Cells.{OwedCells, SoundCells}
+use Rattle.units.specs.Runs.{CanOrder}
 
 -- an issue's row, cut out of a column
 pub row-part : {A : Type 0} (l : List A) (i : ℕ) → take (i * 64 + 64 - i * 64) (drop (i * 64) l) ≡ row i l
@@ -30,16 +32,6 @@ parts-sized b s =
 
 pub nets-sized : (b : Book) → sound b ≡ true → all (withinSize mostLots) (b .nets) ≡ true
 nets-sized b h = parts-sized b (sound-parts b h)
-
-pub sound-cells : (b : Book) → SoundBook b → length (b .nets) ≡ 1024 → length (b .delivered) ≡ 1024 → SoundCells (b .nets) (b .delivered)
-sound-cells b s n d =
-    record {
-      cells = n;
-      both = d;
-      size = parts-sized b s;
-      balance = λ i h. parts-balanced (row i (b .nets)) (s .rows i h);
-      owed = s .owed;
-    }
 
 sized : (nets : List ℤ) → all (withinSize mostLots) nets ≡ true → Every (λ m. natAbs m ≤ mostLots) nets
 sized nets s =
@@ -65,8 +57,31 @@ module _ (nets : List ℤ) (i : ℕ) (s : all (withinSize mostLots) nets ≡ tru
       bound [] ps = omega arith
       bound (m ∷ ms) ps = omega (arith, size-of m, ps .0, bound ms (ps .1))
 
+pub sound-cells : (b : Book) → SoundBook b → length (b .nets) ≡ 1024 → length (b .delivered) ≡ 1024 → length (b .lifts) ≡ 288 →
+    SoundCells (b .nets) (b .delivered) (b .lifts)
+sound-cells b s n d l =
+    record {
+      cells = n;
+      both = d;
+      lifted = l;
+      size = parts-sized b s;
+      balance = λ i h. parts-balanced (row i (b .nets)) (s .rows i h);
+      owed = s .owed;
+      few = λ i h. s .lifts i h .few;
+      places = λ i h. places-among _ _ 0 (liftsAt (b .lifts) i) (s .lifts i h .places);
+      counted = λ i h. omega (arith, s .lifts i h .count, s .lifts i h .few, books.total-due b s n d i h, dues-sum (b .nets) i (parts-sized b s) n h);
+    }
+
+-- its issues can be ordered
+pub can-order : (nets : List ℤ) (delivered lifts : List ℕ) (i : ℕ) → SoundCells nets delivered lifts → i < 16 → CanOrder nets lifts i
+can-order nets delivered lifts i s h =
+    record { cells = s .cells; lifted = s .lifted; issue = h; size = s .size; few = s .few i h; places = s .places i h }
+
+pub owed-cells : (nets : List ℤ) (delivered lifts : List ℕ) → SoundCells nets delivered lifts → OwedCells nets delivered
+owed-cells nets delivered lifts s = record { cells = s .cells; both = s .both; size = s .size; owed = s .owed }
+
 -- what is delivered of a cell is within 20,000,000
-pub cell-owed : (nets : List ℤ) (delivered : List ℕ) → SoundCells nets delivered → (k : ℕ) → getD delivered k 0 ≤ mostLots
+pub cell-owed : (nets : List ℤ) (delivered : List ℕ) → OwedCells nets delivered → (k : ℕ) → getD delivered k 0 ≤ mostLots
 cell-owed nets delivered s k =
     omega (
       arith,
@@ -76,7 +91,7 @@ cell-owed nets delivered s k =
     )
 
 -- an issue of a sound book
-module _ (nets : List ℤ) (delivered : List ℕ) (s : SoundCells nets delivered) (i : ℕ) (h : i < 16) where
+module _ (nets : List ℤ) (delivered lifts : List ℕ) (s : SoundCells nets delivered lifts) (i : ℕ) (h : i < 16) where
   pub sound-row : SoundRow (row i nets) (row i delivered)
   sound-row =
       record {

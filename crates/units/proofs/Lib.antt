@@ -2,8 +2,8 @@
 pub mod Cells
 pub mod Ranking
 pub mod Units
-pub mod Gathered
 pub mod Loops
+pub mod Lifted
+pub mod Gathers
 pub mod Steps
-pub mod Starting
 pub mod Questions

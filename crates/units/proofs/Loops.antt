@@ -1,5 +1,6 @@
 -- What a turn of each loop does: a list filled or changed place by place, and the runs from j on taken one by one.
 use mathlib.Core.Path.{_≡_, refl, ap, _∙_}
+use mathlib.Core.Bool.{true}
 use mathlib.Core.List.{List, [], _∷_, _++_, map, map-append}
 use Prim.Native.Nat.{ℕ, suc, _+_, _-_, _*_, _/_, _%_, _≤_, _<_, min}
 use native.Mathlib.Omega.{arith}
@@ -7,16 +8,17 @@ use native.Mathlib.Numerals.{add-one}
 use lib.ListN.{length, take, drop, getD, set, length-map, List·getD-map, drop-of-length-le}
 use lib.Seq.{take-suc, take-suc-set, drop-cons, getD-take, length-take-le, take-append-add, take-append-le}
 use lib.IntN.{ℤ, pos, natAbs}
-use Rattle.rules.specs.Measures.{dueOf}
-use Rattle.rules.specs.Units.{accountLots, byAccount, largestFirst}
+use Rattle.rules.specs.Measures.{Every, unitLots, mostLots, dueOf}
+use Rattle.rules.specs.Units.{AccountLots, accountLots, byAccount, largestFirst}
 use Rattle.rules.specs.Handover.{covered, stock}
-use Rattle.rules.specs.Book.{row, duesOf, orderIn}
+use Rattle.rules.specs.Book.{all, row, withinSize, duesOf}
+use Rattle.laws.proofs.Basics.{each-append, each-map}
+use Rattle.laws.proofs.Units.{Small}
 use Rattle.laws.proofs.Cells.{length-dues}
 use Rattle.laws.proofs.Sound.{each-getD}
 use Rattle.laws.proofs.Signed.{size-of}
-use Rattle.units.specs.Runs.{partOf, runsIn, unitsOfRun, unitsOfRuns, unitsIn, fullOf, smallLots, runsOf, CanRank, CanPrepare, Prepared}
-use Rattle.units.proofs.Units.{units-runs, unit-past, unit-here, covered-run, stock-run, covered-over, stock-over}
-use Rattle.units.proofs.Gathered.{gathered}
+use Rattle.units.specs.Runs.{partOf, runsIn, unitsOfRun, unitsOfRuns, unitsIn, fullOf, smallLots, runsOf, Plain, CanRank, CanRankNets, RankedNets}
+use Rattle.units.proofs.Units.{units-runs, unit-past, unit-here, covered-run, stock-run, covered-over, stock-over, smalls-sorted}
 use Rattle.units.proofs.Cells.{row-sized}
 
 -- a list filled by a function of another's elements
@@ -105,25 +107,42 @@ ordered dues rests r₀ r₁ r₂ n m k h g e f r s =
     ap (map partOf) (behind r₁ r₂ n m k h g) ∙ map-append partOf (take n r₁) (take m r₂) ∙ rw (f, e, s, r)
 
 -- the dues of an issue can be ranked
-pub can-rank : (nets : List ℤ) (i : ℕ) (dues runs : List ℕ) → dues ≡ duesOf nets i → CanPrepare nets i runs → CanRank 128 dues runs
+module _ (nets : List ℤ) (i : ℕ) (dues : List ℕ) (e : dues ≡ duesOf nets i) (s : all (withinSize mostLots) nets ≡ true) where
+  pub dues-small : (a : ℕ) → getD dues a 0 ≤ mostLots
+  dues-small a =
+      rw (e, List·getD-map dueOf (row i nets) a (pos 0))
+      (omega (
+        arith,
+        size-of (getD (row i nets) a (pos 0)),
+        each-getD (λ m. natAbs m ≤ mostLots) (row i nets) a (pos 0) (row-sized nets i s) (omega arith),
+      ))
+
+pub can-rank : (nets : List ℤ) (i : ℕ) (dues runs : List ℕ) → dues ≡ duesOf nets i → CanRankNets nets i runs → CanRank 128 dues runs
 can-rank nets i dues runs e c =
     record {
-      accounts = ap length e ∙ length-dues nets i (c .order .cells) (c .order .issue);
+      accounts = ap length e ∙ length-dues nets i (c .cells) (c .issue);
       held = c .room;
-      small = λ a. rw (e, List·getD-map dueOf (row i nets) a (pos 0))
-          (omega (
-            arith,
-            size-of (getD (row i nets) a (pos 0)),
-            each-getD (λ m. natAbs m ≤ 20000000) (row i nets) a (pos 0) (row-sized nets i (c .order .size)) (omega arith),
-          ));
+      small = dues-small nets i dues e (c .size);
     }
 
--- ranked, they hold the issue's order
-pub prepared : (nets : List ℤ) (i : ℕ) (dues runs : List ℕ) (n : ℕ) → dues ≡ duesOf nets i → n ≤ 128 → n ≤ length runs →
-    runsIn runs n ≡ runsOf dues → Prepared nets i runs n
-unfolding orderIn unitsIn
-prepared nets i dues runs n e few there r =
+-- ranked, they hold the issue's units
+fulls-plain : (us : List AccountLots) → Every Plain (map fullOf us)
+fulls-plain [] = tt
+fulls-plain (u ∷ us) = ((λ g. omega arith), fulls-plain us)
+
+runs-plain : (dues : List ℕ) → Every Plain (runsOf dues)
+unfolding runsOf
+runs-plain dues =
+    let ss = largestFirst (byAccount 0 (map smallLots dues)) in
+    each-append Plain (map fullOf (largestFirst (byAccount 0 dues))) ss (fulls-plain (largestFirst (byAccount 0 dues)))
+    (each-map (Small unitLots) Plain (λ v p h. absurd (omega (arith, p .1))) ss (smalls-sorted dues))
+
+pub ranked-nets : (nets : List ℤ) (i : ℕ) (dues runs : List ℕ) (n : ℕ) → dues ≡ duesOf nets i → n ≤ 128 → runsIn runs n ≡ runsOf dues →
+    RankedNets nets i runs n
+unfolding unitsIn
+ranked-nets nets i dues runs n e few r =
     record {
-      held = record { few = few; there = there; gathered = λ d. rw r (gathered dues d) };
+      few = few;
       units = ap unitsOfRuns (r ∙ ap runsOf e) ∙ units-runs (duesOf nets i);
+      plain = rw r (runs-plain dues);
     }

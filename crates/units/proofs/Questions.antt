@@ -24,6 +24,6 @@ module _ (runs : List ℕ) (n : ℕ) (s : Seat) (r : NextUnit) (l : NextIs runs 
   unit-end e = l .list ∙ ap (unitsOf runs n) e
 
 -- behind the place in front of unit k is the k-th
-module _ (nets : List ℤ) (i k : ℕ) (runs : List ℕ) (n : ℕ) (s : Seat) (p : Prepared nets i runs n) (q : SeatIs k s) where
-  pub found-is : (us : List AccountLots) → unitsFrom runs n s ≡ us → foundOf us ≡ foundOf (drop k (orderIn nets i))
+module _ (nets : List ℤ) (lifts : List ℕ) (i k : ℕ) (runs : List ℕ) (n : ℕ) (s : Seat) (p : Prepared nets lifts i runs n) (q : SeatIs k s) where
+  pub found-is : (us : List AccountLots) → unitsFrom runs n s ≡ us → foundOf us ≡ foundOf (drop k (orderIn nets lifts i))
   found-is us e = ap foundOf (sym e ∙ q runs n ∙ ap (drop k) (p .units))

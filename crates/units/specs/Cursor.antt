@@ -79,10 +79,11 @@ abbrev pub position : ℕ → ℕ → ℕ → ℕ → Position
 position run to lack s =
     record { cursor = record { account = 0; from = 0; short = 0; run = run; to = to; lack = lack }; stock = s }
 
--- after a delivered total: the cursor in front of all overlaps with what units lack, the stock, and whose unit is next
-pub record Started (runs : List ℕ) (n d : ℕ) (r : Position) : Type 0 where
+-- after a delivered total: the cursor in front of all overlaps with what units lack, the stock, and whose unit is next;
+-- the units are the lent array's before, the cursor goes along it as it is left
+pub record Started (before after : List ℕ) (n d : ℕ) (r : Position) : Type 0 where
   pub lacking : (missing : List ℕ) →
-      overlapsFrom runs n missing (r .cursor) ≡ overlaps (byAccount 0 missing) (lacks unitLots (unitsIn runs n) d)
-  pub left : r .stock ≡ stock (unitsIn runs n) d
-  pub next : r .cursor .to ≡ firstUnit (waiting (unitsIn runs n) d) .account
+      overlapsFrom after n missing (r .cursor) ≡ overlaps (byAccount 0 missing) (lacks unitLots (unitsIn before n) d)
+  pub left : r .stock ≡ stock (unitsIn before n) d
+  pub next : r .cursor .to ≡ firstUnit (waiting (unitsIn before n) d) .account
   pub range : InRange (r .cursor)

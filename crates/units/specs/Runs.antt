@@ -2,15 +2,15 @@
 use mathlib.Core.Path.{_≡_}
 use mathlib.Core.Bool.{true, cond}
 use mathlib.Core.List.{List, [], _∷_, _++_, map}
-use Prim.Native.Nat.{ℕ, suc, _*_, _/_, _%_, _≤_, _<_}
+use Prim.Native.Nat.{ℕ, suc, _+_, _*_, _/_, _%_, _≤_, _<_}
 use lib.Dec.{ltb}
 use lib.ListN.{length, take, drop, getD, replicate}
 use lib.IntN.{ℤ}
-use Rattle.rules.specs.Measures.{unitLots, mostLots}
-use Rattle.rules.specs.Units.{AccountLots, accountLots, prepend, byAccount, largestFirst}
+use Rattle.rules.specs.Measures.{Every, unitLots, mostLots, total}
+use Rattle.rules.specs.Units.{AccountLots, accountLots, prepend, byAccount, largestFirst, ofAccount, unitsOfNets}
 use Rattle.rules.specs.Handover.{covered, stock}
-use Rattle.rules.specs.Fails.{dropLots, lacks}
-use Rattle.rules.specs.Book.{all, withinSize, orderIn}
+use Rattle.rules.specs.Lifts.{Among}
+use Rattle.rules.specs.Book.{all, row, withinSize, liftNumber, liftsAt, orderIn}
 use Rattle.rules.specs.declared.Found.{Found}
 use Rattle.rules.specs.declared.Found.the-variants.{Unit, Nothing}
 use Rattle.units.specs.declared.Seat.{Seat}
@@ -64,26 +64,51 @@ pub record Ranked (lots keys : List ℕ) (n : ℕ) : Type 0 where
   pub few : n ≤ 64
   pub order : runsIn keys n ≡ largestFirst (byAccount 0 lots)
 
--- units held in the first n words of a lent array: what they lack after a total is what is left of their runs
-pub record Held (runs : List ℕ) (n : ℕ) : Type 0 where
-  pub few : n ≤ 128
-  pub there : n ≤ length runs
-  pub gathered : (d : ℕ) → lacks unitLots (unitsIn runs n) d ≡ dropLots d (runsIn runs n)
+-- a run of full units, or of one small unit, or of none
+abbrev pub Plain : AccountLots → Type 0
+Plain u = 100000 ≤ u .lots → u .lots % 100000 ≡ 0
 
--- an issue whose units can be ordered, from all nets
-pub record CanOrder (nets : List ℤ) (i : ℕ) : Type 0 where
+abbrev pub PlainIn : List ℕ → ℕ → Type 0
+PlainIn runs n = Every Plain (runsIn runs n)
+
+-- units held in the first n words of a lent array
+pub record Held (runs : List ℕ) (n : ℕ) : Type 0 where
+  pub few : n ≤ 144
+  pub there : n ≤ length runs
+  pub plain : PlainIn runs n
+  pub small : (a : ℕ) → total (ofAccount a) (unitsIn runs n) ≤ mostLots
+
+-- an issue whose nets can be ranked
+pub record CanRankNets (nets : List ℤ) (i : ℕ) (runs : List ℕ) : Type 0 where
   pub cells : length nets ≡ 1024
   pub issue : i < 16
   pub size : all (withinSize mostLots) nets ≡ true
-
-pub record CanPrepare (nets : List ℤ) (i : ℕ) (runs : List ℕ) : Type 0 where
-  pub order : CanOrder nets i
   pub room : 128 ≤ length runs
 
+-- the lent array holds the issue's units in the order without lifts
+pub record RankedNets (nets : List ℤ) (i : ℕ) (runs : List ℕ) (n : ℕ) : Type 0 where
+  pub few : n ≤ 128
+  pub units : unitsIn runs n ≡ unitsOfNets unitLots (row i nets)
+  pub plain : PlainIn runs n
+
+-- an issue whose units can be ordered, from all nets and lifts
+pub record CanOrder (nets : List ℤ) (lifts : List ℕ) (i : ℕ) : Type 0 where
+  pub cells : length nets ≡ 1024
+  pub lifted : length lifts ≡ 288
+  pub issue : i < 16
+  pub size : all (withinSize mostLots) nets ≡ true
+  pub few : liftNumber lifts i ≤ 8
+  pub places : Every (Among (length (orderIn nets lifts i))) (liftsAt lifts i)
+
+pub record CanPrepare (nets : List ℤ) (lifts : List ℕ) (i : ℕ) (runs : List ℕ) : Type 0 where
+  pub order : CanOrder nets lifts i
+  pub room : 144 ≤ length runs
+
 -- the lent array holds the units of the issue in the order of the day
-pub record Prepared (nets : List ℤ) (i : ℕ) (runs : List ℕ) (n : ℕ) : Type 0 where
+pub record Prepared (nets : List ℤ) (lifts : List ℕ) (i : ℕ) (runs : List ℕ) (n : ℕ) : Type 0 where
   pub held : Held runs n
-  pub units : unitsIn runs n ≡ orderIn nets i
+  pub few : n ≤ 128 + 2 * liftNumber lifts i
+  pub units : unitsIn runs n ≡ orderIn nets lifts i
 
 abbrev pub foundOf : List AccountLots → Found
 foundOf [] = Nothing

@@ -1,6 +1,6 @@
 //! The calls on the ledger: resolve, pair-off and roll.
 
-use crate::book::{Book, Entry, Phase, ACCOUNTS, ISSUES};
+use crate::book::{Book, Entry, Lifts, Phase, ACCOUNTS, ISSUES};
 use crate::measures::charge;
 use crate::questions::{
     account_in_range, book_is_sound, day_can_rise, days_in_range, issue_in_range, lots_in_range,
@@ -113,6 +113,7 @@ pub(super) fn roll(
     }
     book.nets = [0; ISSUES * ACCOUNTS];
     book.delivered = [0; ISSUES * ACCOUNTS];
+    book.lifts = [Lifts::default(); ISSUES];
     book.day += 1;
     book.phase = Phase::Taking;
     Ok(0)

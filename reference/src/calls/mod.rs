@@ -1,9 +1,10 @@
-//! The seven calls and the unit question, each open and for a book known to be sound.
+//! The calls and the unit question, each open and for a book known to be sound.
 //!
 //! The open form puts every question of the call. The form `_on_sound` leaves out question 2
 //! alone; it is for a program whose book is sound by construction.
 
 mod ledger;
+mod lifting;
 mod settling;
 mod taking;
 
@@ -37,6 +38,25 @@ pub struct UnitAnswer {
     pub lots: u32,
 }
 
+/// A ticket for a lift: issue and unit number, the unit's account and lots, the day, and the count
+/// of that day's accepted deliveries and lifts in the issue.
+#[derive(Clone, Copy, Debug, Default, PartialEq, Eq)]
+pub struct Ticket {
+    pub issue: u32,
+    pub unit: u32,
+    pub account: u32,
+    pub lots: u32,
+    pub day: u32,
+    pub count: u32,
+}
+
+/// The answer to asking for a lift: refusal number and ticket, all 0 on a refusal.
+#[derive(Clone, Copy, Debug, PartialEq, Eq)]
+pub struct AskAnswer {
+    pub number: u32,
+    pub ticket: Ticket,
+}
+
 impl From<Result<u32, u32>> for Answer {
     /// The count, or the refusal number with 0 for the count.
     fn from(result: Result<u32, u32>) -> Answer {
@@ -53,6 +73,16 @@ impl From<Result<(u32, u64), u32>> for PairOffAnswer {
         match result {
             Ok((steps, lots)) => PairOffAnswer { number: 0, steps, lots },
             Err(number) => PairOffAnswer { number, steps: 0, lots: 0 },
+        }
+    }
+}
+
+impl From<Result<Ticket, u32>> for AskAnswer {
+    /// The ticket, or the refusal number with 0 for every number of the ticket.
+    fn from(result: Result<Ticket, u32>) -> AskAnswer {
+        match result {
+            Ok(ticket) => AskAnswer { number: 0, ticket },
+            Err(number) => AskAnswer { number, ticket: Ticket::default() },
         }
     }
 }
@@ -103,6 +133,27 @@ pub fn deliver_on_sound(
     settling::deliver(book, issue, account, lots, output, Soundness::Known).into()
 }
 
+/// ask: the ticket for a lift of the issue's unit of this number; changes nothing.
+pub fn ask(book: &Book, issue: u32, unit: u32) -> AskAnswer {
+    lifting::ask(book, issue, unit, Soundness::Asked).into()
+}
+
+/// ask on a book known to be sound.
+pub fn ask_on_sound(book: &Book, issue: u32, unit: u32) -> AskAnswer {
+    lifting::ask(book, issue, unit, Soundness::Known).into()
+}
+
+/// commit: the ticket's unit moves before all unhanded ones; what stock covers is handed over;
+/// writes 10s.
+pub fn commit(book: &mut Book, ticket: &Ticket, output: &mut [u32]) -> Answer {
+    lifting::commit(book, ticket, output, Soundness::Asked).into()
+}
+
+/// commit on a book known to be sound.
+pub fn commit_on_sound(book: &mut Book, ticket: &Ticket, output: &mut [u32]) -> Answer {
+    lifting::commit(book, ticket, output, Soundness::Known).into()
+}
+
 /// cutoff: remaining stock goes to the next unit, what units lack is failed; writes 10s and 12s.
 pub fn cutoff(book: &mut Book, output: &mut [u32]) -> Answer {
     settling::cutoff(book, output, Soundness::Asked).into()
@@ -139,7 +190,8 @@ pub fn pair_off_on_sound(book: &mut Book, issue: u32, account: u32) -> PairOffAn
     ledger::pair_off(book, issue, account, Soundness::Known).into()
 }
 
-/// roll: each entry is charged; nets and delivered lots are 0, day rises by 1, to Taking.
+/// roll: each entry is charged; nets, delivered lots, lifts and counts are 0, day rises by 1, to
+/// Taking.
 pub fn roll(book: &mut Book, days: u32, rate: u32, prices: &[u32]) -> Answer {
     ledger::roll(book, days, rate, prices, Soundness::Asked).into()
 }
@@ -154,7 +206,7 @@ fn ask_unit(book: &Book, issue: u32, k: u32, soundness: Soundness) -> UnitAnswer
     let none = UnitAnswer { number: 0, found: false, account: 0, lots: 0 };
     match book_is_sound(book, soundness).and_then(|()| issue_in_range(issue)) {
         Err(number) => UnitAnswer { number, ..none },
-        Ok(issue) => kth_unit(book.nets_of(issue), k).map_or(none, |unit| UnitAnswer {
+        Ok(issue) => kth_unit(book, issue, k).map_or(none, |unit| UnitAnswer {
             number: 0,
             found: true,
             account: unit.account,

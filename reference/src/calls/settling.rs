@@ -6,7 +6,7 @@ use crate::questions::{
     owes, phase_is, Soundness, CALL_OUTPUT,
 };
 use crate::tape::{write_records, Record, FAIL, HANDOVER};
-use crate::units::{handed, units, Unit};
+use crate::units::{handed, units_of, Unit};
 
 /// The lots of one account, laid from start to end after those before it.
 struct Stretch {
@@ -31,12 +31,12 @@ pub(super) fn deliver(
     let account = account_in_range(account)?;
     lots_in_range(lots)?;
     owes(book.owed_today(issue, account), lots)?;
-    let units = units(book.nets_of(issue));
+    let units = units_of(book, issue);
     let (already, _) = handed(&units, book.delivered_total(issue));
     book.delivered[place(issue, account)] += lots;
+    book.lifts[issue].count += 1;
     let (now, _) = handed(&units, book.delivered_total(issue));
-    let handovers = units[already..now].iter().map(|unit| handover(issue, unit.account, unit.lots));
-    Ok(write_records(&handovers.collect::<Vec<_>>(), output))
+    Ok(write_records(&handovers(issue, &units[already..now]), output))
 }
 
 /// cutoff: questions 1 2 3 10.
@@ -60,7 +60,7 @@ pub(super) fn cutoff(
 
 /// The records of an issue at cutoff: the 10 of the remaining stock, if any, and then the 12s.
 fn cut_issue(book: &Book, issue: usize) -> Vec<Record> {
-    let units = units(book.nets_of(issue));
+    let units = units_of(book, issue);
     let (count, stock) = handed(&units, book.delivered_total(issue));
     let mut records = Vec::new();
     if stock != 0 {
@@ -77,13 +77,22 @@ fn cut_issue(book: &Book, issue: usize) -> Vec<Record> {
 
 /// What units still lack, in unit order.
 ///
-/// An account's full units are one stretch and its small unit another.
+/// An account's full units are one stretch, at the place of the first of them, also where they lie
+/// apart; its small unit is another. The stock is taken off the first unit.
 fn lacking_stretches(units: &[Unit], stock: u64) -> Vec<Stretch> {
-    let groups = units.chunk_by(|one, next| one.full && next.full && one.account == next.account);
-    lay(groups.enumerate().map(|(at, group)| {
-        let lots: u64 = group.iter().map(|unit| u64::from(unit.lots)).sum();
-        (group[0].account, if at == 0 { lots - stock } else { lots })
-    }))
+    let mut stretches: Vec<(Unit, u64)> = Vec::new();
+    for unit in units {
+        let lots = u64::from(unit.lots);
+        let joined = |first: &Unit| first.full && unit.full && first.account == unit.account;
+        match stretches.iter_mut().find(|(first, _)| joined(first)) {
+            Some((_, whole)) => *whole += lots,
+            None => stretches.push((*unit, lots)),
+        }
+    }
+    if let Some((_, whole)) = stretches.first_mut() {
+        *whole -= stock;
+    }
+    lay(stretches.into_iter().map(|(first, lots)| (first.account, lots)))
 }
 
 /// The shortfalls of deliverers, by ascending account.
@@ -113,6 +122,11 @@ fn overlap(issue: usize, shortfall: &Stretch, lack: &Stretch) -> Option<Record> 
         to: lack.account,
         lots: (end - start) as u32,
     })
+}
+
+/// The 10s of units that are handed over, one a unit.
+pub(super) fn handovers(issue: usize, units: &[Unit]) -> Vec<Record> {
+    units.iter().map(|unit| handover(issue, unit.account, unit.lots)).collect()
 }
 
 /// A handover from the house: from is unused.

@@ -2,7 +2,7 @@
 #![allow(dead_code)]
 
 use reference::book::{place, Book, Entry, Phase};
-use reference::calls;
+use reference::calls::{self, Ticket};
 use reference::tape::Record;
 
 /// What stands in an output before a call.
@@ -39,15 +39,36 @@ pub fn p5_book(issue: u32) -> Book {
     book
 }
 
-/// A book after P8: cut, with four fails.
-pub fn p8_book(issue: u32) -> Book {
+/// A book after P7: settling, five units handed, 45,000 lots in stock.
+pub fn p7_book(issue: u32) -> Book {
     let mut book = p5_book(issue);
     let mut output = output();
     assert_eq!(calls::close(&mut book).number, 0);
     assert_eq!(calls::deliver(&mut book, issue, 5, 345_000, &mut output).number, 0);
     assert_eq!(calls::deliver(&mut book, issue, 4, 200_000, &mut output).number, 0);
-    assert_eq!(calls::cutoff(&mut book, &mut output).number, 0);
     book
+}
+
+/// A book after P8: cut, with four fails.
+pub fn p8_book(issue: u32) -> Book {
+    let mut book = p7_book(issue);
+    assert_eq!(calls::cutoff(&mut book, &mut output()).number, 0);
+    book
+}
+
+/// Lifts a unit of issue 0 by the ticket that asking gives; answers the count of records.
+pub fn lift(book: &mut Book, unit: u32, output: &mut [u32]) -> u32 {
+    let asked = calls::ask(book, 0, unit);
+    assert_eq!(asked.number, 0, "unit {unit} can be lifted");
+    let answer = calls::commit(book, &asked.ticket, output);
+    assert_eq!(answer.number, 0, "the ticket of unit {unit} is good");
+    answer.count
+}
+
+/// A ticket of these six numbers.
+pub fn ticket(numbers: [u32; 6]) -> Ticket {
+    let [issue, unit, account, lots, day, count] = numbers;
+    Ticket { issue, unit, account, lots, day, count }
 }
 
 /// A book in a phase with these nets of issue 0.

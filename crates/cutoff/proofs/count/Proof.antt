@@ -11,12 +11,12 @@ use Rattle.cutoff.proofs.count.Statement.{statement}
 use Rattle.cutoff.proofs.count.Tie as tie
 
 abbrev Inv-loop : tie.InvT-loop
-Inv-loop nets delivered i₀ n₀ i n =
+Inv-loop nets delivered lifts i₀ n₀ i n =
     (i ≤ 16) × (n ≤ 126 * i)
-    × ((today : ℕ) → n + length (entriesFrom today nets delivered i (16 - i)) ≡ length (entriesFrom today nets delivered 0 16))
+    × ((today : ℕ) → n + length (entriesFrom today nets delivered lifts i (16 - i)) ≡ length (entriesFrom today nets delivered lifts 0 16))
 
 abbrev μ-loop : tie.MeasureT-loop
-μ-loop nets delivered i₀ n₀ i n = 16 - i
+μ-loop nets delivered lifts i₀ n₀ i n = 16 - i
 
 loop-holds : tie.Need-loop-holds Inv-loop μ-loop
 loop-holds c = (search needs, search needs, (λ today. omega arith))
@@ -24,12 +24,12 @@ loop-holds c = (search needs, search needs, (λ today. omega arith))
 -- an issue's fails are few
 one : (c : tie.After-count-issue Inv-loop μ-loop) → c .count-issue .result ≤ 126
 one c =
-    let s = c .before .before .before .before in
+    let s = c .before .before .before .before .before in
     let a = s .args in
     omega (
       arith,
       c .count-issue .ensures,
-      few (now (a .nets)) (now (a .delivered)) (c .before .before .loop .i) (c .before .loop-test .taken) (s .pre),
+      few (now (a .nets)) (now (a .delivered)) (now (a .lifts)) (c .before .before .loop .i) (c .before .loop-test .taken) (s .pre),
     )
 
 add-n : tie.Need-add-n Inv-loop μ-loop
@@ -37,7 +37,7 @@ add-n c = omega (arith, one c)
 
 loop-again : tie.Need-loop-again Inv-loop μ-loop
 loop-again c =
-    let a = c .before .before .before .before .args in
+    let a = c .before .before .before .before .before .args in
     let l = c .before .before .loop in (
       omega arith,
       omega (arith, one c),
@@ -46,19 +46,19 @@ loop-again c =
             arith,
             l .inv .2 today,
             c .count-issue .ensures,
-            count-on today (now (a .nets)) (now (a .delivered)) (l .i) (omega arith),
+            count-on today (now (a .nets)) (now (a .delivered)) (now (a .lifts)) (l .i) (omega arith),
           )),
     )
 
 returns : tie.Need-returns Inv-loop μ-loop
 returns c =
-    let a = c .before .before .before .args in
+    let a = c .before .before .before .before .args in
     let l = c .before .loop in
     record {
       count = λ today.
-          let n : l .n ≡ length (entriesFrom today (now (a .nets)) (now (a .delivered)) 0 16) =
-          omega (arith, l .inv .2 today, ap length (entries-none today (now (a .nets)) (now (a .delivered)) (l .i) (omega arith))) in
-          n ∙ ap length (entries-all today (now (a .nets)) (now (a .delivered)));
+          let n : l .n ≡ length (entriesFrom today (now (a .nets)) (now (a .delivered)) (now (a .lifts)) 0 16) =
+          omega (arith, l .inv .2 today, ap length (entries-none today (now (a .nets)) (now (a .delivered)) (now (a .lifts)) (l .i) (omega arith))) in
+          n ∙ ap length (entries-all today (now (a .nets)) (now (a .delivered)) (now (a .lifts)));
       few = omega arith;
     }
 

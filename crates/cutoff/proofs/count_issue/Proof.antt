@@ -10,12 +10,12 @@ use Rattle.cutoff.proofs.count_issue.Tie as tie
 
 count-requires : tie.Need-count-requires
 count-requires c κs =
-    let s = c .before .before .before .before .before .before .before .before .before in
+    let s = c .before .before .before .before .before .before .before .before .before .before in
     let a = s .args in
     let y = c .before .before .before .before .before .prepare .ensures in (
       y .advance,
       y .range,
-      omega (arith, ap length (y .fails), few (now (a .nets)) (now (a .delivered)) (a .i) (s .pre .1) (s .pre .0)),
+      omega (arith, ap length (y .fails), few (now (a .nets)) (now (a .delivered)) (now (a .lifts)) (a .i) (s .pre .1) (s .pre .0)),
     )
 
 returns : tie.Need-returns

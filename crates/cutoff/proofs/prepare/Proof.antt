@@ -2,42 +2,52 @@
 use native.Mathlib.Omega.{arith}
 use borrow.Author.Needs.{needs}
 use denote.Ref.{now}
-use Rattle.units.proofs.Cells.{row-part, total-small}
+use Rattle.units.proofs.Cells.{row-part, can-order, total-small}
 use Rattle.cutoff.proofs.Issues.{owing, ready}
 use Rattle.cutoff.proofs.prepare.Statement.{statement}
 use Rattle.cutoff.proofs.prepare.Tie as tie
 
+prepare-requires : tie.Need-prepare-requires
+prepare-requires c κs =
+    let s = c .before .before .before .before .before in
+    let a = s .args in
+    record { order = can-order (now (a .nets)) (now (a .delivered)) (now (a .lifts)) (a .i) (s .pre .sound) (s .pre .issue); room = s .pre .held }
+
+abbrev begin : tie.After-prepare → tie.Start
+begin c = c .before .before .before .before .before .before
+
 total-requires : tie.Need-total-requires
 total-requires c κs =
-    let s = c .before .before .before .before .before .before .before .before in
+    let s = begin (c .before .before .before) in
     let a = s .args in
-    rw (row-part (now (a .delivered)) (a .i)) (total-small (now (a .nets)) (now (a .delivered)) (s .pre .sound) (a .i) (s .pre .issue))
+    rw (row-part (now (a .delivered)) (a .i)) (total-small (now (a .nets)) (now (a .delivered)) (now (a .lifts)) (s .pre .sound) (a .i) (s .pre .issue))
 
 missing-of-requires : tie.Need-missing-of-requires
 missing-of-requires c κs =
-    let s = c .before .before .before .before .before .before .before .before .before .before .before .before in
+    let s = begin (c .before .before .before .before .before .before .before) in
     let a = s .args in
     rw (row-part (now (a .nets)) (a .i), row-part (now (a .delivered)) (a .i))
-    (owing (now (a .nets)) (now (a .delivered)) (a .i) (s .pre .issue) (s .pre .sound) _ (s .pre .accounts))
+    (owing (now (a .nets)) (now (a .delivered)) (now (a .lifts)) (a .i) (s .pre .issue) (s .pre .sound) _ (s .pre .accounts))
 
 returns : tie.Need-returns
 returns c =
-    let s = c .before .before .before .before .before .before .before .before .before .before .before .before .before .before .before .before .before .before in
+    let v = c .before .before .before in
+    let h = v .before .before .before .before in
+    let t = h .before .before .before .before in
+    let p = t .before .before .before .before in
+    let s = begin p in
     let a = s .args in
-    let p = c .before .before .before .before .before .before .before .before .before .before .before .before .before .prepare in
-    let t = c .before .before .before .before .before .before .before .before .before .total in
-    let h = c .before .before .before .before .before .missing-of in
-    let v = c .before .start in
-    ready (now (a .nets)) (now (a .delivered)) (a .i) (s .pre .issue) (s .pre .sound)
-    (p .last .1 .1 .0) (h .last .1 .1 .0) (p .result) (t .result) (v .result) (p .ensures)
-    (rw (row-part (now (a .delivered)) (a .i)) at (t .ensures))
-    (rw (row-part (now (a .nets)) (a .i), row-part (now (a .delivered)) (a .i)) at (h .ensures))
-    (omega (arith, h .kept .1 .1 .0, s .pre .accounts)) (v .ensures)
+    ready (now (a .nets)) (now (a .delivered)) (now (a .lifts)) (a .i) (s .pre .issue) (s .pre .sound)
+    (p .prepare .last .1 .1 .1 .0) (v .start .last .0) (h .missing-of .last .1 .1 .0) (p .prepare .result) (t .total .result) (v .start .result)
+    (p .prepare .ensures)
+    (rw (row-part (now (a .delivered)) (a .i)) at (t .total .ensures))
+    (rw (row-part (now (a .nets)) (a .i), row-part (now (a .delivered)) (a .i)) at (h .missing-of .ensures))
+    (omega (arith, h .missing-of .kept .1 .1 .0, s .pre .accounts)) (omega (arith, p .prepare .ensures .held .there, v .start .kept .0)) (v .start .ensures)
 
 pub prepare-spec : {M : Type 1} → statement M
 prepare-spec =
     tie.close
-    (tie.spec (λ c. search needs) (λ c. search needs) (λ c κs. search needs) (λ c. search needs) (λ c. search needs) (λ c. search needs)
+    (tie.spec (λ c. search needs) (λ c. search needs) prepare-requires (λ c. search needs) (λ c. search needs) (λ c. search needs)
     (λ c. search needs) total-requires (λ c. search needs) (λ c. search needs) (λ c. search needs) (λ c. search needs) (λ c. search needs)
     (λ c. search needs) (λ c. search needs) (λ c. search needs) missing-of-requires (λ c κs. search needs) (λ c. search needs)
     (λ c. search needs) returns)

@@ -10,9 +10,9 @@ use Rattle.delivery.proofs.serve.Tie as tie
 
 -- what the two counts say
 counts : (c : tie.After-handover2) →
-    let s = c .before .before .before .before .before .before .before .before in
+    let s = c .before .before .before .before .before .before .before .before .before in
     let p = c .before .before .before .before .before .prepare in
-    Counted (unitsIn (p .last .1 .1 .0) (p .result)) (orderIn (now (s .args .nets)) (s .args .i)) (s .args .d) (s .args .x)
+    Counted (unitsIn (p .last .1 .1 .1 .0) (p .result)) (orderIn (now (s .args .nets)) (now (s .args .lifts)) (s .args .i)) (s .args .d) (s .args .x)
     (c .before .before .handover .result .count) (c .handover2 .result .count)
 counts c =
     counted _ _ _ _ _ _ (c .before .before .before .before .before .prepare .ensures .units) (c .before .before .handover .ensures .covers) (c .handover2 .ensures .covers)
@@ -20,7 +20,7 @@ counts c =
 hand-requires : tie.Need-hand-requires
 hand-requires c κs =
     let k = counts (c .before .before .before) in
-    let s = c .before .before .before .before .before .before .before .before .before .before .before in
+    let s = c .before .before .before .before .before .before .before .before .before .before .before .before in
     record {
       held = c .before .before .before .before .before .before .before .before .prepare .ensures .held .there;
       issue = s .pre .order .issue;
@@ -30,7 +30,7 @@ hand-requires c κs =
 
 returns : tie.Need-returns
 returns c =
-    let a = c .before .before .before .before .before .before .before .before .before .before .before .before .before .before .args in
+    let a = c .before .before .before .before .before .before .before .before .before .before .before .before .before .before .before .args in
     served _ _ (a .i) (a .d) (a .x) _ _ (now (a .out)) (c .before .before .hand .last .1 .1 .1 .1 .1 .0) (counts (c .before .before .before .before .before .before)) (c .before .before .hand .ensures)
 
 pub serve-spec : {M : Type 1} → statement M

@@ -17,14 +17,14 @@ use Rattle.dispatch.proofs.call.Tie as tie
 abbrev book : tie.Start → Book
 book s =
     let a = s .args in
-    bookIn (a .s) (now (a .nets)) (now (a .delivered)) (now (a .charges)) (now (a .issues)) (now (a .froms)) (now (a .tos)) (now (a .lots)) (now (a .days))
+    bookIn (a .s) (now (a .nets)) (now (a .delivered)) (now (a .lifts)) (now (a .charges)) (now (a .issues)) (now (a .froms)) (now (a .tos)) (now (a .lots)) (now (a .days))
 
 -- where question 1 was asked, and where question 2 is
 abbrev first : tie.After-output-asks → tie.Start
-first c = c .before .before .before .before .before .before .before .before .before .before
+first c = c .before .before .before .before .before .before .before .before .before .before .before
 
 abbrev second : tie.After-sound → tie.Else1
-second c = c .before .before .before .before .before .before .before .before .before
+second c = c .before .before .before .before .before .before .before .before .before .before
 
 -- what is known where both are answered 'yes'
 room : (c : tie.Else1) → HasRoom (callOf (first (c .before) .args .x) (now (first (c .before) .args .prices)) (now (first (c .before) .args .out)))
@@ -56,14 +56,14 @@ returns-2 c =
 
 answer-requires : tie.Need-answer-requires
 answer-requires c κs =
-    let e = c .before .before .before .before .before .before .before .before .before in
+    let e = c .before .before .before .before .before .before .before .before .before .before in
     let b = book (first (second (e .before) .before)) in
     (record { lengths = sound-lengths b (good e); sound = sound-book b (good e) }, room (second (e .before)))
 
 returns-3 : tie.Need-returns-3
 returns-3 c =
-    let k = c .before .before .before .before .before .before .before .before .before .before .before .before .before .before .before .before in
-    let e = k .before .before .before .before .before .before .before .before .before .before in
+    let k = c .before .before .before .before .before .before .before .before .before .before .before .before .before .before .before .before .before .before in
+    let e = k .before .before .before .before .before .before .before .before .before .before .before in
     let s = first (second (e .before) .before) in
     let a = s .args in
     let b = book s in
@@ -89,8 +89,10 @@ call-spec =
     (λ c. search needs)
     (λ c. search needs)
     (λ c. search needs)
+    (λ c. search needs)
     returns-2
     answer-requires
+    (λ c. search needs)
     (λ c. search needs)
     (λ c. search needs)
     (λ c. search needs)

@@ -6,7 +6,8 @@ use denote.Ref.{now}
 use borrow.Author.Needs.{needs}
 use borrow.Author.Tests.{not-true, not-false}
 use Rattle.rules.specs.declared.Book.{Book}
-use Rattle.units.proofs.Cells.{nets-sized}
+use Rattle.laws.proofs.Sound.{sound-parts}
+use Rattle.units.proofs.Cells.{sound-cells, can-order}
 use Rattle.book.specs.States.{bookIn}
 use Rattle.soundness.specs.Sound.{soundIn}
 use Rattle.soundness.proofs.Told.{sound-lengths, sound-book}
@@ -17,10 +18,10 @@ use Rattle.inquiry.proofs.unit.Tie as tie
 abbrev book : tie.Start → Book
 book s =
     let a = s .args in
-    bookIn (a .s) (now (a .nets)) (now (a .delivered)) (now (a .charges)) (now (a .issues)) (now (a .froms)) (now (a .tos)) (now (a .lots)) (now (a .days))
+    bookIn (a .s) (now (a .nets)) (now (a .delivered)) (now (a .lifts)) (now (a .charges)) (now (a .issues)) (now (a .froms)) (now (a .tos)) (now (a .lots)) (now (a .days))
 
 abbrev start : tie.After-sound → tie.Start
-start c = c .before .before .before .before .before .before .before
+start c = c .before .before .before .before .before .before .before .before
 
 -- the book is sound where it was not refused
 yes : (c : tie.Else1) → soundIn (book (start (c .before))) ≡ true
@@ -44,11 +45,9 @@ returns-2 c =
 unit-of-requires : tie.Need-unit-of-requires
 unit-of-requires c κs =
     let b = book (start (c .before .before)) in
-    record {
-      cells = sound-lengths b (yes (c .before)) .cells .nets;
-      issue = omega arith;
-      size = nets-sized b (sound-book b (yes (c .before)));
-    }
+    let l = sound-lengths b (yes (c .before)) in
+    can-order (b .nets) (b .delivered) (b .lifts) _
+    (sound-cells b (sound-parts b (sound-book b (yes (c .before)))) (l .cells .nets) (l .cells .delivered) (l .lifts)) (omega arith)
 
 returns-3 : tie.Need-returns-3
 returns-3 c =

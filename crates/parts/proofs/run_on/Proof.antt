@@ -9,41 +9,52 @@ use Rattle.parts.proofs.run_on.Statement.{statement}
 use Rattle.parts.proofs.run_on.Tie as tie
 
 -- the lengths of the book's columns
-lengths : (s : tie.Start) → let b = s .args .b in Lengths (b .nets) (b .delivered) (b .charges) (b .issues) (b .froms) (b .tos) (b .lots) (b .days)
+lengths : (s : tie.Start) → let b = s .args .b in Lengths (b .nets) (b .delivered) (b .lifts) (b .charges) (b .issues) (b .froms) (b .tos) (b .lots) (b .days)
 lengths s =
     record {
       cells = record { nets = search needs; delivered = search needs };
+      lifts = search needs;
       charges = search needs;
       ledger = record { issues = search needs; froms = search needs; tos = search needs; lots = search needs; days = search needs };
     }
 
+abbrev begin : tie.After-state-of → tie.Start
+begin c = c .before .before .before .before
+
 -- the state and the columns are the book
-same : (c : tie.After-state-of) → let b = c .before .before .before .before .args .b in
-    bookIn (c .state-of .result) (b .nets) (b .delivered) (b .charges) (b .issues) (b .froms) (b .tos) (b .lots) (b .days) ≡ b
+same : (c : tie.After-state-of) → let b = begin c .args .b in
+    bookIn (c .state-of .result) (b .nets) (b .delivered) (b .lifts) (b .charges) (b .issues) (b .froms) (b .tos) (b .lots) (b .days) ≡ b
 same c =
-    let b = c .before .before .before .before .args .b in
-    ap (λ (s : State). bookIn s (b .nets) (b .delivered) (b .charges) (b .issues) (b .froms) (b .tos) (b .lots) (b .days)) (c .state-of .ensures)
+    let b = begin c .args .b in
+    ap (λ (s : State). bookIn s (b .nets) (b .delivered) (b .lifts) (b .charges) (b .issues) (b .froms) (b .tos) (b .lots) (b .days)) (c .state-of .ensures)
+
+slice-aggregate-run-6 : tie.Need-slice-aggregate-run-6
+slice-aggregate-run-6 c = let l = lengths (begin (c .before .before .before .before .before .before .before .before .before .before .before .before .before .before .before)) .ledger .froms in search (needs, l)
 
 slice-aggregate-run-7 : tie.Need-slice-aggregate-run-7
-slice-aggregate-run-7 c = let l = lengths (c .before .before .before .before .before .before .before .before .before .before .before .before .before .before .before .before .before .before .before) .ledger .lots in search (needs, l)
+slice-aggregate-run-7 c = let l = lengths (begin (c .before .before .before .before .before .before .before .before .before .before .before .before .before .before .before .before)) .ledger .tos in search (needs, l)
 
 slice-aggregate-run-8 : tie.Need-slice-aggregate-run-8
-slice-aggregate-run-8 c = let l = lengths (c .before .before .before .before .before .before .before .before .before .before .before .before .before .before .before .before .before .before .before .before) .ledger .days in search (needs, l)
+slice-aggregate-run-8 c = let l = lengths (begin (c .before .before .before .before .before .before .before .before .before .before .before .before .before .before .before .before .before)) .ledger .lots in search (needs, l)
+
+slice-aggregate-run-9 : tie.Need-slice-aggregate-run-9
+slice-aggregate-run-9 c = let l = lengths (begin (c .before .before .before .before .before .before .before .before .before .before .before .before .before .before .before .before .before .before)) .ledger .days in search (needs, l)
 
 run-requires : tie.Need-run-requires
 run-requires c κs =
-    let s = c .before .before .before .before .before .before .before .before .before .before .before .before .before .before .before .before .before .before .before .before .before .before in
-    (record { lengths = lengths s; sound = ap sound (same (c .before .before .before .before .before .before .before .before .before .before .before .before .before .before .before .before .before .before)) ∙ s .pre .0; room = s .pre .1 }, s .pre .2, s .pre .3)
+    let t = c .before .before .before .before .before .before .before .before .before .before .before .before .before .before .before .before .before .before .before .before in
+    let s = begin t in
+    (record { lengths = lengths s; sound = ap sound (same t) ∙ s .pre .0; room = s .pre .1 }, s .pre .2, s .pre .3)
 
 returns : tie.Need-returns
 returns c =
-    let t = c .before .before .before .before .before .before .before .before .before .before .before .before .before .before .run in
-    went-as _ _ _ _ _ _ refl refl (same (c .before .before .before .before .before .before .before .before .before .before .before .before .before .before .before .before .before .before .before .before .before .before .before .before .before .before .before .before .before .before .before .before .before)) (sym (c .book-in .ensures)) (t .ensures)
+    let r = c .before .before .before .before .before .before .before .before .before .before .before .before .before .before .before in
+    went-as _ _ _ _ _ _ refl refl (same (r .before .before .before .before .before .before .before .before .before .before .before .before .before .before .before .before .before .before .before .before .before)) (sym (c .book-in .ensures)) (r .run .ensures)
 
 pub run-on-spec : {M : Type 1} → statement M
 run-on-spec =
     tie.close
     (tie.spec
-    (λ c κs. search needs) (λ c. search needs) (λ c. search needs) (λ c. search needs) (λ c. search needs)
-    (λ c. search needs) (λ c. search needs) slice-aggregate-run-7 slice-aggregate-run-8 run-requires
+    (λ c κs. search needs) (λ c. search needs) (λ c. search needs) (λ c. search needs) (λ c. search needs) (λ c. search needs)
+    slice-aggregate-run-6 slice-aggregate-run-7 slice-aggregate-run-8 slice-aggregate-run-9 run-requires
     (λ c κs. search needs) (λ c. search needs) (λ c. search needs) returns)

@@ -1,4 +1,4 @@
--- Three functions, one after the other.
+-- Four calls, one after the other.
 use mathlib.Core.Path.{ap, _∙_}
 use lib.ListN.{replicate}
 use lib.IntN.{pos}
@@ -8,11 +8,16 @@ use Rattle.rolling.proofs.roll_in.Tie as tie
 
 returns : tie.Need-returns
 returns c =
-    let s = c .before .before .before .before .before .before .before .before .before .before .before .before .before .before .before .before in (
-      c .before .before .before .before .before .before .before .before .charge-entries .ensures,
+    let l = c .before .before in
+    let d = l .before .before .before .before in
+    let n = d .before .before .before in
+    let e = n .before .before .before in
+    let s = e .before .before .before .before .before .before .before .before .before in (
+      e .charge-entries .ensures,
       record {
-        nets = c .before .before .before .before .before .clear-nets .ensures ∙ ap (λ n. replicate n (pos 0)) (s .pre .1 .nets);
-        delivered = c .before .before .clear-delivered .ensures ∙ ap (λ n. replicate n 0) (s .pre .1 .delivered);
+        nets = n .clear-nets .ensures ∙ ap (λ k. replicate k (pos 0)) (s .pre .1 .nets);
+        delivered = d .clear-words .ensures ∙ ap (λ k. replicate k 0) (s .pre .1 .delivered);
+        lifts = l .clear-words2 .ensures ∙ ap (λ k. replicate k 0) (s .pre .1 .lifts);
       },
     )
 
@@ -23,6 +28,8 @@ roll-in-spec =
     (λ c κs. search needs)
     (λ c κs. search needs)
     (λ c κs. search needs)
+    (λ c κs. search needs)
+    (λ c. search needs)
     (λ c. search needs)
     (λ c. search needs)
     (λ c. search needs)

@@ -5,7 +5,7 @@ use Rattle.rules.specs.declared.Book.{Book}
 use Rattle.rules.specs.Calls.{Deliver}
 use Rattle.laws.proofs.Sound.{sound-parts}
 use Rattle.book.specs.Cells.{SoundCells}
-use Rattle.units.proofs.Cells.{sound-cells}
+use Rattle.units.proofs.Cells.{sound-cells, owed-cells}
 use Rattle.delivery.proofs.Asking.{can-deliver}
 use Rattle.running.specs.Turns.{withinCells}
 use Rattle.running.proofs.Turning.{room-out, turn-no, turn-yes, delivered-to}
@@ -15,44 +15,44 @@ use Rattle.running.proofs.deliver.Tie as tie
 
 -- a book with what is lent
 abbrev within : tie.Start → Book → Book
-within s b = withinCells (s .args .s) (now (s .args .nets)) (now (s .args .delivered)) b
+within s b = withinCells (s .args .s) (now (s .args .nets)) (now (s .args .delivered)) (now (s .args .lifts)) b
 
 -- where the questions were asked
 abbrev start : tie.After-deliver-asks → tie.Start
-start c = c .before .before .before .before
+start c = c .before .before .before .before .before
 
-cells : (s : tie.Start) → SoundCells (now (s .args .nets)) (now (s .args .delivered))
+cells : (s : tie.Start) → SoundCells (now (s .args .nets)) (now (s .args .delivered)) (now (s .args .lifts))
 cells s =
-    let b = within s (s .pre .1 .rest) in
-    sound-cells b (sound-parts b (s .pre .1 .sound)) (s .pre .0 .nets) (s .pre .0 .delivered)
+    let b = within s (s .pre .2 .rest) in
+    sound-cells b (sound-parts b (s .pre .2 .sound)) (s .pre .0 .nets) (s .pre .0 .delivered) (s .pre .1)
 
 deliver-asks-requires : tie.Need-deliver-asks-requires
-deliver-asks-requires c κs = cells (c .before .before .before)
+deliver-asks-requires c κs = owed-cells _ _ _ (cells (c .before .before .before .before))
 
 returns : tie.Need-returns
 returns c b q =
     let s = start (c .before) in
     let a = s .args in
-    turn-no (within s b) (Deliver (a .i) (a .a) (a .x) (now (a .out))) (room-out (now (a .out)) (s .pre .2)) q (a .s)
+    turn-no (within s b) (Deliver (a .i) (a .a) (a .x) (now (a .out))) (room-out (now (a .out)) (s .pre .3)) q (a .s)
     (c .before .deliver-asks .result) (c .before .deliver-asks .ensures) (c .if1 .taken)
 
 deliver-in-requires : tie.Need-deliver-in-requires
 deliver-in-requires c κs =
-    let k = c .before .before in
+    let k = c .before .before .before in
     let s = start (k .before) in
     let a = s .args in
-    can-deliver (a .s .phase) (now (a .nets)) (now (a .delivered)) (a .i) (a .a) (a .x) (now (a .out)) (cells s)
-    (sym (k .before .deliver-asks .ensures) ∙ k .if1 .left) (s .pre .2)
+    can-deliver (a .s .phase) (now (a .nets)) (now (a .delivered)) (now (a .lifts)) (a .i) (a .a) (a .x) (now (a .out)) (cells s)
+    (sym (k .before .deliver-asks .ensures) ∙ k .if1 .left) (s .pre .3)
 
 returns-2 : tie.Need-returns-2
 returns-2 c b q =
-    let d = c .before .before .before .before .deliver-in in
-    let k = c .before .before .before .before .before .before .before in
+    let d = c .before .before .before .before .before .before .deliver-in in
+    let k = c .before .before .before .before .before .before .before .before .before .before in
     let s = start (k .before) in
     let a = s .args in
-    turn-yes (within s b) (Deliver (a .i) (a .a) (a .x) (now (a .out))) (room-out (now (a .out)) (s .pre .2)) q (a .s)
+    turn-yes (within s b) (Deliver (a .i) (a .a) (a .x) (now (a .out))) (room-out (now (a .out)) (s .pre .3)) q (a .s)
     (k .before .deliver-asks .result) (d .result) 0 _ _ (k .before .deliver-asks .ensures) (k .if1 .left)
-    (delivered-to (a .s) (now (a .nets)) (now (a .delivered)) _ (a .i) (a .a) (a .x) (now (a .out)) _ (d .result) b (d .ensures))
+    (delivered-to (a .s) (now (a .nets)) (now (a .delivered)) _ (now (a .lifts)) _ (a .i) (a .a) (a .x) (now (a .out)) _ (d .result) b (d .ensures))
 
 pub deliver-spec : {M : Type 1} → statement M
 deliver-spec =
@@ -62,6 +62,7 @@ deliver-spec =
     (λ c. search needs)
     returns
     deliver-in-requires
+    (λ c. search needs)
     (λ c. search needs)
     (λ c. search needs)
     returns-2)

@@ -15,11 +15,11 @@ use Rattle.running.proofs.roll.Tie as tie
 abbrev within : tie.Start → Book → Book
 within s b =
     let a = s .args in
-    butDays (a .s) (now (a .nets)) (now (a .delivered)) (now (a .charges)) (now (a .issues)) (now (a .froms)) (now (a .tos)) (now (a .lots)) b
+    butDays (a .s) (now (a .nets)) (now (a .delivered)) (now (a .lifts)) (now (a .charges)) (now (a .issues)) (now (a .froms)) (now (a .tos)) (now (a .lots)) b
 
 -- where the questions were asked
 abbrev start : tie.After-roll-asks → tie.Start
-start c = c .before .before .before .before .before .before .before
+start c = c .before .before .before .before .before .before .before .before
 
 -- no question is answered 'no'
 answered : (c : tie.Else1) → let a = start (c .before) .args in
@@ -34,30 +34,30 @@ returns c b q =
 
 roll-in-requires : tie.Need-roll-in-requires
 roll-in-requires c κs =
-    let k = c .before .before .before in
+    let k = c .before .before .before .before in
     let s = start (k .before) in
     let a = s .args in
     let l = s .pre .0 in (
       chargeable (within s (s .pre .1 .rest)) (a .days) (a .rate) (now (a .prices)) (s .pre .1 .sound) (answered k)
           (l .issue) (l .from) (l .to) (l .lot) (l .accounts),
-      record { nets = l .cells .nets; delivered = l .cells .delivered },
+      record { nets = l .cells .nets; delivered = l .cells .delivered; lifts = l .words },
     )
 
 next-day-requires : tie.Need-next-day-requires
 next-day-requires c κs =
-    let k = c .before .before .before .before .before .before .before .before in
+    let k = c .before .before .before .before .before .before .before .before .before .before .before in
     let a = start (k .before) .args in
     not-last (a .s .phase) (a .s .day) (a .days) (a .rate) (now (a .prices)) (answered k)
 
 returns-2 : tie.Need-returns-2
 returns-2 c b q =
-    let d = c .before .before .before .before .before .roll-in .ensures in
-    let k = c .before .before .before .before .before .before .before .before .before in
+    let d = c .before .before .before .before .before .before .before .roll-in .ensures in
+    let k = c .before .before .before .before .before .before .before .before .before .before .before .before in
     let s = start (k .before) in
     let a = s .args in
     turn-yes (within s b) (Roll (a .days) (a .rate) (now (a .prices))) refl q _ (k .before .roll-asks .result) 0 0 _ _ (k .before .roll-asks .ensures) (k .if1 .left)
-    (rolled-on (a .s) _ (now (a .nets)) (now (a .delivered)) (now (a .charges)) (now (a .issues)) (now (a .froms)) (now (a .tos)) (now (a .lots))
-    (a .days) (a .rate) (now (a .prices)) _ _ _ b (c .next-day .ensures) (d .0 .charges (b .days)) (d .1 .nets) (d .1 .delivered))
+    (rolled-on (a .s) _ (now (a .nets)) (now (a .delivered)) (now (a .lifts)) (now (a .charges)) (now (a .issues)) (now (a .froms)) (now (a .tos)) (now (a .lots))
+    (a .days) (a .rate) (now (a .prices)) _ _ _ _ b (c .next-day .ensures) (d .0 .charges (b .days)) (d .1 .nets) (d .1 .delivered) (d .1 .lifts))
 
 pub roll-spec : {M : Type 1} → statement M
 roll-spec =
@@ -67,6 +67,7 @@ roll-spec =
     returns
     roll-in-requires
     next-day-requires
+    (λ c. search needs)
     (λ c. search needs)
     (λ c. search needs)
     (λ c. search needs)

@@ -18,19 +18,19 @@ use Rattle.turns.proofs.run.Statement.{statement}
 use Rattle.turns.proofs.run.Tie as tie
 
 abbrev Inv-loop : tie.InvT-loop
-Inv-loop words last stray index nets₀ delivered₀ charges₀ issues₀ froms₀ tos₀ lots₀ days₀ out₀ text₀ at₀ end₀ state₀ nets delivered charges issues froms tos lots days out text at end state =
-    Ready state nets delivered charges issues froms tos lots days out
+Inv-loop words last stray index nets₀ delivered₀ lifts₀ charges₀ issues₀ froms₀ tos₀ lots₀ days₀ out₀ text₀ at₀ end₀ state₀ nets delivered lifts charges issues froms tos lots days out text at end state =
+    Ready state nets delivered lifts charges issues froms tos lots days out
     × (list.length out ≡ list.length out₀)
     × (list.length text ≡ list.length text₀)
-    × Going words last stray index (bookIn state₀ nets₀ delivered₀ charges₀ issues₀ froms₀ tos₀ lots₀ days₀)
-    (bookIn state nets delivered charges issues froms tos lots days) text at end
+    × Going words last stray index (bookIn state₀ nets₀ delivered₀ lifts₀ charges₀ issues₀ froms₀ tos₀ lots₀ days₀)
+    (bookIn state nets delivered lifts charges issues froms tos lots days) text at end
 
 abbrev μ-loop : tie.MeasureT-loop
-μ-loop words last stray index nets₀ delivered₀ charges₀ issues₀ froms₀ tos₀ lots₀ days₀ out₀ text₀ at₀ end₀ state₀ nets delivered charges issues froms tos lots days out text at end state =
+μ-loop words last stray index nets₀ delivered₀ lifts₀ charges₀ issues₀ froms₀ tos₀ lots₀ days₀ out₀ text₀ at₀ end₀ state₀ nets delivered lifts charges issues froms tos lots days out text at end state =
     list.length words - at
 
 abbrev start : tie.At-loop Inv-loop μ-loop → tie.Start Inv-loop μ-loop
-start c = c .before .before .before .before .before .before .before .before .before .before
+start c = c .before .before .before .before .before .before .before .before .before .before .before
 
 -- the words from here on
 abbrev rest : tie.At-loop Inv-loop μ-loop → List ℕ
@@ -58,7 +58,7 @@ sized c =
 
 loop-holds : tie.Need-loop-holds Inv-loop μ-loop
 loop-holds c =
-    let s = c .before .before .before .before .before .before .before .before .before in
+    let s = c .before .before .before .before .before .before .before .before .before .before in
     let a = s .args in
     (s .pre .0, refl, refl, going-starts (now (a .words)) (a .last) (a .stray) (a .index) _ (now (a .text)))
 
@@ -67,9 +67,8 @@ enum-told c = search needs
 
 line-requires : tie.Need-line-requires Inv-loop μ-loop
 line-requires c κs =
-    let l = c .before .before .before .before .before .before .before .before .loop .inv .3 in
-    let t = c .before .before .before .before .before .before .before .before .loop .inv .2 in
-    omega (arith, l .short, l .within, t, c .before .before .before .before .before .before .before .before .before .before .before .before .before .before .before .before .before .before .pre .1)
+    let l = c .before .before .before .before .before .before .before .before in
+    omega (arith, l .loop .inv .3 .short, l .loop .inv .3 .within, l .loop .inv .2, start l .pre .1)
 
 returns : tie.Need-returns Inv-loop μ-loop
 returns c =
@@ -86,35 +85,39 @@ returns c =
 
 turn-requires : tie.Need-turn-requires Inv-loop μ-loop
 turn-requires c κs =
-    let f = c .before .before .before .before .before .before .before .before .before .before .before .before in
-    let l = c .before .before .before .before .before .before .before .before .before .before .before .before .before .before .before .before .before .before .loop in
-    let s = c .before .before .before .before .before .before .before .before .before .before .before .before .before .before .before .before .before .before .before .before .before .before .before .before .before .before .before .before in (
+    let f = c .before .before .before .before .before .before .before .before .before .before .before .before .before in
+    let l = f .before .before .before .before .before .before in (
       record { count = f .found .given .0 .1 .0; read = sym (same-read _ _ (f .before .before .read .ensures)) ∙ f .found .given .1 },
-      l .inv .0,
-      omega (arith, l .inv .3 .short, l .inv .3 .within, l .inv .2, s .pre .1),
+      l .loop .inv .0,
+      omega (arith, l .loop .inv .3 .short, l .loop .inv .3 .within, l .loop .inv .2, start l .pre .1),
     )
+
+-- the instruction that was found, behind its turn
+abbrev found : tie.After-state Inv-loop μ-loop → tie.After-found Inv-loop μ-loop
+found c = c .before .before .before .before .before .before .before .before .before .before .before .before .before .before .before .before .before .before .before .before .before .before .before .before .before .before .before .before .before .before .before .before .before .before .before
 
 add-at : tie.Need-add-at Inv-loop μ-loop
 add-at c =
-    let z = sized (c .before .before .before .before .before .before .before .before .before .before .before .before .before .before .before .before .before .before .before .before .before .before .before .before .before .before .before .before .before .before .before .before) in
-    record { fits = omega (arith, z .1, c .before .before .before .before .before .before .before .before .before .before .before .before .before .before .before .before .before .before .before .before .before .before .before .before .before .before .before .before .before .before .before .before .before .before .before .before .before .before .before .before .before .before .before .before .before .before .before .before .pre .2) }
+    let f = found c in
+    record { fits = omega (arith, sized f .1, start (f .before .before .before .before .before .before) .pre .2) }
 
 loop-less : tie.Need-loop-less Inv-loop μ-loop
 loop-less c =
-    let z = sized (c .before .before .before .before .before .before .before .before .before .before .before .before .before .before .before .before .before .before .before .before .before .before .before .before .before .before .before .before .before .before .before .before) in
+    let z = sized (found c) in
     omega (arith, z .0, z .1)
 
 loop-again : tie.Need-loop-again Inv-loop μ-loop
 loop-again c =
-    let f = c .before .before .before .before .before .before .before .before .before .before .before .before .before .before .before .before .before .before .before .before .before .before .before .before .before .before .before .before .before .before .before .before in
-    let l = c .before .before .before .before .before .before .before .before .before .before .before .before .before .before .before .before .before .before .before .before .before .before .before .before .before .before .before .before .before .before .before .before .before .before .before .before .before .before in
+    let f = found c in
+    let l = f .before .before .before .before .before .before in
     let a = start l .args in
-    let t = c .before .before .before .before .before .before .before .before .before .before .before .before .before .before .before .before .before .before .before .turn in
+    let t = c .before .before .before .before .before .before .before .before .before .before .before .before .before .before .before .before .before .before .before .before .before .turn in
     let q = l .loop .inv .0 .lengths in (
       record {
         lengths = record {
           cells = record { nets = search needs; delivered = search needs };
-          charges = search needs;
+          lifts = omega (arith, c .before .before .before .before .before .before .before .before .before .before .before .before .before .before .before .before .before .lifts .given, q .lifts);
+          charges = omega (arith, c .before .before .before .before .before .before .before .before .before .before .before .before .before .before .before .charges .given, q .charges);
           ledger = record {
             issues = omega (arith, c .before .before .before .before .before .before .before .before .before .before .before .before .before .before .issues .given, q .ledger .issues);
             froms = omega (arith, c .before .before .before .before .before .before .before .before .before .before .before .before .froms .given, q .ledger .froms);
@@ -129,14 +132,14 @@ loop-again c =
       omega (arith, c .before .before .before .before .out .given, l .loop .inv .1),
       omega (arith, c .before .before .text2 .given, l .loop .inv .2),
       going-again (now (a .words)) (a .last) (a .stray) (a .index) _ _ (l .loop .text) _ (l .loop .at) (l .loop .end) (l .loop .inv .3)
-          (f .found .given .0 .0) (f .found .given .0 .1 .0) (t .result) _ (sure (c .before .before .before .before .before .before .before .before .before .before .before .before .before .before .before .before .before .before .before .before .before .before .before .before .before .before .before .before .before .before .before .before .before .before .before .before)) (begins f)
+          (f .found .given .0 .0) (f .found .given .0 .1 .0) (t .result) _ (sure (f .before .before .before .before)) (begins f)
           (rw (rest-part (now (a .words)) (l .loop .at)) at (t .ensures)),
     )
 
 stray-line-requires : tie.Need-stray-line-requires Inv-loop μ-loop
 stray-line-requires c κs =
-    let l = c .before .before .before .loop .inv in
-    omega (arith, l .3 .short, l .3 .within, l .2, c .before .before .before .before .before .before .before .before .before .before .before .before .before .pre .1)
+    let l = c .before .before .before in
+    omega (arith, l .loop .inv .3 .short, l .loop .inv .3 .within, l .loop .inv .2, start l .pre .1)
 
 returns-2 : tie.Need-returns-2 Inv-loop μ-loop
 returns-2 c =
@@ -154,8 +157,9 @@ run-spec =
     (tie.spec
     Inv-loop μ-loop loop-holds (λ c. search needs) (λ c κs. search needs) (λ c. search needs) (λ c. search needs) (λ c. search needs)
     (λ c. search needs) (λ c κs. search needs) (λ c. search needs) enum-told (λ c κs. search needs) (λ c. search needs) line-requires
-    (λ c. search needs) (λ c. search needs) (λ c. search needs) (λ c. search needs) (λ c. search needs) (λ c. search needs) (λ c. search needs)
-    (λ c. search needs) (λ c. search needs) (λ c. search needs) returns (λ c. search needs) (λ c. search needs) (λ c. search needs)
-    (λ c. search needs) (λ c. search needs) turn-requires add-at loop-less loop-again (λ c. search needs) stray-line-requires (λ c. search needs)
-    (λ c. search needs) (λ c. search needs) (λ c. search needs) (λ c. search needs) (λ c. search needs) (λ c. search needs) (λ c. search needs)
-    (λ c. search needs) (λ c. search needs) returns-2)
+    (λ c. search needs) (λ c. search needs) (λ c. search needs) (λ c. search needs) (λ c. search needs) (λ c. search needs)
+    (λ c. search needs) (λ c. search needs) (λ c. search needs) (λ c. search needs) (λ c. search needs) returns (λ c. search needs)
+    (λ c. search needs) (λ c. search needs) (λ c. search needs) (λ c. search needs) turn-requires add-at loop-less loop-again
+    (λ c. search needs) stray-line-requires (λ c. search needs) (λ c. search needs) (λ c. search needs) (λ c. search needs)
+    (λ c. search needs) (λ c. search needs) (λ c. search needs) (λ c. search needs) (λ c. search needs) (λ c. search needs)
+    (λ c. search needs) returns-2)

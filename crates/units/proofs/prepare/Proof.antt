@@ -1,33 +1,28 @@
--- The runs of the issue's dues hold its units in order.
-use mathlib.Core.Path.{ap, _∙_}
-use mathlib.Core.List.{map}
+-- The issue's runs in the order without lifts are lifted, by the contracts of `ranked` and `lift_all`.
 use native.Mathlib.Omega.{arith}
 use borrow.Author.Needs.{needs}
 use denote.Ref.{now}
-use Rattle.rules.specs.Measures.{dueOf}
-use Rattle.units.proofs.Cells.{row-part}
-use Rattle.units.proofs.Loops.{can-rank, prepared}
+use Rattle.units.proofs.Lifted.{can-lift-all, prepared}
 use Rattle.units.proofs.prepare.Statement.{statement}
 use Rattle.units.proofs.prepare.Tie as tie
 
-order-requires : tie.Need-order-requires
-order-requires c κs =
-    let s = c .before .before .before .before .before .before .before in
-    let d = c .before .before .before .dues-of in
-    can-rank (now (s .args .nets)) (s .args .i) (d .last .1 .0) _
-    (d .ensures ∙ ap (map dueOf) (row-part (now (s .args .nets)) (s .args .i))) (s .pre)
+lift-all-requires : tie.Need-lift-all-requires
+lift-all-requires c κs =
+    let s = c .before .before .before .before .before .before .before .before in
+    let f = c .before .before .before .before .ranked in
+    can-lift-all (now (s .args .nets)) (now (s .args .lifts)) (s .args .i) (f .last .1 .1 .0) (f .result) (s .pre .order) (f .ensures)
+    (omega (arith, s .pre .room, f .kept .1 .1 .0))
 
 returns : tie.Need-returns
 returns c =
-    let s = c .before .before .before .before .before .before .before .before .before .before in
-    let d = c .before .before .before .before .before .before .dues-of in
-    let o = c .before .before .order in
-    prepared (now (s .args .nets)) (s .args .i) (d .last .1 .0) (o .last .1 .0) (o .result)
-    (d .ensures ∙ ap (map dueOf) (row-part (now (s .args .nets)) (s .args .i))) (o .ensures .0)
-    (omega (arith, o .ensures .0, o .kept .1 .0, s .pre .room)) (o .ensures .1)
+    let s = c .before .before .before .before .before .before .before .before .before .before .before in
+    let f = c .before .before .before .before .before .before .before .ranked in
+    let g = c .before .before .lift-all in
+    prepared (now (s .args .nets)) (now (s .args .lifts)) (s .args .i) (f .last .1 .1 .0) (f .result) (s .pre .order) (f .ensures)
+    (g .last .1 .0) (g .result) (omega (arith, s .pre .room, f .kept .1 .1 .0, g .kept .1 .0)) (g .ensures)
 
 pub prepare-spec : {M : Type 1} → statement M
 prepare-spec =
     tie.close
-    (tie.spec (λ c. search needs) (λ c. search needs) (λ c. search needs) (λ c. search needs) (λ c. search needs) (λ c. search needs)
-    (λ c. search needs) (λ c κs. search needs) (λ c. search needs) order-requires (λ c. search needs) returns)
+    (tie.spec (λ c κs. search needs) (λ c. search needs) (λ c. search needs) (λ c. search needs) (λ c. search needs) (λ c. search needs)
+    (λ c. search needs) lift-all-requires (λ c. search needs) returns)

@@ -1,57 +1,49 @@
--- The invariant: the delivered total says of all runs what the rest of it says of the runs from j on.
-use Prim.Native.Nat.{suc, _-_, _≤_}
+-- The runs that wait are gathered, and the cursor stands at the first, by the contracts of `hand` and `gather`.
+use Prim.Native.Nat.{_-_}
 use native.Mathlib.Omega.{arith}
-use native.Mathlib.Numerals.{add-one}
 use borrow.Author.Needs.{needs}
 use denote.Ref.{now}
-use lib.ListN.{drop, getD}
-use Rattle.units.specs.Runs.{partOf, runsIn}
-use Rattle.units.proofs.Loops.{runs-at, runs-end}
-use Rattle.units.proofs.Starting.{Seeking, seeking-starts, seeking-more, seeking-stands, seeking-ends}
+use Rattle.units.proofs.Gathers.{begins-none, can-gather, fits-lent, begins-lent}
 use Rattle.units.proofs.start.Statement.{statement}
 use Rattle.units.proofs.start.Tie as tie
 
-abbrev Inv-loop : tie.InvT-loop
-Inv-loop runs n d left₀ j₀ left j = (j ≤ n) × Seeking (runsIn runs n) (drop j (runsIn runs n)) d left
+hand-requires : tie.Need-hand-requires
+hand-requires c κs = search needs
 
-abbrev μ-loop : tie.MeasureT-loop
-μ-loop runs n d left₀ j₀ left j = n - j
-
-loop-holds : tie.Need-loop-holds Inv-loop μ-loop
-loop-holds c = (search needs, seeking-starts _ _)
-
-returns : tie.Need-returns Inv-loop μ-loop
+returns : tie.Need-returns
 returns c =
-    let s = c .before .before .before .before .before .before in
-    let l = c .before .before .before .before .loop in
-    let rs = now (s .args .runs) in
-    let e = runs-at rs (s .args .n) (l .j) (search needs) (omega arith) in
-    rw (c .stand .ensures, add-one)
-    (seeking-stands rs (s .args .n) (s .args .d) (suc (l .j)) (s .pre) (partOf (getD rs (l .j) 0)) (l .left) (omega arith) (omega arith)
-    (rw e at (l .inv .1)))
+    let s = c .before .before .before .before .before .before .before in
+    let f = c .before .before .before .before .hand in
+    rw (c .stand .ensures)
+    (begins-none (now (s .args .runs)) (f .last .0) (s .args .n) (s .args .d) (f .result) (omega (arith, f .kept .0, s .pre .there)) (f .ensures)
+    (omega arith))
 
-loop-again : tie.Need-loop-again Inv-loop μ-loop
-loop-again c =
-    let a = c .before .before .before .before .before .args in
-    let l = c .before .before .before .loop in
-    let us = runsIn (now (a .runs)) (a .n) in
-    let e = runs-at (now (a .runs)) (a .n) (l .j) (search needs) (omega arith) in (
-      omega arith,
-      rw add-one
-          (seeking-more us (partOf (getD (now (a .runs)) (l .j) 0)) (drop (suc (l .j)) us) (a .d) (l .left) (omega arith)
-          (rw e at (l .inv .1))),
-    )
+gather-requires : tie.Need-gather-requires
+gather-requires c κs =
+    let s = c .before .before .before .before .before .before .before in
+    let f = c .before .before .before .before .hand in
+    can-gather (now (s .args .runs)) (f .last .0) (s .args .n) (s .args .d) (f .result) (f .ensures) (s .pre .small)
 
-returns-2 : tie.Need-returns-2 Inv-loop μ-loop
+sub-stand : tie.Need-sub-stand
+sub-stand c =
+    let s = c .before .before .before .before .before .before .before .before .before .before .before .before in
+    let f = c .before .before .before .before .before .before .before .before .before .hand in
+    let g = c .before .before .before .before .gather in
+    fits-lent (now (s .args .runs)) (f .last .0) (s .args .n) (s .args .d) (f .result) (f .ensures) (g .last .0)
+    (omega (arith, f .kept .0, s .pre .there)) (omega arith) (g .kept .0) (g .ensures)
+
+returns-2 : tie.Need-returns-2
 returns-2 c =
-    let s = c .before .before .before .before in
-    let l = c .before .before .loop in
-    let rs = now (s .args .runs) in
+    let s = c .before .before .before .before .before .before .before .before .before .before .before .before .before in
+    let f = c .before .before .before .before .before .before .before .before .before .before .hand in
+    let g = c .before .before .before .before .before .gather in
     rw (c .stand2 .ensures)
-    (seeking-ends rs (s .args .n) (s .args .d) (l .j) (s .pre) (l .left) (runs-end rs (s .args .n) (l .j) (search needs) (omega arith)) (l .inv .1))
+    (begins-lent (now (s .args .runs)) (f .last .0) (s .args .n) (s .args .d) (f .result) (f .ensures) (g .last .0)
+    (omega (arith, f .kept .0, s .pre .there)) (omega arith) (g .kept .0) (g .ensures))
 
 pub start-spec : {M : Type 1} → statement M
 start-spec =
     tie.close
-    (tie.spec Inv-loop μ-loop loop-holds (λ c. search needs) (λ c. search needs) (λ c. search needs) (λ c. search needs)
-    (λ c κs. search needs) returns (λ c. search needs) loop-again (λ c κs. search needs) returns-2)
+    (tie.spec hand-requires (λ c κs. search needs) (λ c. search needs) returns (λ c. search needs) (λ c. search needs) (λ c. search needs)
+    (λ c. search needs) gather-requires (λ c. search needs) (λ c. search needs) (λ c. search needs) sub-stand (λ c κs. search needs)
+    (λ c. search needs) returns-2)

@@ -1,11 +1,12 @@
 //! `bench`: run times of the library and the program beside the second engine, as Markdown.
 //!
-//! Parts: calls, growth and programs; `--part NAME` runs one of them. `--cases N` is the number of
+//! Parts: calls, lifts, growth and programs; `--part NAME` runs one of them. `--cases N` is the number of
 //! rounds of which the middle one is shown. `--program PATH` and `--reference PATH` name the
 //! programs.
 
 mod calls;
 mod growth;
+mod lifts;
 mod programs;
 mod timing;
 
@@ -32,6 +33,7 @@ fn run(options: Options) -> Result<(), String> {
     match options.own_or("--part", "all") {
         "all" => {
             calls::run(rounds);
+            lifts::run(rounds);
             growth::run(rounds);
             programs::run(&options)
         }
@@ -39,11 +41,18 @@ fn run(options: Options) -> Result<(), String> {
             calls::run(rounds);
             Ok(())
         }
+        "lifts" => {
+            lifts::run(rounds);
+            Ok(())
+        }
         "growth" => {
             growth::run(rounds);
             Ok(())
         }
         "programs" => programs::run(&options),
-        other => Err(format!("there is no part {other:?}: there are calls, growth and programs")),
+        other => {
+            let parts = "calls, lifts, growth and programs";
+            Err(format!("there is no part {other:?}: there are {parts}"))
+        }
     }
 }

@@ -4,13 +4,14 @@
 //! change nothing. Just inside an edge the book is sound and nothing is refused by 2.
 
 use crate::Failure;
-use reference::book::{place, Book, Entry, Phase};
+use reference::book::{place, Book, Entry, Lift, Phase};
+use reference::calls::Ticket;
 use reference::soundness::MOST_CHARGE_A_DAY;
 use tests::books::{random_book, Shape};
 use tests::case::Case;
 use tests::report::Mismatch;
 use tests::rng::Rng;
-use tests::steps::{set_entry, Call, Edit, Step};
+use tests::steps::{lift_word, set_entry, Call, Edit, Step};
 
 /// A change of a book, and whether the book is sound after it.
 type Change = (bool, fn(&mut Book));
@@ -124,14 +125,97 @@ const CHANGES: &[Change] = &[
     }),
 ];
 
+/// The changes of the book of `lifted`, one condition on lifts each, inside and outside.
+const LIFT_CHANGES: &[Change] = &[
+    (true, |_| {}),
+    // at most eight lifts stand for an issue
+    (true, |book| places(book, 0, &[])),
+    (true, |book| places(book, 8, &[(4, 0); 8])),
+    (false, |book| places(book, 9, &[(4, 0); 8])),
+    (false, |book| places(book, 256, &[(4, 0); 8])),
+    (false, |book| places(book, (1 << 16) + 1, &[(4, 0); 8])),
+    (false, |book| places(book, u32::MAX, &[(4, 0); 8])),
+    (false, |book| book.lifts[0].number = 9),
+    (false, |book| book.lifts[0].number = 1),
+    (false, |book| book.lifts[15].number = 1 << 31),
+    // old is below the number of units
+    (true, |book| places(book, 3, &[(4, 0), (4, 1), (4, 2)])),
+    (false, |book| places(book, 3, &[(4, 0), (4, 1), (5, 2)])),
+    (false, |book| places(book, 3, &[(4, 0), (4, 1), (u32::MAX, 2)])),
+    (false, |book| places(book, 3, &[(5, 0), (4, 1), (4, 2)])),
+    (false, |book| places(book, 1, &[((1 << 16) + 4, 0)])),
+    // new is at most old
+    (true, |book| places(book, 2, &[(4, 0), (1, 1)])),
+    (false, |book| places(book, 2, &[(4, 0), (0, 1)])),
+    (true, |book| places(book, 3, &[(4, 0), (4, 1), (2, 2)])),
+    (false, |book| places(book, 3, &[(4, 0), (4, 1), (1, 2)])),
+    // new places never fall
+    (true, |book| places(book, 4, &[(4, 0), (4, 1), (1, 1), (4, 2)])),
+    (false, |book| places(book, 4, &[(4, 0), (4, 1), (0, 0), (4, 2)])),
+    (false, |book| places(book, 2, &[(1, 1), (4, 0)])),
+    (true, |book| {
+        places(book, 8, &[(1, 1); 8]);
+        (book.lifts[7].moves[0], book.lifts[7].moves[1]) = (lift(4, 0), lift(4, 1));
+    }),
+    (false, |book| {
+        places(book, 8, &[(1, 1); 8]);
+        (book.lifts[7].moves[0], book.lifts[7].moves[1]) = (lift(4, 0), lift(4, 1));
+        book.lifts[7].moves[7] = lift(0, 0);
+    }),
+    // they are at most the units handed, of the order with all lifts
+    (true, |book| places(book, 3, &[(4, 0), (4, 1), (4, 2)])),
+    (false, |book| places(book, 3, &[(4, 0), (4, 1), (4, 3)])),
+    (false, |book| places(book, 3, &[(4, 0), (4, 1), (4, 4)])),
+    (true, |book| places(book, 2, &[(4, 0), (4, 1)])),
+    (false, |book| places(book, 2, &[(4, 0), (4, 2)])),
+    (true, |book| places(book, 1, &[(4, 0)])),
+    (false, |book| places(book, 1, &[(4, 1)])),
+    (false, |book| places(book, 1, &[(0, u32::MAX)])),
+    (true, |book| book.delivered[place(7, 9)] = 70_000),
+    (false, |book| book.delivered[place(7, 9)] = 69_999),
+    (true, |book| {
+        book.delivered[place(7, 9)] = 30_000;
+        places(book, 2, &[(4, 0), (4, 1)]);
+    }),
+    (false, |book| {
+        book.delivered[place(7, 9)] = 29_999;
+        places(book, 2, &[(4, 0), (4, 1)]);
+    }),
+    // no lift in Taking
+    (false, |book| lifts_in_taking(book, 1, 0)),
+    (false, |book| lifts_in_taking(book, 8, 8)),
+    (true, |book| lifts_in_taking(book, 0, 0)),
+    (true, |book| book.phase = Phase::Cut),
+    // the count is at most lots delivered plus lifts
+    (true, |book| book.lifts[7].count = 0),
+    (true, |book| book.lifts[7].count = 75_003),
+    (false, |book| book.lifts[7].count = 75_004),
+    (false, |book| book.lifts[7].count = u32::MAX),
+    (false, |book| book.lifts[6].count = 1),
+    (false, |book| book.lifts[15].count = 1 << 31),
+    (false, |book| lifts_in_taking(book, 0, 1)),
+    // words of unused lifts are in no condition
+    (true, |book| book.lifts[7].moves[3..].fill(lift(u32::MAX, 0))),
+    (true, |book| book.lifts[7].moves[3..].fill(lift(0, u32::MAX))),
+    (true, |book| book.lifts[0].moves.fill(lift(1, 2))),
+    (true, |book| book.lifts[15].moves.fill(lift(u32::MAX, u32::MAX))),
+    (true, |book| {
+        lifts_in_taking(book, 0, 0);
+        book.lifts[7].moves.fill(lift(9, 10));
+    }),
+];
+
 /// Runs all damage; gives the answers compared.
 pub fn run(seed: u64, cases: u64) -> Result<u64, Failure> {
     let mut compared = 0;
-    for &(sound, change) in CHANGES {
-        let mut book = edges();
-        change(&mut book);
-        compared += ask_everything(&book, sound)?;
+    for (start, changes) in [(edges(), CHANGES), (lifted(), LIFT_CHANGES)] {
+        for &(sound, change) in changes {
+            let mut book = start.clone();
+            change(&mut book);
+            compared += ask_everything(&book, sound)?;
+        }
     }
+    compared += every_word_of_lifts()?;
     compared += charge_sums()?;
     compared += every_place()?;
     for at in 0..4 * cases {
@@ -153,6 +237,40 @@ fn edges() -> Book {
         Entry { issue: 3, from: 5, to: 4, lots: 10, day: 300 },
     ]);
     book
+}
+
+/// A sound book in Settling with three lifts in issue 7.
+///
+/// The units are 1 (100,000), 1 (60,000), 2 (50,000), 3 (40,000), 4 (30,000); lifted, 4 and 3 stand
+/// first and are handed, with 5,000 lots in stock, so two units are handed, and without lifts none.
+fn lifted() -> Book {
+    let mut book = Book { day: 300, phase: Phase::Settling, ..Book::fresh() };
+    for (account, net) in [(1, 160_000), (2, 50_000), (3, 40_000), (4, 30_000), (9, -280_000)] {
+        book.nets[place(7, account)] = net;
+    }
+    book.delivered[place(7, 9)] = 75_000;
+    places(&mut book, 3, &[(4, 0), (4, 1), (3, 2)]);
+    book
+}
+
+/// So many lifts in issue 7, the first of them these.
+fn places(book: &mut Book, number: u32, moves: &[(u32, u32)]) {
+    book.lifts[7].number = number;
+    for (at, &(old, new)) in book.lifts[7].moves.iter_mut().zip(moves) {
+        *at = lift(old, new);
+    }
+}
+
+/// A lift of these places.
+fn lift(old: u32, new: u32) -> Lift {
+    Lift { old, new }
+}
+
+/// In Taking, nothing delivered, with so many lifts to the front and this count.
+fn lifts_in_taking(book: &mut Book, number: u32, count: u32) {
+    taking(book);
+    places(book, number, &[(4, 0); 8]);
+    book.lifts[7].count = count;
 }
 
 /// Nets of this size to both sides in an issue, with nothing delivered past them.
@@ -203,11 +321,14 @@ fn ask_everything(book: &Book, sound: bool) -> Result<u64, Mismatch> {
 /// The unit question and every call, with arguments in range.
 fn every_call() -> Vec<Call> {
     let (issue, account, lots, out) = (3, 5, 1, 4_096);
+    let ticket = Ticket { issue: 7, unit: 3, account: 1, lots: 100_000, day: 300, count: 0 };
     vec![
         Call::Unit { issue, k: 0 },
         Call::Trade { issue, from: account, to: 6, lots },
         Call::Close,
         Call::Deliver { issue, account, lots, out },
+        Call::Ask { issue: 7, unit: 3 },
+        Call::Commit { ticket, out },
         Call::Cutoff { out },
         Call::Resolve { issue, account, lots, out },
         Call::PairOff { issue, account },
@@ -271,6 +392,37 @@ fn every_place() -> Result<u64, Mismatch> {
     Ok(compared)
 }
 
+/// Each word of each issue's eight lifts damaged: their number, the count and every place.
+fn every_word_of_lifts() -> Result<u64, Mismatch> {
+    let mut book = Book { phase: Phase::Cut, ..Book::fresh() };
+    for issue in 0..16 {
+        book.nets[place(issue, 60)] = 400_001;
+        book.nets[place(issue, 61)] = -400_001;
+        book.delivered[place(issue, 61)] = 250_000;
+        book.lifts[issue].number = 8;
+        book.lifts[issue].count = 250_008;
+        book.lifts[issue].moves.fill(lift(3, 2));
+    }
+    let mut compared = ask_everything(&book, true)?;
+    for (issue, word) in (0..16).flat_map(|issue| (0..18).map(move |word| (issue, word))) {
+        let wrong: &[u32] = match word {
+            0 => &[9, 255, 256 + 8, u32::MAX],
+            1 => &[250_009, u32::MAX],
+            _ if word % 2 == 0 => &[5, 1, 0, 65_536 + 3, u32::MAX],
+            3 => &[3, 4, 65_536 + 2, u32::MAX],
+            _ => &[1, 3, 4, 65_536 + 2, u32::MAX],
+        };
+        for &number in wrong {
+            compared += not_sound(&book, Edit::Lifts { issue, word, number })?;
+        }
+        let mut unused = book.clone();
+        unused.lifts[issue].number = 0;
+        (unused.lifts[issue].count, *lift_word(&mut unused, issue, word.max(2))) = (0, 77);
+        compared += ask_everything(&unused, true)?;
+    }
+    Ok(compared)
+}
+
 /// Entries that differ from a sound one in one number that is out of range.
 fn wrong_entries(good: Entry) -> [Entry; 7] {
     [
@@ -330,7 +482,7 @@ fn random_damage(rng: &mut Rng) -> Result<u64, Mismatch> {
 fn random_edit(rng: &mut Rng, book: &Book) -> Edit {
     let (issue, account) = (rng.range(0, 15) as usize, rng.range(0, 63) as usize);
     let at = rng.range(0, 2_047) as usize;
-    match rng.range(0, 7) {
+    match rng.range(0, 9) {
         0 => Edit::Day(rng.next_u32() as u16),
         1 => Edit::Phase(*rng.pick(&[Phase::Taking, Phase::Settling, Phase::Cut])),
         2 => Edit::Net { issue, account, lots: rng.next_u32() as i32 },
@@ -341,8 +493,25 @@ fn random_edit(rng: &mut Rng, book: &Book) -> Edit {
             1 => book.count.saturating_sub(1),
             _ => rng.next_u64() as usize,
         }),
+        6..=7 => random_lift_edit(rng, book),
         _ => Edit::Entries { first: at, end: at + 1, entry: random_entry(rng) },
     }
+}
+
+/// One word of an issue's lifts changed, mostly of an issue that has some, to a number near its range.
+fn random_lift_edit(rng: &mut Rng, book: &Book) -> Edit {
+    let lifted: Vec<usize> = (0..16).filter(|&issue| book.lifts[issue].number > 0).collect();
+    let any = rng.range(0, 15) as usize;
+    let issue = if lifted.is_empty() || rng.chance(1, 8) { any } else { *rng.pick(&lifted) };
+    let word = if rng.chance(1, 3) { rng.range(0, 1) } else { rng.range(2, 17) } as usize;
+    let old = *lift_word(&mut book.clone(), issue, word);
+    let number = match rng.range(0, 3) {
+        0 => old.wrapping_add(1),
+        1 => old.wrapping_sub(1),
+        2 => rng.range(0, 9),
+        _ => rng.next_u32() >> rng.range(0, 31),
+    };
+    Edit::Lifts { issue, word, number }
 }
 
 /// An entry of any numbers, mostly near their ranges.

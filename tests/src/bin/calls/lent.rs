@@ -1,20 +1,20 @@
 //! Part lent: what no book of the second engine can hold, and what a call does not use.
 //!
-//! A phase above 2 and columns of other lengths are damage: `sound` says so, the unit question and
-//! every call are refused by 2 (by 1 first, where the output is short) and every column and word
+//! A phase above 2 and columns of other lengths are damage: `sound` says so, the unit question, `ask`
+//! and every call are refused by 2 (by 1 first, where the output is short) and every column and word
 //! stays as it came. A kind that is none is refused by 14 before anything else. Prices and outputs
 //! that a call does not use change nothing.
 
 use crate::Failure;
-use library::raw::{self, Answer, Columns, ColumnsMut, UnitAnswer};
+use library::raw::{self, Answer, AskAnswer, Columns, ColumnsMut, UnitAnswer};
 use library::{Book, Fields, Phase};
 use tests::books::{random_book, Shape};
 use tests::convert::library_book;
 use tests::engines::pattern;
 use tests::rng::Rng;
 
-/// The lengths of the eight columns, in the order in which they are lent.
-const LENGTHS: [usize; 8] = [1_024, 1_024, 64, 2_048, 2_048, 2_048, 2_048, 2_048];
+/// The lengths of the nine columns, in the order in which they are lent.
+const LENGTHS: [usize; 9] = [1_024, 1_024, 288, 64, 2_048, 2_048, 2_048, 2_048, 2_048];
 /// Phases that are none; the low bytes of some are those of a phase.
 const NO_PHASES: [u32; 10] = [3, 4, 255, 256, 257, 258, 65_536, 1 << 31, u32::MAX - 1, u32::MAX];
 /// Kinds that are none; the low bits of some are those of a kind.
@@ -32,6 +32,7 @@ struct Lent {
     entries: usize,
     nets: Vec<i32>,
     delivered: Vec<u32>,
+    lifts: Vec<u32>,
     charges: Vec<i64>,
     issues: Vec<u8>,
     froms: Vec<u8>,
@@ -49,6 +50,7 @@ impl Lent {
             entries: book.entries,
             nets: book.nets.to_vec(),
             delivered: book.delivered.to_vec(),
+            lifts: book.lifts.to_vec(),
             charges: book.charges.to_vec(),
             issues: book.issues.to_vec(),
             froms: book.froms.to_vec(),
@@ -63,11 +65,12 @@ impl Lent {
         match column {
             0 => self.nets.resize(length, 0),
             1 => self.delivered.resize(length, 0),
-            2 => self.charges.resize(length, 0),
-            3 => self.issues.resize(length, 0),
-            4 => self.froms.resize(length, 0),
-            5 => self.tos.resize(length, 0),
-            6 => self.lots.resize(length, 0),
+            2 => self.lifts.resize(length, 0),
+            3 => self.charges.resize(length, 0),
+            4 => self.issues.resize(length, 0),
+            5 => self.froms.resize(length, 0),
+            6 => self.tos.resize(length, 0),
+            7 => self.lots.resize(length, 0),
             _ => self.days.resize(length, 0),
         }
     }
@@ -79,6 +82,7 @@ impl Lent {
             entries: self.entries,
             nets: &self.nets,
             delivered: &self.delivered,
+            lifts: &self.lifts,
             charges: &self.charges,
             issues: &self.issues,
             froms: &self.froms,
@@ -95,6 +99,7 @@ impl Lent {
             entries: &mut self.entries,
             nets: &mut self.nets,
             delivered: &mut self.delivered,
+            lifts: &mut self.lifts,
             charges: &mut self.charges,
             issues: &mut self.issues,
             froms: &mut self.froms,
@@ -159,7 +164,7 @@ fn wrong_lengths(book: &Book, rng: &mut Rng) -> Result<u64, String> {
             let mut lent = Lent::of(book);
             lent.set_length(column, length);
             if rng.chance(1, 4) {
-                let other = (column + 1 + rng.range(0, 6) as usize) % 8;
+                let other = (column + 1 + rng.range(0, 7) as usize) % LENGTHS.len();
                 lent.set_length(other, *rng.pick(&[0, 1, LENGTHS[other] - 1, 3_000]));
             }
             if rng.chance(1, 4) {
@@ -179,7 +184,11 @@ fn refused_by_two(lent: &Lent) -> Result<u64, String> {
     for (issue, k) in [(0, 0), (15, u32::MAX), (16, 0), (u32::MAX, 0)] {
         expect("unit", no_unit, raw::unit(&lent.columns(), issue, k))?;
     }
-    let mut compared = 5;
+    let no_ticket = AskAnswer { refusal: 2, ticket: [0; 6] };
+    for (issue, unit) in [(3, 0), (15, u32::MAX), (16, 0), (u32::MAX, 0)] {
+        expect("ask", no_ticket, raw::ask(&lent.columns(), issue, unit))?;
+    }
+    let mut compared = 9;
     for fields in instructions() {
         for out in OUTPUTS {
             let short = uses_output(fields[0]) && out < 4_096;
@@ -187,7 +196,23 @@ fn refused_by_two(lent: &Lent) -> Result<u64, String> {
             compared += 1;
         }
     }
+    for out in OUTPUTS {
+        commit_refused(lent, out, if out < 4_096 { 1 } else { 2 })?;
+        compared += 1;
+    }
     Ok(compared)
+}
+
+/// A commit that is refused by this number: 0 in every other number, book and output as they came.
+fn commit_refused(lent: &Lent, out: usize, number: u32) -> Result<(), String> {
+    let mut after = lent.clone();
+    let mut output = pattern(out + 2 * MARGIN);
+    let words = &mut output[MARGIN..MARGIN + out];
+    let answer = raw::commit(&mut after.columns_mut(), &[3, 0, 5, 100_000, 0, 0], words);
+    let case = format!("commit with an output of {out} words");
+    expect(&case, Answer { refusal: number, count: 0, cancelled: 0 }, answer)?;
+    expect(&format!("{case}: the book is as it came"), true, after == *lent)?;
+    expect(&format!("{case}: the output is as it came"), true, output == pattern(out + 2 * MARGIN))
 }
 
 /// Kinds that are none, on the book and on a damaged one, with outputs of every length.

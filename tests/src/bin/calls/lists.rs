@@ -8,6 +8,7 @@ use reference::book::{Phase, ACCOUNTS};
 use tests::books::{random_book, Shape};
 use tests::case::Case;
 use tests::random_calls::random_call;
+use tests::random_lifts::Tickets;
 use tests::report::Mismatch;
 use tests::rng::Rng;
 use tests::situations::{Coverage, Made};
@@ -58,8 +59,15 @@ fn random_list(rng: &mut Rng, coverage: &mut Coverage) -> Result<u64, Mismatch> 
     let shape = Shape::few(rng);
     let mut case =
         if rng.chance(1, 2) { Case::fresh() } else { Case::of(random_book(rng, &shape)) };
+    let mut tickets = Tickets::default();
+    let lifting = *rng.pick(&[0, 1, 4, 8]);
     for _ in 0..rng.range(30, LONGEST) {
-        let call = random_call(rng, &shape, case.book());
+        let of_ten = if case.book().phase == Phase::Settling { lifting } else { lifting.min(1) };
+        let call = if rng.chance(of_ten, 10) {
+            tickets.random_call(rng, &shape, case.book())
+        } else {
+            random_call(rng, &shape, case.book())
+        };
         if rng.chance(1, 60) {
             damaged(rng, &mut case, coverage, call)?;
         } else {

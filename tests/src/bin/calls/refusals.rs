@@ -4,7 +4,8 @@
 //! combination; the number is that of the first 'no', whatever comes after it.
 
 use crate::Failure;
-use reference::book::{place, Book, Entry, Phase};
+use reference::book::{place, Book, Entry, Lift, Phase};
+use reference::calls::Ticket;
 use tests::case::Case;
 use tests::report::Mismatch;
 use tests::steps::Call;
@@ -21,6 +22,7 @@ struct Asked {
     days: u32,
     rate: u32,
     prices: Vec<u32>,
+    ticket: Ticket,
 }
 
 /// One way in which a question is answered: its number for 'no', or 0 for 'yes'.
@@ -101,6 +103,32 @@ const OWED_IN_LEDGER: &[Way] = &[
     (9, |asked| owe_in_ledger(asked, &[19_999_999], 20_000_000)),
     (9, |asked| owe_in_ledger(asked, &[], 1)),
 ];
+const UNHANDED: &[Way] = &[
+    (16, |asked| unit_asked(asked, 0)),
+    (16, |asked| unit_asked(asked, 1)),
+    (0, |asked| unit_asked(asked, 2)),
+    (0, |asked| unit_asked(asked, 4)),
+    (16, |asked| unit_asked(asked, 5)),
+    (16, |asked| unit_asked(asked, u32::MAX)),
+];
+const TICKET: &[Way] = &[
+    (0, |_| {}),
+    (17, |asked| asked.ticket.account ^= 1),
+    (17, |asked| asked.ticket.account += 64),
+    (17, |asked| asked.ticket.lots = 0),
+    (17, |asked| asked.ticket.lots += 1),
+    (17, |asked| asked.ticket.day += 1),
+    (17, |asked| asked.ticket.day += 65_536),
+    (17, |asked| asked.ticket.count -= 1),
+    (17, |asked| asked.ticket.count = u32::MAX),
+];
+const LIFTS: &[Way] = &[
+    (0, |asked| lifts_before(asked, 0)),
+    (0, |asked| lifts_before(asked, 7)),
+    (18, |asked| lifts_before(asked, 8)),
+];
+const LIFTS_ASKED: &[Way] =
+    &[(0, |asked| lifts_before(asked, 0)), (0, |asked| lifts_before(asked, 8))];
 const ROOM: &[Way] = &[
     (0, |asked| entries_before(asked, 0)),
     (0, |asked| entries_before(asked, 2_046)),
@@ -139,11 +167,13 @@ const DAY: &[Way] = &[
 ];
 
 /// The calls with their questions.
-const PLANS: [Plan; 8] = [
+const PLANS: [Plan; 10] = [
     ("unit", |asked| Call::Unit { issue: asked.issue, k: 0 }, &[ANY_PHASE, ISSUE, SOUND]),
     ("trade", trade, &[TAKING, ISSUE, FROM, TO, LOTS, NETS, SOUND]),
     ("close", |_| Call::Close, &[TAKING, SOUND]),
     ("deliver", deliver, &[OUTPUT, SETTLING, ISSUE, FROM, OWED_TODAY, SOUND]),
+    ("ask", ask, &[SETTLING, ISSUE, UNHANDED, LIFTS_ASKED, SOUND]),
+    ("commit", commit, &[OUTPUT, SETTLING, ISSUE, UNHANDED, TICKET, LIFTS, SOUND]),
     ("cutoff", |asked| Call::Cutoff { out: asked.out }, &[OUTPUT, SETTLING, ROOM, SOUND]),
     ("resolve", resolve, &[OUTPUT, ANY_PHASE, ISSUE, FROM, OWED_IN_LEDGER, SOUND]),
     ("pair-off", pair_off, &[ANY_PHASE, ISSUE, FROM, SOUND]),
@@ -188,6 +218,7 @@ fn start() -> Asked {
         days: 1,
         rate: 300,
         prices: vec![100_000; 16],
+        ticket: Ticket::default(),
     }
 }
 
@@ -213,6 +244,16 @@ fn trade(asked: &Asked) -> Call {
 fn deliver(asked: &Asked) -> Call {
     let Asked { issue, from: account, lots, out, .. } = *asked;
     Call::Deliver { issue, account, lots, out }
+}
+
+/// The lift asked for.
+fn ask(asked: &Asked) -> Call {
+    Call::Ask { issue: asked.issue, unit: asked.ticket.unit }
+}
+
+/// The commit asked.
+fn commit(asked: &Asked) -> Call {
+    Call::Commit { ticket: asked.ticket, out: asked.out }
 }
 
 /// The resolve asked.
@@ -260,6 +301,33 @@ fn owe_today(asked: &mut Asked, owed: i32, delivered: u32, lots: u32) {
         if asked.book.phase != Phase::Taking {
             asked.book.delivered[at] = delivered;
         }
+    }
+}
+
+/// A unit of 1 1 2 (full), 1 (50,000) and 2 (30,000), of which two are handed and 20,000 lots are in
+/// stock (in Taking none); the ticket is what asking gives on day 9 with a count of 5.
+fn unit_asked(asked: &mut Asked, unit: u32) {
+    const UNITS: [(u32, u32); 5] =
+        [(1, 100_000), (1, 100_000), (2, 100_000), (1, 50_000), (2, 30_000)];
+    let (account, lots) = UNITS.get(unit as usize).copied().unwrap_or((2, 30_000));
+    asked.ticket = Ticket { issue: asked.issue, unit, account, lots, day: 9, count: 5 };
+    asked.book.day = 9;
+    if let Some(at) = in_book(asked.issue, 0) {
+        asked.book.nets[at + 1] = 250_000;
+        asked.book.nets[at + 2] = 130_000;
+        asked.book.nets[at + 3] = -380_000;
+        if asked.book.phase != Phase::Taking {
+            asked.book.delivered[at + 3] = 220_000;
+            asked.book.lifts[asked.issue as usize].count = 5;
+        }
+    }
+}
+
+/// So many lifts stand, each of the next unit to its own place (in Taking none).
+fn lifts_before(asked: &mut Asked, lifts: u32) {
+    if asked.issue < 16 && asked.book.phase != Phase::Taking {
+        asked.book.lifts[asked.issue as usize].number = lifts;
+        asked.book.lifts[asked.issue as usize].moves.fill(Lift { old: 2, new: 2 });
     }
 }
 

@@ -1,10 +1,11 @@
-//! Part units: the unit question on random nets with many ties, beside units stored one by one.
+//! Part units: the unit question on random nets with many ties and with lifts, beside units stored one
+//! by one.
 
 use crate::Failure;
 use library::raw::{self, UnitAnswer};
 use reference::book::{Book, Phase};
-use reference::units::units;
-use tests::books::{move_lots, two_of, MENU};
+use reference::units::units_of;
+use tests::books::{deliver_some, lift_some, move_lots, two_of, MENU};
 use tests::convert::{library_book, same_numbers};
 use tests::report::Mismatch;
 use tests::rng::Rng;
@@ -38,13 +39,17 @@ fn random_nets(rng: &mut Rng, issue: u32) -> Book {
         let (from, to) = two_of(rng, &accounts);
         move_lots(&mut book, issue, from, to, rng.range(1, 20_000_000));
     }
+    if phase != Phase::Taking {
+        deliver_some(rng, &mut book);
+        lift_some(rng, &mut book, issue as usize);
+    }
     book
 }
 
 /// Asks every k up to the number of units, two more, and some far beyond.
 fn ask_all(book: &Book, issue: u32) -> Result<u64, Mismatch> {
     let asked_book = library_book(book);
-    let units = units(book.nets_of(issue as usize));
+    let units = units_of(book, issue as usize);
     let asked = (0..units.len() as u32 + 2).chain(BEYOND);
     let mut compared = 0;
     for k in asked {

@@ -17,7 +17,7 @@ use Rattle.exports.proofs.calls.day_call.Tie as tie
 abbrev at : tie.Start → State → Book
 at s t =
     let a = s .args in
-    bookIn t (now (a .nets)) (now (a .delivered)) (now (a .charges)) (now (a .issues)) (now (a .froms)) (now (a .tos)) (now (a .lots)) (now (a .days))
+    bookIn t (now (a .nets)) (now (a .delivered)) (now (a .lifts)) (now (a .charges)) (now (a .issues)) (now (a .froms)) (now (a .tos)) (now (a .lots)) (now (a .days))
 
 abbrev state : tie.Start → State
 state s = stateOf (now (s .args .day)) (phaseOf (now (s .args .phase))) (now (s .args .entries))
@@ -26,7 +26,7 @@ abbrev asked : tie.Start → Instruction
 asked s = instructionOf (s .args .kind) (s .args .a) (s .args .b) (s .args .c) (s .args .d)
 
 abbrev start : tie.After-is-kind → tie.Start
-start c = c .before .before .before .before .before .before .before .before .before
+start c = c .before .before .before .before .before .before .before .before .before .before
 
 -- a kind of 1 to 7 is asked for
 kinded : (c : tie.Else1) → isKind (start (c .before) .args .kind) ≡ true
@@ -63,10 +63,10 @@ returns-3 c =
     (i .instruction-of .ensures) b (state s) (e .before .output-asks .result) (e .before .output-asks .ensures) (e .if2 .left) (c .if3 .taken))
 
 abbrev made-call : tie.After-number-of → tie.After-call
-made-call c = c .before .before .before .before .before .before .before .before .before .before .before .before .before .before .before .before .before .before
+made-call c = c .before .before .before .before .before .before .before .before .before .before .before .before .before .before .before .before .before .before .before .before
 
 abbrev stated : tie.After-call → tie.After-state-of
-stated c = c .before .before .before .before .before .before .before .before .before .before
+stated c = c .before .before .before .before .before .before .before .before .before .before .before
 
 returns-4 : tie.Need-returns-4
 returns-4 c =
@@ -76,7 +76,7 @@ returns-4 c =
     let i = e .before .before .before .before .before in
     let s = start (i .before .before) in
     let a = s .args in
-    as-turned _ (now (a .phase)) (c .number-of .result) (at s (state s)) _ _ _ _ _ _ _ _ (k .call .result) _ (e .if3 .left)
+    as-turned _ (now (a .phase)) (c .number-of .result) (at s (state s)) _ _ _ _ _ _ _ _ _ (k .call .result) _ (e .if3 .left)
     (c .number-of .ensures)
     (made (a .kind) (now (a .phase)) (asked s) (i .instruction-of .result) (now (a .prices)) (now (a .out)) (kinded (i .before))
     (i .instruction-of .ensures) (at s) (state s) (t .state-of .result) (k .call .result) _ _ (e .if3 .left) (t .state-of .ensures)
@@ -97,6 +97,7 @@ day-call-spec =
     (λ c κs. search needs)
     (λ c κs. search needs)
     (λ c κs. search needs)
+    (λ c. search needs)
     (λ c. search needs)
     (λ c. search needs)
     (λ c. search needs)

@@ -15,13 +15,13 @@ use Rattle.exports.proofs.calls.day_sound.Tie as tie
 abbrev at : tie.Start → State → Book
 at s t =
     let a = s .args in
-    bookIn t (now (a .nets)) (now (a .delivered)) (now (a .charges)) (now (a .issues)) (now (a .froms)) (now (a .tos)) (now (a .lots)) (now (a .days))
+    bookIn t (now (a .nets)) (now (a .delivered)) (now (a .lifts)) (now (a .charges)) (now (a .issues)) (now (a .froms)) (now (a .tos)) (now (a .lots)) (now (a .days))
 
 abbrev state : tie.Start → State
 state s = stateOf (s .args .day) (phaseOf (s .args .phase)) (s .args .entries)
 
 abbrev start : tie.Else1 → tie.Start
-start c = c .before .before .before .before .before .before .before
+start c = c .before .before .before .before .before .before .before .before
 
 told : (c : tie.After-sound) →
     let s = start (c .before .before) in
@@ -32,7 +32,7 @@ told c =
     (c .before .state-of .ensures) (c .sound .ensures)
 
 returns : tie.Need-returns
-returns c = let s = c .before .before .before .before .before .before .before in rw (damaged (s .args .phase) (at s (state s)) (c .if1 .taken))
+returns c = let s = c .before .before .before .before .before .before .before .before in rw (damaged (s .args .phase) (at s (state s)) (c .if1 .taken))
 
 returns-2 : tie.Need-returns-2
 returns-2 c = rw (told (c .before) ∙ c .if2 .taken)

@@ -16,14 +16,14 @@ use Rattle.exports.proofs.calls.day_unit.Tie as tie
 abbrev at : tie.Start → State → Book
 at s t =
     let a = s .args in
-    bookIn t (now (a .nets)) (now (a .delivered)) (now (a .charges)) (now (a .issues)) (now (a .froms)) (now (a .tos)) (now (a .lots)) (now (a .days))
+    bookIn t (now (a .nets)) (now (a .delivered)) (now (a .lifts)) (now (a .charges)) (now (a .issues)) (now (a .froms)) (now (a .tos)) (now (a .lots)) (now (a .days))
 
 abbrev state : tie.Start → State
 state s = stateOf (s .args .day) (phaseOf (s .args .phase)) (s .args .entries)
 
 returns : tie.Need-returns
 returns c =
-    let s = c .before .before .before .before .before .before .before .before .before in
+    let s = c .before .before .before .before .before .before .before .before .before .before in
     let a = s .args in
     let b = at s (state s) in
     rw (← refused-sound (soundAt (a .phase) b) b (a .issue) (a .k) (damaged (a .phase) b (c .before .before .if1 .taken))) (c .told .ensures)
@@ -31,7 +31,7 @@ returns c =
 returns-2 : tie.Need-returns-2
 returns-2 c =
     let u = c .before .before in
-    let s = c .before .before .before .before .before .before .before .before .before .before .before in
+    let s = c .before .before .before .before .before .before .before .before .before .before .before .before in
     let a = s .args in
     rw (← unit-told (a .phase) (at s) (state s) (u .before .state-of .result) (a .issue) (a .k) (foundAnswer (u .unit .result))
     (u .before .before .if1 .left) (u .before .state-of .ensures) (u .unit .ensures))
