@@ -1,7 +1,7 @@
 /* day: the settled day P5 to P9 run through the library, as a host in C runs its book. Prints the
  * units in their order, each delivery with what was handed over, a refused delivery, a lift of unit 7
  * on a copy of the book with the cutoff that follows from it, then the fails of the day's own cutoff
- * and the charges of the roll; last, in a book of its own, an issue in lots of 100,000 yen. */
+ * and the charges of the roll; last, in a book of its own, an issue in multiples of 100,000 yen. */
 #include <inttypes.h>
 #include <stdio.h>
 
@@ -188,7 +188,7 @@ static int mark(uint32_t issue)
     if (!done("mark", day_book_mark(&marked, issue, 1))) {
         return 0;
     }
-    printf("in a book of its own, issue %" PRIu32 " in lots of 100,000 yen:\n", issue);
+    printf("in a book of its own, issue %" PRIu32 " in multiples of 100,000 yen:\n", issue);
     return refused("a trade of 129999 lots", day_book_trade(&marked, issue, 4, 1, 129999),
                    DAY_REFUSED_ODD) &&
            done("trade", day_book_trade(&marked, issue, 4, 1, 130000)) &&

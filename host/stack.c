@@ -19,7 +19,7 @@ static uint32_t words[DAY_TAPE_WORDS];
 static uint32_t prices[DAY_ISSUES];
 static uint32_t refusal;
 
-/* Every issue is in lots of 100,000 yen. */
+/* Every issue is in multiples of 100,000 yen. */
 static void make_marks(void)
 {
     for (uint32_t issue = 0; issue < DAY_ISSUES; issue++) {
