@@ -9,7 +9,7 @@ ghost use Prim.Native.Nat.{_<_};
 ghost use lib.ListN.{length};
 ghost use Rattle.rules.specs.Measures.{mostLots, lastDay, sum, dueOf, owedOf};
 ghost use Rattle.rules.specs.Fails.{undelivered};
-ghost use Rattle.rules.specs.Book.{isTaking, isSettling, isCut, withinSize, fresh as freshOf};
+ghost use Rattle.rules.specs.Book.{isTaking, isSettling, isCut, withinSize, lotsEven, fresh as freshOf};
 ghost use Rattle.book.specs.Nets.{Small, Lowered, Raised};
 ghost use Rattle.book.specs.States.{stateOf, bookIn, withPhase, withEntries, withMarks, nextDay};
 ghost use Rattle.book.specs.Rows.{Owing};
@@ -49,6 +49,19 @@ pub fn within(n: i32) -> bool
     ensures { λ r. ⌜ r ≡ withinSize mostLots n ⌝ }
 {
     -20_000_000 <= n && n <= 20_000_000
+}
+
+// Are lots in this issue even, if it is marked? There is no mark of an issue above 15.
+pub fn lots_even(marks: [u8; 16], i: u32, x: u32) -> bool
+    ensures { λ r. ⌜ r ≡ lotsEven marks i x ⌝ }
+{
+    if 15 < i {
+        return true;
+    }
+    if marks[i as usize] == 0 {
+        return true;
+    }
+    x % 2 == 0
 }
 
 // The lots due to each account of an issue, from its nets.
