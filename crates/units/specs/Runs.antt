@@ -2,15 +2,17 @@
 use mathlib.Core.Path.{_≡_}
 use mathlib.Core.Bool.{true, cond}
 use mathlib.Core.List.{List, [], _∷_, _++_, map}
-use Prim.Native.Nat.{ℕ, suc, _+_, _*_, _/_, _%_, _≤_, _<_}
+use Prim.Native.Nat.{ℕ, suc, _+_, _*_, _/_, _%_, _≤_, _<_, min}
 use lib.Dec.{ltb}
 use lib.ListN.{length, take, drop, getD, replicate}
 use lib.IntN.{ℤ}
 use Rattle.rules.specs.Measures.{Every, unitLots, mostLots, total}
 use Rattle.rules.specs.Units.{AccountLots, accountLots, prepend, byAccount, largestFirst, ofAccount, unitsOfNets}
+use Rattle.rules.specs.Ranking.{priority}
 use Rattle.rules.specs.Handover.{covered, stock}
 use Rattle.rules.specs.Lifts.{Among}
 use Rattle.rules.specs.Book.{all, row, withinSize, liftNumber, liftsAt, orderIn}
+use Rattle.rules.specs.declared.Priority.{Priority}
 use Rattle.rules.specs.declared.Found.{Found}
 use Rattle.rules.specs.declared.Found.the-variants.{Unit, Nothing}
 use Rattle.units.specs.declared.Seat.{Seat}
@@ -21,6 +23,10 @@ use Rattle.units.specs.declared.Handed.{Handed}
 -- a part in one word: lots * 64 + account
 abbrev pub partOf : ℕ → AccountLots
 partOf k = accountLots (k % 64) (k / 64)
+
+-- the priority of the first unit of an account with so many lots in all
+abbrev pub firstPriority : AccountLots → Priority
+firstPriority u = priority unitLots (u .lots) (accountLots (u .account) (min (u .lots) unitLots))
 
 -- the first n of a list of such words
 abbrev pub runsIn : List ℕ → ℕ → List AccountLots
