@@ -8,7 +8,7 @@ use lib.ListN.{length, take, drop, getD, replicate}
 use lib.IntN.{ℤ}
 use Rattle.rules.specs.Measures.{Every, unitLots, mostLots, total}
 use Rattle.rules.specs.Units.{AccountLots, accountLots, prepend, byAccount, largestFirst, ofAccount, unitsOfNets}
-use Rattle.rules.specs.Ranking.{priority}
+use Rattle.rules.specs.Ranking.{priority, Pairwise}
 use Rattle.rules.specs.Handover.{covered, stock}
 use Rattle.rules.specs.Lifts.{Among}
 use Rattle.rules.specs.Book.{all, row, withinSize, liftNumber, liftsAt, orderIn}
@@ -59,6 +59,12 @@ smallLots x = x % unitLots
 -- the runs of accounts with these dues: the full units, largest due first, then the small ones, largest first
 unfoldable pub runsOf : List ℕ → List AccountLots
 runsOf dues = map fullOf (largestFirst (byAccount 0 dues)) ++ largestFirst (byAccount 0 (map smallLots dues))
+
+-- n keys that are ranked already, largest first, and a key of a lower account
+pub record CanInsert (keys : List ℕ) (n key : ℕ) : Type 0 where
+  pub room : n < length keys
+  pub above : Every (λ v. key % 64 < v .account) (runsIn keys n)
+  pub falling : Pairwise (λ u v. v .lots ≤ u .lots) (runsIn keys n)
 
 -- lots of 64 accounts that can be ranked into a lent array of so many words
 pub record CanRank (room : ℕ) (lots keys : List ℕ) : Type 0 where
