@@ -1,5 +1,6 @@
 //! The facts of a tape: what each instruction did to the book, in the order in which it came.
 
+use crate::units::Case;
 use library::{Instruction, Refusal};
 
 /// One fact. Units of an issue are numbered from 0 in their order; those from `first` to `last` are
@@ -12,8 +13,12 @@ pub enum Fact {
     Instruction { word: usize, instruction: Instruction, refusal: Option<(Refusal, String)> },
     /// Units of an account, which is due this many lots in all.
     Units { issue: u32, first: u32, last: u32, account: u32, lots: u32, due: u32 },
-    /// Accounts with equal nets (full units) or equal small units: the lower number comes first.
-    Tie { issue: u32, full: bool, lots: u32, accounts: Vec<u32> },
+    /// Accounts with equal nets (both full) or equal small units (both small): the lower number comes
+    /// first.
+    Tie { issue: u32, case: Case, lots: u32, accounts: Vec<u32> },
+    /// A full unit, and behind it the small unit `next` of `follower`: the full one comes first,
+    /// whatever the nets.
+    SmallAfterFull { issue: u32, unit: u32, account: u32, next: u32, follower: u32 },
     /// What an account still owes today.
     Owes { issue: u32, account: u32, lots: u64 },
     /// Units handed over whole.
@@ -62,6 +67,7 @@ impl Fact {
             Fact::Instruction { instruction, .. } => issue_of(instruction),
             Fact::Units { issue, .. }
             | Fact::Tie { issue, .. }
+            | Fact::SmallAfterFull { issue, .. }
             | Fact::Owes { issue, .. }
             | Fact::Handed { issue, .. }
             | Fact::Waits { issue, .. }
@@ -82,6 +88,7 @@ impl Fact {
         match self {
             Fact::Instruction { instruction, .. } => accounts_of(instruction),
             Fact::Tie { accounts, .. } => accounts.clone(),
+            Fact::SmallAfterFull { account, follower, .. } => vec![*account, *follower],
             Fact::Units { account, .. }
             | Fact::Owes { account, .. }
             | Fact::Handed { account, .. }

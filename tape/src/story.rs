@@ -6,7 +6,7 @@
 
 use crate::bytes::split;
 use crate::facts::{Fact, Terms};
-use crate::units::{runs, ties, Run, Walk};
+use crate::units::{close, runs, Case, Run, Walk};
 use crate::why::{owed_today, why};
 use library::calls::{self, Answer};
 use library::{desk, place, tape, Book, Entry, Instruction, Phase, ACCOUNTS, ISSUES, OUTPUT_WORDS};
@@ -116,7 +116,8 @@ impl Story<'_> {
         self.output.chunks_exact(2).take(count).map(|words| record(words[0], words[1])).collect()
     }
 
-    /// The issues' units in their order, their ties, and what each deliverer owes.
+    /// The issues' units in their order, which case decided where they are close, and what each
+    /// deliverer owes.
     fn closed(&mut self) -> io::Result<()> {
         self.handed = [(0, 0); ISSUES];
         for issue in 0..ISSUES as u32 {
@@ -125,11 +126,8 @@ impl Story<'_> {
                 let Run { first, account, lots, due, .. } = *run;
                 self.fact(&Fact::Units { issue, first, last: run.last(), account, lots, due })?;
             }
-            for tie in ties(&runs) {
-                let full = tie[0].full();
-                let lots = if full { tie[0].due } else { tie[0].lots };
-                let accounts = tie.iter().map(|run| run.account).collect();
-                self.fact(&Fact::Tie { issue, full, lots, accounts })?;
+            for group in close(&runs) {
+                self.fact(&decided(issue, group))?;
             }
             for account in 0..ACCOUNTS as u32 {
                 self.owes(issue, account, 1)?;
@@ -259,6 +257,24 @@ impl Story<'_> {
             self.fact(&Fact::Charged { account, yen })?;
         }
         Ok(())
+    }
+}
+
+/// Which case of the rule decided between close neighbours.
+fn decided(issue: u32, group: &[Run]) -> Fact {
+    let (one, next) = (&group[0], &group[1]);
+    let tie = |case, lots| {
+        let accounts = group.iter().map(|run| run.account).collect();
+        Fact::Tie { issue, case, lots, accounts }
+    };
+    match Case::of(one, next) {
+        case @ Case::BothFull => tie(case, one.due),
+        case @ Case::BothSmall => tie(case, one.lots),
+        Case::FullAndSmall | Case::SmallAndFull => {
+            let (unit, account) = (one.last(), one.account);
+            let (next, follower) = (next.first, next.account);
+            Fact::SmallAfterFull { issue, unit, account, next, follower }
+        }
     }
 }
 

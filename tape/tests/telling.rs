@@ -113,7 +113,8 @@ fn the_settled_days_are_told_as_stored() {
 fn text_says_why() {
     let text = told(Form::Text, Only::default(), DAYS);
     for line in [
-        "accounts 2 and 3 have small units of the same size, 50,000 lots: the lower number is first",
+        "accounts 2 and 3 have small units of the same size, 50,000 lots: the lower number is first (both small)",
+        "unit 4 of account 3 is full, unit 5 of account 2 is small: the full one is first (full and small)",
         "issue 0: units 0 to 1 are account 2's, 100,000 lots each, of 250,000 lots due",
         "account 4 still owes 30,000 lots of issue 0 today",
         "refused by 9: the account does not owe that many lots; account 4 still owes 30,000 lots",
@@ -149,6 +150,15 @@ fn marks_are_told_in_plain_words() {
     assert!(!told(Form::Html, Only::default(), DAYS).contains("even lots only"));
     let of_five = told(Form::Text, Only { issue: Some(5), ..Only::default() }, MARKED);
     assert!(of_five.contains("mark: issue 5") && !of_five.contains("issue 3"), "{of_five}");
+}
+
+#[test]
+fn equal_nets_are_both_full() {
+    let text = told(Form::Text, Only::default(), "trade 0 1 4 200000\ntrade 0 1 2 200000\nclose\n");
+    let line =
+        "accounts 2 and 4 have the same net, 200,000 lots: the lower number is first (both full)";
+    assert!(text.contains(line), "{text}");
+    assert!(!text.contains("full and small") && !text.contains("both small"), "{text}");
 }
 
 #[test]
@@ -195,6 +205,12 @@ fn json_is_one_object_a_line_with_the_same_facts() {
         named(&objects, "instruction").iter().map(|one| number(one, "refusal")).collect();
     assert_eq!(refused.iter().filter(|&&number| number != 0).collect::<Vec<_>>(), [&6, &9]);
     assert_eq!(named(&objects, "tie")[0]["accounts"], Value::List(vec![2, 3]));
+    assert_eq!(named(&objects, "tie")[0]["case"], Value::Text("both small".to_string()));
+    let after = named(&objects, "small-after-full")[0];
+    assert_eq!(
+        ["unit", "account", "next", "follower"].map(|name| number(after, name)),
+        [4, 3, 5, 2]
+    );
     assert_eq!(number(named(&objects, "reading-ends")[0], "refusal"), 14);
     let yen: i64 = named(&objects, "charged").iter().map(|one| number(one, "yen")).sum();
     assert_eq!(yen, 0);

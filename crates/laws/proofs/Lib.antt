@@ -7,6 +7,7 @@ pub mod Fails
 pub mod Stretches
 pub mod Gather
 pub mod RunLifts
+pub mod Priority
 pub mod Ranking
 pub mod Cutoff
 pub mod Orders

@@ -1,7 +1,7 @@
 -- The settled days P1 to P11, and days of our own, as one list with one proof.
 use mathlib.Core.Path.{_≡_, refl}
-use mathlib.Core.Bool.{true, false}
-use mathlib.Core.List.{List, [], _∷_, _++_}
+use mathlib.Core.Bool.{Bool, true, false}
+use mathlib.Core.List.{List, [], _∷_, _++_, map}
 use Prim.Native.Nat.{ℕ, zero, suc, _+_, _-_}
 use lib.ListN.{replicate, take}
 use lib.IntN.{pos, negsuc}
@@ -11,6 +11,7 @@ use Rattle.rules.specs.declared.Name.the-variants as name
 use Rattle.rules.specs.declared.Ticket.{Ticket}
 use Rattle.rules.specs.Measures.{unitLots, valueOf, chargeOf}
 use Rattle.rules.specs.Units.{accountLots, units, unitsOfNets, sumLots}
+use Rattle.rules.specs.Ranking.{ranksBefore}
 use Rattle.rules.specs.Handover.{handovers, partials}
 use Rattle.rules.specs.Lifts.{liftOf, lift, handedFrom}
 use Rattle.rules.specs.Fails.{lacks, fails}
@@ -304,12 +305,32 @@ markDays =
     ∷ case (runOf (0xd3000001 ∷ 0xd3000002 ∷ []) false .lines) (line 0 name.Mark 0 0 ∷ line 1 name.Tape 14 0 ∷ [])
     ∷ []
 
+-- before which units of P5, in their order, a unit ranks
+abbrev pub duesP5 : List ℕ
+duesP5 = 0 ∷ 230000 ∷ 250000 ∷ 150000 ∷ []
+
+abbrev pub rankedBefore : ℕ → ℕ → List Bool
+rankedBefore a x = map (ranksBefore unitLots duesP5 (accountLots a x)) (units unitLots duesP5)
+
+-- the four cases
+abbrev pub rankingDays : List Case
+rankingDays =
+    -- full ones of P5: account 2 has the largest net, then 1, then 3; one of 1 ranks before 3's and before all small ones
+    case (rankedBefore 1 100000) (false ∷ false ∷ false ∷ false ∷ true ∷ true ∷ true ∷ true ∷ [])
+    -- small ones: 2 and 3 have 50,000 lots, and 2 is the lower account
+    ∷ case (rankedBefore 2 50000) (false ∷ false ∷ false ∷ false ∷ false ∷ false ∷ true ∷ true ∷ [])
+    ∷ case (rankedBefore 3 50000) (false ∷ false ∷ false ∷ false ∷ false ∷ false ∷ false ∷ true ∷ [])
+    -- full ones of equal nets: the lower account
+    ∷ case (ranksBefore unitLots (250000 ∷ 250000 ∷ []) (accountLots 0 100000) (accountLots 1 100000)) true
+    ∷ case (ranksBefore unitLots (250000 ∷ 250000 ∷ []) (accountLots 1 100000) (accountLots 0 100000)) false
+    ∷ []
+
 unfoldable pub baseDays : List Case
 baseDays = unitDays ++ bookDays ++ ledgerDays ++ programDays ++ ownDays
 
 unfoldable pub settledDays : List Case
 unfolding baseDays
-settledDays = baseDays ++ liftDays ++ markDays
+settledDays = baseDays ++ (liftDays ++ (markDays ++ rankingDays))
 
 -- each by computing what the definitions give
 
@@ -328,6 +349,10 @@ unfolding units handovers partials lacks fails pairing valueOf chargeOf liftCond
 markSettled =
     (refl, (refl, (refl, (refl, (refl, (refl, (refl, (refl, (refl, (refl, (refl, (refl, (refl, tt)))))))))))))
 
+pub rankingSettled : Holds rankingDays
+unfolding units ranksBefore
+rankingSettled = (refl, (refl, (refl, (refl, (refl, tt)))))
+
 -- and so all of them
 abbrev bothHold : (cs ds : List Case) → Holds cs → Holds ds → Holds (cs ++ ds)
 bothHold [] ds hs ks = ks
@@ -335,4 +360,6 @@ bothHold (case x y ∷ cs) ds hs ks = (hs .0, bothHold cs ds (hs .1) ks)
 
 pub settled : Holds settledDays
 unfolding settledDays
-settled = bothHold baseDays (liftDays ++ markDays) baseSettled (bothHold liftDays markDays liftSettled markSettled)
+settled =
+    bothHold baseDays (liftDays ++ (markDays ++ rankingDays)) baseSettled
+    (bothHold liftDays (markDays ++ rankingDays) liftSettled (bothHold markDays rankingDays markSettled rankingSettled))

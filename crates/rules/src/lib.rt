@@ -49,6 +49,13 @@ pub struct Entry {
     pub day: u16,
 }
 
+// What a unit's settlement priority goes by: of a full unit its account and that account's net, of a
+// small one its account and its own lots.
+pub enum Priority {
+    Full(u32, u32),
+    Small(u32, u32),
+}
+
 // What the unit question answers: account and lots, none, or the refusal's number.
 pub enum Found {
     Unit(u32, u32),
