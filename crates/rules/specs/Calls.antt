@@ -24,7 +24,7 @@ use Rattle.rules.specs.Fails.{Fail, fails}
 use Rattle.rules.specs.Ledger.{entry, isFrom, meet, met, Pairing, pairing, charged}
 use Rattle.rules.specs.Book.{tabulate, row, cell, netAt, deliveredAt, obligationsOf, deliveredTotal, liftCell, liftNumber, countAt, Orders, orderOf, ledgerOf, withDay, withPhase, withNets, withDelivered, withLifts, withCharges, withLedger}
 use Rattle.rules.specs.Records.{Rec, handover, recordOf, words, over}
-use Rattle.rules.specs.Questions.{Question, firstNo, askOutput, askSound, askTaking, askSettling, askCut, askIssue, askAccount, askAccounts, askDiffer, askLots, askNets, askOwedToday, askOwedInLedger, askEntries, askRoll, askPrice, askTerm, askDay, askUnhanded, askTicket, askLifts}
+use Rattle.rules.specs.Questions.{Question, firstNo, askOutput, askSound, askTaking, askSettling, askCut, askIssue, askAccount, askAccounts, askDiffer, askLots, askNets, askOwedToday, askOwedInLedger, askEntries, askRoll, askQuote, askTerm, askDay, askUnhanded, askTicket, askLifts}
 
 -- a call with its arguments and the output lent to it
 pub data Call : Type 0 where
@@ -169,7 +169,7 @@ resolveRecords es i a x = map (recordOf 11) (met (isFrom i a) x es)
 abbrev pub pairOffAsks : ℕ → ℕ → List Question
 pairOffAsks i a = askIssue i ∷ askAccount a ∷ []
 
--- roll days, rate, sixteen prices (Cut): charges; then nets and delivered lots are 0, lifts and count are cleared, day rises
+-- roll days, rate, sixteen prices, sixteen accrued amounts (Cut): charges; then nets and delivered lots are 0, lifts and count are cleared, day rises
 -- by 1, to Taking
 abbrev pub rollAsks : Phase → ℕ → ℕ → ℕ → List ℕ → List Question
 rollAsks phase today days rate prices = askCut phase ∷ askRoll days rate prices ∷ askDay today ∷ []
@@ -323,12 +323,12 @@ abbrev pub yenAnswer : ℕ → ℕ → AmountAnswer
 yenAnswer zero y = someYen y
 yenAnswer (suc r) y = noYen (suc r)
 
-unfoldable pub value : ℕ → ℕ → AmountAnswer
-value lots price = yenAnswer (firstNo (askLots lots ∷ askPrice price ∷ [])) (valueOf lots price)
+unfoldable pub value : ℕ → ℕ → ℕ → AmountAnswer
+value lots price accrued = yenAnswer (firstNo (askLots lots ∷ askQuote price accrued ∷ [])) (valueOf lots price accrued)
 
-unfoldable pub charge : ℕ → ℕ → ℕ → ℕ → AmountAnswer
-charge lots price days rate =
-    yenAnswer (firstNo (askLots lots ∷ askPrice price ∷ askTerm days rate ∷ [])) (chargeOf lots price days rate)
+unfoldable pub charge : ℕ → ℕ → ℕ → ℕ → ℕ → AmountAnswer
+charge lots price days rate accrued =
+    yenAnswer (firstNo (askLots lots ∷ askQuote price accrued ∷ askTerm days rate ∷ [])) (chargeOf lots price days rate accrued)
 
 -- the paper's number and yen for each case of the enum
 abbrev pub amountAnswer : Amount → AmountAnswer

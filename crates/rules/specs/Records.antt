@@ -38,7 +38,7 @@ daysBits = bits 24 4
 abbrev pub rateBits : Field
 rateBits = bits 10 14
 
--- a kind 9 word has a price in 17..0
+-- a kind 9 word has a price or an accrued amount in 17..0
 abbrev pub priceBits : Field
 priceBits = bits 0 18
 

@@ -10,7 +10,7 @@ use Rattle.rules.specs.declared.Read.{Read}
 use Rattle.rules.specs.declared.Read.the-variants.{Instr, Refused}
 use Rattle.rules.specs.declared.Word.{Word}
 use Rattle.rules.specs.declared.Word.the-variants.{Head, After, Wrong}
-use Rattle.rules.specs.Measures.{issueCount, tapeWords}
+use Rattle.rules.specs.Measures.{quoteCount, tapeWords}
 use Rattle.rules.specs.Book.{all}
 use Rattle.rules.specs.Records.{Field, bits, kindBits, issueBits, fromBits, toBits, lotsBits, daysBits, rateBits, priceBits, inField, ofField, headWord, lotsWord, over}
 use Rattle.rules.specs.Questions.{ask, firstNo, askOutput}
@@ -41,9 +41,9 @@ kinds =
     ∷ kind 4 (head (bits 0 18) 0 0 (λ w x. PairOff (ofField issueBits w) (ofField fromBits w)))
     ∷ kind 5 (head (bits 0 28) 0 0 (λ w x. Close))
     ∷ kind 6 (head (bits 0 28) 0 0 (λ w x. Cutoff))
-    -- 7 roll: then sixteen kind 9 words
-    ∷ kind 7 (head (bits 0 10) issueCount 9 (λ w x. Roll (ofField daysBits w) (ofField rateBits w)))
-    -- 8 lots in 27..0, 9 price in 17..0
+    -- 7 roll: then sixteen kind 9 words of prices and sixteen of accrued amounts
+    ∷ kind 7 (head (bits 0 10) quoteCount 9 (λ w x. Roll (ofField daysBits w) (ofField rateBits w)))
+    -- 8 lots in 27..0, 9 price or accrued amount in 17..0
     ∷ kind 8 (after (bits 0 0))
     ∷ kind 9 (after (bits 18 10))
     ∷ []
@@ -104,9 +104,9 @@ abbrev pub readAnswer : Read → ReadAnswer
 readAnswer (Instr x n) = record { refusal = 0; instruction = x ∷ []; count = n }
 readAnswer (Refused r) = record { refusal = r; instruction = []; count = 0 }
 
--- roll's sixteen prices, issue 0 first, taken from their words
+-- roll's sixteen prices and sixteen accrued amounts, issue 0 first in both, taken from their words
 unfoldable pub pricesOf : List ℕ → List ℕ
-pricesOf ws = map (ofField priceBits) (take issueCount (drop 1 ws))
+pricesOf ws = map (ofField priceBits) (take quoteCount (drop 1 ws))
 
 -- the words of an instruction
 abbrev pub rollWord : ℕ → ℕ → ℕ
@@ -124,7 +124,7 @@ wordsOf Close prices = headWord 5 0 0 0 ∷ []
 wordsOf Cutoff prices = headWord 6 0 0 0 ∷ []
 wordsOf (Roll days rate) prices = rollWord days rate ∷ map priceWord prices
 
--- 15. Does each field fit its bits? A roll has sixteen prices (house)
+-- 15. Does each field fit its bits? A roll has 32 quotes (house)
 abbrev pub fits : Field → ℕ → Bool
 fits f x = ltb x (2 ^ f .width)
 
@@ -140,7 +140,7 @@ fieldsFit (PairOff i a) prices = headFits i a 0 0
 fieldsFit Close prices = true
 fieldsFit Cutoff prices = true
 fieldsFit (Roll days rate) prices =
-    fits daysBits days && fits rateBits rate && eqb (length prices) issueCount && all (fits priceBits) prices
+    fits daysBits days && fits rateBits rate && eqb (length prices) quoteCount && all (fits priceBits) prices
 
 -- what the writer answers: number, count of words, output words
 pub record WriteAnswer : Type 0 where
