@@ -11,15 +11,15 @@ use lib.IntN.{pos}
 use borrow.Author.Tests.{leb-true, ltb-true, eqb-false, not-true}
 use Rattle.rules.specs.declared.Book.{Book}
 use Rattle.rules.specs.declared.Phase.the-variants.{Settling}
-use Rattle.rules.specs.Measures.{issueCount, mostLots, mostDays, mostRate, between}
+use Rattle.rules.specs.Measures.{quoteCount, mostLots, mostDays, mostRate, between}
 use Rattle.rules.specs.Handover.{covered}
-use Rattle.rules.specs.Book.{all, deliveredTotal, orderOf, ledgerOf, liftConditions, liftsSound, sound, conditions, withNets, withPhase, fresh}
-use Rattle.rules.specs.Questions.{priceRight}
+use Rattle.rules.specs.Book.{deliveredTotal, orderOf, ledgerOf, liftConditions, liftsSound, sound, conditions, withNets, withPhase, fresh}
+use Rattle.rules.specs.Questions.{quotesRight}
 use Rattle.rules.specs.Calls.{Call, Trade, Close, Deliver, Ask, Commit, Cutoff, Resolve, PairOff, Roll, Answer, tradedNets, lentTo, asks, effect, called}
 use Rattle.laws.proofs.Basics.{and-left, and-right}
 use Rattle.laws.proofs.Sound.{SoundBook, sound-parts, parts-sound}
 use Rattle.laws.proofs.Answers.{AllYes, by-answer}
-use Rattle.laws.proofs.Charges.{charged-length, prices-most}
+use Rattle.laws.proofs.Charges.{charged-length, quotes-most}
 use Rattle.laws.proofs.Kept.{trade-kept, close-kept, deliver-kept, commit-kept, cutoff-kept, resolve-kept, pair-off-kept, roll-kept}
 
 -- as a book's fields are
@@ -86,8 +86,8 @@ keeps b (PairOff i a) y s =
 keeps b (Roll days rate prices) y s =
     let c₁ = between 1 mostDays days in
     let c₂ = leb rate mostRate in
-    let c₃ = eqb (length prices) issueCount in
-    let c₄ = all priceRight prices in
+    let c₃ = eqb (length prices) quoteCount in
+    let c₄ = quotesRight prices in
     let h₁ = and-left (c₁ && c₂ && c₃) c₄ (y .1 .1 .0) in
     let h₂ = and-left (c₁ && c₂) c₃ h₁ in
     record {
@@ -99,7 +99,7 @@ keeps b (Roll days rate prices) y s =
       };
       parts = roll-kept b (s .sizes .charges) (s .parts) days rate prices
           (leb-true days mostDays (and-right (leb 1 days) (leb days mostDays) (and-left c₁ c₂ h₂)))
-          (leb-true rate mostRate (and-right c₁ c₂ h₂)) (prices-most prices (and-right (c₁ && c₂ && c₃) c₄ (y .1 .1 .0)));
+          (leb-true rate mostRate (and-right c₁ c₂ h₂)) (quotes-most prices (and-right (c₁ && c₂ && c₃) c₄ (y .1 .1 .0)));
     }
 
 pub stands : (b : Book) (c : Call) → Standing b → Standing (called b c .book)

@@ -15,7 +15,7 @@ use Rattle.rules.specs.declared.Book.{Book}
 use Rattle.rules.specs.declared.Phase.{Phase}
 use Rattle.rules.specs.declared.Phase.the-variants.{Taking, Settling, Cut}
 use Rattle.rules.specs.declared.Ticket.{Ticket}
-use Rattle.rules.specs.Measures.{mostLots, mostEntries, mostCharge, mostDays, mostRate, mostPrice, total, dueOf, owedOf}
+use Rattle.rules.specs.Measures.{mostLots, mostEntries, mostCharge, mostDays, mostRate, total, dueOf, owedOf}
 use Rattle.rules.specs.Handover.{covered}
 use Rattle.rules.specs.Fails.{Fail}
 use Rattle.rules.specs.Ledger.{isFrom, meet, pairing, charged}
@@ -31,7 +31,7 @@ use Rattle.laws.proofs.Meeting.{length-meet, sound-meet, days-meet, day
 use Rattle.laws.proofs.Stepping.{pairing-sound}
 use Rattle.laws.proofs.Records.{each-joined}
 use Rattle.laws.proofs.Issue.{entries-sound}
-use Rattle.laws.proofs.Charges.{charged-balance, charged-most}
+use Rattle.laws.proofs.Charges.{Quoted, charged-balance, charged-most}
 
 -- Trade
 
@@ -198,7 +198,7 @@ none-due [] h = refl
 none-due (n ∷ ns) h = omega (arith, ap dueOf (h .0), ap owedOf (h .0), none-due ns (h .1))
 
 pub roll-kept : (b : Book) → length (b .charges) ≡ 64 → SoundBook b → (days rate : ℕ) (prices : List ℕ) → days ≤ mostDays → rate ≤ mostRate →
-    Every (λ p. p ≤ mostPrice) prices → SoundBook (rolled b days rate prices)
+    Quoted prices → SoundBook (rolled b days rate prices)
 roll-kept b n g days rate prices hd hr hp =
     let f = g .ledger in
     let l = length-ledger b in
