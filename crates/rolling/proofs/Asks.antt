@@ -9,14 +9,15 @@ use lib.ListN.{length}
 use borrow.Author.Tests.{ltb-true, lt-ltb, le-ltb, eqb-true, eq-eqb, ne-eqb}
 use Rattle.rules.specs.declared.Book.{Book}
 use Rattle.rules.specs.declared.Phase.{Phase}
-use Rattle.rules.specs.Measures.{mostPrice, lastDay, issueCount}
-use Rattle.rules.specs.Book.{isCut, all, sound}
-use Rattle.rules.specs.Questions.{Question, firstNo, termRight, priceRight}
+use Rattle.rules.specs.Measures.{lastDay, quoteCount}
+use Rattle.rules.specs.Book.{isCut, sound}
+use Rattle.rules.specs.Questions.{Question, firstNo, termRight, quotesRight}
 use Rattle.rules.specs.Calls.{rollAsks}
-use Rattle.laws.proofs.Basics.{and-left, and-right, and-both, each-map}
-use Rattle.laws.proofs.Sound.{sound-parts, charge-bounded, all-each, each-getD}
+use Rattle.laws.proofs.Basics.{and-left, and-right, and-both}
+use Rattle.laws.proofs.Sound.{sound-parts, charge-bounded}
 use Rattle.laws.proofs.Ledger.{sound-at}
-use Rattle.measures.proofs.Limits.{between-most, termed}
+use Rattle.laws.proofs.Charges.{quotes-most}
+use Rattle.measures.proofs.Limits.{termed}
 use Rattle.laws.proofs.Answers.{AllYes, stops, no-no, all-yes}
 use Rattle.rolling.specs.Rolling.{Chargeable}
 
@@ -30,8 +31,8 @@ no-and a b e = ap (λ t. t && b) e
 -- a roll's terms, found right
 pub record Terms (days rate : ℕ) (prices : List ℕ) : Type 0 where
   pub term : termRight days rate ≡ true
-  pub count : length prices ≡ 16
-  pub price : all priceRight prices ≡ true
+  pub count : length prices ≡ 32
+  pub quote : quotesRight prices ≡ true
 
 module _ (p : Phase) (today days rate : ℕ) (prices : List ℕ) where
   abbrev pub asks : ℕ
@@ -46,24 +47,24 @@ module _ (p : Phase) (today days rate : ℕ) (prices : List ℕ) where
   module _ (y3 : isCut p ≡ true) where
     pub no11-term : termRight days rate ≡ false → 11 ≡ asks
     no11-term h =
-        stops 1 qs (y3, tt) (no-and _ (all priceRight prices) (no-and (termRight days rate) (eqb (length prices) issueCount) h))
+        stops 1 qs (y3, tt) (no-and _ (quotesRight prices) (no-and (termRight days rate) (eqb (length prices) quoteCount) h))
 
-    pub no11-count : (length prices ≡ 16 → ⊥) → 11 ≡ asks
+    pub no11-count : (length prices ≡ 32 → ⊥) → 11 ≡ asks
     no11-count h =
         stops 1 qs (y3, tt)
-        (no-and _ (all priceRight prices)
-        (and-no (termRight days rate) (eqb (length prices) issueCount) (ne-eqb (length prices) issueCount h)))
+        (no-and _ (quotesRight prices)
+        (and-no (termRight days rate) (eqb (length prices) quoteCount) (ne-eqb (length prices) quoteCount h)))
 
-    pub no11-price : all priceRight prices ≡ false → 11 ≡ asks
-    no11-price h =
-        stops 1 qs (y3, tt) (and-no (termRight days rate && eqb (length prices) issueCount) (all priceRight prices) h)
+    pub no11-quote : quotesRight prices ≡ false → 11 ≡ asks
+    no11-quote h =
+        stops 1 qs (y3, tt) (and-no (termRight days rate && eqb (length prices) quoteCount) (quotesRight prices) h)
 
     module _ (t : Terms days rate prices) where
-      yes11 : termRight days rate && eqb (length prices) issueCount && all priceRight prices ≡ true
+      yes11 : termRight days rate && eqb (length prices) quoteCount && quotesRight prices ≡ true
       yes11 =
-          and-both (termRight days rate && eqb (length prices) issueCount) (all priceRight prices)
-          (and-both (termRight days rate) (eqb (length prices) issueCount) (t .term) (eq-eqb (length prices) issueCount (t .count)))
-          (t .price)
+          and-both (termRight days rate && eqb (length prices) quoteCount) (quotesRight prices)
+          (and-both (termRight days rate) (eqb (length prices) quoteCount) (t .term) (eq-eqb (length prices) quoteCount (t .count)))
+          (t .quote)
 
       pub no12 : lastDay ≤ today → 12 ≡ asks
       no12 h = stops 2 qs (y3, (yes11, tt)) (le-ltb today lastDay h)
@@ -77,11 +78,11 @@ module _ (p : Phase) (today days rate : ℕ) (prices : List ℕ) where
   pub terms : asks ≡ 0 → Terms days rate prices
   terms h =
       let y11 = answered h .1 .0 in
-      let y = and-left (termRight days rate && eqb (length prices) issueCount) (all priceRight prices) y11 in
+      let y = and-left (termRight days rate && eqb (length prices) quoteCount) (quotesRight prices) y11 in
       record {
-        term = and-left (termRight days rate) (eqb (length prices) issueCount) y;
-        count = eqb-true (length prices) issueCount (and-right (termRight days rate) (eqb (length prices) issueCount) y);
-        price = and-right (termRight days rate && eqb (length prices) issueCount) (all priceRight prices) y11;
+        term = and-left (termRight days rate) (eqb (length prices) quoteCount) y;
+        count = eqb-true (length prices) quoteCount (and-right (termRight days rate) (eqb (length prices) quoteCount) y);
+        quote = and-right (termRight days rate && eqb (length prices) quoteCount) (quotesRight prices) y11;
       }
 
   pub not-last : asks ≡ 0 → today < lastDay
@@ -98,10 +99,8 @@ chargeable b days rate prices h q li lf lt lx lc =
     let e = sound-at (b .day) (b .count) (b .issues) (b .froms) (b .tos) (b .lots) (b .days) (s .ledger) in
     record {
       term = termed days rate (t .term);
-      priced = t .count;
-      price = λ i. each-getD (λ p. p ≤ mostPrice) prices i 0
-          (each-map (λ p. priceRight p ≡ true) (λ p. p ≤ mostPrice) (λ p h. between-most 1 mostPrice p h) prices
-          (all-each priceRight prices (t .price))) (omega arith);
+      quotes = t .count;
+      quoted = quotes-most prices (t .quote);
       count = s .ledger .count;
       issues = li;
       froms = lf;

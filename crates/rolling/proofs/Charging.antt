@@ -9,7 +9,7 @@ use lib.Dec.{ltb}
 use lib.ListN.{length, take, drop, getD, set, replicate, length-set, replicate-append-replicate, drop-of-length-le}
 use lib.Seq.{drop-cons, take-suc-set, take-all}
 use lib.IntN.{ℤ, pos, negsuc, natAbs, negℤ, _+ℤ_, _-ℤ_}
-use Rattle.rules.specs.Measures.{chargeOf}
+use Rattle.rules.specs.Measures.{priceIn, accruedIn, chargeOf}
 use Rattle.rules.specs.Ledger.{entry, charged}
 use Rattle.rules.specs.Book.{entries, headOr0}
 use Rattle.laws.proofs.Ledger.{noEntry, length-entries, entry-at}
@@ -85,10 +85,10 @@ module _ (days rate : ℕ) (prices : List ℕ) where
   other-days zero is fs ts xs ds es cs = refl
   other-days (suc n) is fs ts xs ds es cs =
       other-days n (tail is) (tail fs) (tail ts) (tail xs) (tail ds) (tail es)
-      (paid (headOr0 fs) (headOr0 ts) (chargeOf (headOr0 xs) (getD prices (headOr0 is) 0) days rate) cs)
+      (paid (headOr0 fs) (headOr0 ts) (chargeOf (headOr0 xs) (priceIn prices (headOr0 is)) days rate (accruedIn prices (headOr0 is))) cs)
 
   module _ (n : ℕ) (is fs ts xs : List ℕ) (k : ℕ) (whole cs : List ℤ) where
-    pub charge-more : (y : ℕ) → k < n → y ≡ chargeOf (getD xs k 0) (getD prices (getD is k 0) 0) days rate →
+    pub charge-more : (y : ℕ) → k < n → y ≡ chargeOf (getD xs k 0) (priceIn prices (getD is k 0)) days rate (accruedIn prices (getD is k 0)) →
         charged days rate prices (drop k (entries n is fs ts xs [])) cs ≡ whole →
         charged days rate prices (drop (k + 1) (entries n is fs ts xs [])) (paid (getD fs k 0) (getD ts k 0) y cs) ≡ whole
     charge-more y h ey e =

@@ -5,7 +5,7 @@ use Prim.Native.Nat.{ℕ, _+_, _*_, _≤_, _<_, _^_}
 use lib.ListN.{length, getD, set, replicate}
 use lib.IntN.{ℤ, pos, natAbs, _+ℤ_, _-ℤ_}
 use denote.Ref.{now}
-use Rattle.rules.specs.Measures.{mostLots, mostPrice, mostEntries, mostCharge, lastDay}
+use Rattle.rules.specs.Measures.{mostLots, mostPrice, mostEntries, mostCharge, lastDay, priceIn, accruedIn}
 use Rattle.rules.specs.Ledger.{charged}
 use Rattle.rules.specs.Book.{entries}
 use Rattle.measures.specs.Range.{Termed}
@@ -30,8 +30,8 @@ pub record Payable (cs : List ℤ) (f t y : ℕ) : Type 0 where
 -- terms in range, entries with numbers in range, charges of a day before the last
 pub record Chargeable (days rate : ℕ) (prices : List ℕ) (n : ℕ) (is fs ts xs : List ℕ) (cs : List ℤ) : Type 0 where
   pub term : Termed days rate
-  pub priced : length prices ≡ 16
-  pub price : (i : ℕ) → getD prices i 0 ≤ mostPrice
+  pub quotes : length prices ≡ 32
+  pub quoted : (i : ℕ) → i < 16 → priceIn prices i + accruedIn prices i ≤ mostPrice
   pub count : n ≤ mostEntries
   pub issues : length is ≡ 2048
   pub froms : length fs ≡ 2048

@@ -4,19 +4,19 @@ ghost use mathlib.Core.Path.{_≡_};
 ghost use Prim.Native.Nat.{_+_, _<_};
 ghost use lib.ListN.{length, replicate};
 ghost use lib.IntN.{pos, _+ℤ_, _-ℤ_};
-ghost use Rattle.rules.specs.Book.{all};
-ghost use Rattle.rules.specs.Questions.{firstNo, priceRight};
+ghost use Rattle.rules.specs.Questions.{firstNo, quotesRight};
 ghost use Rattle.rules.specs.Calls.{rollAsks};
 ghost use Rattle.rolling.specs.Rolling.{Room, Payable, paid, canCharge, wasCharged, Cells, Rolled};
 
-// Is each price 1..200,000?
-fn prices_right(prices: &[u32]) -> bool
-    ensures { λ r. ⌜ r ≡ all priceRight (now (prices .entry)) ⌝ }
+// Are price and accrued amount of each issue right?
+fn quotes_right(prices: &[u32]) -> bool
+    requires { ⌜ length (now prices) ≡ 32 ⌝ }
+    ensures { λ r. ⌜ r ≡ quotesRight (now (prices .entry)) ⌝ }
 {
     let mut good = true;
     let mut i: usize = 0;
-    while i < prices.len() {
-        good = good & measures::price_right(prices[i]);
+    while i < 16 {
+        good = good & measures::quote_right(prices[i], prices[16 + i]);
         i += 1;
     }
     good
@@ -32,10 +32,10 @@ pub fn roll_asks(phase: Phase, today: u16, days: u32, rate: u32, prices: &[u32])
     if !measures::term_right(days, rate) {
         return 11;
     }
-    if prices.len() != 16 {
+    if prices.len() != 32 {
         return 11;
     }
-    if !prices_right(prices) {
+    if !quotes_right(prices) {
         return 11;
     }
     if today < 65_535 {
@@ -89,7 +89,7 @@ fn charge_entries<'a>(
     let mut k: usize = 0;
     while k < count {
         let i = issues[k] as usize;
-        let y = measures::charge_of(lots[k], prices[i], days, rate);
+        let y = measures::charge_of(lots[k], prices[i], days, rate, prices[16 + i]);
         let f = froms[k] as usize;
         let t = tos[k] as usize;
         pay(charges, f, t, y);

@@ -3,8 +3,7 @@
 use mathlib.Core.Path.{_≡_, refl, ap, sym, _∙_}
 use mathlib.Core.Bool.{Bool, true, false, cond, _&&_, false≢true}
 use mathlib.Core.List.{List, [], _∷_}
-use Prim.Native.Nat.{ℕ, suc, _+_, _-_, _*_, _≤_, _<_}
-use native.Mathlib.Numerals.{add-one}
+use Prim.Native.Nat.{ℕ, _+_, _-_, _*_, _≤_, _<_}
 use native.Mathlib.Nat.{zero-add}
 use native.Mathlib.Omega.{arith}
 use lib.Dec.{leb, ltb, lit<}
@@ -18,7 +17,7 @@ use Rattle.rules.specs.Handover.{covered}
 use Rattle.rules.specs.Lifts.{Lift}
 use Rattle.rules.specs.Book.{Orders, isTaking, isZero, tabulate, all, row, balanced, withinSize, withinOwed, deliveredTotal, liftNumber, countAt, placesIn, liftsAt, orderIn, placesSound, liftConditions, liftsSound}
 use Rattle.laws.proofs.Basics.{byTest, and-left, and-right, all-at, length-tab, getD-tab}
-use Rattle.laws.proofs.Scans.{and-true, and-false, and-assoc}
+use Rattle.laws.proofs.Scans.{restOfIssues, and-true, and-false}
 use Rattle.laws.proofs.Cells.{length-row, getD-block, within-row}
 use Rattle.laws.proofs.Cutoff.{delivered-due}
 use Rattle.laws.proofs.Lifts.{length-lifted}

@@ -44,33 +44,54 @@ shared-slice-read-charge-of-2 c =
     let l = c .before .before .before .before .loop in
     let s = c .before .before .before .before .before .before .before .before .before .before in
     let h : l .k < s .args .count = omega arith in
-    omega (arith, s .pre .issue (l .k) h, s .pre .priced)
+    omega (arith, s .pre .issue (l .k) h, s .pre .quotes)
 
-charge-of-requires : tie.Need-charge-of-requires Inv-loop μ-loop
-charge-of-requires c κs =
+add-charge-of : tie.Need-add-charge-of Inv-loop μ-loop
+add-charge-of c =
     let l = c .before .before .before .before .loop in
     let s = c .before .before .before .before .before .before .before .before .before .before in
     let h : l .k < s .args .count = omega arith in
-    (record { lots = s .pre .most (l .k) h; price = s .pre .price (getD (now (s .args .issues)) (l .k) 0) }, s .pre .term)
+    omega (arith, s .pre .issue (l .k) h)
+
+mul-charge-of-3 : tie.Need-mul-charge-of-3 Inv-loop μ-loop
+mul-charge-of-3 c =
+    let l = c .before .before .before .before .loop in
+    let s = c .before .before .before .before .before .before .before .before .before .before in
+    let h : l .k < s .args .count = omega arith in
+    record { fits = omega (arith, s .pre .issue (l .k) h) }
+
+shared-slice-read-charge-of-3 : tie.Need-shared-slice-read-charge-of-3 Inv-loop μ-loop
+shared-slice-read-charge-of-3 c =
+    let l = c .before .before .before .before .before .loop in
+    let s = c .before .before .before .before .before .before .before .before .before .before .before in
+    let h : l .k < s .args .count = omega arith in
+    omega (arith, s .pre .issue (l .k) h, s .pre .quotes)
+
+charge-of-requires : tie.Need-charge-of-requires Inv-loop μ-loop
+charge-of-requires c κs =
+    let l = c .before .before .before .before .before .loop in
+    let s = c .before .before .before .before .before .before .before .before .before .before .before in
+    let h : l .k < s .args .count = omega arith in
+    (record { lots = s .pre .most (l .k) h; price = s .pre .quoted (getD (now (s .args .issues)) (l .k) 0) (s .pre .issue (l .k) h) }, s .pre .term)
 
 cast-f : tie.Need-cast-f Inv-loop μ-loop
 cast-f c =
-    let l = c .before .before .before .before .before .before .loop in
-    let s = c .before .before .before .before .before .before .before .before .before .before .before .before in
+    let l = c .before .before .before .before .before .before .before .loop in
+    let s = c .before .before .before .before .before .before .before .before .before .before .before .before .before in
     let h : l .k < s .args .count = omega arith in
     record { fits = omega (arith, s .pre .from (l .k) h) }
 
 cast-t : tie.Need-cast-t Inv-loop μ-loop
 cast-t c =
-    let l = c .before .before .before .before .before .before .before .loop in
-    let s = c .before .before .before .before .before .before .before .before .before .before .before .before .before in
+    let l = c .before .before .before .before .before .before .before .before .loop in
+    let s = c .before .before .before .before .before .before .before .before .before .before .before .before .before .before in
     let h : l .k < s .args .count = omega arith in
     record { fits = omega (arith, s .pre .to (l .k) h) }
 
 pay-requires : tie.Need-pay-requires Inv-loop μ-loop
 pay-requires c κs =
-    let l = c .before .before .before .before .before .before .before .before .loop in
-    let s = c .before .before .before .before .before .before .before .before .before .before .before .before .before .before in
+    let l = c .before .before .before .before .before .before .before .before .before .loop in
+    let s = c .before .before .before .before .before .before .before .before .before .before .before .before .before .before .before in
     let h : l .k < s .args .count = omega arith in
     record {
       accounts = l .inv .1;
@@ -81,8 +102,8 @@ pay-requires c κs =
 
 loop-again : tie.Need-loop-again Inv-loop μ-loop
 loop-again c =
-    let l = c .before .before .before .before .before .before .before .before .before .before .loop in
-    let s = c .before .before .before .before .before .before .before .before .before .before .before .before .before .before .before .before in
+    let l = c .before .before .before .before .before .before .before .before .before .before .before .loop in
+    let s = c .before .before .before .before .before .before .before .before .before .before .before .before .before .before .before .before .before in
     let h : l .k < s .args .count = omega arith in
     let y = c .before .before .before .before .before .charge-of in
     let a = s .args in
@@ -123,6 +144,9 @@ charge-entries-spec =
     (λ c. search needs)
     mul-charge-of-2
     shared-slice-read-charge-of-2
+    add-charge-of
+    mul-charge-of-3
+    shared-slice-read-charge-of-3
     charge-of-requires
     (λ c. search needs)
     cast-f

@@ -4,7 +4,7 @@ use mathlib.Core.Bool.{true}
 use denote.Ref.{now}
 use borrow.Author.Tests.{not-true, not-false}
 use Rattle.rules.specs.Book.{isCut}
-use Rattle.rolling.proofs.Asks.{Terms, no3, no11-term, no11-count, no11-price, no12, none}
+use Rattle.rolling.proofs.Asks.{Terms, no3, no11-term, no11-count, no11-quote, no12, none}
 use borrow.Author.Needs.{needs}
 use Rattle.rolling.proofs.roll_asks.Statement.{statement}
 use Rattle.rolling.proofs.roll_asks.Tie as tie
@@ -27,7 +27,7 @@ terms c =
     record {
       term = sym (e .before .term-right .ensures) ∙ not-false (e .before .term-right .result) (e .if2 .left);
       count = c .before .before .if3 .left;
-      price = sym (c .before .prices-right .ensures) ∙ not-false (c .before .prices-right .result) (c .if4 .left);
+      quote = sym (c .before .quotes-right .ensures) ∙ not-false (c .before .quotes-right .result) (c .if4 .left);
     }
 
 returns : tie.Need-returns
@@ -51,8 +51,8 @@ returns-4 : tie.Need-returns-4
 returns-4 c =
     let e = c .before .before .before in
     let a = at2 e .args in
-    no11-price (a .phase) (a .today) (a .days) (a .rate) (now (a .prices)) (cut (e .before .before))
-    (sym (c .before .prices-right .ensures) ∙ not-true (c .before .prices-right .result) (c .if4 .taken))
+    no11-quote (a .phase) (a .today) (a .days) (a .rate) (now (a .prices)) (cut (e .before .before))
+    (sym (c .before .quotes-right .ensures) ∙ not-true (c .before .quotes-right .result) (c .if4 .taken))
 
 returns-5 : tie.Need-returns-5
 returns-5 c =
