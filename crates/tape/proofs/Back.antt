@@ -7,7 +7,7 @@ use native.Mathlib.Omega.{arith}
 use lib.ListN.{getD, take}
 use Rattle.rules.specs.declared.Instruction.{Instruction}
 use Rattle.rules.specs.declared.Read.the-variants.{Instr}
-use Rattle.rules.specs.Measures.{issueCount}
+use Rattle.rules.specs.Measures.{quoteCount}
 use Rattle.rules.specs.Records.{bits, issueBits, fromBits, toBits, lotsBits, daysBits, rateBits, priceBits, ofField, headWord, lotsWord}
 use Rattle.rules.specs.Tape.{kindOf, Kind, head, after, none, kindAt, isAfter, wordAs, wordsWrong, readOf, pricesOf, rollWord, priceWord, wordsOf}
 use Rattle.laws.proofs.Basics.{byTest}
@@ -99,7 +99,7 @@ module _ (w : ℕ) (rest : List ℕ) (b : Words (w ∷ rest)) where
 
   roll-back : Back 7 (kindAt 7)
   unfolding pricesOf
-  roll-back e z r = joined (terms w 7 (b 0) e refl z) (prices-after issueCount rest (λ i. b (suc i)) r)
+  roll-back e z r = joined (terms w 7 (b 0) e refl z) (prices-after quoteCount rest (λ i. b (suc i)) r)
 
   lots : 0 ≡ wordsWrong 8 1 rest → take 1 rest ≡ lotsWord (ofField lotsBits (getD rest 0 0)) ∷ []
   lots r = lots-after rest (λ i. b (suc i)) r

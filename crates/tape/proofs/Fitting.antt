@@ -7,7 +7,7 @@ use borrow.Author.Tests.{ltb-true, eqb-true}
 use lib.Dec.{eqb}
 use lib.ListN.{length}
 use Rattle.rules.specs.declared.Instruction.the-variants.{Roll}
-use Rattle.rules.specs.Measures.{issueCount}
+use Rattle.rules.specs.Measures.{quoteCount}
 use Rattle.rules.specs.Book.{all}
 use Rattle.rules.specs.Records.{issueBits, fromBits, toBits, lotsBits, daysBits, rateBits, priceBits}
 use Rattle.rules.specs.Tape.{fits, headFits, fieldsFit}
@@ -32,19 +32,19 @@ module _ (k i f t x : ℕ) (small : k < 2 ^ 4) (e : headFits i f t x ≡ true) w
 pub record RollFits (days rate : ℕ) (prices : List ℕ) : Type 0 where
   pub day : days < 2 ^ 4
   pub rates : rate < 2 ^ 14
-  pub count : length prices ≡ issueCount
+  pub count : length prices ≡ quoteCount
   pub each : all (fits priceBits) prices ≡ true
 
 pub roll-fits : (days rate : ℕ) (prices : List ℕ) → fieldsFit (Roll days rate) prices ≡ true → RollFits days rate prices
 roll-fits days rate prices e =
     let a = fits daysBits days in
     let b = fits rateBits rate in
-    let n = eqb (length prices) issueCount in
+    let n = eqb (length prices) quoteCount in
     let p = and-left (a && b && n) (all (fits priceBits) prices) e in
     let q = and-left (a && b) n p in
     record {
       day = ltb-true days 16 (and-left a b q);
       rates = ltb-true rate 16384 (and-right a b q);
-      count = eqb-true (length prices) issueCount (and-right (a && b) n p);
+      count = eqb-true (length prices) quoteCount (and-right (a && b) n p);
       each = and-right (a && b && n) (all (fits priceBits) prices) e;
     }

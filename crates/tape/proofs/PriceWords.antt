@@ -6,24 +6,24 @@ use native.Mathlib.Numerals.{add-one}
 use native.Mathlib.Omega.{arith}
 use lib.ListN.{length, getD, set, take, drop, length-map, length-take, length-drop, drop-of-length-le}
 use lib.Seq.{drop-cons, sets, sets-eq, set-out, take-nil}
-use Rattle.rules.specs.Measures.{issueCount, tapeWords}
+use Rattle.rules.specs.Measures.{quoteCount, tapeWords}
 use Rattle.rules.specs.Records.{priceBits, ofField}
 use Rattle.rules.specs.Tape.{pricesOf}
 
 abbrev pub pricesFrom : ℕ → List ℕ → List ℕ
-pricesFrom at ws = map (ofField priceBits) (take (issueCount - at) (drop (at + 1) ws))
+pricesFrom at ws = map (ofField priceBits) (take (quoteCount - at) (drop (at + 1) ws))
 
-pub price-cons : (ws : List ℕ) (at : ℕ) → at < issueCount → at + 1 < length ws →
+pub price-cons : (ws : List ℕ) (at : ℕ) → at < quoteCount → at + 1 < length ws →
     pricesFrom at ws ≡ ofField priceBits (getD ws (at + 1) 0) ∷ pricesFrom (at + 1) ws
 price-cons ws at h l =
-    let e : issueCount - at ≡ suc (issueCount - (at + 1)) = omega arith in
+    let e : quoteCount - at ≡ suc (quoteCount - (at + 1)) = omega arith in
     rw (e, drop-cons ws (at + 1) 0 l, ← add-one (at + 1))
 
 pub price-none : (ws : List ℕ) (at : ℕ) → length ws ≤ at + 1 → pricesFrom at ws ≡ []
-price-none ws at l = rw (drop-of-length-le ws l, take-nil (issueCount - at))
+price-none ws at l = rw (drop-of-length-le ws l, take-nil (quoteCount - at))
 
 -- one price stored
-pub prices-next : (ws lent : List ℕ) (at v : ℕ) → at < issueCount → at + 1 < length ws → v ≡ ofField priceBits (getD ws (at + 1) 0) →
+pub prices-next : (ws lent : List ℕ) (at v : ℕ) → at < quoteCount → at + 1 < length ws → v ≡ ofField priceBits (getD ws (at + 1) 0) →
     sets (set lent at v) (at + 1) (pricesFrom (at + 1) ws) ≡ sets lent at (pricesFrom at ws)
 prices-next ws lent at v h l e = rw (e, price-cons ws at h l, add-one at)
 
@@ -32,13 +32,13 @@ pub sets-out : (l : List ℕ) (i : ℕ) (vs : List ℕ) → length l ≤ i → s
 sets-out l i [] h = refl
 sets-out l i (v ∷ vs) h = rw (set-out l i v h) (sets-out l (suc i) vs (omega arith))
 
-pub count-prices : (ws : List ℕ) → tapeWords ≤ length ws → length (pricesOf ws) ≡ issueCount
+pub count-prices : (ws : List ℕ) → tapeWords ≤ length ws → length (pricesOf ws) ≡ quoteCount
 unfolding pricesOf
 count-prices ws h =
-    length-map (take issueCount (drop 1 ws)) (ofField priceBits) ∙ simp (length-take, length-drop) (omega arith)
+    length-map (take quoteCount (drop 1 ws)) (ofField priceBits) ∙ simp (length-take, length-drop) (omega arith)
 
 -- sixteen lent numbers hold the prices of a whole roll
-pub prices-filled : (ws lent : List ℕ) → tapeWords ≤ length ws → length lent ≡ issueCount → sets lent 0 (pricesOf ws) ≡ pricesOf ws
+pub prices-filled : (ws lent : List ℕ) → tapeWords ≤ length ws → length lent ≡ quoteCount → sets lent 0 (pricesOf ws) ≡ pricesOf ws
 prices-filled ws lent h e =
     let n = count-prices ws h in
     let m : length lent ≤ 0 + length (pricesOf ws) = omega arith in

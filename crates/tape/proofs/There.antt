@@ -11,7 +11,7 @@ use lib.Seq.{take-at}
 use Rattle.rules.specs.declared.Instruction.{Instruction}
 use Rattle.rules.specs.declared.Instruction.the-variants.{Trade, Deliver, Resolve, PairOff, Close, Cutoff, Roll}
 use Rattle.rules.specs.declared.Read.the-variants.{Instr}
-use Rattle.rules.specs.Measures.{issueCount, tapeWords}
+use Rattle.rules.specs.Measures.{quoteCount, tapeWords}
 use Rattle.rules.specs.Book.{all}
 use Rattle.rules.specs.Records.{bits, daysBits, rateBits, priceBits, ofField, headWord, over}
 use Rattle.rules.specs.Tape.{kindOf, wordsWrong, readOf, pricesOf, rollWord, priceWord, wordsOf, fits, fieldsFit, writeOf}
@@ -76,7 +76,7 @@ module _ (days rate : ℕ) (prices rest : List ℕ) (fit : fieldsFit (Roll days 
   pub prices-read : pricesOf (wordsOf (Roll days rate) prices ++ rest) ≡ prices
   unfolding pricesOf
   prices-read =
-      rw (take-at (map priceWord prices) rest issueCount (length-map prices priceWord ∙ fields .count)) (prices-back prices (fields .each))
+      rw (take-at (map priceWord prices) rest quoteCount (length-map prices priceWord ∙ fields .count)) (prices-back prices (fields .each))
 
 -- an instruction whose fields fit is read back from the words written for it, whatever follows
 pub written-is-read : (x : Instruction) (prices rest : List ℕ) → fieldsFit x prices ≡ true →

@@ -6,7 +6,7 @@ use Prim.Native.Nat.{ℕ, _≤_, _<_, _^_}
 use lib.ListN.{length}
 use Rattle.rules.specs.declared.Written.{Written}
 use Rattle.rules.specs.declared.Instruction.the-variants.{Roll}
-use Rattle.rules.specs.Measures.{issueCount, tapeWords}
+use Rattle.rules.specs.Measures.{quoteCount, tapeWords}
 use Rattle.rules.specs.Book.{all}
 use Rattle.rules.specs.Records.{priceBits, headWord, lotsWord}
 use Rattle.rules.specs.Questions.{ask, firstNo}
@@ -27,7 +27,7 @@ abbrev pub headWords : ℕ → ℕ → ℕ → ℕ → ℕ → Bool → List ℕ
 headWords kind i f t x alone out =
     fitted (headFits i f t x) (headWord kind i f t ∷ cond alone [] (lotsWord x ∷ [])) out
 
--- a roll's head with its prices
+-- a roll's head with its quotes
 abbrev pub rollWords : ℕ → ℕ → List ℕ → List ℕ → WriteAnswer
 rollWords days rate prices out = fitted (fieldsFit (Roll days rate) prices) (wordsOf (Roll days rate) prices) out
 
@@ -36,8 +36,8 @@ pub record Room (kind : ℕ) (out : List ℕ) : Type 0 where
   pub kinds : kind < 2 ^ 4
   pub words : tapeWords ≤ length out
 
--- sixteen prices that fit their bits, and room for them behind a head
+-- 32 quotes that fit their bits, and room for them behind a head
 pub record PricesFit (prices out : List ℕ) : Type 0 where
-  pub count : length prices ≡ issueCount
+  pub count : length prices ≡ quoteCount
   pub each : all (fits priceBits) prices ≡ true
   pub words : tapeWords ≤ length out

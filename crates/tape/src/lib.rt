@@ -59,7 +59,7 @@ fn word_as(w: u32, lots: u32) -> Word
             w % 1024,
             Instruction::Roll(words::days_of(w), words::rate_of(w)),
             9,
-            17,
+            33,
         ),
         8 => Word::After(8),
         9 => clear(w / 262144 % 1024, Word::After(9)),
@@ -127,13 +127,13 @@ pub fn read(tape: &[u32]) -> rules::Read
     }
 }
 
-// A roll's prices, issue 0 first, from the words after its head into the lent prices, as far as
-// both reach.
+// A roll's quotes, sixteen prices and then sixteen accrued amounts, issue 0 first in both, from the words
+// after its head into those lent, as far as both reach.
 pub fn prices(tape: &[u32], prices: &mut [u32])
     ensures { λ _. ⌜ now (prices .exit) ≡ sets (now (prices .entry)) 0 (pricesOf (now (tape .entry))) ⌝ }
 {
     let mut at = 0;
-    while at < 16 {
+    while at < 32 {
         if prices.len() <= at {
             return;
         }
@@ -192,7 +192,7 @@ fn put_head(
     }
 }
 
-// Does each price fit its bits?
+// Does each quote fit its bits?
 fn prices_fit(prices: &[u32]) -> bool
     ensures { λ r. ⌜ r ≡ all (fits priceBits) (now (prices .entry)) ⌝ }
 {
@@ -206,7 +206,7 @@ fn prices_fit(prices: &[u32]) -> bool
     true
 }
 
-// A price as a kind 9 word: price in bits 17..0, the rest 0.
+// A quote as a kind 9 word: price or accrued amount in bits 17..0, the rest 0.
 fn price_word(price: u32) -> u32
     requires { ⌜ price < 2 ^ 18 ⌝ }
     ensures { λ r. ⌜ r ≡ priceWord price ⌝ }
@@ -222,26 +222,26 @@ fn roll_head(days: u32, rate: u32) -> u32
     1879048192 + days * 16777216 + rate * 1024
 }
 
-// Sixteen price words from the output's second word on.
+// The words of 32 quotes from the output's second word on.
 fn put_prices(prices: &[u32], out: &mut [u32])
     requires { ⌜ PricesFit (now prices) (now out) ⌝ }
     ensures { λ _. ⌜ now (out .exit) ≡ sets (now (out .entry)) 1 (map priceWord (now (prices .entry))) ⌝ }
 {
     let mut at = 0;
-    while at < 16 {
+    while at < 32 {
         out[at + 1] = price_word(prices[at]);
         at += 1;
     }
 }
 
-// Do the fields of a roll fit their bits? It has sixteen prices.
+// Do the fields of a roll fit their bits? It has 32 quotes.
 fn roll_fits(days: u32, rate: u32, prices: &[u32]) -> bool
     ensures { λ r. ⌜ r ≡ fieldsFit (Roll days rate) (now (prices .entry)) ⌝ }
 {
-    (days < 16) & (rate < 16384) & (prices.len() == 16) & prices_fit(prices)
+    (days < 16) & (rate < 16384) & (prices.len() == 32) & prices_fit(prices)
 }
 
-// A roll's head and its price words at the front of the output, or refusal 15.
+// A roll's head and the words of its quotes at the front of the output, or refusal 15.
 fn put_roll(days: u32, rate: u32, prices: &[u32], out: &mut [u32]) -> Written
     requires { ⌜ tapeWords ≤ length (now out) ⌝ }
     ensures { λ r. ⌜ WriteAnswerIs (rollWords days rate (now (prices .entry)) (now (out .entry))) r (now (out .exit)) ⌝ }
@@ -253,16 +253,16 @@ fn put_roll(days: u32, rate: u32, prices: &[u32], out: &mut [u32]) -> Written
     put_prices(prices, out);
     Written {
         refusal: 0,
-        count: 17,
+        count: 33,
     }
 }
 
 // The words of an instruction at the front of the output; those after the last keep their content.
-// A roll has sixteen prices; any other instruction ignores them. A refusal changes nothing.
+// A roll has 32 quotes; any other instruction ignores them. A refusal changes nothing.
 pub fn write(x: Instruction, prices: &[u32], out: &mut [u32]) -> Written
     ensures { λ r. ⌜ WriteAnswerIs (writeOf x (now (prices .entry)) (now (out .entry))) r (now (out .exit)) ⌝ }
 {
-    if out.len() < 17 {
+    if out.len() < 33 {
         return refused(1);
     }
     match x {

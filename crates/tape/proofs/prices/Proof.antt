@@ -13,10 +13,10 @@ use Rattle.tape.proofs.prices.Tie as tie
 
 abbrev Inv-loop : tie.InvT-loop
 Inv-loop tape prices₀ at₀ prices at =
-    (at ≤ 16) × (length prices ≡ length prices₀) × (sets prices at (pricesFrom at tape) ≡ sets prices₀ 0 (pricesFrom 0 tape))
+    (at ≤ 32) × (length prices ≡ length prices₀) × (sets prices at (pricesFrom at tape) ≡ sets prices₀ 0 (pricesFrom 0 tape))
 
 abbrev μ-loop : tie.MeasureT-loop
-μ-loop tape prices₀ at₀ prices at = 16 - at
+μ-loop tape prices₀ at₀ prices at = 32 - at
 
 returns : tie.Need-returns Inv-loop μ-loop
 unfolding pricesOf
@@ -48,7 +48,7 @@ unfolding pricesOf
 returns-3 c =
     let l = c .before .loop in
     let ws = now (c .before .before .before .before .args .tape) in
-    let e : l .at ≡ 16 = omega arith in
+    let e : l .at ≡ 32 = omega arith in
     sym (ap (λ (n : ℕ). sets (l .prices) n (pricesFrom n ws)) e) ∙ l .inv .2
 
 pub prices-spec : {M : Type 1} → statement M

@@ -17,12 +17,12 @@ use Rattle.tape.proofs.put_prices.Tie as tie
 
 abbrev Inv-loop : tie.InvT-loop
 Inv-loop prices out₀ at₀ out at =
-    (at ≤ 16)
+    (at ≤ 32)
     × (length out ≡ length out₀)
     × (sets out (at + 1) (map priceWord (drop at prices)) ≡ sets out₀ 1 (map priceWord prices))
 
 abbrev μ-loop : tie.MeasureT-loop
-μ-loop prices out₀ at₀ out at = 16 - at
+μ-loop prices out₀ at₀ out at = 32 - at
 
 price-word-requires : tie.Need-price-word-requires Inv-loop μ-loop
 price-word-requires c κs =

@@ -39,7 +39,7 @@ returns-2 : tie.Need-returns-2
 returns-2 c =
     let h = c .before .before .before .before in
     let ps = now (h .before .before .before .before .before .args .prices) in
-    all-written _ _ _ 17 _ (fit (h .before)) (ap suc (length-map ps priceWord ∙ fields (h .before) .count)) (omega arith)
+    all-written _ _ _ 33 _ (fit (h .before)) (ap suc (length-map ps priceWord ∙ fields (h .before) .count)) (omega arith)
     (c .before .before .put-prices .ensures ∙ rw (h .roll-head .ensures))
 
 pub put-roll-spec : {M : Type 1} → statement M
