@@ -37,7 +37,7 @@ unfolding pricesOf
 count-prices ws h =
     length-map (take quoteCount (drop 1 ws)) (ofField priceBits) ∙ simp (length-take, length-drop) (omega arith)
 
--- sixteen lent numbers hold the prices of a whole roll
+-- 32 lent numbers hold the quotes of a whole roll
 pub prices-filled : (ws lent : List ℕ) → tapeWords ≤ length ws → length lent ≡ quoteCount → sets lent 0 (pricesOf ws) ≡ pricesOf ws
 prices-filled ws lent h e =
     let n = count-prices ws h in

@@ -51,7 +51,7 @@ prices-window zero ws h = absurd (omega arith)
 prices-window (suc n) [] h = refl
 prices-window (suc n) (w ∷ ws) h = ap (map (ofField priceBits)) (take-take quoteCount n ws (omega arith))
 
--- so words behind seventeen that are there change nothing
+-- so words behind thirty-three that are there change nothing
 module _ (ws more : List ℕ) (enough : tapeWords ≤ length ws) where
   first-words : take tapeWords (ws ++ more) ≡ take tapeWords ws
   first-words = take-append-le tapeWords ws more enough
