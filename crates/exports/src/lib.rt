@@ -22,7 +22,7 @@
 //   4 pair-off  issue, account
 //   5 close
 //   6 cutoff
-//   7 roll      days, rate (the sixteen prices stand beside it)
+//   7 roll      days, rate (the sixteen prices and sixteen accrued amounts stand beside it)
 //
 // uint32_t day_sound(uint16_t day, uint32_t phase, size_t entries,
 //     const int32_t *nets, size_t, const uint32_t *delivered, size_t, const uint32_t *lifts, size_t,
@@ -37,27 +37,28 @@
 //   where there is no such unit, and on a refusal.
 //
 // uint32_t day_call(uint32_t kind, uint32_t a, uint32_t b, uint32_t c, uint32_t d,
-//     const uint32_t *prices, size_t, uint16_t *day, uint32_t *phase, size_t *entries,
+//     const uint32_t *quotes, size_t, uint16_t *day, uint32_t *phase, size_t *entries,
 //     int32_t *nets, size_t, uint32_t *delivered, size_t, uint32_t *lifts, size_t, int64_t *charges, size_t,
 //     uint8_t *issues, size_t, uint8_t *froms, size_t, uint8_t *tos, size_t,
 //     uint32_t *lots, size_t, uint16_t *days, size_t,
 //     uint32_t *out, size_t, size_t *count, uint64_t *cancelled);
 //   The call of an instruction, made in place on any book. A kind that is none of 1 to 7 is refused by 14;
 //   then the desk's questions are put in their order. Only deliver, cutoff and resolve use the output, and
-//   only roll the prices: for the others any slice will do, an empty one too. count is that of the records
+//   only roll the quotes: for the others any slice will do, an empty one too. count is that of the records
 //   written (for pair-off, of the steps), cancelled pair-off's lots; both are 0 on a refusal.
 //
 // uint32_t day_read(const uint32_t *words, size_t, uint32_t instruction[5], size_t *count);
 //   Reads the instruction that begins at the first word: kind, a, b, c, d, and its word count. Refused by
 //   13 and 14, with 0 in every place.
 //
-// void day_prices(const uint32_t *words, size_t, uint32_t prices[16]);
-//   The prices in the words after a roll's head, 0 where a word is missing.
+// void day_quotes(const uint32_t *words, size_t, uint32_t quotes[32]);
+//   The quotes in the words after a roll's head, sixteen prices and then sixteen accrued amounts, 0 where a
+//   word is missing.
 //
 // uint32_t day_write(uint32_t kind, uint32_t a, uint32_t b, uint32_t c, uint32_t d,
-//     const uint32_t *prices, size_t, uint32_t *out, size_t, size_t *count);
-//   Writes an instruction, with the prices of a roll; count is that of the words written, 0 on a refusal.
-//   Refused by 1 (an output of fewer than 17 words) and 15, which is also the answer to a kind that is none
+//     const uint32_t *quotes, size_t, uint32_t *out, size_t, size_t *count);
+//   Writes an instruction, with the quotes of a roll; count is that of the words written, 0 on a refusal.
+//   Refused by 1 (an output of fewer than 33 words) and 15, which is also the answer to a kind that is none
 //   of 1 to 7.
 pub mod calls;
 pub mod fields;

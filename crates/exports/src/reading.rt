@@ -37,16 +37,16 @@ pub extern "C" fn day_read(words: &[u32], instruction: &mut [u32; 5], count: &mu
     read_out(tape::read(words), instruction, count)
 }
 
-// The prices in the words after a roll's head, 0 where a word is missing.
+// The quotes in the words after a roll's head, sixteen prices and then sixteen accrued amounts, 0 where a word is missing.
 #[no_mangle]
-pub extern "C" fn day_prices(words: &[u32], prices: &mut [u32; 16])
-    ensures { λ _. ⌜ now (prices .exit) ≡ sets (replicate 16 0) 0 (pricesOf (now (words .entry))) ⌝ }
+pub extern "C" fn day_quotes(words: &[u32], prices: &mut [u32; 32])
+    ensures { λ _. ⌜ now (prices .exit) ≡ sets (replicate 32 0) 0 (pricesOf (now (words .entry))) ⌝ }
 {
-    *prices = [0; 16];
+    *prices = [0; 32];
     tape::prices(words, prices);
 }
 
-// Writes an instruction, with the prices of a roll.
+// Writes an instruction, with the quotes of a roll.
 #[no_mangle]
 pub extern "C" fn day_write(
     kind: u32,
@@ -61,7 +61,7 @@ pub extern "C" fn day_write(
     ensures { λ r. ⌜ WriteAnswerIs (dayWritten kind (instructionOf kind a b c d) (now (prices .entry)) (now (out .entry))) (written r (now (count .exit))) (now (out .exit)) ⌝ }
 {
     *count = 0;
-    if out.len() < 17 {
+    if out.len() < 33 {
         return 1;
     }
     if !is_kind(kind) {

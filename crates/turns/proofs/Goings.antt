@@ -42,7 +42,7 @@ pub record Says (d : Answer) (t : Turn) (b : Book) : Type 0 where
   pub book : b ≡ d .book
 
 -- a roll's prices are read out of its words, and no other instruction has any
-pub priced : (ws lent prices : List ℕ) (x : Instruction) → Begins ws x → length lent ≡ 16 → (rollsOf x ≡ true → prices ≡ sets lent 0 (pricesOf ws)) →
+pub priced : (ws lent prices : List ℕ) (x : Instruction) → Begins ws x → length lent ≡ 32 → (rollsOf x ≡ true → prices ≡ sets lent 0 (pricesOf ws)) →
     Priced ws x prices
 priced ws lent prices (instruction.Roll d r) g h p =
     λ out. ap (λ (ps : List ℕ). callOf (instruction.Roll d r) ps out) (p refl ∙ roll-prices ws lent d r (g .count) (g .read) h)
@@ -77,7 +77,7 @@ same-line i n m r r′ k k′ e f g = rw (e, f, g)
 
 pub some-words : (last : Bool) (n : ℕ) → enough n last ≡ true → 0 < n
 some-words true n h = ltb-true 0 n h
-some-words false n h = let l = leb-true 17 n h in omega arith
+some-words false n h = let l = leb-true 33 n h in omega arith
 
 module _ (last : Bool) (rest more : List ℕ) (h : enough (length rest) last ≡ true) (e : last ≡ true → more ≡ []) where
   nothing-more : last ≡ true → rest ++ more ≡ rest
@@ -85,11 +85,11 @@ module _ (last : Bool) (rest more : List ℕ) (h : enough (length rest) last ≡
 
 same-read : (last : Bool) (rest more : List ℕ) → enough (length rest) last ≡ true → (last ≡ true → more ≡ []) → readOf (rest ++ more) ≡ readOf rest
 same-read true rest more h e = ap readOf (nothing-more true rest more h e refl)
-same-read false rest more h e = read-append rest more (leb-true 17 (length rest) h)
+same-read false rest more h e = read-append rest more (leb-true 33 (length rest) h)
 
 same-prices : (last : Bool) (rest more : List ℕ) → enough (length rest) last ≡ true → (last ≡ true → more ≡ []) → pricesOf (rest ++ more) ≡ pricesOf rest
 same-prices true rest more h e = ap pricesOf (nothing-more true rest more h e refl)
-same-prices false rest more h e = prices-append rest more (leb-true 17 (length rest) h)
+same-prices false rest more h e = prices-append rest more (leb-true 33 (length rest) h)
 
 going-on : (rest more : List ℕ) (then : Bool) → 0 < length rest → ended (rest ++ more) then ≡ false
 going-on [] more then h = absurd (omega arith)
@@ -169,13 +169,13 @@ rest-part ws at = take-all (length ws - at) (drop at ws) (rw length-drop (omega 
 pub rest-enough : (ws : List ℕ) (at : ℕ) (last t : Bool) → t ≡ enough (length ws - at) last → enough (length (drop at ws)) last ≡ t
 rest-enough ws at last t e = ap (λ (n : ℕ). enough n last) (length-drop at ws) ∙ sym e
 
-many-left : (last : Bool) (n : ℕ) → enough n last ≡ true → last ≡ false → 17 ≤ n
+many-left : (last : Bool) (n : ℕ) → enough n last ≡ true → last ≡ false → 33 ≤ n
 many-left true n h e = absurd (let k : _≡_ {A = ℕ} 0 1 = cc in omega arith)
-many-left false n h e = leb-true 17 n h
+many-left false n h e = leb-true 33 n h
 
-few-left : (last : Bool) (n : ℕ) → enough n last ≡ false → last ≡ false → n < 17
+few-left : (last : Bool) (n : ℕ) → enough n last ≡ false → last ≡ false → n < 33
 few-left true n h e = absurd (let k : _≡_ {A = ℕ} 0 1 = cc in omega arith)
-few-left false n h e = leb-false 17 n h
+few-left false n h e = leb-false 33 n h
 
 -- A run on its way: the text so far, and the run from here, whatever follows the words
 

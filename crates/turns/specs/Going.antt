@@ -48,9 +48,9 @@ abbrev pub refusalOf : Read → ℕ
 refusalOf (Instr x k) = 0
 refusalOf (Refused r) = r
 
--- a whole instruction can be read: seventeen words hold any, and the last words are all there are
+-- a whole instruction can be read: thirty-three words hold any, and the last words are all there are
 abbrev pub enough : ℕ → Bool → Bool
-enough left last = cond last (ltb 0 left) (leb 17 left)
+enough left last = cond last (ltb 0 left) (leb 33 left)
 
 -- a last word of 1 to 3 bytes has a line
 abbrev pub strayText : Bool → ℕ → List ℕ
@@ -74,9 +74,9 @@ onward over at b ws stray = cond over (stopped [] b) (runRest at b ws stray)
 -- instruction may have end no run, unless they are the last
 pub record Went (ws : List ℕ) (last stray : Bool) (index : ℕ) (b : Book) (text : List ℕ) (used end : ℕ) (over : Bool) (b′ : Book) : Type 0 where
   pub within : used ≤ length ws
-  pub few : over ≡ false → length ws < used + 17
+  pub few : over ≡ false → length ws < used + 33
   pub goes : over ≡ false → last ≡ false
-  pub waits : last ≡ false → length ws < 17 → over ≡ false
+  pub waits : last ≡ false → length ws < 33 → over ≡ false
   pub fits : end ≤ 72 * (length ws + 1)
   pub sound : sound b′ ≡ true
   pub run : (more : List ℕ) (then : Bool) → Follows last stray more then →

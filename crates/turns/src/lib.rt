@@ -57,9 +57,9 @@ fn rolls(x: Instruction) -> bool
     }
 }
 
-// A roll's prices, from the words after its head.
+// A roll's quotes, from the words after its head.
 fn prices_of(words: &[u32], x: Instruction, prices: &mut [u32])
-    requires { ⌜ Begins (now words) x × (length (now prices) ≡ 16) ⌝ }
+    requires { ⌜ Begins (now words) x × (length (now prices) ≡ 32) ⌝ }
     ensures { λ _. ⌜ Priced (now (words .entry)) x (now (prices .exit)) ⌝ }
 {
     if rolls(x) {
@@ -89,7 +89,7 @@ fn turn(
     requires { ⌜ Begins (now words) x × ready s nets delivered lifts charges issues froms tos lots days out × (at + 72 ≤ length (now text)) ⌝ }
     ensures { λ r. ⌜ (let c = columns nets delivered lifts charges issues froms tos lots days in Stepped (now (words .entry)) x index (c .before s) (now (text .entry)) (now (text .exit)) at r (c .after (r .state))) ⌝ }
 {
-    let mut prices = [0u32; 16];
+    let mut prices = [0u32; 32];
     prices_of(words, x, &mut prices);
     let t = running::answer(
         x,
@@ -128,7 +128,7 @@ fn is_enough(left: usize, last: bool) -> bool
     if last {
         return 0 < left;
     }
-    17 <= left
+    33 <= left
 }
 
 // The line of a last word of 1 to 3 bytes, if there is one.
