@@ -70,6 +70,7 @@ extern "C" {
 #define DAY_CLOSE 5u    /* Taking to Settling */
 #define DAY_CUTOFF 6u   /* what has not come is failed; Settling to Cut */
 #define DAY_ROLL 7u     /* days, rate (prices beside it): fails are charged; Cut to the next Taking */
+#define DAY_MARK 13u    /* issue, mark: it takes even lots only (0: any lots); any phase */
 
 /* ---- kinds of the records in an output; each record is two words (day_record_at reads one) */
 
@@ -93,21 +94,24 @@ extern "C" {
 #define DAY_REFUSED_TERMS 11u   /* price, days or rate out of range, or prices are not sixteen */
 #define DAY_REFUSED_LAST 12u    /* the day is 65,535 */
 #define DAY_REFUSED_TAPE 13u    /* the tape ends before the instruction does */
-#define DAY_REFUSED_WORD 14u    /* a kind or unused bits are wrong; a kind that is none of 1 to 7 */
+#define DAY_REFUSED_WORD 14u    /* a kind or unused bits are wrong; a kind that is none of 1..7, 13 */
 #define DAY_REFUSED_BITS 15u    /* a number does not fit its bits (writer) */
 #define DAY_REFUSED_UNIT 16u    /* there is no such unit, or it is handed already (ask, commit) */
 #define DAY_REFUSED_TICKET 17u  /* account, lots, day or count is not what asking now gives */
 #define DAY_REFUSED_LIFTS 18u   /* eight lifts stand for the issue */
+#define DAY_REFUSED_ODD 19u     /* lots are odd in a marked issue (trade, deliver, resolve) */
+#define DAY_REFUSED_IN_USE 20u  /* the issue has a net or an entry, so its mark stays (mark) */
 
 /* ---- the libraries' functions
  *
- * A book goes in as three numbers and nine columns. A column, the prices, the words and an output
- * are a pointer and a length in this order: nets and delivered 1,024 each, lifts 288, charges 64, the
- * ledger's five columns 2,048 each. A column of another length is a damaged book. The number
- * returned, but for day_sound's, is the refusal's, 0 where it is done. */
+ * A book goes in as three numbers, sixteen marks and nine columns. An issue's mark is 0 where it takes
+ * any lots, and any other number where it takes even lots only; the call stores 1 or 0. A column, the
+ * prices, the words and an output are a pointer and a length in this order: nets and delivered 1,024
+ * each, lifts 288, charges 64, the ledger's five columns 2,048 each. A column of another length is a
+ * damaged book. The number returned, but for day_sound's, is the refusal's, 0 where it is done. */
 
 /* 1 where the book is sound, else 0. */
-uint32_t day_sound(uint16_t day, uint32_t phase, size_t entries,
+uint32_t day_sound(uint16_t day, uint32_t phase, size_t entries, const uint8_t marks[16],
                    const int32_t *nets, size_t nets_length,
                    const uint32_t *delivered, size_t delivered_length,
                    const uint32_t *lifts, size_t lifts_length,
@@ -119,7 +123,7 @@ uint32_t day_sound(uint16_t day, uint32_t phase, size_t entries,
                    const uint16_t *days, size_t days_length);
 
 /* The k-th unit of an issue, k from 0: 1, account, lots; or 0, 0, 0 where there is none. */
-uint32_t day_unit(uint16_t day, uint32_t phase, size_t entries,
+uint32_t day_unit(uint16_t day, uint32_t phase, size_t entries, const uint8_t marks[16],
                   const int32_t *nets, size_t nets_length,
                   const uint32_t *delivered, size_t delivered_length,
                   const uint32_t *lifts, size_t lifts_length,
@@ -136,7 +140,7 @@ uint32_t day_unit(uint16_t day, uint32_t phase, size_t entries,
  * steps), cancelled pair-off's lots; both are 0 on a refusal. */
 uint32_t day_call(uint32_t kind, uint32_t a, uint32_t b, uint32_t c, uint32_t d,
                   const uint32_t *prices, size_t prices_length,
-                  uint16_t *day, uint32_t *phase, size_t *entries,
+                  uint16_t *day, uint32_t *phase, size_t *entries, uint8_t marks[16],
                   int32_t *nets, size_t nets_length,
                   uint32_t *delivered, size_t delivered_length,
                   uint32_t *lifts, size_t lifts_length,
@@ -150,7 +154,7 @@ uint32_t day_call(uint32_t kind, uint32_t a, uint32_t b, uint32_t c, uint32_t d,
 
 /* Asks for a lift of an issue's unit, by its number, in Settling; changes nothing. The ticket is
  * issue, unit, account, lots, day, count; six times 0 on a refusal. */
-uint32_t day_ask(uint16_t day, uint32_t phase, size_t entries,
+uint32_t day_ask(uint16_t day, uint32_t phase, size_t entries, const uint8_t marks[16],
                  const int32_t *nets, size_t nets_length,
                  const uint32_t *delivered, size_t delivered_length,
                  const uint32_t *lifts, size_t lifts_length,
@@ -165,6 +169,7 @@ uint32_t day_ask(uint16_t day, uint32_t phase, size_t entries,
 /* Lifts the ticket's unit before all unhanded ones, in Settling, and hands on as far as stock covers.
  * Only the lifts and the output are changed; count is that of the records written, 0 on a refusal. */
 uint32_t day_commit(const uint32_t ticket[6], uint16_t day, uint32_t phase, size_t entries,
+                    const uint8_t marks[16],
                     const int32_t *nets, size_t nets_length,
                     const uint32_t *delivered, size_t delivered_length,
                     uint32_t *lifts, size_t lifts_length,
@@ -215,6 +220,7 @@ struct day_book {
     uint16_t day;
     uint32_t phase;
     size_t entries; /* of the ledger's columns, so many are used */
+    uint8_t marks[DAY_ISSUES]; /* 0: the issue takes any lots; else even lots only */
     int32_t nets[DAY_PLACES];
     uint32_t delivered[DAY_PLACES];
     uint32_t lifts[DAY_LIFT_PLACES];
@@ -267,7 +273,7 @@ struct day_record {
     uint32_t lots;
 };
 
-/* Makes the book fresh: day 0, Taking, all zero, ledger empty. */
+/* Makes the book fresh: day 0, Taking, all zero, no issue marked, ledger empty. */
 static inline void day_book_fresh(struct day_book *book)
 {
     memset(book, 0, sizeof *book);
@@ -276,7 +282,7 @@ static inline void day_book_fresh(struct day_book *book)
 /* 1 where the book is sound, else 0. */
 static inline uint32_t day_book_sound(const struct day_book *book)
 {
-    return day_sound(book->day, book->phase, book->entries, book->nets, DAY_PLACES,
+    return day_sound(book->day, book->phase, book->entries, book->marks, book->nets, DAY_PLACES,
                      book->delivered, DAY_PLACES, book->lifts, DAY_LIFT_PLACES,
                      book->charges, DAY_ACCOUNTS, book->issues, DAY_ENTRIES,
                      book->froms, DAY_ENTRIES, book->tos, DAY_ENTRIES,
@@ -289,8 +295,9 @@ static inline struct day_unit_answer day_book_unit(const struct day_book *book, 
 {
     struct day_unit_answer unit;
     uint32_t answer[3] = {0, 0, 0};
-    unit.refusal = day_unit(book->day, book->phase, book->entries, book->nets, DAY_PLACES,
-                            book->delivered, DAY_PLACES, book->lifts, DAY_LIFT_PLACES,
+    unit.refusal = day_unit(book->day, book->phase, book->entries, book->marks,
+                            book->nets, DAY_PLACES, book->delivered, DAY_PLACES,
+                            book->lifts, DAY_LIFT_PLACES,
                             book->charges, DAY_ACCOUNTS, book->issues, DAY_ENTRIES,
                             book->froms, DAY_ENTRIES, book->tos, DAY_ENTRIES,
                             book->lots, DAY_ENTRIES, book->days, DAY_ENTRIES, issue, k, answer);
@@ -310,7 +317,7 @@ static inline struct day_answer day_book_call(struct day_book *book, uint32_t ki
     answer.count = 0;
     answer.cancelled = 0;
     answer.refusal = day_call(kind, a, b, c, d, prices, prices_length, &book->day, &book->phase,
-                              &book->entries, book->nets, DAY_PLACES,
+                              &book->entries, book->marks, book->nets, DAY_PLACES,
                               book->delivered, DAY_PLACES, book->lifts, DAY_LIFT_PLACES,
                               book->charges, DAY_ACCOUNTS, book->issues, DAY_ENTRIES,
                               book->froms, DAY_ENTRIES, book->tos, DAY_ENTRIES,
@@ -325,8 +332,9 @@ static inline struct day_ask_answer day_book_ask(const struct day_book *book, ui
 {
     struct day_ask_answer asked;
     uint32_t ticket[6] = {0, 0, 0, 0, 0, 0};
-    asked.refusal = day_ask(book->day, book->phase, book->entries, book->nets, DAY_PLACES,
-                            book->delivered, DAY_PLACES, book->lifts, DAY_LIFT_PLACES,
+    asked.refusal = day_ask(book->day, book->phase, book->entries, book->marks,
+                            book->nets, DAY_PLACES, book->delivered, DAY_PLACES,
+                            book->lifts, DAY_LIFT_PLACES,
                             book->charges, DAY_ACCOUNTS, book->issues, DAY_ENTRIES,
                             book->froms, DAY_ENTRIES, book->tos, DAY_ENTRIES,
                             book->lots, DAY_ENTRIES, book->days, DAY_ENTRIES, issue, unit, ticket);
@@ -353,7 +361,7 @@ static inline struct day_answer day_book_commit(struct day_book *book, struct da
     numbers[5] = ticket.count;
     answer.count = 0;
     answer.cancelled = 0;
-    answer.refusal = day_commit(numbers, book->day, book->phase, book->entries,
+    answer.refusal = day_commit(numbers, book->day, book->phase, book->entries, book->marks,
                                 book->nets, DAY_PLACES, book->delivered, DAY_PLACES,
                                 book->lifts, DAY_LIFT_PLACES, book->charges, DAY_ACCOUNTS,
                                 book->issues, DAY_ENTRIES, book->froms, DAY_ENTRIES,
@@ -423,6 +431,12 @@ static inline struct day_answer day_book_roll(struct day_book *book, uint32_t da
     return day_book_call(book, DAY_ROLL, days, rate, 0, 0, prices, DAY_ISSUES, &unused, 0);
 }
 
+/* The mark of an issue: 1 where it takes even lots only from now on, 0 where it takes any again. */
+static inline struct day_answer day_book_mark(struct day_book *book, uint32_t issue, uint32_t mark)
+{
+    return day_book_plain(book, DAY_MARK, issue, mark, 0, 0);
+}
+
 /* The record at a place of an output, 0 the first. */
 static inline struct day_record day_record_at(const uint32_t *out, size_t at)
 {
@@ -459,6 +473,8 @@ static inline const char *day_refusal_text(uint32_t refusal)
     case DAY_REFUSED_UNIT: return "there is no such unhanded unit";
     case DAY_REFUSED_TICKET: return "the ticket is not what asking now gives";
     case DAY_REFUSED_LIFTS: return "eight lifts stand for the issue";
+    case DAY_REFUSED_ODD: return "lots are odd in a marked issue";
+    case DAY_REFUSED_IN_USE: return "the issue has a net or an entry";
     default: return "no refusal of the rules";
     }
 }

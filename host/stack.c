@@ -1,6 +1,7 @@
 /* stack: how much stack each function of the library uses, measured on a thread whose stack was
- * painted before. Each call is made on a day with nets in all issues and accounts and a ledger of
- * many fails, so that it goes its whole way. Fails where one uses more than DAY_STACK_BYTES. */
+ * painted before. Each call is made on a day with nets in all issues and accounts, all issues marked,
+ * and a ledger of many fails, so that it goes its whole way. Fails where one uses more than
+ * DAY_STACK_BYTES. */
 #ifndef _GNU_SOURCE
 #define _POSIX_C_SOURCE 200809L
 #endif
@@ -18,12 +19,20 @@ static uint32_t words[DAY_TAPE_WORDS];
 static uint32_t prices[DAY_ISSUES];
 static uint32_t refusal;
 
+/* Every issue is in multiples of 100,000 yen. */
+static void make_marks(void)
+{
+    for (uint32_t issue = 0; issue < DAY_ISSUES; issue++) {
+        refusal |= day_book_mark(&book, issue, 1).refusal;
+    }
+}
+
 /* In every issue account 0 buys from all others. */
 static void make_trades(void)
 {
     for (uint32_t issue = 0; issue < DAY_ISSUES; issue++) {
         for (uint32_t other = 1; other < DAY_ACCOUNTS; other++) {
-            refusal |= day_book_trade(&book, issue, other, 0, 999 + other).refusal;
+            refusal |= day_book_trade(&book, issue, other, 0, 998 + 2 * other).refusal;
         }
     }
 }
@@ -97,10 +106,11 @@ struct measured {
 
 /* In the order in which a day makes them; the first is what a thread uses by itself. */
 static const struct measured measures[] = {
-    {"nothing", make_nothing},    {"trade", make_trades},          {"unit", make_unit},
-    {"close", make_close},        {"deliver", make_deliver},       {"sound", make_sound},
-    {"cutoff", make_cutoff},      {"resolve", make_resolve},       {"roll", make_roll},
-    {"a day", make_next_trades},  {"ask", make_ask},               {"commit", make_commits},
+    {"nothing", make_nothing},    {"mark", make_marks},            {"trade", make_trades},
+    {"unit", make_unit},          {"close", make_close},           {"deliver", make_deliver},
+    {"sound", make_sound},        {"cutoff", make_cutoff},         {"resolve", make_resolve},
+    {"roll", make_roll},          {"a day", make_next_trades},     {"ask", make_ask},
+    {"commit", make_commits},
     {"unit, lifted", make_unit_lifted},  {"deliver, lifted", make_lifted},
     {"sound, lifted", make_sound},       {"cutoff, lifted", make_cutoff},
     {"pair-off", make_pair_off},  {"write", make_write},           {"read", make_read},

@@ -42,11 +42,15 @@ pub enum Refusal {
     Ticket = 17,
     /// 18: eight lifts stand for the issue (commit).
     Lifts = 18,
+    /// 19: the issue is marked and the lots are odd (trade, deliver, resolve).
+    OddLots = 19,
+    /// 20: the issue has a net or an entry, so its mark cannot be set (mark).
+    InUse = 20,
 }
 
 impl Refusal {
     /// All refusals, by their numbers.
-    pub const ALL: [Refusal; 18] = [
+    pub const ALL: [Refusal; 20] = [
         Refusal::Output,
         Refusal::Book,
         Refusal::Phase,
@@ -65,9 +69,11 @@ impl Refusal {
         Refusal::Unit,
         Refusal::Ticket,
         Refusal::Lifts,
+        Refusal::OddLots,
+        Refusal::InUse,
     ];
 
-    /// The refusal of a number; none for 0, which is done, and above 18.
+    /// The refusal of a number; none for 0, which is done, and above 20.
     pub fn of(number: u32) -> Option<Refusal> {
         Refusal::ALL.into_iter().find(|refusal| refusal.number() == number)
     }
@@ -101,6 +107,8 @@ impl Refusal {
             Refusal::Unit => "there is no such unhanded unit",
             Refusal::Ticket => "the ticket is not what asking now gives",
             Refusal::Lifts => "eight lifts stand for the issue",
+            Refusal::OddLots => "lots are odd in a marked issue",
+            Refusal::InUse => "the issue has a net or an entry",
         }
     }
 }
@@ -116,11 +124,11 @@ mod tests {
     use super::Refusal;
 
     #[test]
-    fn numbers_are_one_to_eighteen_in_order() {
+    fn numbers_are_one_to_twenty_in_order() {
         let numbers: Vec<u32> = Refusal::ALL.into_iter().map(Refusal::number).collect();
-        assert_eq!(numbers, (1..=18).collect::<Vec<u32>>());
+        assert_eq!(numbers, (1..=20).collect::<Vec<u32>>());
         assert_eq!(Refusal::of(9), Some(Refusal::Owed));
-        assert_eq!([0, 19, u32::MAX].map(Refusal::of), [None; 3]);
+        assert_eq!([0, 21, u32::MAX].map(Refusal::of), [None; 3]);
     }
 
     #[test]

@@ -38,6 +38,8 @@ pub enum Fact {
     ReadingEnds { word: usize, refusal: Refusal },
     /// The book at the end.
     End { phase: &'static str, entries: usize, charged: usize },
+    /// An issue that is marked at the end: it takes even lots only.
+    Marked { issue: u32 },
     /// A fail entry of the ledger at the end.
     Entry { issue: u32, from: u32, to: u32, lots: u32, since: u16 },
     /// An account's charges at the end.
@@ -68,6 +70,7 @@ impl Fact {
             | Fact::Resolved { issue, .. }
             | Fact::Paired { issue, .. }
             | Fact::Left { issue, .. }
+            | Fact::Marked { issue }
             | Fact::Entry { issue, .. }
             | Fact::Charge { terms: Terms { issue, .. }, .. } => Some(*issue),
             _ => None,
@@ -102,7 +105,8 @@ fn issue_of(instruction: &Instruction) -> Option<u32> {
         Instruction::Trade { issue, .. }
         | Instruction::Deliver { issue, .. }
         | Instruction::Resolve { issue, .. }
-        | Instruction::PairOff { issue, .. } => Some(issue),
+        | Instruction::PairOff { issue, .. }
+        | Instruction::Mark { issue, .. } => Some(issue),
         Instruction::Close | Instruction::Cutoff | Instruction::Roll { .. } => None,
     }
 }
@@ -114,6 +118,9 @@ fn accounts_of(instruction: &Instruction) -> Vec<u32> {
         Instruction::Deliver { account, .. }
         | Instruction::Resolve { account, .. }
         | Instruction::PairOff { account, .. } => vec![account],
-        Instruction::Close | Instruction::Cutoff | Instruction::Roll { .. } => Vec::new(),
+        Instruction::Close
+        | Instruction::Cutoff
+        | Instruction::Roll { .. }
+        | Instruction::Mark { .. } => Vec::new(),
     }
 }

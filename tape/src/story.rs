@@ -105,7 +105,9 @@ impl Story<'_> {
             Instruction::Cutoff => self.cut(answer.count),
             Instruction::Resolve { .. } => self.resolved(answer.count),
             Instruction::PairOff { issue, account } => self.paired(&answer, issue, account),
-            Instruction::Trade { .. } | Instruction::Roll { .. } => Ok(()),
+            Instruction::Trade { .. } | Instruction::Roll { .. } | Instruction::Mark { .. } => {
+                Ok(())
+            }
         }
     }
 
@@ -237,13 +239,18 @@ impl Story<'_> {
         self.fact(&Fact::Day { day: self.book.day })
     }
 
-    /// The phase, the ledger and the charges at the end.
+    /// The phase, the marked issues, the ledger and the charges at the end.
     fn end(&mut self) -> io::Result<()> {
         let phase = self.book.phase.name().unwrap_or("no phase");
         let entries: Vec<Entry> = self.book.ledger().collect();
         let charges: Vec<(u32, i64)> =
             (0..).zip(self.book.charges).filter(|(_, yen)| *yen != 0).collect();
         self.fact(&Fact::End { phase, entries: entries.len(), charged: charges.len() })?;
+        for issue in 0..ISSUES as u32 {
+            if self.book.is_marked(issue) {
+                self.fact(&Fact::Marked { issue })?;
+            }
+        }
         for Entry { issue, from, to, lots, day: since } in entries {
             let (issue, from, to) = (issue.into(), from.into(), to.into());
             self.fact(&Fact::Entry { issue, from, to, lots, since })?;
@@ -260,6 +267,9 @@ fn traded(book: &mut Book, instruction: &Instruction) -> bool {
     let Instruction::Trade { issue, from, to, lots } = *instruction else { return false };
     let (Some(low), Some(high)) = (place(issue, from), place(issue, to)) else { return false };
     if book.phase != Phase::TAKING || low == high || lots == 0 || lots > MOST_LOTS {
+        return false;
+    }
+    if book.is_marked(issue) && lots % 2 != 0 {
         return false;
     }
     let (most, lots) = (MOST_LOTS as i32, lots as i32);
@@ -296,6 +306,10 @@ mod tests {
             (numbers >> 33) as u32 % limit
         };
         let (mut here, mut by_library) = (Book::fresh(), Book::fresh());
+        for issue in [0, 3, 4, 15] {
+            here.marks[issue] = [1, 2, 128, 255][issue % 4];
+        }
+        by_library.marks = here.marks;
         let (mut booked, mut put) = (0, 0);
         for step in 0..3_000 {
             let lots = [0, 1, 100_000, MOST_LOTS, MOST_LOTS + 1, next(MOST_LOTS)][next(6) as usize];

@@ -23,6 +23,10 @@ const DAYS: &str = "trade 0 4 1 230000\ntrade 0 5 2 250000\ntrade 0 5 3 150000\n
     roll 1 300 100000\ntrade 3 2 3 20\ntrade 3 2 1 5\nclose\ncutoff\npair-off 3 2\nresolve 0 4 6000\n\
     word 50000001\n";
 
+/// Two days of an issue that is marked: odd lots and new marks refused, and the mark at the end.
+const MARKED: &str = "mark 3 1\nmark 5 1\nmark 5 0\ntrade 3 4 1 7\ntrade 3 4 1 130000\nmark 3 1\n\
+    close\ndeliver 3 4 110002\ncutoff\nroll 1 300 100000\nmark 3 0\nresolve 3 4 1\n";
+
 fn tape(text: &str) -> Vec<u8> {
     text::to_tape(text).expect("a text form")
 }
@@ -127,6 +131,27 @@ fn text_says_why() {
 }
 
 #[test]
+fn marks_are_told_in_plain_words() {
+    let text = told(Form::Text, Only::default(), MARKED);
+    for line in [
+        "word 0: mark: issue 3 in multiples of 100,000 yen face, even lots only\n",
+        "word 2: mark: issue 5 in multiples of 50,000 yen face, any lots\n",
+        "of issue 3: refused by 19: lots are odd in a marked issue; issue 3 is in multiples of",
+        "even lots only: refused by 20: the issue has a net or an entry; issue 3 has nets of 2 accounts",
+        "any lots: refused by 20: the issue has a net or an entry; issue 3 has nets of 0 accounts and 1 entry in",
+        "10,002 lots wait for unit 1 of account 1, 30,000 lots",
+        "charges\n      issue 3 is in multiples of 100,000 yen face, even lots only\n      issue 3: account 4",
+    ] {
+        assert!(text.contains(line), "{line}\n{text}");
+    }
+    let page = told(Form::Html, Only::default(), MARKED);
+    assert!(page.contains("<p>In multiples of 100,000 yen face, even lots only: issue 3</p>"));
+    assert!(!told(Form::Html, Only::default(), DAYS).contains("even lots only"));
+    let of_five = told(Form::Text, Only { issue: Some(5), ..Only::default() }, MARKED);
+    assert!(of_five.contains("mark: issue 5") && !of_five.contains("issue 3"), "{of_five}");
+}
+
+#[test]
 fn two_hundred_like_units_are_one_line() {
     let day = "trade 0 1 2 20000000\nclose\ndeliver 0 1 20000000\ncutoff\n";
     let text = told(Form::Text, Only::default(), day);
@@ -181,15 +206,14 @@ fn every_fact_of_json_is_in_the_documents() {
     let path = Path::new(env!("CARGO_MANIFEST_DIR")).join("../docs/TAPE.md");
     let documents = fs::read_to_string(path).expect("docs/TAPE.md");
     let mut seen = objects(Only::default());
-    seen.extend(
-        told(Form::Json, Only::default(), "close\ncutoff\n")
-            .lines()
-            .map(|line| parse(line).expect("an object")),
-    );
+    for day in ["close\ncutoff\n", MARKED] {
+        let told = told(Form::Json, Only::default(), day);
+        seen.extend(told.lines().map(|line| parse(line).expect("an object")));
+    }
     let mut names: Vec<&Value> = seen.iter().map(|object| &object["fact"]).collect();
     names.sort_by_key(|name| format!("{name:?}"));
     names.dedup();
-    assert_eq!(names.len(), 18, "{names:?}");
+    assert_eq!(names.len(), 19, "{names:?}");
     for object in &seen {
         let Value::Text(name) = &object["fact"] else { panic!("{object:?}") };
         let row = documents.lines().find(|line| line.starts_with(&format!("| `{name}` |")));

@@ -34,6 +34,7 @@ fn name(fact: &Fact) -> &'static str {
         Fact::Charge { .. } => "charge",
         Fact::ReadingEnds { .. } => "reading-ends",
         Fact::End { .. } => "end",
+        Fact::Marked { .. } => "marked",
         Fact::Entry { .. } => "entry",
         Fact::Charged { .. } => "charged",
     }
@@ -74,6 +75,7 @@ fn fields(out: &mut impl Write, fact: &Fact) -> io::Result<()> {
         Fact::Units { .. } | Fact::Tie { .. } | Fact::Owes { .. } => order(out, fact),
         Fact::Handed { .. } | Fact::Waits { .. } | Fact::Partly { .. } => handover(out, fact),
         Fact::Charge { .. } | Fact::Charged { .. } | Fact::End { .. } => charge(out, fact),
+        Fact::Marked { issue } => field(out, "issue", (*issue).into()),
         _ => fail(out, fact),
     }
 }
@@ -207,6 +209,9 @@ fn arguments(out: &mut impl Write, instruction: &Instruction) -> io::Result<()> 
         ),
         Instruction::PairOff { issue, account } => {
             numbers(out, &[("issue", wide(issue)), ("account", wide(account))])
+        }
+        Instruction::Mark { issue, mark } => {
+            numbers(out, &[("issue", wide(issue)), ("mark", wide(mark))])
         }
         Instruction::Roll { days, rate } => {
             numbers(out, &[("days", wide(days)), ("rate", wide(rate))])

@@ -69,6 +69,12 @@ fn sentence(out: &mut impl Write, instruction: &Instruction) -> io::Result<()> {
         Instruction::PairOff { issue, account } => {
             write!(out, "pair-off: fails to and from account {account} in issue {issue}")
         }
+        Instruction::Mark { issue, mark: 0 } => {
+            write!(out, "mark: issue {issue} in multiples of 50,000 yen face, any lots")
+        }
+        Instruction::Mark { issue, .. } => {
+            write!(out, "mark: issue {issue} in multiples of 100,000 yen face, even lots only")
+        }
         Instruction::Close => write!(out, "close"),
         Instruction::Cutoff => write!(out, "cutoff"),
         Instruction::Roll { days, rate } => {
@@ -80,6 +86,9 @@ fn sentence(out: &mut impl Write, instruction: &Instruction) -> io::Result<()> {
 /// Something that an instruction did, or that stands in the book at the end.
 fn detail(out: &mut impl Write, fact: &Fact) -> io::Result<()> {
     match fact {
+        Fact::Marked { issue } => {
+            write!(out, "issue {issue} is in multiples of 100,000 yen face, even lots only")
+        }
         Fact::Units { .. } | Fact::Tie { .. } | Fact::Owes { .. } => order(out, fact),
         Fact::Handed { .. } | Fact::Waits { .. } | Fact::Partly { .. } => handover(out, fact),
         Fact::Charge { .. } | Fact::Charged { .. } => charge(out, fact),
