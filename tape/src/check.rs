@@ -2,6 +2,7 @@
 
 use crate::bytes::split;
 use crate::input::Input;
+use crate::text::why_ended;
 use crate::why::why;
 use library::{calls, tape, Book, OUTPUT_WORDS};
 
@@ -24,8 +25,8 @@ pub fn check(file: &str, input: &Input) -> Checked {
         match tape::read(&words[at..]) {
             Ok((instruction, count)) => {
                 checked.instructions += 1;
-                let prices = tape::prices(&words[at..]);
-                let answer = calls::call(&mut book, &instruction, &prices, &mut output);
+                let quotes = tape::quotes(&words[at..]);
+                let answer = calls::call(&mut book, &instruction, &quotes, &mut output);
                 if let Some(refusal) = answer.refused() {
                     let (name, why) = (instruction.name(), why(&book, &instruction, refusal));
                     checked.refusals.push(format!("{}: {name}: {why}", places.at(at)));
@@ -33,7 +34,10 @@ pub fn check(file: &str, input: &Input) -> Checked {
                 at += count;
             }
             Err(refusal) => {
-                checked.refusals.push(format!("{}: reading ends here: {refusal}", places.at(at)));
+                let why = why_ended(&words[at..], refusal);
+                let (place, number) = (places.at(at), refusal.number());
+                let line = format!("{place}: reading ends here: refused by {number}: {why}");
+                checked.refusals.push(line);
                 break;
             }
         }

@@ -1,5 +1,7 @@
 //! The program `dayrun` run on a tape, and whether it read all of it and wrote all its lines.
 
+use crate::bytes::split;
+use crate::text::older_roll;
 use std::env;
 use std::io::{self, BufRead, BufReader, Write};
 use std::path::PathBuf;
@@ -34,9 +36,20 @@ pub fn run(program: Option<&str>, tape: &[u8], output: &mut dyn Write) -> Result
         Err(error) => Ran::NotWhole(format!("the lines could not be written: {error}")),
         Ok(_) if !said.is_empty() => Ran::NotWhole(said),
         Ok(_) if !status.success() => Ran::NotWhole(format!("{name} ended with {status}")),
-        Ok(Some(line)) => Ran::NotWhole(format!("reading ended before the tape did: {line}")),
+        Ok(Some(line)) => {
+            let what = advice(tape, &line);
+            Ran::NotWhole(format!("reading ended before the tape did: {line}{what}"))
+        }
         Ok(None) => Ran::Whole,
     })
+}
+
+/// What is to be said of the words at which reading ended, by the line that says so.
+fn advice(tape: &[u8], line: &str) -> String {
+    let (words, _) = split(tape);
+    let at = line.split(' ').next().and_then(|index| index.parse().ok());
+    let older = at.and_then(|at: usize| words.get(at..)).and_then(older_roll);
+    older.map(|what| format!("; {what}")).unwrap_or_default()
 }
 
 /// Gives the tape to the program and copies what it prints. Answers the line with which reading
