@@ -89,7 +89,10 @@ fn p8_cutoff() {
 fn p9_roll() {
     let mut book = p8_book(7);
     let ledger = book.ledger();
-    assert_eq!(calls::roll(&mut book, 1, 300, &same_quotes(100_000, 0)), Answer { number: 0, count: 0 });
+    assert_eq!(
+        calls::roll(&mut book, 1, 300, &same_quotes(100_000, 0)),
+        Answer { number: 0, count: 0 }
+    );
     let mut rolled = Book::fresh();
     rolled.day = 1;
     rolled.charges[1..6].copy_from_slice(&[123_287, 20_547, 205_478, -123_286, -226_026]);

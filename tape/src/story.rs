@@ -10,7 +10,9 @@ use crate::text::why_ended;
 use crate::units::{runs, ties, Run, Walk};
 use crate::why::{owed_today, why};
 use library::calls::{self, Answer};
-use library::{desk, place, tape, Book, Entry, Instruction, Phase, ACCOUNTS, ISSUES, OUTPUT_WORDS, QUOTES};
+use library::{
+    desk, place, tape, Book, Entry, Instruction, Phase, ACCOUNTS, ISSUES, OUTPUT_WORDS, QUOTES,
+};
 use std::io;
 
 /// The kind of the record of a fail; the others are handovers.

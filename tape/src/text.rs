@@ -167,7 +167,8 @@ fn roll_of(name: &Word, words: &[Word]) -> Result<(Instruction, Vec<u32>), Vec<F
     let mut parts = words.splitn(2, |word| word.text == ACCRUED_WORD);
     let (first, second) = (parts.next().unwrap_or_default(), parts.next());
     let right = |count: usize| count == 1 || count == ISSUES;
-    if first.len() < 2 || !right(first.len() - 2) || !second.is_none_or(|words| right(words.len())) {
+    if first.len() < 2 || !right(first.len() - 2) || !second.is_none_or(|words| right(words.len()))
+    {
         let what = format!(
             "roll takes days, rate, sixteen prices (issue 0 first) or one price for all issues, \
              then `accrued` with sixteen amounts or one; here are {} words",

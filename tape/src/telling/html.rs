@@ -65,7 +65,11 @@ impl Page {
             }
             Fact::ReadingEnds { word, refusal, why } => {
                 let number = refusal.number();
-                self.refused.push((day, *word, format!("reading ends, refused by {number}: {why}")));
+                self.refused.push((
+                    day,
+                    *word,
+                    format!("reading ends, refused by {number}: {why}"),
+                ));
             }
             Fact::Charge { .. } => self.charges.push((day, fact.clone())),
             Fact::End { phase, .. } => self.end = Some((day, phase)),
