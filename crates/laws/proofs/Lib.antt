@@ -17,6 +17,7 @@ pub mod Cells
 pub mod Sound
 pub mod LiftColumn
 pub mod Ledger
+pub mod Even
 pub mod SoundRows
 pub mod Meeting
 pub mod Lowering
@@ -28,6 +29,7 @@ pub mod Issue
 pub mod Answers
 pub mod Charges
 pub mod LiftsKept
+pub mod MarksKept
 pub mod Kept
 pub mod Called
 pub mod Scans
