@@ -41,5 +41,8 @@ pub extern "C" fn day_charge(
 ) -> u32
     ensures { λ r. ⌜ Plain (charge lots price days rate accrued) r (now (yen .exit)) ⌝ }
 {
-    plain(measures::charge(Lots(lots), price, days, rate, accrued), yen)
+    plain(
+        measures::charge(Lots(lots), price, days, rate, accrued),
+        yen,
+    )
 }

@@ -11,7 +11,7 @@
 //   charges             64, int64_t
 //   issues, froms, tos  2,048 each, uint8_t; the ledger's columns
 //   lots, days          2,048 each, uint32_t and uint16_t
-// A column, the prices and an output are a pointer and a length (size_t), in this order. A column of
+// A column, the quotes and an output are a pointer and a length (size_t), in this order. A column of
 // another length is a damaged book: no sound one, refused by 2. Every number, word and column is taken;
 // nothing is assumed of them. The number returned by day_unit, day_call, day_read and day_write is the
 // refusal's, 0 where it is done. A refusal leaves book and output byte for byte as they came.

@@ -22,24 +22,24 @@ use Rattle.laws.proofs.Signed.{rises, falls, size-of}
 use Rattle.laws.proofs.Cells.{total-set, each-set}
 use Rattle.laws.proofs.Sound.{SoundEntry, all-each, tab-each, each-getD}
 
-pub charged-length : (days rate : ℕ) (prices : List ℕ) (es : List Entry) (cs : List ℤ) → length (charged days rate prices es cs) ≡ length cs
-charged-length days rate prices [] cs = refl
-charged-length days rate prices (e ∷ es) cs = charged-length days rate prices es _ ∙ simp length-set
+pub charged-length : (days rate : ℕ) (quotes : List ℕ) (es : List Entry) (cs : List ℤ) → length (charged days rate quotes es cs) ≡ length cs
+charged-length days rate quotes [] cs = refl
+charged-length days rate quotes (e ∷ es) cs = charged-length days rate quotes es _ ∙ simp length-set
 
 -- charges that sum to 0 do so after a roll
-pub charged-balance : (days rate : ℕ) (prices : List ℕ) (es : List Entry) (cs : List ℤ) → length cs ≡ 64 → Every SoundEntry es →
+pub charged-balance : (days rate : ℕ) (quotes : List ℕ) (es : List Entry) (cs : List ℤ) → length cs ≡ 64 → Every SoundEntry es →
     total dueOf cs ≡ total owedOf cs →
-    total dueOf (charged days rate prices es cs) ≡ total owedOf (charged days rate prices es cs)
-charged-balance days rate prices [] cs n ss h = h
-charged-balance days rate prices (e ∷ es) cs n ss h =
-    let y = chargeOf (e .lots) (priceIn prices (e .issue)) days rate (accruedIn prices (e .issue)) in
+    total dueOf (charged days rate quotes es cs) ≡ total owedOf (charged days rate quotes es cs)
+charged-balance days rate quotes [] cs n ss h = h
+charged-balance days rate quotes (e ∷ es) cs n ss h =
+    let y = chargeOf (e .lots) (priceIn quotes (e .issue)) days rate (accruedIn quotes (e .issue)) in
     let cs₁ = set cs (e .from) (getD cs (e .from) (pos 0) -ℤ pos y) in
     let cs₂ = set cs₁ (e .to) (getD cs₁ (e .to) (pos 0) +ℤ pos y) in
     let n₁ : length cs₁ ≡ 64 = simp length-set n in
     let n₂ : length cs₂ ≡ 64 = simp length-set n in
     let hf : e .from < length cs = omega (arith, ss .0 .from) in
     let ht : e .to < length cs₁ = omega (arith, ss .0 .to) in
-    charged-balance days rate prices es cs₂ n₂ (ss .1)
+    charged-balance days rate quotes es cs₂ n₂ (ss .1)
     (omega (
       arith,
       total-set dueOf cs (e .from) (getD cs (e .from) (pos 0) -ℤ pos y) (pos 0) hf,
@@ -101,17 +101,17 @@ abs-rises (negsuc m) n y h = omega (arith, size-of n)
 
 -- price and accrued of each issue together are at most 200,000
 abbrev pub Quoted : List ℕ → Type 0
-Quoted prices = (i : ℕ) → i < issueCount → priceIn prices i + accruedIn prices i ≤ mostPrice
+Quoted quotes = (i : ℕ) → i < issueCount → priceIn quotes i + accruedIn quotes i ≤ mostPrice
 
 -- each account's charge rises or falls by at most that for each entry
-pub charged-most : (days rate : ℕ) (prices : List ℕ) (es : List Entry) (cs : List ℤ) (k : ℕ) → days ≤ mostDays → rate ≤ mostRate →
-    Quoted prices → Every SoundEntry es → Every (λ c. natAbs c ≤ k) cs →
-    Every (λ c. natAbs c ≤ k + length es * 65753424657) (charged days rate prices es cs)
-charged-most days rate prices [] cs k hd hr hp ss h =
+pub charged-most : (days rate : ℕ) (quotes : List ℕ) (es : List Entry) (cs : List ℤ) (k : ℕ) → days ≤ mostDays → rate ≤ mostRate →
+    Quoted quotes → Every SoundEntry es → Every (λ c. natAbs c ≤ k) cs →
+    Every (λ c. natAbs c ≤ k + length es * 65753424657) (charged days rate quotes es cs)
+charged-most days rate quotes [] cs k hd hr hp ss h =
     each-map (λ c. natAbs c ≤ k) (λ c. natAbs c ≤ k + 0 * 65753424657) (λ c q. omega arith) cs h
-charged-most days rate prices (e ∷ es) cs k hd hr hp ss h =
-    let y = chargeOf (e .lots) (priceIn prices (e .issue)) days rate (accruedIn prices (e .issue)) in
-    let hy = charge-most (e .lots) (priceIn prices (e .issue)) days rate (accruedIn prices (e .issue)) (ss .0 .most)
+charged-most days rate quotes (e ∷ es) cs k hd hr hp ss h =
+    let y = chargeOf (e .lots) (priceIn quotes (e .issue)) days rate (accruedIn quotes (e .issue)) in
+    let hy = charge-most (e .lots) (priceIn quotes (e .issue)) days rate (accruedIn quotes (e .issue)) (ss .0 .most)
     (hp (e .issue) (ss .0 .issue)) hd hr in
     let nf = getD cs (e .from) (pos 0) in
     let cs₁ = set cs (e .from) (nf -ℤ pos y) in
@@ -125,14 +125,14 @@ charged-most days rate prices (e ∷ es) cs k hd hr hp ss h =
     let h₂ = each-set (λ c. natAbs c ≤ k₁) cs (e .from) (nf -ℤ pos y) h₁ (omega (arith, abs-falls (nf -ℤ pos y) nf y (falls nf y), bf, hy)) in
     let h₃ = each-set (λ c. natAbs c ≤ k₁) cs₁ (e .to) (nt +ℤ pos y) h₂ (omega (arith, abs-rises (nt +ℤ pos y) nt y (rises nt y), bt, hy, ap natAbs same)) in
     each-map (λ c. natAbs c ≤ k₁ + length es * 65753424657) (λ c. natAbs c ≤ k + suc (length es) * 65753424657) (λ c q. omega arith)
-    (charged days rate prices es (set cs₁ (e .to) (nt +ℤ pos y)))
-    (charged-most days rate prices es (set cs₁ (e .to) (nt +ℤ pos y)) k₁ hd hr hp (ss .1) h₃)
+    (charged days rate quotes es (set cs₁ (e .to) (nt +ℤ pos y)))
+    (charged-most days rate quotes es (set cs₁ (e .to) (nt +ℤ pos y)) k₁ hd hr hp (ss .1) h₃)
 
 quote-most : (p a : ℕ) → quoteRight p a ≡ true → p + a ≤ mostPrice
 quote-most p a h = leb-true (p + a) mostPrice (and-right (between 1 mostPrice p && leb a mostAccrued) (leb (p + a) mostPrice) h)
 
-pub quotes-most : (prices : List ℕ) → quotesRight prices ≡ true → Quoted prices
+pub quotes-most : (quotes : List ℕ) → quotesRight quotes ≡ true → Quoted quotes
 unfolding quotesRight
-quotes-most prices h i l =
-    quote-most (priceIn prices i) (accruedIn prices i)
-    (tab-each (λ j. quoteRightIn prices j ≡ true) (λ j. j) 0 16 i (all-each (quoteRightIn prices) (tabulate (λ j. j) 0 16) h) (omega arith) (omega arith))
+quotes-most quotes h i l =
+    quote-most (priceIn quotes i) (accruedIn quotes i)
+    (tab-each (λ j. quoteRightIn quotes j ≡ true) (λ j. j) 0 16 i (all-each (quoteRightIn quotes) (tabulate (λ j. j) 0 16) h) (omega arith) (omega arith))

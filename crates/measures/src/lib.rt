@@ -35,7 +35,10 @@ pub fn lots_right(x: u32) -> bool
 pub fn quote_right(price: u32, accrued: u32) -> bool
     ensures { λ r. ⌜ r ≡ quoteRight price accrued ⌝ }
 {
-    (1 <= price) & (price <= MOST_PRICE) & (accrued <= MOST_ACCRUED) & ((price as u64) + (accrued as u64) <= MOST_SUM)
+    (1 <= price)
+        & (price <= MOST_PRICE)
+        & (accrued <= MOST_ACCRUED)
+        & ((price as u64) + (accrued as u64) <= MOST_SUM)
 }
 
 // Question 11 on days and rate: days are 1..12, the rate is 0..10,000.

@@ -173,14 +173,14 @@ pairOffAsks i a = askIssue i ∷ askAccount a ∷ []
 -- roll days, rate, sixteen prices, sixteen accrued amounts (Cut): charges; then nets and delivered lots are 0, lifts and count are cleared, day rises
 -- by 1, to Taking
 abbrev pub rollAsks : Phase → ℕ → ℕ → ℕ → List ℕ → List Question
-rollAsks phase today days rate prices = askCut phase ∷ askRoll days rate prices ∷ askDay today ∷ []
+rollAsks phase today days rate quotes = askCut phase ∷ askRoll days rate quotes ∷ askDay today ∷ []
 
 abbrev pub rolled : Book → ℕ → ℕ → List ℕ → Book
-rolled b days rate prices =
+rolled b days rate quotes =
     withDay
     (withLifts
     (withDelivered
-    (withNets (withCharges b (charged days rate prices (ledgerOf b) (b .charges))) (replicate cellCount (pos 0)))
+    (withNets (withCharges b (charged days rate quotes (ledgerOf b) (b .charges))) (replicate cellCount (pos 0)))
     (replicate cellCount 0))
     (replicate liftCells 0))
     (b .day + 1)
@@ -205,7 +205,7 @@ lentTo (Commit t out) = out
 lentTo (Cutoff out) = out
 lentTo (Resolve i a x out) = out
 lentTo (PairOff i a) = []
-lentTo (Roll days rate prices) = []
+lentTo (Roll days rate quotes) = []
 lentTo (Mark i m) = []
 
 -- question 1 is asked of deliver, commit, cutoff and resolve
@@ -218,7 +218,7 @@ outputAsks (Commit t out) = askOutput outputWords out ∷ []
 outputAsks (Cutoff out) = askOutput outputWords out ∷ []
 outputAsks (Resolve i a x out) = askOutput outputWords out ∷ []
 outputAsks (PairOff i a) = []
-outputAsks (Roll days rate prices) = []
+outputAsks (Roll days rate quotes) = []
 outputAsks (Mark i m) = []
 
 -- and is answered 'yes'
@@ -235,7 +235,7 @@ ownAsks b (Commit t out) = commitAsks (b .phase) (b .day) (orderOf b) (b .delive
 ownAsks b (Cutoff out) = cutoffAsks (b .phase) (b .count) (length (newEntries (b .day) (orderOf b) (b .nets) (b .delivered)))
 ownAsks b (Resolve i a x out) = resolveAsks (b .marks) (ledgerOf b) i a x
 ownAsks b (PairOff i a) = pairOffAsks i a
-ownAsks b (Roll days rate prices) = rollAsks (b .phase) (b .day) days rate prices
+ownAsks b (Roll days rate quotes) = rollAsks (b .phase) (b .day) days rate quotes
 ownAsks b (Mark i m) = markAsks (b .nets) (ledgerOf b) i
 
 abbrev pub asks : Book → Call → List Question
@@ -261,7 +261,7 @@ effect b (Cutoff out) =
     (cutoffRecords (b .day) (orderOf b) (b .nets) (b .delivered))
 effect b (Resolve i a x out) = writes (withLedger b (meet (isFrom i a) x (ledgerOf b))) (resolveRecords (ledgerOf b) i a x)
 effect b (PairOff i a) = pairedOff b (pairing (b .day) i a (ledgerOf b))
-effect b (Roll days rate prices) = changes (rolled b days rate prices)
+effect b (Roll days rate quotes) = changes (rolled b days rate quotes)
 effect b (Mark i m) = changes (withMarks b (markedAs (b .marks) i m))
 
 -- a call's answer, on any book and any output

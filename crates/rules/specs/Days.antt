@@ -18,7 +18,7 @@ use Rattle.rules.specs.Ledger.{entry, pairing}
 use Rattle.rules.specs.Book.{liftConditions, liftsSound, conditions, sound, liftsAt, countAt, orderIn, orderOf, stockOf, ledgerOf, cellsEven, withMarks, withLedger, fresh}
 use Rattle.rules.specs.Questions.{quotesRight}
 use Rattle.rules.specs.Calls.{Trade, Close, Deliver, Commit, Cutoff, Resolve, PairOff, Roll, Mark, Answer, ticketFor, someTicket, noTicket, oneUnit, noUnit, someYen, noYen, called, asked, unit, value, charge, issuePartials, issueFails}
-use Rattle.rules.specs.Tape.{readOf, pricesOf, rollWord, priceWord}
+use Rattle.rules.specs.Tape.{readOf, quotesOf, rollWord, quoteWord}
 use Rattle.rules.specs.Run.{Ran, runOf, answerOf, failLines, chargeLines, line}
 use Rattle.rules.specs.Text.{decimal, lineText, failText, chargeText, ranOf, closingText, printedOf}
 use Rattle.rules.specs.Tally.{State, afterAll, start, inIssue}
@@ -123,7 +123,7 @@ accruing =
 
 -- a roll of 17 words, as it was before accrued amounts
 abbrev pub olderRoll : List ℕ
-olderRoll = rollWord 1 300 ∷ replicate 16 (priceWord 100000)
+olderRoll = rollWord 1 300 ∷ replicate 16 (quoteWord 100000)
 
 -- the example of 'The program'
 abbrev pub exampleTape : List ℕ
@@ -343,22 +343,22 @@ settledDays = baseDays ++ liftDays ++ markDays ++ accruedDays
 -- each by computing what the definitions give
 
 pub baseSettled : Holds baseDays
-unfolding baseDays units handovers partials lacks fails pairing valueOf chargeOf quotesRight liftConditions liftsSound cellsEven conditions sound lift handedFrom orderIn issuePartials issueFails called asked unit value charge readOf pricesOf answerOf runOf decimal lineText failText chargeText ranOf closingText printedOf inIssue traded1 traded2 traded3 closed delivered1 delivered2 cut rolled1 pairedOff resolved committed7 eightLifts parted partedCut markedTrade markedClose markedDelivery markedCut markedRoll accruing exampleRun tallied talliedCut
+unfolding baseDays units handovers partials lacks fails pairing valueOf chargeOf quotesRight liftConditions liftsSound cellsEven conditions sound lift handedFrom orderIn issuePartials issueFails called asked unit value charge readOf quotesOf answerOf runOf decimal lineText failText chargeText ranOf closingText printedOf inIssue traded1 traded2 traded3 closed delivered1 delivered2 cut rolled1 pairedOff resolved committed7 eightLifts parted partedCut markedTrade markedClose markedDelivery markedCut markedRoll accruing exampleRun tallied talliedCut
 baseSettled =
     (refl, (refl, (refl, (refl, (refl, (refl, (refl, (refl, (refl, (refl, (refl, (refl, (refl, (refl, (refl, (refl, (refl, (refl, (refl, (refl, (refl, (refl, (refl, (refl, (refl, (refl, (refl, (refl, (refl, (refl, (refl, (refl, (refl, (refl, (refl, tt)))))))))))))))))))))))))))))))))))
 
 pub liftSettled : Holds liftDays
-unfolding units handovers partials lacks fails pairing valueOf chargeOf quotesRight liftConditions liftsSound cellsEven conditions sound lift handedFrom orderIn issuePartials issueFails called asked unit value charge readOf pricesOf answerOf runOf decimal lineText failText chargeText ranOf closingText printedOf inIssue traded1 traded2 traded3 closed delivered1 delivered2 cut rolled1 pairedOff resolved committed7 eightLifts parted partedCut markedTrade markedClose markedDelivery markedCut markedRoll accruing exampleRun tallied talliedCut
+unfolding units handovers partials lacks fails pairing valueOf chargeOf quotesRight liftConditions liftsSound cellsEven conditions sound lift handedFrom orderIn issuePartials issueFails called asked unit value charge readOf quotesOf answerOf runOf decimal lineText failText chargeText ranOf closingText printedOf inIssue traded1 traded2 traded3 closed delivered1 delivered2 cut rolled1 pairedOff resolved committed7 eightLifts parted partedCut markedTrade markedClose markedDelivery markedCut markedRoll accruing exampleRun tallied talliedCut
 liftSettled =
     (refl, (refl, (refl, (refl, (refl, (refl, (refl, (refl, (refl, (refl, (refl, (refl, (refl, (refl, (refl, (refl, tt))))))))))))))))
 
 pub markSettled : Holds markDays
-unfolding units handovers partials lacks fails pairing valueOf chargeOf quotesRight liftConditions liftsSound cellsEven conditions sound lift handedFrom orderIn issuePartials issueFails called asked unit value charge readOf pricesOf answerOf runOf decimal lineText failText chargeText ranOf closingText printedOf inIssue traded1 traded2 traded3 closed delivered1 delivered2 cut rolled1 pairedOff resolved committed7 eightLifts parted partedCut markedTrade markedClose markedDelivery markedCut markedRoll accruing exampleRun tallied talliedCut
+unfolding units handovers partials lacks fails pairing valueOf chargeOf quotesRight liftConditions liftsSound cellsEven conditions sound lift handedFrom orderIn issuePartials issueFails called asked unit value charge readOf quotesOf answerOf runOf decimal lineText failText chargeText ranOf closingText printedOf inIssue traded1 traded2 traded3 closed delivered1 delivered2 cut rolled1 pairedOff resolved committed7 eightLifts parted partedCut markedTrade markedClose markedDelivery markedCut markedRoll accruing exampleRun tallied talliedCut
 markSettled =
     (refl, (refl, (refl, (refl, (refl, (refl, (refl, (refl, (refl, (refl, (refl, (refl, (refl, tt)))))))))))))
 
 pub accruedSettled : Holds accruedDays
-unfolding units handovers partials lacks fails pairing valueOf chargeOf quotesRight liftConditions liftsSound cellsEven conditions sound lift handedFrom orderIn issuePartials issueFails called asked unit value charge readOf pricesOf answerOf runOf decimal lineText failText chargeText ranOf closingText printedOf inIssue traded1 traded2 traded3 closed delivered1 delivered2 cut rolled1 pairedOff resolved committed7 eightLifts parted partedCut markedTrade markedClose markedDelivery markedCut markedRoll accruing exampleRun tallied talliedCut
+unfolding units handovers partials lacks fails pairing valueOf chargeOf quotesRight liftConditions liftsSound cellsEven conditions sound lift handedFrom orderIn issuePartials issueFails called asked unit value charge readOf quotesOf answerOf runOf decimal lineText failText chargeText ranOf closingText printedOf inIssue traded1 traded2 traded3 closed delivered1 delivered2 cut rolled1 pairedOff resolved committed7 eightLifts parted partedCut markedTrade markedClose markedDelivery markedCut markedRoll accruing exampleRun tallied talliedCut
 accruedSettled = (refl, (refl, (refl, (refl, (refl, (refl, (refl, (refl, (refl, tt)))))))))
 
 -- and so all of them

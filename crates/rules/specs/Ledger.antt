@@ -108,8 +108,8 @@ mostSteps a b = cond (bothAbove0 a b) (a + b - 1) 0
 
 -- roll: for each entry its charge is taken from 'from' and given to 'to'
 abbrev pub charged : ℕ → ℕ → List ℕ → List Entry → List ℤ → List ℤ
-charged days rate prices [] cs = cs
-charged days rate prices (e ∷ es) cs =
-    let y = chargeOf (e .lots) (priceIn prices (e .issue)) days rate (accruedIn prices (e .issue)) in
+charged days rate quotes [] cs = cs
+charged days rate quotes (e ∷ es) cs =
+    let y = chargeOf (e .lots) (priceIn quotes (e .issue)) days rate (accruedIn quotes (e .issue)) in
     let taken = set cs (e .from) (getD cs (e .from) (pos 0) -ℤ pos y) in
-    charged days rate prices es (set taken (e .to) (getD taken (e .to) (pos 0) +ℤ pos y))
+    charged days rate quotes es (set taken (e .to) (getD taken (e .to) (pos 0) +ℤ pos y))

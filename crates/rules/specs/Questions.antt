@@ -87,13 +87,13 @@ quoteRight price accrued = between 1 mostPrice price && leb accrued mostAccrued 
 
 -- for each issue
 abbrev pub quoteRightIn : List ℕ → ℕ → Bool
-quoteRightIn prices i = quoteRight (priceIn prices i) (accruedIn prices i)
+quoteRightIn quotes i = quoteRight (priceIn quotes i) (accruedIn quotes i)
 
 unfoldable pub quotesRight : List ℕ → Bool
-quotesRight prices = all (quoteRightIn prices) (tabulate (λ i. i) 0 issueCount)
+quotesRight quotes = all (quoteRightIn quotes) (tabulate (λ i. i) 0 issueCount)
 
 abbrev pub askRoll : ℕ → ℕ → List ℕ → Question
-askRoll days rate prices = ask 11 (termRight days rate && eqb (length prices) quoteCount && quotesRight prices)
+askRoll days rate quotes = ask 11 (termRight days rate && eqb (length quotes) quoteCount && quotesRight quotes)
 
 abbrev pub askQuote : ℕ → ℕ → Question
 askQuote price accrued = ask 11 (quoteRight price accrued)

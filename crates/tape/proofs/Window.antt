@@ -8,8 +8,8 @@ use lib.ListN.{length, take}
 use lib.Seq.{getD-take, take-take, take-append-le}
 use Rattle.rules.specs.declared.Word.{Word}
 use Rattle.rules.specs.Measures.{quoteCount, tapeWords}
-use Rattle.rules.specs.Records.{priceBits, ofField}
-use Rattle.rules.specs.Tape.{kindOf, Kind, head, after, none, kindAt, clear, asKind, wordAs, isAfter, wordsWrong, readAs, readFrom, readOf, pricesOf}
+use Rattle.rules.specs.Records.{quoteBits, ofField}
+use Rattle.rules.specs.Tape.{kindOf, Kind, head, after, none, kindAt, clear, asKind, wordAs, isAfter, wordsWrong, readAs, readFrom, readOf, quotesOf}
 use Rattle.laws.proofs.Basics.{either}
 use Rattle.tape.proofs.Table.{by-kind}
 
@@ -45,11 +45,11 @@ read-window (suc n) [] h = refl
 read-window (suc n) (w ∷ ws) h =
     rw (getD-take n ws 0 0 (omega arith)) (from-take n (omega arith) ws (kindAt (kindOf w)) w _ (few (kindOf w)))
 
-pub prices-window : (n : ℕ) (ws : List ℕ) → tapeWords ≤ n → pricesOf (take n ws) ≡ pricesOf ws
-unfolding pricesOf
-prices-window zero ws h = absurd (omega arith)
-prices-window (suc n) [] h = refl
-prices-window (suc n) (w ∷ ws) h = ap (map (ofField priceBits)) (take-take quoteCount n ws (omega arith))
+pub quotes-window : (n : ℕ) (ws : List ℕ) → tapeWords ≤ n → quotesOf (take n ws) ≡ quotesOf ws
+unfolding quotesOf
+quotes-window zero ws h = absurd (omega arith)
+quotes-window (suc n) [] h = refl
+quotes-window (suc n) (w ∷ ws) h = ap (map (ofField quoteBits)) (take-take quoteCount n ws (omega arith))
 
 -- so words behind thirty-three that are there change nothing
 module _ (ws more : List ℕ) (enough : tapeWords ≤ length ws) where
@@ -60,7 +60,7 @@ module _ (ws more : List ℕ) (enough : tapeWords ≤ length ws) where
   read-append =
       sym (read-window tapeWords (ws ++ more) (omega arith)) ∙ ap readOf first-words ∙ read-window tapeWords ws (omega arith)
 
-  pub prices-append : pricesOf (ws ++ more) ≡ pricesOf ws
-  prices-append =
-      sym (prices-window tapeWords (ws ++ more) (omega arith)) ∙ ap pricesOf first-words
-      ∙ prices-window tapeWords ws (omega arith)
+  pub quotes-append : quotesOf (ws ++ more) ≡ quotesOf ws
+  quotes-append =
+      sym (quotes-window tapeWords (ws ++ more) (omega arith)) ∙ ap quotesOf first-words
+      ∙ quotes-window tapeWords ws (omega arith)

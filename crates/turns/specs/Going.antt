@@ -12,7 +12,7 @@ use Rattle.rules.specs.declared.Name.the-variants.{Tape}
 use Rattle.rules.specs.declared.Read.{Read}
 use Rattle.rules.specs.declared.Read.the-variants.{Instr, Refused}
 use Rattle.rules.specs.Book.{sound}
-use Rattle.rules.specs.Tape.{readOf, pricesOf}
+use Rattle.rules.specs.Tape.{readOf, quotesOf}
 use Rattle.rules.specs.Run.{Ran, line, nameOf, callOf, answerOf, stopped, runRest}
 use Rattle.rules.specs.Text.{lineText, linesText}
 use Rattle.report.specs.Added.{Added}
@@ -23,7 +23,7 @@ pub record Begins (ws : List ℕ) (x : Instruction) : Type 0 where
   pub count : ℕ
   pub read : readOf ws ≡ Instr x count
 
--- an instruction that has prices
+-- an instruction that has quotes
 abbrev pub rollsOf : Instruction → Bool
 rollsOf (instruction.Trade i f t x) = false
 rollsOf (instruction.Deliver i a x) = false
@@ -33,9 +33,9 @@ rollsOf instruction.Close = false
 rollsOf instruction.Cutoff = false
 rollsOf (instruction.Roll days rate) = true
 
--- prices with which it is the call of the words
-abbrev pub Priced : List ℕ → Instruction → List ℕ → Type 0
-Priced ws x prices = (out : List ℕ) → callOf x prices out ≡ callOf x (pricesOf ws) out
+-- quotes with which it is the call of the words
+abbrev pub Quoted : List ℕ → Instruction → List ℕ → Type 0
+Quoted ws x quotes = (out : List ℕ) → callOf x quotes out ≡ callOf x (quotesOf ws) out
 
 -- one turn: the instruction's line is put down, and the book is the answer's
 pub record Stepped (ws : List ℕ) (x : Instruction) (index : ℕ) (b : Book) (text text′ : List ℕ) (at : ℕ) (r : Step) (b′ : Book) : Type 0 where

@@ -12,10 +12,10 @@ use Rattle.rolling.proofs.quotes_right.Statement.{statement}
 use Rattle.rolling.proofs.quotes_right.Tie as tie
 
 abbrev Inv-loop : tie.InvT-loop
-Inv-loop prices good₀ i₀ good i = (i ≤ 16) × (good && restOfIssues (quoteRightIn prices) i ≡ quotesRight prices)
+Inv-loop quotes good₀ i₀ good i = (i ≤ 16) × (good && restOfIssues (quoteRightIn quotes) i ≡ quotesRight quotes)
 
 abbrev μ-loop : tie.MeasureT-loop
-μ-loop prices good₀ i₀ good i = 16 - i
+μ-loop quotes good₀ i₀ good i = 16 - i
 
 whole : (qs : List ℕ) → restOfIssues (quoteRightIn qs) 0 ≡ quotesRight qs
 unfolding quotesRight
@@ -28,7 +28,7 @@ loop-again : tie.Need-loop-again Inv-loop μ-loop
 loop-again c =
     let l = c .before .before .before .before .loop in
     let s = c .before .before .before .before .before .before in
-    (omega arith, issues-more (quoteRightIn (now (s .args .prices))) (l .i) (l .good) _ _ (omega arith) (c .quote-right .ensures) (l .inv .1))
+    (omega arith, issues-more (quoteRightIn (now (s .args .quotes))) (l .i) (l .good) _ _ (omega arith) (c .quote-right .ensures) (l .inv .1))
 
 returns : tie.Need-returns Inv-loop μ-loop
 returns c =
