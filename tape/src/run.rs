@@ -132,6 +132,20 @@ mod tests {
     }
 
     #[test]
+    fn an_older_roll_at_which_reading_ended_is_told() {
+        let mut words = vec![0x5000_0000, 0x7104_b000];
+        words.extend([0x9001_86a0; 16]);
+        let tape = crate::bytes::join(&words);
+        let told = advice(&tape, "1 tape 13 0");
+        assert!(
+            told.starts_with("; this roll has no accrued amounts: put sixteen words"),
+            "{told}"
+        );
+        assert_eq!(advice(&tape, "0 tape 14 0"), "");
+        assert_eq!(advice(&tape, "99 tape 13 0"), "");
+    }
+
+    #[test]
     fn an_output_that_fails_is_told() {
         struct Full;
         impl Write for Full {
