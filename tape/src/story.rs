@@ -90,8 +90,9 @@ impl Story<'_> {
         let quotes = if roll { tape::quotes(words) } else { [0; QUOTES] };
         let entries: Vec<Entry> = if roll { self.book.ledger().collect() } else { Vec::new() };
         let answer = calls::call(&mut self.book, &instruction, &quotes, &mut self.output);
-        let refusal =
-            answer.refused().map(|refusal| (refusal, why(&self.book, &instruction, refusal)));
+        let refusal = answer
+            .refused()
+            .map(|refusal| (refusal, why(&self.book, &instruction, &quotes, refusal)));
         let refused = refusal.is_some();
         let told = Fact::Instruction { word, instruction, refusal };
         if let (Instruction::Roll { days, rate }, false) = (instruction, refused) {
