@@ -343,22 +343,22 @@ settledDays = baseDays ++ liftDays ++ markDays ++ accruedDays
 -- each by computing what the definitions give
 
 pub baseSettled : Holds baseDays
-unfolding baseDays units handovers partials lacks fails pairing valueOf chargeOf quotesRight liftConditions liftsSound cellsEven conditions sound lift handedFrom orderIn issuePartials issueFails called asked unit value charge readOf quotesOf answerOf runOf decimal lineText failText chargeText ranOf closingText printedOf inIssue traded1 traded2 traded3 closed delivered1 delivered2 cut rolled1 pairedOff resolved committed7 eightLifts parted partedCut markedTrade markedClose markedDelivery markedCut markedRoll accruing exampleRun tallied talliedCut
+unfolding baseDays units handovers partials lacks fails pairing valueOf chargeOf quotesRight liftConditions liftsSound cellsEven conditions sound orderIn issuePartials issueFails called unit value charge readOf quotesOf answerOf runOf decimal lineText failText chargeText ranOf closingText printedOf inIssue traded1 traded2 traded3 closed delivered1 delivered2 cut rolled1 pairedOff resolved exampleRun tallied talliedCut
 baseSettled =
     (refl, (refl, (refl, (refl, (refl, (refl, (refl, (refl, (refl, (refl, (refl, (refl, (refl, (refl, (refl, (refl, (refl, (refl, (refl, (refl, (refl, (refl, (refl, (refl, (refl, (refl, (refl, (refl, (refl, (refl, (refl, (refl, (refl, (refl, (refl, tt)))))))))))))))))))))))))))))))))))
 
 pub liftSettled : Holds liftDays
-unfolding units handovers partials lacks fails pairing valueOf chargeOf quotesRight liftConditions liftsSound cellsEven conditions sound lift handedFrom orderIn issuePartials issueFails called asked unit value charge readOf quotesOf answerOf runOf decimal lineText failText chargeText ranOf closingText printedOf inIssue traded1 traded2 traded3 closed delivered1 delivered2 cut rolled1 pairedOff resolved committed7 eightLifts parted partedCut markedTrade markedClose markedDelivery markedCut markedRoll accruing exampleRun tallied talliedCut
+unfolding units handovers partials lacks fails valueOf chargeOf quotesRight liftConditions liftsSound cellsEven conditions sound lift handedFrom orderIn issuePartials issueFails called asked traded1 traded2 traded3 closed delivered1 delivered2 committed7 eightLifts parted partedCut
 liftSettled =
     (refl, (refl, (refl, (refl, (refl, (refl, (refl, (refl, (refl, (refl, (refl, (refl, (refl, (refl, (refl, (refl, tt))))))))))))))))
 
 pub markSettled : Holds markDays
-unfolding units handovers partials lacks fails pairing valueOf chargeOf quotesRight liftConditions liftsSound cellsEven conditions sound lift handedFrom orderIn issuePartials issueFails called asked unit value charge readOf quotesOf answerOf runOf decimal lineText failText chargeText ranOf closingText printedOf inIssue traded1 traded2 traded3 closed delivered1 delivered2 cut rolled1 pairedOff resolved committed7 eightLifts parted partedCut markedTrade markedClose markedDelivery markedCut markedRoll accruing exampleRun tallied talliedCut
+unfolding units handovers partials lacks fails valueOf chargeOf quotesRight liftConditions liftsSound cellsEven conditions sound orderIn issuePartials issueFails called readOf quotesOf answerOf runOf markedTrade markedClose markedDelivery markedCut markedRoll
 markSettled =
     (refl, (refl, (refl, (refl, (refl, (refl, (refl, (refl, (refl, (refl, (refl, (refl, (refl, tt)))))))))))))
 
 pub accruedSettled : Holds accruedDays
-unfolding units handovers partials lacks fails pairing valueOf chargeOf quotesRight liftConditions liftsSound cellsEven conditions sound lift handedFrom orderIn issuePartials issueFails called asked unit value charge readOf quotesOf answerOf runOf decimal lineText failText chargeText ranOf closingText printedOf inIssue traded1 traded2 traded3 closed delivered1 delivered2 cut rolled1 pairedOff resolved committed7 eightLifts parted partedCut markedTrade markedClose markedDelivery markedCut markedRoll accruing exampleRun tallied talliedCut
+unfolding units partials lacks fails valueOf chargeOf quotesRight liftConditions liftsSound cellsEven conditions sound orderIn issuePartials issueFails called value charge readOf answerOf runOf accruing
 accruedSettled = (refl, (refl, (refl, (refl, (refl, (refl, (refl, (refl, (refl, tt)))))))))
 
 -- and so all of them
