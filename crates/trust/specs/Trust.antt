@@ -32,9 +32,12 @@ same k j = cond (eqb j k) 1 0
 unfoldable pub times : ℕ → List ℕ → ℕ
 times k ks = total (same k) ks
 
+abbrev pub onceIn : List ℕ → ℕ → Bool
+onceIn ks k = eqb (times k ks) 1
+
 -- 21. Is the list each report number just once?
 unfoldable pub drawRight : ℕ → List ℕ → Bool
-drawRight n draw = all (λ k. ltb k n) draw && all (λ k. eqb (times k draw) 1) (numbers n)
+drawRight n draw = all (λ k. ltb k n) draw && all (onceIn draw) (numbers n)
 
 -- where columns differ in length there is no such number of reports
 abbrev pub askDraw : Reports → List ℕ → Question
