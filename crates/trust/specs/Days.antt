@@ -5,8 +5,8 @@ use Prim.Native.Nat.{ℕ}
 use lib.ListN.{replicate}
 use lib.IntN.{ℤ, pos, negsuc}
 use Rattle.rules.specs.Days.{Case, case, Holds}
-use Rattle.trust.specs.Reports.{Reports, numbers, receipts, deliveries, eligible, sizeOf, eligibleLots}
-use Rattle.trust.specs.Trust.{times, drawRight, facing, others, sharesOf, TrustAnswer, trust}
+use Rattle.trust.specs.Reports.{Reports, reports, numbers, receipts, deliveries, eligible, sizeOf, eligibleLots}
+use Rattle.trust.specs.Trust.{times, drawRight, facing, others, sharesOf, TrustAnswer, answered, trust}
 
 -- a lent output: the places beyond the reports show that they are kept
 abbrev pub lent : List ℕ
@@ -14,13 +14,9 @@ lent = replicate 256 7
 
 abbrev pub nineReports : List ℕ → List ℕ → Reports
 nineReports subs earlier =
-    record {
-      subs = subs;
-      parties = 4 ∷ 5 ∷ 4 ∷ 6 ∷ 6 ∷ 4 ∷ 4 ∷ 6 ∷ 4 ∷ [];
-      lots =
-        pos 30000 ∷ negsuc 9999 ∷ pos 20000 ∷ negsuc 19999 ∷ pos 40000 ∷ pos 5000 ∷ pos 8000 ∷ negsuc 1999 ∷ pos 1000 ∷ [];
-      earlier = earlier;
-    }
+    reports subs (4 ∷ 5 ∷ 4 ∷ 6 ∷ 6 ∷ 4 ∷ 4 ∷ 6 ∷ 4 ∷ [])
+    (pos 30000 ∷ negsuc 9999 ∷ pos 20000 ∷ negsuc 19999 ∷ pos 40000 ∷ pos 5000 ∷ pos 8000 ∷ negsuc 1999 ∷ pos 1000 ∷ [])
+    earlier
 
 -- sub-account 0 receives 30,000 and delivers 10,000; 1 receives and delivers 20,000; 2 receives 40,000, and 5,000 more with
 -- an earlier fail; 3 receives 8,000; 4 receives 1,000, and delivers 2,000 with an earlier fail
@@ -31,10 +27,10 @@ abbrev pub drawn : List ℕ
 drawn = 4 ∷ 8 ∷ 6 ∷ 1 ∷ 0 ∷ 5 ∷ 3 ∷ 2 ∷ 7 ∷ []
 
 abbrev pub shared : List ℕ → TrustAnswer
-shared shares = record { refusal = 0; out = shares ++ replicate 247 7 }
+shared shares = answered 0 (shares ++ replicate 247 7)
 
 abbrev pub refused : ℕ → TrustAnswer
-refused n = record { refusal = n; out = lent }
+refused n = answered n lent
 
 unfoldable pub workedDays : List Case
 workedDays =
@@ -52,7 +48,7 @@ workedDays =
     ∷ case (trust (nineReports (day .subs) (replicate 9 0)) drawn 50000 4 lent)
     (shared (30000 ∷ 0 ∷ 0 ∷ 0 ∷ 7000 ∷ 5000 ∷ 8000 ∷ 0 ∷ 0 ∷ []))
     -- the refusals, in their order
-    ∷ case (trust day [] 0 64 (replicate 255 7)) (record { refusal = 1; out = replicate 255 7 })
+    ∷ case (trust day [] 0 64 (replicate 255 7)) (answered 1 (replicate 255 7))
     ∷ case (trust day [] 0 64 lent) (refused 5)
     ∷ case (trust day [] 0 4 lent) (refused 7)
     ∷ case (trust day [] 20000001 4 lent) (refused 7)

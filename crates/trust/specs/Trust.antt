@@ -1,6 +1,6 @@
 -- The shares of a fail inside a trust account: the questions, the two groups, the answer.
 use mathlib.Core.Bool.{Bool, cond, not, _&&_}
-use mathlib.Core.List.{List, [], _∷_}
+use mathlib.Core.List.{List, [], _∷_, _++_}
 use Prim.Native.Nat.{ℕ, zero, suc}
 use lib.Dec.{leb, ltb, eqb}
 use lib.ListN.{length, replicate}
@@ -52,11 +52,15 @@ abbrev pub askEligible : Reports → ℕ → Question
 askEligible rs fail = ask 23 (leb fail (eligibleLots rs))
 
 -- the output has at least 256 places; the failing account and counterparties come under question 5, the fail and each
--- report's lots under 7; then 21, 22 and 23
-abbrev pub trustAsks : Reports → List ℕ → ℕ → ℕ → List ℕ → List Question
-trustAsks rs draw fail failing out =
+-- report's lots under 7; then 21 and 22
+abbrev pub reportAsks : Reports → List ℕ → ℕ → ℕ → List ℕ → List Question
+reportAsks rs draw fail failing out =
     askOutput mostReports out ∷ askAccount failing ∷ askParties (rs .parties) ∷ askLots fail ∷ askReportLots (rs .lots)
-    ∷ askDraw rs draw ∷ askReports rs ∷ askEligible rs fail ∷ []
+    ∷ askDraw rs draw ∷ askReports rs ∷ []
+
+-- and 23
+abbrev pub trustAsks : Reports → List ℕ → ℕ → ℕ → List ℕ → List Question
+trustAsks rs draw fail failing out = reportAsks rs draw fail failing out ++ (askEligible rs fail ∷ [])
 
 -- the eligible reports facing the failing account, and the others, in the drawn order
 unfoldable pub facing : Reports → ℕ → List ℕ → List ℕ
@@ -79,10 +83,13 @@ pub record TrustAnswer : Type 0 where
   pub refusal : ℕ
   pub out : List ℕ
 
+abbrev pub answered : ℕ → List ℕ → TrustAnswer
+answered refusal out = record { refusal = refusal; out = out }
+
 -- places beyond the reports keep their content; a refusal changes nothing
 abbrev pub trustAnswer : ℕ → List ℕ → List ℕ → TrustAnswer
-trustAnswer zero shares out = record { refusal = 0; out = over shares out }
-trustAnswer (suc r) shares out = record { refusal = suc r; out = out }
+trustAnswer zero shares out = answered 0 (over shares out)
+trustAnswer (suc r) shares out = answered (suc r) out
 
 unfoldable pub trust : Reports → List ℕ → ℕ → ℕ → List ℕ → TrustAnswer
 trust rs draw fail failing out =
