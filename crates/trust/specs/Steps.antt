@@ -1,10 +1,10 @@
 -- What the functions of this crate may count on, and what they leave.
 use mathlib.Core.Path.{_≡_}
-use mathlib.Core.Bool.{Bool, true, cond, not, _&&_}
-use mathlib.Core.List.{List, []}
+use mathlib.Core.Bool.{Bool, true, false, cond, not, _&&_}
+use mathlib.Core.List.{List, [], _++_}
 use Prim.Native.Nat.{ℕ, _≤_, _<_}
 use lib.Dec.{ltb, eqb}
-use lib.ListN.{length, getD}
+use lib.ListN.{length, getD, drop, replicate}
 use lib.IntN.{ℤ}
 use Rattle.rules.specs.Book.{all}
 use Rattle.trust.specs.Reports.{mostReports, Reports, reports, sizeOf, eligibleLots}
@@ -56,3 +56,9 @@ pub record Drawn (n : ℕ) (sizes parties draw out : List ℕ) : Type 0 where
 
 abbrev pub allotGroup : Bool → ℕ → List ℕ → List ℕ → List ℕ → Allotment → Allotment
 allotGroup facing failing sizes parties draw a = allot (λ k. getD sizes k 0) (group facing failing sizes parties draw) a
+
+-- first those facing the failing account, then the others, in an output whose first n places are 0
+unfoldable pub sharedOut : ℕ → ℕ → List ℕ → List ℕ → List ℕ → ℕ → List ℕ → List ℕ
+sharedOut failing n sizes parties draw fail out =
+    allotGroup false failing sizes parties draw
+    (allotGroup true failing sizes parties draw (allotment fail (replicate n 0 ++ drop n out))) .shares

@@ -40,12 +40,18 @@ unfoldable pub drawRight : ℕ → List ℕ → Bool
 drawRight n draw = all (λ k. ltb k n) draw && all (onceIn draw) (numbers n)
 
 -- where columns differ in length there is no such number of reports
+abbrev pub drawnRight : Reports → List ℕ → Bool
+drawnRight rs draw = columnsRight rs && drawRight (numberOf rs) draw
+
 abbrev pub askDraw : Reports → List ℕ → Question
-askDraw rs draw = ask 21 (columnsRight rs && drawRight (numberOf rs) draw)
+askDraw rs draw = ask 21 (drawnRight rs draw)
 
 -- 22. Are there at most 256 reports, and is each sub-account number at most 31?
+abbrev pub fewRight : List ℕ → Bool
+fewRight subs = leb (length subs) mostReports && all (λ s. leb s lastSub) subs
+
 abbrev pub askReports : Reports → Question
-askReports rs = ask 22 (leb (numberOf rs) mostReports && all (λ s. leb s lastSub) (rs .subs))
+askReports rs = ask 22 (fewRight (rs .subs))
 
 -- 23. Is the fail at most the eligible lots?
 abbrev pub askEligible : Reports → ℕ → Question

@@ -6,10 +6,11 @@ ghost use lib.Dec.{ltb};
 ghost use lib.ListN.{length, drop, replicate};
 ghost use Rattle.rules.specs.Measures.{mostLots};
 ghost use Rattle.rules.specs.Book.{all, withinSize};
-ghost use Rattle.trust.specs.Reports.{netReceiver, sizeOf};
+ghost use Rattle.rules.specs.Questions.{firstNo};
+ghost use Rattle.trust.specs.Reports.{reports, netReceiver, sizeOf};
 ghost use Rattle.trust.specs.Allotting.{allotment};
-ghost use Rattle.trust.specs.Trust.{same as sameAs, times as timesIn, drawRight};
-ghost use Rattle.trust.specs.Steps.{unfaced, Few, OneOf, Sizable, Sized, countedFor, inGroup, Drawn, allotGroup};
+ghost use Rattle.trust.specs.Trust.{same as sameAs, times as timesIn, drawRight, drawnRight, fewRight, reportAsks, answered, trust};
+ghost use Rattle.trust.specs.Steps.{unfaced, Few, OneOf, Sizable, Sized, countedFor, inGroup, Drawn, allotGroup, sharedOut};
 
 // Is each number of the column below the limit?
 fn below(column: &[u32], limit: usize) -> bool
@@ -182,4 +183,98 @@ fn allot(facing: bool, failing: u32, n: usize, sizes: &[u32], parties: &[u32], d
         i += 1;
     }
     rest
+}
+
+// The reports facing the failing account take lots first, then the others.
+fn share(failing: u32, n: usize, sizes: &[u32], parties: &[u32], draw: &[u32], fail: u32, out: &mut [u32])
+    requires { ⌜ Drawn n (now sizes) (now parties) (now draw) (now out) ⌝ }
+    ensures { λ _. ⌜ now (out .exit) ≡ sharedOut failing n (now (sizes .entry)) (now (parties .entry)) (now (draw .entry)) fail (now (out .entry)) ⌝ }
+{
+    clear(n, out);
+    let left = allot(true, failing, n, sizes, parties, draw, fail, out);
+    allot(false, failing, n, sizes, parties, draw, left, out);
+}
+
+// Has every column a place for each report, and is the draw each report number just once?
+fn drawn(subs: &[u32], parties: &[u32], lots: &[i32], earlier: &[u8], draw: &[u32]) -> bool
+    ensures { λ r. ⌜ r ≡ drawnRight (reports (now (subs .entry)) (now (parties .entry)) (now (lots .entry)) (now (earlier .entry))) (now (draw .entry)) ⌝ }
+{
+    if parties.len() != subs.len() {
+        return false;
+    }
+    if lots.len() != subs.len() {
+        return false;
+    }
+    if earlier.len() != subs.len() {
+        return false;
+    }
+    draw_right(subs.len(), draw)
+}
+
+// Are there at most 256 reports, of sub-accounts 0 to 31?
+fn few(subs: &[u32]) -> bool
+    ensures { λ r. ⌜ r ≡ fewRight (now (subs .entry)) ⌝ }
+{
+    if 256 < subs.len() {
+        return false;
+    }
+    below(subs, 32)
+}
+
+// The questions but the last, that of the eligible lots: the number of the first 'no', 0 where there is none.
+fn report_asks(subs: &[u32], parties: &[u32], lots: &[i32], earlier: &[u8], draw: &[u32], fail: u32, failing: u32, out: &[u32]) -> u32
+    ensures { λ r. ⌜ r ≡ firstNo (reportAsks (reports (now (subs .entry)) (now (parties .entry)) (now (lots .entry)) (now (earlier .entry))) (now (draw .entry)) fail failing (now (out .entry))) ⌝ }
+{
+    if out.len() < 256 {
+        return 1;
+    }
+    if 63 < failing {
+        return 5;
+    }
+    if !below(parties, 64) {
+        return 5;
+    }
+    if fail < 1 {
+        return 7;
+    }
+    if 20_000_000 < fail {
+        return 7;
+    }
+    if !lots_right(lots) {
+        return 7;
+    }
+    if !drawn(subs, parties, lots, earlier, draw) {
+        return 21;
+    }
+    if !few(subs) {
+        return 22;
+    }
+    0
+}
+
+// Each report's share of the fail, at the place of its number: the refusal's number, 0 where it is done.
+#[no_mangle]
+pub extern "C" fn day_trust(
+    subs: &[u32],
+    parties: &[u32],
+    lots: &[i32],
+    earlier: &[u8],
+    draw: &[u32],
+    fail: u32,
+    failing: u32,
+    out: &mut [u32],
+) -> u32
+    ensures { λ r. ⌜ answered r (now (out .exit)) ≡ trust (reports (now (subs .entry)) (now (parties .entry)) (now (lots .entry)) (now (earlier .entry))) (now (draw .entry)) fail failing (now (out .entry)) ⌝ }
+{
+    let no = report_asks(subs, parties, lots, earlier, draw, fail, failing, out);
+    if no != 0 {
+        return no;
+    }
+    let mut sizes = [0u32; 256];
+    let sum = sizes_of(subs, lots, earlier, &mut sizes);
+    if sum < fail as u64 {
+        return 23;
+    }
+    share(failing, subs.len(), &sizes, parties, draw, fail, out);
+    0
 }
