@@ -167,3 +167,14 @@ pub total-those : (p : ℕ → Bool) (f : ℕ → ℕ) (ks : List ℕ) → total
 total-those p f [] = refl
 total-those p f (k ∷ ks) =
     byTest (p k) (λ e. simp e (ap (λ x. f k + x) (total-those p f ks))) (λ e. simp e (omega (arith, total-those p f ks)))
+
+-- where a report of the second list takes lots, each of the first has its whole size
+pub first-whole : (s : ℕ → ℕ) (j k : ℕ) (js ks : List ℕ) (a : Allotment) → times j js ≡ 1 → times j ks ≡ 0 → times k js ≡ 0 →
+    j < length (a .shares) → getD (a .shares) k 0 ≡ 0 → 0 < getD (allot s ks (allot s js a) .shares) k 0 →
+    getD (allot s ks (allot s js a) .shares) j 0 ≡ s j
+first-whole s j k js ks a here gone none l z h =
+    byTest (ltb 0 (allot s js a .left))
+    (λ e. not-in s j ks (allot s js a) gone ∙ whole s j js a here l (ltb-true 0 (allot s js a .left) e))
+    (λ e.
+    let o = ltb-false 0 (allot s js a .left) e in
+    absurd (omega (arith, h, none-left s k ks (allot s js a) (omega arith) (not-in s k js a none ∙ z))))

@@ -95,7 +95,7 @@ only x j i (suc m) h l =
     (λ e. simp e (omega (arith, only-none x j (suc i) m (omega (arith, eqb-true j i e)))))
     (λ e. simp e (omega (arith, only x j (suc i) m (omega (arith, eqb-false j i e)) (omega arith))))
 
-pub total-none : (ks : List ℕ) → total (λ k. 0) ks ≡ 0
+total-none : (ks : List ℕ) → total (λ k. 0) ks ≡ 0
 total-none [] = refl
 total-none (k ∷ ks) = omega (arith, total-none ks)
 
@@ -110,12 +110,15 @@ by-number f n (j ∷ ks) h =
     only (f j) j 0 n (omega arith) (omega arith),
     by-number f n ks (and-right (ltb j n) (all (λ i. ltb i n) ks) h))
 
-pub total-same : (f g : ℕ → ℕ) (i m : ℕ) → ((k : ℕ) → k < i + m → f k ≡ g k) → total f (tabulate (λ k. k) i m) ≡ total g (tabulate (λ k. k) i m)
+total-same : (f g : ℕ → ℕ) (i m : ℕ) → ((k : ℕ) → k < i + m → f k ≡ g k) → total f (tabulate (λ k. k) i m) ≡ total g (tabulate (λ k. k) i m)
 total-same f g i zero e = refl
 total-same f g i (suc m) e = omega (arith, e i (omega arith), total-same f g (suc i) m (λ k l. e k (omega arith)))
 
+pub total-numbers : (f g : ℕ → ℕ) (n : ℕ) → ((k : ℕ) → k < n → f k ≡ g k) → total f (numbers n) ≡ total g (numbers n)
+unfolding numbers
+total-numbers f g n e = total-same f g 0 n (λ k l. e k (omega arith))
+
 -- every sum over a right draw is the sum over the report numbers
 pub total-draw : (f : ℕ → ℕ) (n : ℕ) (draw : List ℕ) → RightDraw n draw → total f draw ≡ total f (numbers n)
-unfolding numbers
 total-draw f n draw r =
-    sym (by-number f n draw (r .below)) ∙ total-same (λ k. total (at f k) draw) f 0 n (λ k l. at-once f k draw (r .once k (omega arith)))
+    sym (by-number f n draw (r .below)) ∙ total-numbers (λ k. total (at f k) draw) f n (λ k l. at-once f k draw (r .once k l))

@@ -1,16 +1,16 @@
 -- Sums over what is left of a list, and over report numbers.
-use mathlib.Core.Path.{_≡_, ap, _∙_}
+use mathlib.Core.Path.{_≡_, refl, sym, ap, _∙_}
 use mathlib.Core.Bool.{Bool, true, _&&_}
 use mathlib.Core.List.{List, [], _∷_}
 use Prim.Native.Nat.{ℕ, suc, _+_, _-_, _≤_, _<_}
 use native.Mathlib.Numerals.{add-one}
-use native.Mathlib.Nat.{zero-add}
+use native.Mathlib.Nat.{zero-add, add-zero, add-suc, suc-add}
 use lib.ListN.{length, drop, getD, drop-of-length-le}
 use lib.Seq.{drop-cons}
 use lib.Dec.{eqb}
 use native.Mathlib.Omega.{arith}
-use Rattle.rules.specs.Measures.{total}
-use Rattle.rules.specs.Book.{all}
+use Rattle.rules.specs.Measures.{total, sum}
+use Rattle.rules.specs.Book.{all, tabulate}
 use Rattle.trust.specs.Reports.{numbers}
 use Rattle.laws.proofs.Basics.{either, length-tab, getD-tab}
 use Rattle.trust.specs.Trust.{same}
@@ -51,3 +51,13 @@ all-number p n i h =
 pub all-numbers-end : (p : ℕ → Bool) (n i : ℕ) → n ≤ i → all p (drop i (numbers n)) ≡ true
 all-numbers-end p n i h =
     let l : length (numbers n) ≤ i = omega (arith, length-numbers n) in ap (all p) (drop-of-length-le (numbers n) l)
+
+-- a sum by numbers
+sum-from : (xs : List ℕ) (f : ℕ → ℕ) (i : ℕ) → ((k : ℕ) → f (i + k) ≡ getD xs k 0) → total f (tabulate (λ k. k) i (length xs)) ≡ sum xs
+sum-from [] f i e = refl
+sum-from (x ∷ xs) f i e =
+    omega (arith, ap f (add-zero i), e 0, sum-from xs f (suc i) (λ k. ap f (suc-add i k ∙ sym (add-suc i k)) ∙ e (suc k)))
+
+pub sum-numbers : (xs : List ℕ) → total (λ k. getD xs k 0) (numbers (length xs)) ≡ sum xs
+unfolding numbers
+sum-numbers xs = sum-from xs (λ k. getD xs k 0) 0 (λ k. ap (λ j. getD xs j 0) (zero-add k))

@@ -1,3 +1,8 @@
+use mathlib.Core.Path.{_≡_, ap, _∙_}
+use mathlib.Core.Bool.{Bool, true, false}
+use denote.Ref.{now}
+use Rattle.trust.specs.Allotting.{Allotment, allotment}
+use Rattle.trust.specs.Steps.{allotGroup, sharedOut}
 use borrow.Author.Needs.{needs}
 use Rattle.trust.proofs.share.Statement.{statement}
 use Rattle.trust.proofs.share.Tie as tie
@@ -24,7 +29,12 @@ same-length c = search needs
 
 -- src/lib.rt:189:1
 returns : tie.Need-returns
-returns c = ?
+unfolding sharedOut
+returns c =
+    let a = c .before .before .before .before .before .before .before .before .before .before .before .before .before .before .before .before .args in
+    let group : Bool → Allotment → Allotment = λ facing x. allotGroup facing (a .failing) (now (a .sizes)) (now (a .parties)) (now (a .draw)) x in
+    ap (λ x. x .shares)
+    (c .before .before .allot2 .ensures ∙ ap (group false) (c .before .before .before .before .before .before .allot .ensures ∙ ap (λ o. group true (allotment (a .fail) o)) (c .before .before .before .before .before .before .before .before .before .before .clear .ensures)))
 
 pub share-spec : {M : Type 1} → statement M
 share-spec =
