@@ -43,8 +43,8 @@ right-draw n draw h =
     record {
       below = and-left (all (λ k. ltb k n) draw) (all (onceIn draw) (numbers n)) h;
       once = λ k l.
-        eqb-true _ _
-        (rw (number-at n k l) at (all-at (onceIn draw) (numbers n) 0 k o (omega (arith, length-numbers n))));
+          eqb-true _ _
+          (rw (number-at n k l) at (all-at (onceIn draw) (numbers n) 0 k o (omega (arith, length-numbers n))));
     }
 
 -- no number beyond is in it, so none is in it twice
@@ -105,10 +105,12 @@ unfolding numbers
 by-number f n [] h = total-none (numbers n)
 by-number f n (j ∷ ks) h =
     let l = ltb-true j n (and-left (ltb j n) (all (λ i. ltb i n) ks) h) in
-    omega (arith,
-    total-add (λ k. cond (eqb j k) (f j) 0) (λ k. total (at f k) ks) (λ k. cond (eqb j k) (f j) 0 + total (at f k) ks) (λ k. refl) (numbers n),
-    only (f j) j 0 n (omega arith) (omega arith),
-    by-number f n ks (and-right (ltb j n) (all (λ i. ltb i n) ks) h))
+    omega (
+      arith,
+      total-add (λ k. cond (eqb j k) (f j) 0) (λ k. total (at f k) ks) (λ k. cond (eqb j k) (f j) 0 + total (at f k) ks) (λ k. refl) (numbers n),
+      only (f j) j 0 n (omega arith) (omega arith),
+      by-number f n ks (and-right (ltb j n) (all (λ i. ltb i n) ks) h),
+    )
 
 total-same : (f g : ℕ → ℕ) (i m : ℕ) → ((k : ℕ) → k < i + m → f k ≡ g k) → total f (tabulate (λ k. k) i m) ≡ total g (tabulate (λ k. k) i m)
 total-same f g i zero e = refl

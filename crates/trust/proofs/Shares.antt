@@ -119,11 +119,15 @@ size-again rs k = byTest (eligible rs k) (λ e. simp e) (λ e. simp e (sym (size
 order-lots : (rs : Reports) (failing : ℕ) (draw : List ℕ) → RightDraw (numberOf rs) draw → total (sizeOf rs) (order rs failing draw) ≡ eligibleLots rs
 unfolding eligibleLots
 order-lots rs failing draw r =
-    omega (arith, total-append (sizeOf rs) (facing rs failing draw) (others rs failing draw), facing-lots rs failing draw,
-    others-lots rs failing draw,
-    total-add (λ k. cond (isFacing rs failing k) (sizeOf rs k) 0) (λ k. cond (isOther rs failing k) (sizeOf rs k) 0) (sizeOf rs)
-    (λ k. parted (eligible rs k) (faces rs failing k) (sizeOf rs k) ∙ size-again rs k) draw,
-    total-draw (sizeOf rs) (numberOf rs) draw r)
+    omega (
+      arith,
+      total-append (sizeOf rs) (facing rs failing draw) (others rs failing draw),
+      facing-lots rs failing draw,
+      others-lots rs failing draw,
+      total-add (λ k. cond (isFacing rs failing k) (sizeOf rs k) 0) (λ k. cond (isOther rs failing k) (sizeOf rs k) 0) (sizeOf rs)
+          (λ k. parted (eligible rs k) (faces rs failing k) (sizeOf rs k) ∙ size-again rs k) draw,
+      total-draw (sizeOf rs) (numberOf rs) draw r,
+    )
 
 facing-sizes : (rs : Reports) (failing : ℕ) (draw : List ℕ) → RightDraw (numberOf rs) draw →
     total (sizeOf rs) (facing rs failing draw) ≡ total (λ k. cond (faces rs failing k) (sizeOf rs k) 0) (numbers (numberOf rs))

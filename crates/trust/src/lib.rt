@@ -167,7 +167,16 @@ fn smaller(a: u32, b: u32) -> u32
 }
 
 // The group's reports take lots in the drawn order, each up to its own size; what is left is returned.
-fn allot(facing: bool, failing: u32, n: usize, sizes: &[u32], parties: &[u32], draw: &[u32], left: u32, out: &mut [u32]) -> u32
+fn allot(
+    facing: bool,
+    failing: u32,
+    n: usize,
+    sizes: &[u32],
+    parties: &[u32],
+    draw: &[u32],
+    left: u32,
+    out: &mut [u32],
+) -> u32
     requires { ⌜ Drawn n (now sizes) (now parties) (now draw) (now out) ⌝ }
     ensures { λ r. ⌜ allotment r (now (out .exit)) ≡ allotGroup facing failing (now (sizes .entry)) (now (parties .entry)) (now (draw .entry)) (allotment left (now (out .entry))) ⌝ }
 {
@@ -186,7 +195,15 @@ fn allot(facing: bool, failing: u32, n: usize, sizes: &[u32], parties: &[u32], d
 }
 
 // The reports facing the failing account take lots first, then the others.
-fn share(failing: u32, n: usize, sizes: &[u32], parties: &[u32], draw: &[u32], fail: u32, out: &mut [u32])
+fn share(
+    failing: u32,
+    n: usize,
+    sizes: &[u32],
+    parties: &[u32],
+    draw: &[u32],
+    fail: u32,
+    out: &mut [u32],
+)
     requires { ⌜ Drawn n (now sizes) (now parties) (now draw) (now out) ⌝ }
     ensures { λ _. ⌜ now (out .exit) ≡ sharedOut failing n (now (sizes .entry)) (now (parties .entry)) (now (draw .entry)) fail (now (out .entry)) ⌝ }
 {
@@ -222,7 +239,16 @@ fn few(subs: &[u32]) -> bool
 }
 
 // The questions but the last, that of the eligible lots: the number of the first 'no', 0 where there is none.
-fn report_asks(subs: &[u32], parties: &[u32], lots: &[i32], earlier: &[u8], draw: &[u32], fail: u32, failing: u32, out: &[u32]) -> u32
+fn report_asks(
+    subs: &[u32],
+    parties: &[u32],
+    lots: &[i32],
+    earlier: &[u8],
+    draw: &[u32],
+    fail: u32,
+    failing: u32,
+    out: &[u32],
+) -> u32
     ensures { λ r. ⌜ r ≡ firstNo (reportAsks (reports (now (subs .entry)) (now (parties .entry)) (now (lots .entry)) (now (earlier .entry))) (now (draw .entry)) fail failing (now (out .entry))) ⌝ }
 {
     if out.len() < 256 {

@@ -13,10 +13,6 @@ use Rattle.trust.proofs.Groups.{group-takes, group-passes, group-end}
 use borrow.Author.Needs.{needs}
 use Rattle.trust.proofs.allot.Statement.{statement}
 use Rattle.trust.proofs.allot.Tie as tie
-use Rattle.trust.proofs.allot.Reads as reads
-use Rattle.trust.proofs.allot.Lts as lts
-use Rattle.trust.proofs.in_group.Reads as in-group-reads
-use Rattle.trust.proofs.smaller.Reads as smaller-reads
 
 abbrev Inv-loop : tie.InvT-loop
 Inv-loop facing failing n sizes parties draw left out₀ rest₀ i₀ out rest i =
@@ -33,75 +29,57 @@ drawn c =
     let s = c .before .before .before .before .before .before in
     ltb-true _ _ (all-at (λ k. ltb k (s .args .n)) (now (s .args .draw)) 0 (c .before .loop .i) (s .pre .below) (search needs))
 
--- src/lib.rt:175:5
 loop-holds : tie.Need-loop-holds Inv-loop μ-loop
 loop-holds c = (search needs, search needs, refl)
 
--- src/lib.rt:176:17
 mul-k : tie.Need-mul-k Inv-loop μ-loop
 mul-k c = search needs
 
--- src/lib.rt:176:17
 shared-slice-read-k : tie.Need-shared-slice-read-k Inv-loop μ-loop
 shared-slice-read-k c = search needs
 
--- src/lib.rt:176:17
 cast-k : tie.Need-cast-k Inv-loop μ-loop
 cast-k c = omega (arith, c .shared-slice-known4 .given (c .before .before .loop .i))
 
--- src/lib.rt:177:38
 mul-in-group : tie.Need-mul-in-group Inv-loop μ-loop
 mul-in-group c = omega (arith, drawn (c .before))
 
--- src/lib.rt:177:38
 shared-slice-read-in-group : tie.Need-shared-slice-read-in-group Inv-loop μ-loop
 shared-slice-read-in-group c = omega (arith, drawn (c .before .before))
 
--- src/lib.rt:177:48
 mul-in-group-2 : tie.Need-mul-in-group-2 Inv-loop μ-loop
 mul-in-group-2 c = omega (arith, drawn (c .before .before))
 
--- src/lib.rt:177:48
 shared-slice-read-in-group-2 : tie.Need-shared-slice-read-in-group-2 Inv-loop μ-loop
 shared-slice-read-in-group-2 c = omega (arith, drawn (c .before .before .before))
 
--- src/lib.rt:177:12
 in-group-requires : tie.Need-in-group-requires Inv-loop μ-loop
 in-group-requires c κs = search needs
 
--- src/lib.rt:178:39
 mul-smaller : tie.Need-mul-smaller Inv-loop μ-loop
 mul-smaller c = omega (arith, drawn (c .before .before .before .before .before))
 
--- src/lib.rt:178:39
 shared-slice-read-smaller : tie.Need-shared-slice-read-smaller Inv-loop μ-loop
 shared-slice-read-smaller c = omega (arith, drawn (c .before .before .before .before .before .before), c .before .before .before .before .before .before .before .before .before .before .before .before .pre .sized)
 
--- src/lib.rt:178:17
 smaller-requires : tie.Need-smaller-requires Inv-loop μ-loop
 smaller-requires c κs = search needs
 
--- src/lib.rt:179:13
 mul-out : tie.Need-mul-out Inv-loop μ-loop
 mul-out c = omega (arith, drawn (c .before .before .before .before .before .before .before))
 
--- src/lib.rt:179:13
 slice-write-out : tie.Need-slice-write-out Inv-loop μ-loop
 slice-write-out c = omega (arith, drawn (c .before .before .before .before .before .before .before), c .before .before .before .before .before .before .before .before .loop .inv .1, c .before .before .before .before .before .before .before .before .before .before .before .before .before .pre .room)
 
--- src/lib.rt:180:13
 sub-rest : tie.Need-sub-rest Inv-loop μ-loop
 sub-rest c = omega (arith, c .smaller .ensures)
 
--- src/lib.rt:182:9
 add-i : tie.Need-add-i Inv-loop μ-loop
 add-i c = search needs
 
--- src/lib.rt:175:5
 loop-less : tie.Need-loop-less Inv-loop μ-loop
 loop-less c = search needs
 
--- src/lib.rt:175:5
 loop-again : tie.Need-loop-again Inv-loop μ-loop
 loop-again c =
     let s = c .before .before .before .before .before .before .before .before .before .before .before in
@@ -110,19 +88,23 @@ loop-again c =
     let h : l .i < length (now (s .args .draw)) = search needs in
     let a = allotment (l .rest) (l .out) in
     ⊎-elim
-    (λ w. (search needs, rw (w .3) (simp length-set (l .inv .1)),
-    rw (w .3, w .4, w .2 .ensures)
-    (sym (group-takes (s .args .facing) (s .args .failing) (now (s .args .sizes)) (now (s .args .parties)) (now (s .args .draw)) (l .i) a h (sym (c .before .in-group .ensures) ∙ w .0 .taken)) ∙ l .inv .2)))
-    (λ w. (search needs, rw (w .1) (l .inv .1),
-    rw (w .1, w .2)
-    (sym (group-passes (s .args .facing) (s .args .failing) (now (s .args .sizes)) (now (s .args .parties)) (now (s .args .draw)) (l .i) a h (sym (c .before .in-group .ensures) ∙ w .0 .left)) ∙ l .inv .2)))
+    (λ w. (
+      search needs,
+      rw (w .3) (simp length-set (l .inv .1)),
+      rw (w .3, w .4, w .2 .ensures)
+          (sym (group-takes (s .args .facing) (s .args .failing) (now (s .args .sizes)) (now (s .args .parties)) (now (s .args .draw)) (l .i) a h (sym (c .before .in-group .ensures) ∙ w .0 .taken)) ∙ l .inv .2),
+    ))
+    (λ w. (
+      search needs,
+      rw (w .1) (l .inv .1),
+      rw (w .1, w .2)
+          (sym (group-passes (s .args .facing) (s .args .failing) (now (s .args .sizes)) (now (s .args .parties)) (now (s .args .draw)) (l .i) a h (sym (c .before .in-group .ensures) ∙ w .0 .left)) ∙ l .inv .2),
+    ))
     (c .if1 .came)
 
--- src/lib.rt:169:1
 same-length : tie.Need-same-length Inv-loop μ-loop
 same-length c = search needs
 
--- src/lib.rt:169:1
 returns : tie.Need-returns Inv-loop μ-loop
 returns c =
     let s = c .before .before .before .before .before .before in

@@ -10,8 +10,6 @@ use Rattle.laws.proofs.Scans.{all-more, all-end}
 use borrow.Author.Needs.{needs}
 use Rattle.trust.proofs.below.Statement.{statement}
 use Rattle.trust.proofs.below.Tie as tie
-use Rattle.trust.proofs.below.Reads as reads
-use Rattle.trust.proofs.below.Lts as lts
 
 abbrev Inv-loop : tie.InvT-loop
 Inv-loop column limit good₀ i₀ good i =
@@ -20,38 +18,30 @@ Inv-loop column limit good₀ i₀ good i =
 abbrev μ-loop : tie.MeasureT-loop
 μ-loop column limit good₀ i₀ good i = length column - i
 
--- src/lib.rt:21:5
 loop-holds : tie.Need-loop-holds Inv-loop μ-loop
 loop-holds c = search needs
 
--- src/lib.rt:22:25
 mul-good : tie.Need-mul-good Inv-loop μ-loop
 mul-good c = search needs
 
--- src/lib.rt:22:25
 shared-slice-read-good : tie.Need-shared-slice-read-good Inv-loop μ-loop
 shared-slice-read-good c = search needs
 
--- src/lib.rt:22:25
 cast-good : tie.Need-cast-good Inv-loop μ-loop
 cast-good c = omega (arith, c .shared-slice-known .given (c .before .before .loop .i))
 
--- src/lib.rt:23:9
 add-i : tie.Need-add-i Inv-loop μ-loop
 add-i c = search needs
 
--- src/lib.rt:21:5
 loop-less : tie.Need-loop-less Inv-loop μ-loop
 loop-less c = search needs
 
--- src/lib.rt:21:5
 loop-again : tie.Need-loop-again Inv-loop μ-loop
 loop-again c =
     let s = c .before .before .before in
     let l = c .before .before .loop in
     (search needs, all-more (λ x. ltb x (s .args .limit)) (now (s .args .column)) (l .i) 0 (l .good) _ (omega arith) (l .inv .1))
 
--- src/lib.rt:16:1
 returns : tie.Need-returns Inv-loop μ-loop
 returns c =
     let s = c .before .before in

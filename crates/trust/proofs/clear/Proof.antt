@@ -8,8 +8,6 @@ use denote.Ref.{now}
 use borrow.Author.Needs.{needs}
 use Rattle.trust.proofs.clear.Statement.{statement}
 use Rattle.trust.proofs.clear.Tie as tie
-use Rattle.trust.proofs.clear.Reads as reads
-use Rattle.trust.proofs.clear.Lts as lts
 
 abbrev Inv-loop : tie.InvT-loop
 Inv-loop n out₀ k₀ out k = (k ≤ n) × (n ≤ length out₀) × (length out ≡ length out₀) × (out ≡ replicate k 0 ++ drop k out₀)
@@ -17,38 +15,30 @@ Inv-loop n out₀ k₀ out k = (k ≤ n) × (n ≤ length out₀) × (length out
 abbrev μ-loop : tie.MeasureT-loop
 μ-loop n out₀ k₀ out k = n - k
 
--- src/lib.rt:144:5
 loop-holds : tie.Need-loop-holds Inv-loop μ-loop
 loop-holds c = search needs
 
--- src/lib.rt:145:9
 mul-out : tie.Need-mul-out Inv-loop μ-loop
 mul-out c = search needs
 
--- src/lib.rt:145:9
 slice-write-out : tie.Need-slice-write-out Inv-loop μ-loop
 slice-write-out c = omega arith
 
--- src/lib.rt:146:9
 add-k : tie.Need-add-k Inv-loop μ-loop
 add-k c = search needs
 
--- src/lib.rt:144:5
 loop-less : tie.Need-loop-less Inv-loop μ-loop
 loop-less c = search needs
 
--- src/lib.rt:144:5
 loop-again : tie.Need-loop-again Inv-loop μ-loop
 loop-again c =
     let l = c .before .loop in
     let o = now (c .before .before .args .out) in
     (search needs, search needs, simp length-set (l .inv .2), rw (l .inv .3) (fill-more (l .k) 0 o (omega arith)))
 
--- src/lib.rt:139:1
 same-length : tie.Need-same-length Inv-loop μ-loop
 same-length c = c .before .loop .inv .2
 
--- src/lib.rt:139:1
 returns : tie.Need-returns Inv-loop μ-loop
 returns c =
     let l = c .before .loop in

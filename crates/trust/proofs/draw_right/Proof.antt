@@ -14,10 +14,6 @@ use Rattle.trust.proofs.Draws.{not-below, not-once, each-once}
 use borrow.Author.Needs.{needs}
 use Rattle.trust.proofs.draw_right.Statement.{statement}
 use Rattle.trust.proofs.draw_right.Tie as tie
-use Rattle.trust.proofs.draw_right.Reads as reads
-use Rattle.trust.proofs.draw_right.Lts as lts
-use Rattle.trust.proofs.below.Reads as below-reads
-use Rattle.trust.proofs.times.Reads as times-reads
 
 abbrev Inv-loop : tie.InvT-loop
 Inv-loop n draw k₀ k =
@@ -26,25 +22,20 @@ Inv-loop n draw k₀ k =
 abbrev μ-loop : tie.MeasureT-loop
 μ-loop n draw k₀ k = n - k
 
--- src/lib.rt:65:9
 below-requires : tie.Need-below-requires Inv-loop μ-loop
 below-requires c κs = search needs
 
--- src/lib.rt:66:9
 returns : tie.Need-returns Inv-loop μ-loop
 returns c =
     let s = c .before .before .before in
     not-below (s .args .n) (now (s .args .draw)) (sym (c .before .below .ensures) ∙ not-true (c .before .below .result) (c .if1 .taken))
 
--- src/lib.rt:69:5
 loop-holds : tie.Need-loop-holds Inv-loop μ-loop
 loop-holds c = (search needs, refl)
 
--- src/lib.rt:70:12
 times-requires : tie.Need-times-requires Inv-loop μ-loop
 times-requires c κs = search needs
 
--- src/lib.rt:71:13
 returns-2 : tie.Need-returns-2 Inv-loop μ-loop
 returns-2 c =
     let s = c .before .before .before .before .before .before .before in
@@ -53,15 +44,12 @@ returns-2 c =
     not-once (s .args .n) (now (s .args .draw))
     (sym (l .inv .1) ∙ all-number (onceIn (now (s .args .draw))) (s .args .n) (l .k) (omega arith) ∙ simp (ne-eqb _ _ h))
 
--- src/lib.rt:73:9
 add-k : tie.Need-add-k Inv-loop μ-loop
 add-k c = search needs
 
--- src/lib.rt:69:5
 loop-less : tie.Need-loop-less Inv-loop μ-loop
 loop-less c = search needs
 
--- src/lib.rt:69:5
 loop-again : tie.Need-loop-again Inv-loop μ-loop
 loop-again c =
     let s = c .before .before .before .before .before .before .before in
@@ -70,7 +58,6 @@ loop-again c =
     let e : onceIn (now (s .args .draw)) (l .k) ≡ true = eq-eqb _ _ h in
     (search needs, sym (rw e at (all-number (onceIn (now (s .args .draw))) (s .args .n) (l .k) (omega arith))) ∙ l .inv .1)
 
--- src/lib.rt:62:1
 returns-3 : tie.Need-returns-3 Inv-loop μ-loop
 returns-3 c =
     let s = c .before .before .before .before .before in

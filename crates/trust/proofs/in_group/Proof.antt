@@ -3,8 +3,6 @@ use Prim.Native.Nat.{_<_, _≤_}
 use borrow.Author.Tests.{lt-ltb, le-ltb}
 use Rattle.trust.proofs.in_group.Statement.{statement}
 use Rattle.trust.proofs.in_group.Tie as tie
-use Rattle.trust.proofs.in_group.Reads as reads
-use Rattle.trust.proofs.in_group.Lts as lts
 
 returns : tie.Need-returns
 returns c = simp (le-ltb _ _ (let h : c .before .args .size ≤ 0 = omega arith in h))

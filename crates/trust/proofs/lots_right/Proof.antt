@@ -13,9 +13,6 @@ use Rattle.laws.proofs.Scans.{all-more, all-end}
 use borrow.Author.Needs.{needs}
 use Rattle.trust.proofs.lots_right.Statement.{statement}
 use Rattle.trust.proofs.lots_right.Tie as tie
-use Rattle.trust.proofs.lots_right.Reads as reads
-use Rattle.trust.proofs.lots_right.Lts as lts
-use Rattle.book.proofs.within.Reads as within-reads
 
 abbrev Inv-loop : tie.InvT-loop
 Inv-loop lots good₀ i₀ good i =
@@ -24,31 +21,24 @@ Inv-loop lots good₀ i₀ good i =
 abbrev μ-loop : tie.MeasureT-loop
 μ-loop lots good₀ i₀ good i = length lots - i
 
--- src/lib.rt:34:5
 loop-holds : tie.Need-loop-holds Inv-loop μ-loop
 loop-holds c = search needs
 
--- src/lib.rt:35:17
 mul-x : tie.Need-mul-x Inv-loop μ-loop
 mul-x c = search needs
 
--- src/lib.rt:35:17
 shared-slice-copy-out-x : tie.Need-shared-slice-copy-out-x Inv-loop μ-loop
 shared-slice-copy-out-x c = search needs
 
--- src/lib.rt:36:23
 within-requires : tie.Need-within-requires Inv-loop μ-loop
 within-requires c κs = search needs
 
--- src/lib.rt:37:9
 add-i : tie.Need-add-i Inv-loop μ-loop
 add-i c = search needs
 
--- src/lib.rt:34:5
 loop-less : tie.Need-loop-less Inv-loop μ-loop
 loop-less c = search needs
 
--- src/lib.rt:34:5
 loop-again : tie.Need-loop-again Inv-loop μ-loop
 loop-again c =
     let s = c .before .before .before .before in
@@ -57,7 +47,6 @@ loop-again c =
     let w : c .within .result ≡ withinSize mostLots n = c .within .ensures ∙ ap (withinSize mostLots) (toZ-ofZ w32 n (search needs)) in
     (search needs, rw w (all-more (withinSize mostLots) (now (s .args .lots)) (l .i) (pos 0) (l .good) _ (omega arith) (l .inv .1)))
 
--- src/lib.rt:29:1
 returns : tie.Need-returns Inv-loop μ-loop
 returns c =
     let s = c .before .before in

@@ -13,11 +13,6 @@ use Rattle.trust.proofs.Sums.{total-number, total-numbers-end}
 use borrow.Author.Needs.{needs}
 use Rattle.trust.proofs.receives.Statement.{statement}
 use Rattle.trust.proofs.receives.Tie as tie
-use Rattle.trust.proofs.receives.Reads as reads
-use Rattle.trust.proofs.receives.Lts as lts
-use Rattle.book.proofs.due.Reads as due-reads
-use Rattle.book.proofs.owed.Reads as owed-reads
-use Rattle.trust.proofs.counted.Reads as counted-reads
 
 abbrev Inv-loop : tie.InvT-loop
 Inv-loop subs lots earlier s received₀ delivered₀ i₀ received delivered i =
@@ -29,84 +24,64 @@ Inv-loop subs lots earlier s received₀ delivered₀ i₀ received delivered i 
 abbrev μ-loop : tie.MeasureT-loop
 μ-loop subs lots earlier s received₀ delivered₀ i₀ received delivered i = length subs - i
 
--- src/lib.rt:99:5
 loop-holds : tie.Need-loop-holds Inv-loop μ-loop
 unfolding receipts deliveries numbers
 loop-holds c = (search needs, search needs, search needs, omega arith, omega arith)
 
--- src/lib.rt:100:17
 mul-x : tie.Need-mul-x Inv-loop μ-loop
 mul-x c = search needs
 
--- src/lib.rt:100:17
 shared-slice-copy-out-x : tie.Need-shared-slice-copy-out-x Inv-loop μ-loop
 shared-slice-copy-out-x c = search needs
 
--- src/lib.rt:101:32
 shared-slice-read-counted : tie.Need-shared-slice-read-counted Inv-loop μ-loop
 shared-slice-read-counted c = search needs
 
--- src/lib.rt:101:44
 mul-counted : tie.Need-mul-counted Inv-loop μ-loop
 mul-counted c = search needs
 
--- src/lib.rt:101:44
 shared-slice-read-counted-2 : tie.Need-shared-slice-read-counted-2 Inv-loop μ-loop
 shared-slice-read-counted-2 c = search needs
 
--- src/lib.rt:101:53
 due-requires : tie.Need-due-requires Inv-loop μ-loop
 due-requires c κs = search needs
 
--- src/lib.rt:101:21
 counted-requires : tie.Need-counted-requires Inv-loop μ-loop
 counted-requires c κs = search needs
 
--- src/lib.rt:101:21
 cast-received : tie.Need-cast-received Inv-loop μ-loop
 cast-received c = search needs
 
--- src/lib.rt:101:9
 add-received : tie.Need-add-received Inv-loop μ-loop
 add-received c = search needs
 
--- src/lib.rt:102:33
 shared-slice-read-counted-3 : tie.Need-shared-slice-read-counted-3 Inv-loop μ-loop
 shared-slice-read-counted-3 c = search needs
 
--- src/lib.rt:102:45
 mul-counted-2 : tie.Need-mul-counted-2 Inv-loop μ-loop
 mul-counted-2 c = search needs
 
--- src/lib.rt:102:45
 shared-slice-read-counted-4 : tie.Need-shared-slice-read-counted-4 Inv-loop μ-loop
 shared-slice-read-counted-4 c = search needs
 
--- src/lib.rt:102:54
 owed-requires : tie.Need-owed-requires Inv-loop μ-loop
 owed-requires c κs = search needs
 
--- src/lib.rt:102:22
 counted-requires-2 : tie.Need-counted-requires-2 Inv-loop μ-loop
 counted-requires-2 c κs = search needs
 
--- src/lib.rt:102:22
 cast-delivered : tie.Need-cast-delivered Inv-loop μ-loop
 cast-delivered c = search needs
 
--- src/lib.rt:102:9
 add-delivered : tie.Need-add-delivered Inv-loop μ-loop
 add-delivered c = search needs
 
--- src/lib.rt:103:9
 add-i : tie.Need-add-i Inv-loop μ-loop
 add-i c = search needs
 
--- src/lib.rt:99:5
 loop-less : tie.Need-loop-less Inv-loop μ-loop
 loop-less c = search needs
 
--- src/lib.rt:99:5
 loop-again : tie.Need-loop-again Inv-loop μ-loop
 loop-again c =
     let s = c .before .before .before .before .before .before .before .before .before .before .before .before .before in
@@ -118,8 +93,7 @@ loop-again c =
     c .before .before .before .before .counted .ensures ∙ ap (countedFor (s .args .s) (getD (now (s .args .earlier)) (l .i) 0) (getD (now (s .args .subs)) (l .i) 0)) (c .before .before .before .before .before .due .ensures ∙ ap dueOf z) in
     let d : c .counted2 .result ≡ deliveryOf rs (s .args .s) (l .i) =
     c .counted2 .ensures ∙ ap (countedFor (s .args .s) (getD (now (s .args .earlier)) (l .i) 0) (getD (now (s .args .subs)) (l .i) 0)) (c .before .owed .ensures ∙ ap owedOf z) in
-    let h : l .i < length (now (s .args .subs)) = search needs in
-    (
+    let h : l .i < length (now (s .args .subs)) = search needs in (
       search needs,
       omega (arith, l .inv .1, c .before .before .before .before .counted .ok),
       omega (arith, l .inv .2, c .counted2 .ok),
@@ -127,7 +101,6 @@ loop-again c =
       omega (arith, l .inv .4, d, total-number (deliveryOf rs (s .args .s)) (length (now (s .args .subs))) (l .i) h),
     )
 
--- src/lib.rt:92:1
 returns : tie.Need-returns Inv-loop μ-loop
 returns c =
     let s = c .before .before .before .before in

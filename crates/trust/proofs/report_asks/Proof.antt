@@ -19,12 +19,6 @@ use Rattle.trust.proofs.Asks.{below-most}
 use borrow.Author.Needs.{needs}
 use Rattle.trust.proofs.report_asks.Statement.{statement}
 use Rattle.trust.proofs.report_asks.Tie as tie
-use Rattle.trust.proofs.report_asks.Reads as reads
-use Rattle.trust.proofs.report_asks.Lts as lts
-use Rattle.trust.proofs.below.Reads as below-reads
-use Rattle.trust.proofs.drawn.Reads as drawn-reads
-use Rattle.trust.proofs.few.Reads as few-reads
-use Rattle.trust.proofs.lots_right.Reads as lots-right-reads
 
 abbrev reportsAt : tie.Start → Reports
 reportsAt s = reports (now (s .args .subs)) (now (s .args .parties)) (now (s .args .lots)) (now (s .args .earlier))
@@ -84,63 +78,38 @@ yes6 c =
     let d = c .before .drawn in
     (y .0, (y .1 .0, (y .1 .1 .0, (y .1 .1 .1 .0, (y .1 .1 .1 .1 .0, (sym (d .ensures) ∙ not-false (d .result) (c .if7 .left), tt))))))
 
--- src/lib.rt:229:9
 returns : tie.Need-returns
 returns c = stops 0 (questions (c .before .before .before .before .before .before)) tt (lt-leb _ _ (c .if1 .taken))
 
--- src/lib.rt:232:9
 returns-2 : tie.Need-returns-2
 returns-2 c = stops 1 (questions (at1 (c .before))) (yes1 (c .before)) (lt-leb _ _ (c .if2 .taken))
 
--- src/lib.rt:234:9
-below-requires : tie.Need-below-requires
-below-requires c κs = search needs
-
--- src/lib.rt:235:9
 returns-3 : tie.Need-returns-3
 returns-3 c =
     stops 2 (questions (at2 (c .before .before))) (yes2 (c .before .before))
     (sym (parties (c .before)) ∙ not-true (c .before .below .result) (c .if3 .taken))
 
--- src/lib.rt:238:9
 returns-4 : tie.Need-returns-4
 returns-4 c = stops 3 (questions (at3 (c .before))) (yes3 (c .before)) (rw (lt-leb _ _ (c .if4 .taken)))
 
--- src/lib.rt:241:9
 returns-5 : tie.Need-returns-5
 returns-5 c = stops 3 (questions (at3 (c .before .before))) (yes3 (c .before .before)) (simp (lt-leb _ _ (c .if5 .taken), and-false))
 
--- src/lib.rt:243:9
-lots-right-requires : tie.Need-lots-right-requires
-lots-right-requires c κs = search needs
-
--- src/lib.rt:244:9
 returns-6 : tie.Need-returns-6
 returns-6 c =
     let l = c .before .lots-right in
     stops 4 (questions (at5 (c .before .before))) (yes4 (c .before .before)) (sym (l .ensures) ∙ not-true (l .result) (c .if6 .taken))
 
--- src/lib.rt:246:9
-drawn-requires : tie.Need-drawn-requires
-drawn-requires c κs = search needs
-
--- src/lib.rt:247:9
 returns-7 : tie.Need-returns-7
 returns-7 c =
     let d = c .before .drawn in
     stops 5 (questions (at6 (c .before .before))) (yes5 (c .before .before)) (sym (d .ensures) ∙ not-true (d .result) (c .if7 .taken))
 
--- src/lib.rt:249:9
-few-requires : tie.Need-few-requires
-few-requires c κs = search needs
-
--- src/lib.rt:250:9
 returns-8 : tie.Need-returns-8
 returns-8 c =
     let f = c .before .few in
     stops 6 (questions (at7 (c .before .before))) (yes6 (c .before .before)) (sym (f .ensures) ∙ not-true (f .result) (c .if8 .taken))
 
--- src/lib.rt:225:1
 returns-9 : tie.Need-returns-9
 returns-9 c =
     let f = c .before .few in
@@ -154,14 +123,14 @@ report-asks-spec =
     (tie.spec
     returns
     returns-2
-    below-requires
+    (λ c κs. search needs)
     returns-3
     returns-4
     returns-5
-    lots-right-requires
+    (λ c κs. search needs)
     returns-6
-    drawn-requires
+    (λ c κs. search needs)
     returns-7
-    few-requires
+    (λ c κs. search needs)
     returns-8
     returns-9)

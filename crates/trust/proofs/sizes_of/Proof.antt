@@ -11,9 +11,6 @@ use Rattle.trust.proofs.Sizes.{fills}
 use borrow.Author.Needs.{needs}
 use Rattle.trust.proofs.sizes_of.Statement.{statement}
 use Rattle.trust.proofs.sizes_of.Tie as tie
-use Rattle.trust.proofs.sizes_of.Reads as reads
-use Rattle.trust.proofs.sizes_of.Lts as lts
-use Rattle.trust.proofs.size_of.Reads as size-of-reads
 
 abbrev Inv-loop : tie.InvT-loop
 Inv-loop subs lots earlier sizes₀ sum₀ k₀ sizes sum k =
@@ -25,46 +22,36 @@ Inv-loop subs lots earlier sizes₀ sum₀ k₀ sizes sum k =
 abbrev μ-loop : tie.MeasureT-loop
 μ-loop subs lots earlier sizes₀ sum₀ k₀ sizes sum k = length subs - k
 
--- src/lib.rt:128:5
 loop-holds : tie.Need-loop-holds Inv-loop μ-loop
 unfolding eligibleLots numbers
 loop-holds c = (search needs, search needs, search needs, omega arith, λ j h. absurd (omega arith))
 
--- src/lib.rt:129:13
 size-of-requires : tie.Need-size-of-requires Inv-loop μ-loop
 size-of-requires c κs = search needs
 
--- src/lib.rt:130:9
 mul-sizes : tie.Need-mul-sizes Inv-loop μ-loop
 mul-sizes c = search needs
 
--- src/lib.rt:130:9
 slice-write-sizes : tie.Need-slice-write-sizes Inv-loop μ-loop
 slice-write-sizes c = search needs
 
--- src/lib.rt:131:16
 cast-sum : tie.Need-cast-sum Inv-loop μ-loop
 cast-sum c = search needs
 
--- src/lib.rt:131:9
 add-sum : tie.Need-add-sum Inv-loop μ-loop
 add-sum c = search needs
 
--- src/lib.rt:132:9
 add-k : tie.Need-add-k Inv-loop μ-loop
 add-k c = search needs
 
--- src/lib.rt:128:5
 loop-less : tie.Need-loop-less Inv-loop μ-loop
 loop-less c = search needs
 
--- src/lib.rt:128:5
 loop-again : tie.Need-loop-again Inv-loop μ-loop
 loop-again c =
     let s = c .before .before .before .before .before .before in
     let l = c .before .before .loop in
-    let rs = unfaced (now (s .args .subs)) (now (s .args .lots)) (now (s .args .earlier)) in
-    (
+    let rs = unfaced (now (s .args .subs)) (now (s .args .lots)) (now (s .args .earlier)) in (
       search needs,
       simp length-set (l .inv .1),
       omega (arith, l .inv .2, c .size-of .ok),
@@ -72,11 +59,9 @@ loop-again c =
       fills (sizeOf rs) (l .sizes) (l .k) (c .size-of .result) (omega (arith, l .inv .1, s .pre .room)) (c .size-of .ensures) (l .inv .4),
     )
 
--- src/lib.rt:122:1
 same-length : tie.Need-same-length Inv-loop μ-loop
 same-length c = search needs
 
--- src/lib.rt:122:1
 returns : tie.Need-returns Inv-loop μ-loop
 returns c =
     let s = c .before .before .before .before .before in

@@ -9,9 +9,6 @@ use Rattle.trust.proofs.Sums.{total-at, total-end, same-le}
 use borrow.Author.Needs.{needs}
 use Rattle.trust.proofs.times.Statement.{statement}
 use Rattle.trust.proofs.times.Tie as tie
-use Rattle.trust.proofs.times.Reads as reads
-use Rattle.trust.proofs.times.Lts as lts
-use Rattle.trust.proofs.same.Reads as same-reads
 
 abbrev Inv-loop : tie.InvT-loop
 Inv-loop k draw n₀ i₀ n i = (i ≤ length draw) × (n ≤ i) × (n + total (sameAs k) (drop i draw) ≡ times k draw)
@@ -19,51 +16,41 @@ Inv-loop k draw n₀ i₀ n i = (i ≤ length draw) × (n ≤ i) × (n + total (
 abbrev μ-loop : tie.MeasureT-loop
 μ-loop k draw n₀ i₀ n i = length draw - i
 
--- src/lib.rt:55:5
 loop-holds : tie.Need-loop-holds Inv-loop μ-loop
 unfolding times
 loop-holds c = (search needs, search needs, omega arith)
 
--- src/lib.rt:56:19
 mul-same : tie.Need-mul-same Inv-loop μ-loop
 mul-same c = search needs
 
--- src/lib.rt:56:19
 shared-slice-read-same : tie.Need-shared-slice-read-same Inv-loop μ-loop
 shared-slice-read-same c = search needs
 
--- src/lib.rt:56:14
 same-requires : tie.Need-same-requires Inv-loop μ-loop
 same-requires c κs = search needs
 
--- src/lib.rt:56:9
 add-n : tie.Need-add-n Inv-loop μ-loop
 add-n c =
     let s = c .before .before .before .before .before in
     let l = c .before .before .before .loop in
     omega (arith, same-le (s .args .k) (getD (now (s .args .draw)) (l .i) 0), c .same .ensures)
 
--- src/lib.rt:57:9
 add-i : tie.Need-add-i Inv-loop μ-loop
 add-i c = search needs
 
--- src/lib.rt:55:5
 loop-less : tie.Need-loop-less Inv-loop μ-loop
 loop-less c = search needs
 
--- src/lib.rt:55:5
 loop-again : tie.Need-loop-again Inv-loop μ-loop
 loop-again c =
     let s = c .before .before .before .before .before in
     let l = c .before .before .before .loop in
-    let t = total-at (sameAs (s .args .k)) (now (s .args .draw)) (l .i) 0 (omega arith) in
-    (
+    let t = total-at (sameAs (s .args .k)) (now (s .args .draw)) (l .i) 0 (omega arith) in (
       search needs,
       omega (arith, same-le (s .args .k) (getD (now (s .args .draw)) (l .i) 0), c .same .ensures),
       omega (arith, l .inv .2, t, c .same .ensures),
     )
 
--- src/lib.rt:50:1
 returns : tie.Need-returns Inv-loop μ-loop
 returns c =
     let s = c .before .before .before in
