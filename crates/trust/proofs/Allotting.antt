@@ -1,8 +1,8 @@
 -- Reports in an order take lots of a fail: what is left, what stays, what each takes.
 use mathlib.Core.Path.{_≡_, refl, sym, ap, _∙_}
-use mathlib.Core.Bool.{Bool, true, false, cond, _&&_, false≢true}
+use mathlib.Core.Bool.{Bool, true, cond, false≢true}
 use mathlib.Core.List.{List, [], _∷_, _++_}
-use Prim.Native.Nat.{ℕ, zero, suc, _+_, _-_, _≤_, _<_, min}
+use Prim.Native.Nat.{ℕ, _+_, _-_, _≤_, _<_, min}
 use native.Mathlib.Omega.{arith}
 use lib.Dec.{ltb, eqb}
 use lib.ListN.{length, getD, set, length-set}
@@ -10,7 +10,7 @@ use lib.Seq.{getD-set-same, getD-set-other, set-append-left, set-out}
 use borrow.Author.Tests.{ltb-true, ltb-false, eqb-true, eqb-false, eq-eqb, ne-eqb}
 use Rattle.rules.specs.Measures.{total, sum}
 use Rattle.rules.specs.Book.{all}
-use Rattle.laws.proofs.Basics.{byTest, either, and-left, and-right, and-both, total-append}
+use Rattle.laws.proofs.Basics.{byTest, either, and-left, and-right, and-both}
 use Rattle.laws.proofs.Cells.{total-set}
 use Rattle.trust.specs.Allotting.{those, Allotment, allotment, take, allot}
 use Rattle.trust.specs.Trust.{same, times}

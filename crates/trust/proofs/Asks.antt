@@ -1,10 +1,10 @@
 -- The questions' tests as the code makes them.
-use mathlib.Core.Path.{_≡_, refl, sym, ap, _∙_}
-use mathlib.Core.Bool.{Bool, true, false, _&&_}
+use mathlib.Core.Path.{_≡_, refl}
+use mathlib.Core.Bool.{true, false}
 use mathlib.Core.List.{List, [], _∷_, _++_}
-use Prim.Native.Nat.{ℕ, suc, _≤_, _<_}
+use Prim.Native.Nat.{ℕ, suc}
 use native.Mathlib.Omega.{arith}
-use lib.Dec.{leb, ltb, eqb, leb·suc-suc}
+use lib.Dec.{leb, ltb, leb·suc-suc}
 use Rattle.rules.specs.Book.{all}
 use Rattle.rules.specs.Questions.{Question, ask, firstNo}
 use Rattle.laws.proofs.Answers.{Numbered}

@@ -2,22 +2,22 @@
 -- first, and the draw decides only the order within the two groups.
 use mathlib.Core.Path.{_≡_, refl, sym, ap, _∙_}
 use mathlib.Core.Bool.{Bool, true, false, cond, not, _&&_}
-use mathlib.Core.List.{List, [], _∷_, _++_}
-use Prim.Native.Nat.{ℕ, zero, suc, _+_, _-_, _≤_, _<_, min}
+use mathlib.Core.List.{List, _++_}
+use Prim.Native.Nat.{ℕ, zero, suc, _+_, _≤_, _<_, min}
 use native.Mathlib.Omega.{arith}
-use lib.Dec.{leb, ltb, eqb}
+use lib.Dec.{ltb}
 use lib.ListN.{length, getD, replicate, length-replicate}
-use borrow.Author.Tests.{leb-true, ltb-true, ltb-false, lt-ltb, le-ltb}
+use borrow.Author.Tests.{leb-true}
 use Rattle.rules.specs.Measures.{total, sum}
 use Rattle.rules.specs.Book.{all}
 use Rattle.rules.specs.Questions.{firstNo}
-use Rattle.laws.proofs.Basics.{byTest, either, and-left, and-right, total-append, total-add, total-replicate, all-append}
+use Rattle.laws.proofs.Basics.{byTest, either, and-right, total-append, total-add, all-append}
 use Rattle.laws.proofs.Scans.{and-false}
 use Rattle.laws.proofs.Answers.{all-yes}
 use Rattle.trust.specs.Reports.{Reports, numberOf, numbers, receivedBy, eligible, sizeOf, eligibleLots, faces}
-use Rattle.trust.specs.Allotting.{those, Allotment, allotment, allot}
+use Rattle.trust.specs.Allotting.{Allotment, allot}
 use Rattle.trust.specs.Trust.{same, times, drawRight, columnsRight, trustAsks, facing, others, noShares, sharesOf, trust}
-use Rattle.trust.proofs.Allotting.{those-below, allot-length, allot-append, left-after, allot-has, none-left, not-in, whole, allot-sum, times-those, total-those, first-whole}
+use Rattle.trust.proofs.Allotting.{those-below, allot-length, allot-append, left-after, allot-has, not-in, allot-sum, times-those, total-those, first-whole}
 use Rattle.trust.proofs.Draws.{RightDraw, right-draw, at-most-once, total-draw, total-numbers}
 use Rattle.trust.proofs.Sums.{sum-numbers}
 

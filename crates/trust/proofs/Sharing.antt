@@ -13,8 +13,8 @@ use Rattle.rules.specs.Records.{over}
 use Rattle.rules.specs.Questions.{firstNo}
 use Rattle.laws.proofs.Basics.{byTest, and-left, and-right}
 use Rattle.laws.proofs.Answers.{all-yes, said-yes, said-no}
-use Rattle.trust.specs.Reports.{mostReports, lastSub, Reports, reports, numberOf, numbers, receipts, deliveries, netReceiver, kept, subAt, receivedBy, eligible, sizeOf, eligibleLots, faces}
-use Rattle.trust.specs.Allotting.{those, Allotment, allotment, allot}
+use Rattle.trust.specs.Reports.{mostReports, lastSub, Reports, reports, numberOf, receipts, deliveries, netReceiver, kept, subAt, receivedBy, eligible, sizeOf, eligibleLots, faces}
+use Rattle.trust.specs.Allotting.{Allotment, allotment, allot}
 use Rattle.trust.specs.Trust.{columnsRight, drawRight, askEligible, reportAsks, trustAsks, facing, others, noShares, sharesOf, answered, trustAnswer, trust}
 use Rattle.trust.specs.Steps.{unfaced, inGroup, group, allotGroup, sharedOut}
 use Rattle.trust.proofs.Allotting.{those-below, those-same, allot-same, allot-length, allot-beyond}

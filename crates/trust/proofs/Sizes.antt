@@ -1,14 +1,14 @@
 -- The lots that a report can take, by the tests of its column and of its sub-account.
-use mathlib.Core.Path.{_≡_, refl, sym, ap, _∙_}
+use mathlib.Core.Path.{_≡_, refl, _∙_}
 use mathlib.Core.Bool.{Bool, true, false, cond, _&&_}
 use mathlib.Core.List.{List}
-use Prim.Native.Nat.{ℕ, _+_, _≤_, _<_}
+use Prim.Native.Nat.{ℕ, _+_, _<_}
 use native.Mathlib.Omega.{arith}
 use lib.Dec.{ltb, eqb}
 use lib.ListN.{length, getD, set}
 use lib.Seq.{getD-set-same, getD-set-other}
-use borrow.Author.Tests.{ltb-false, ltb-true, eqb-true, eqb-false}
-use Rattle.laws.proofs.Basics.{byTest, and-left, and-right}
+use borrow.Author.Tests.{ltb-false, eqb-true, eqb-false}
+use Rattle.laws.proofs.Basics.{byTest}
 use Rattle.laws.proofs.Scans.{and-false}
 use Rattle.trust.specs.Reports.{Reports, subAt, receivedBy, kept, netReceiver, eligible, sizeOf}
 

@@ -3,7 +3,7 @@ use mathlib.Core.Path.{refl}
 use mathlib.Core.List.{List, [], _∷_, _++_}
 use Prim.Native.Nat.{ℕ}
 use lib.ListN.{replicate}
-use lib.IntN.{ℤ, pos, negsuc}
+use lib.IntN.{pos, negsuc}
 use Rattle.rules.specs.Days.{Case, case, Holds}
 use Rattle.trust.specs.Reports.{Reports, reports, numbers, receipts, deliveries, eligible, sizeOf, eligibleLots}
 use Rattle.trust.specs.Trust.{times, drawRight, facing, others, sharesOf, TrustAnswer, answered, trust}

@@ -1,6 +1,7 @@
-use mathlib.Core.Path.{_≡_, refl, sym, ap, _∙_}
+-- What the rest of the draw makes of the shares so far is what the whole draw makes of those lent.
+use mathlib.Core.Path.{_≡_, refl, sym, _∙_}
 use mathlib.Core.Logic.{⊎-elim}
-use Prim.Native.Nat.{_+_, _-_, _≤_, _<_}
+use Prim.Native.Nat.{_-_, _≤_, _<_}
 use native.Mathlib.Omega.{arith}
 use denote.Ref.{now}
 use lib.ListN.{length, drop, getD, length-set}
@@ -22,21 +23,25 @@ Inv-loop facing failing n sizes parties draw left out₀ rest₀ i₀ out rest i
 abbrev μ-loop : tie.MeasureT-loop
 μ-loop facing failing n sizes parties draw left out₀ rest₀ i₀ out rest i = length draw - i
 
+-- the function's start, from a turn's beginning
+abbrev atTurn : tie.In-loop Inv-loop μ-loop → tie.Start Inv-loop μ-loop
+atTurn c = c .before .before .before .before .before .before
+
+-- and the turn's beginning, once its report's lots and counterparty are read, and where it takes lots
+abbrev atGroup : tie.After-in-group Inv-loop μ-loop → tie.In-loop Inv-loop μ-loop
+atGroup c = c .before .before .before .before
+
+abbrev atShare : tie.After-smaller Inv-loop μ-loop → tie.In-loop Inv-loop μ-loop
+atShare c = atGroup (c .before .before .before)
+
 -- a number of the draw is below n
-drawn : (c : tie.In-loop Inv-loop μ-loop) → let s = c .before .before .before .before .before .before in
-    getD (now (s .args .draw)) (c .before .loop .i) 0 < s .args .n
+drawn : (c : tie.In-loop Inv-loop μ-loop) → let s = atTurn c in getD (now (s .args .draw)) (c .before .loop .i) 0 < s .args .n
 drawn c =
-    let s = c .before .before .before .before .before .before in
+    let s = atTurn c in
     ltb-true _ _ (all-at (λ k. ltb k (s .args .n)) (now (s .args .draw)) 0 (c .before .loop .i) (s .pre .below) (search needs))
 
 loop-holds : tie.Need-loop-holds Inv-loop μ-loop
 loop-holds c = (search needs, search needs, refl)
-
-mul-k : tie.Need-mul-k Inv-loop μ-loop
-mul-k c = search needs
-
-shared-slice-read-k : tie.Need-shared-slice-read-k Inv-loop μ-loop
-shared-slice-read-k c = search needs
 
 cast-k : tie.Need-cast-k Inv-loop μ-loop
 cast-k c = omega (arith, c .shared-slice-known4 .given (c .before .before .loop .i))
@@ -53,63 +58,55 @@ mul-in-group-2 c = omega (arith, drawn (c .before .before))
 shared-slice-read-in-group-2 : tie.Need-shared-slice-read-in-group-2 Inv-loop μ-loop
 shared-slice-read-in-group-2 c = omega (arith, drawn (c .before .before .before))
 
-in-group-requires : tie.Need-in-group-requires Inv-loop μ-loop
-in-group-requires c κs = search needs
-
 mul-smaller : tie.Need-mul-smaller Inv-loop μ-loop
-mul-smaller c = omega (arith, drawn (c .before .before .before .before .before))
+mul-smaller c = omega (arith, drawn (atGroup (c .before)))
 
 shared-slice-read-smaller : tie.Need-shared-slice-read-smaller Inv-loop μ-loop
-shared-slice-read-smaller c = omega (arith, drawn (c .before .before .before .before .before .before), c .before .before .before .before .before .before .before .before .before .before .before .before .pre .sized)
-
-smaller-requires : tie.Need-smaller-requires Inv-loop μ-loop
-smaller-requires c κs = search needs
+shared-slice-read-smaller c = let t = atGroup (c .before .before) in omega (arith, drawn t, atTurn t .pre .sized)
 
 mul-out : tie.Need-mul-out Inv-loop μ-loop
-mul-out c = omega (arith, drawn (c .before .before .before .before .before .before .before))
+mul-out c = omega (arith, drawn (atShare c))
 
 slice-write-out : tie.Need-slice-write-out Inv-loop μ-loop
-slice-write-out c = omega (arith, drawn (c .before .before .before .before .before .before .before), c .before .before .before .before .before .before .before .before .loop .inv .1, c .before .before .before .before .before .before .before .before .before .before .before .before .before .pre .room)
+slice-write-out c = let t = atShare c in omega (arith, drawn t, t .before .loop .inv .1, atTurn t .pre .room)
 
 sub-rest : tie.Need-sub-rest Inv-loop μ-loop
 sub-rest c = omega (arith, c .smaller .ensures)
 
-add-i : tie.Need-add-i Inv-loop μ-loop
-add-i c = search needs
-
-loop-less : tie.Need-loop-less Inv-loop μ-loop
-loop-less c = search needs
-
 loop-again : tie.Need-loop-again Inv-loop μ-loop
 loop-again c =
-    let s = c .before .before .before .before .before .before .before .before .before .before .before in
-    let l = c .before .before .before .before .before .before .loop in
-    let k = getD (now (s .args .draw)) (l .i) 0 in
-    let h : l .i < length (now (s .args .draw)) = search needs in
-    let a = allotment (l .rest) (l .out) in
+    let t = atGroup (c .before) in
+    let a = atTurn t .args in
+    let l = t .before .loop in
+    let h : l .i < length (now (a .draw)) = search needs in
+    let x = allotment (l .rest) (l .out) in
     ⊎-elim
     (λ w. (
       search needs,
       rw (w .3) (simp length-set (l .inv .1)),
       rw (w .3, w .4, w .2 .ensures)
-          (sym (group-takes (s .args .facing) (s .args .failing) (now (s .args .sizes)) (now (s .args .parties)) (now (s .args .draw)) (l .i) a h (sym (c .before .in-group .ensures) ∙ w .0 .taken)) ∙ l .inv .2),
+          (sym
+          (group-takes (a .facing) (a .failing) (now (a .sizes)) (now (a .parties)) (now (a .draw)) (l .i) x h
+          (sym (c .before .in-group .ensures) ∙ w .0 .taken))
+          ∙ l .inv .2),
     ))
     (λ w. (
       search needs,
       rw (w .1) (l .inv .1),
       rw (w .1, w .2)
-          (sym (group-passes (s .args .facing) (s .args .failing) (now (s .args .sizes)) (now (s .args .parties)) (now (s .args .draw)) (l .i) a h (sym (c .before .in-group .ensures) ∙ w .0 .left)) ∙ l .inv .2),
+          (sym
+          (group-passes (a .facing) (a .failing) (now (a .sizes)) (now (a .parties)) (now (a .draw)) (l .i) x h
+          (sym (c .before .in-group .ensures) ∙ w .0 .left))
+          ∙ l .inv .2),
     ))
     (c .if1 .came)
 
-same-length : tie.Need-same-length Inv-loop μ-loop
-same-length c = search needs
-
 returns : tie.Need-returns Inv-loop μ-loop
 returns c =
-    let s = c .before .before .before .before .before .before in
+    let a = c .before .before .before .before .before .before .args in
     let l = c .before .loop in
-    sym (group-end (s .args .facing) (s .args .failing) (now (s .args .sizes)) (now (s .args .parties)) (now (s .args .draw)) (l .i) (allotment (l .rest) (l .out)) (omega arith))
+    sym
+    (group-end (a .facing) (a .failing) (now (a .sizes)) (now (a .parties)) (now (a .draw)) (l .i) (allotment (l .rest) (l .out)) (omega arith))
     ∙ l .inv .2
 
 pub allot-spec : {M : Type 1} → statement M
@@ -119,22 +116,22 @@ allot-spec =
     Inv-loop
     μ-loop
     loop-holds
-    mul-k
-    shared-slice-read-k
+    (λ c. search needs)
+    (λ c. search needs)
     cast-k
     mul-in-group
     shared-slice-read-in-group
     mul-in-group-2
     shared-slice-read-in-group-2
-    in-group-requires
+    (λ c κs. search needs)
     mul-smaller
     shared-slice-read-smaller
-    smaller-requires
+    (λ c κs. search needs)
     mul-out
     slice-write-out
     sub-rest
-    add-i
-    loop-less
+    (λ c. search needs)
+    (λ c. search needs)
     loop-again
-    same-length
+    (λ c. search needs)
     returns)

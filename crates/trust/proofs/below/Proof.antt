@@ -1,3 +1,4 @@
+-- The flag and the test of what is left are together the test of the whole.
 use mathlib.Core.Path.{_≡_}
 use mathlib.Core.Bool.{_&&_}
 use Prim.Native.Nat.{_-_, _≤_}
@@ -18,23 +19,8 @@ Inv-loop column limit good₀ i₀ good i =
 abbrev μ-loop : tie.MeasureT-loop
 μ-loop column limit good₀ i₀ good i = length column - i
 
-loop-holds : tie.Need-loop-holds Inv-loop μ-loop
-loop-holds c = search needs
-
-mul-good : tie.Need-mul-good Inv-loop μ-loop
-mul-good c = search needs
-
-shared-slice-read-good : tie.Need-shared-slice-read-good Inv-loop μ-loop
-shared-slice-read-good c = search needs
-
 cast-good : tie.Need-cast-good Inv-loop μ-loop
 cast-good c = omega (arith, c .shared-slice-known .given (c .before .before .loop .i))
-
-add-i : tie.Need-add-i Inv-loop μ-loop
-add-i c = search needs
-
-loop-less : tie.Need-loop-less Inv-loop μ-loop
-loop-less c = search needs
 
 loop-again : tie.Need-loop-again Inv-loop μ-loop
 loop-again c =
@@ -54,11 +40,11 @@ below-spec =
     (tie.spec
     Inv-loop
     μ-loop
-    loop-holds
-    mul-good
-    shared-slice-read-good
+    (λ c. search needs)
+    (λ c. search needs)
+    (λ c. search needs)
     cast-good
-    add-i
-    loop-less
+    (λ c. search needs)
+    (λ c. search needs)
     loop-again
     returns)

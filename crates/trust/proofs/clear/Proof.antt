@@ -1,3 +1,4 @@
+-- The first k places are 0, and the others are as they came.
 use mathlib.Core.Path.{_≡_}
 use mathlib.Core.List.{_++_}
 use Prim.Native.Nat.{_-_, _≤_}
@@ -15,20 +16,8 @@ Inv-loop n out₀ k₀ out k = (k ≤ n) × (n ≤ length out₀) × (length out
 abbrev μ-loop : tie.MeasureT-loop
 μ-loop n out₀ k₀ out k = n - k
 
-loop-holds : tie.Need-loop-holds Inv-loop μ-loop
-loop-holds c = search needs
-
-mul-out : tie.Need-mul-out Inv-loop μ-loop
-mul-out c = search needs
-
 slice-write-out : tie.Need-slice-write-out Inv-loop μ-loop
 slice-write-out c = omega arith
-
-add-k : tie.Need-add-k Inv-loop μ-loop
-add-k c = search needs
-
-loop-less : tie.Need-loop-less Inv-loop μ-loop
-loop-less c = search needs
 
 loop-again : tie.Need-loop-again Inv-loop μ-loop
 loop-again c =
@@ -51,11 +40,11 @@ clear-spec =
     (tie.spec
     Inv-loop
     μ-loop
-    loop-holds
-    mul-out
+    (λ c. search needs)
+    (λ c. search needs)
     slice-write-out
-    add-k
-    loop-less
+    (λ c. search needs)
+    (λ c. search needs)
     loop-again
     same-length
     returns)

@@ -1,3 +1,4 @@
+-- A report with an earlier fail, or of another sub-account, counts for nothing.
 use borrow.Author.Tests.{eq-eqb, ne-eqb}
 use Rattle.laws.proofs.Scans.{and-false}
 use Rattle.trust.proofs.counted.Statement.{statement}

@@ -1,14 +1,14 @@
-use mathlib.Core.Path.{_≡_, refl, ap, _∙_, sym}
-use mathlib.Core.Bool.{Bool, true, false}
-use Prim.Native.Nat.{_+_, _-_, _≤_}
+-- The numbers passed are each once in the draw, so what is left decides.
+use mathlib.Core.Path.{_≡_, refl, _∙_, sym}
+use mathlib.Core.Bool.{true}
+use Prim.Native.Nat.{_-_, _≤_}
 use native.Mathlib.Omega.{arith}
 use denote.Ref.{now}
-use lib.Dec.{eqb, ltb}
 use lib.ListN.{drop}
 use borrow.Author.Tests.{eq-eqb, ne-eqb, not-true, not-false}
 use Rattle.rules.specs.Book.{all}
 use Rattle.trust.specs.Reports.{numbers}
-use Rattle.trust.specs.Trust.{times, onceIn, drawRight}
+use Rattle.trust.specs.Trust.{times, onceIn}
 use Rattle.trust.proofs.Sums.{all-number, all-numbers-end}
 use Rattle.trust.proofs.Draws.{not-below, not-once, each-once}
 use borrow.Author.Needs.{needs}
@@ -22,9 +22,6 @@ Inv-loop n draw k₀ k =
 abbrev μ-loop : tie.MeasureT-loop
 μ-loop n draw k₀ k = n - k
 
-below-requires : tie.Need-below-requires Inv-loop μ-loop
-below-requires c κs = search needs
-
 returns : tie.Need-returns Inv-loop μ-loop
 returns c =
     let s = c .before .before .before in
@@ -33,9 +30,6 @@ returns c =
 loop-holds : tie.Need-loop-holds Inv-loop μ-loop
 loop-holds c = (search needs, refl)
 
-times-requires : tie.Need-times-requires Inv-loop μ-loop
-times-requires c κs = search needs
-
 returns-2 : tie.Need-returns-2 Inv-loop μ-loop
 returns-2 c =
     let s = c .before .before .before .before .before .before .before in
@@ -43,12 +37,6 @@ returns-2 c =
     let h : times (l .k) (now (s .args .draw)) ≡ 1 → ⊥ = λ e. c .if2 .taken (c .before .times .ensures ∙ e) in
     not-once (s .args .n) (now (s .args .draw))
     (sym (l .inv .1) ∙ all-number (onceIn (now (s .args .draw))) (s .args .n) (l .k) (omega arith) ∙ simp (ne-eqb _ _ h))
-
-add-k : tie.Need-add-k Inv-loop μ-loop
-add-k c = search needs
-
-loop-less : tie.Need-loop-less Inv-loop μ-loop
-loop-less c = search needs
 
 loop-again : tie.Need-loop-again Inv-loop μ-loop
 loop-again c =
@@ -72,12 +60,12 @@ draw-right-spec =
     (tie.spec
     Inv-loop
     μ-loop
-    below-requires
+    (λ c κs. search needs)
     returns
     loop-holds
-    times-requires
+    (λ c κs. search needs)
     returns-2
-    add-k
-    loop-less
+    (λ c. search needs)
+    (λ c. search needs)
     loop-again
     returns-3)

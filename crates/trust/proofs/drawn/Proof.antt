@@ -1,3 +1,4 @@
+-- The lengths one by one, then the draw.
 use borrow.Author.Needs.{needs}
 use borrow.Author.Tests.{eq-eqb, ne-eqb}
 use Rattle.laws.proofs.Scans.{and-false}

@@ -1,3 +1,4 @@
+-- The number of reports, then their sub-accounts.
 use mathlib.Core.Path.{_∙_}
 use denote.Ref.{now}
 use borrow.Author.Needs.{needs}

@@ -1,3 +1,4 @@
+-- A report without a size belongs to neither group.
 use native.Mathlib.Omega.{arith}
 use Prim.Native.Nat.{_<_, _≤_}
 use borrow.Author.Tests.{lt-ltb, le-ltb}

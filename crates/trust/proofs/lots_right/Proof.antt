@@ -1,3 +1,4 @@
+-- The flag and the test of what is left are together the test of the whole.
 use mathlib.Core.Path.{_≡_, ap, _∙_}
 use mathlib.Core.Bool.{_&&_}
 use Prim.Native.Nat.{_-_, _≤_}
@@ -21,24 +22,6 @@ Inv-loop lots good₀ i₀ good i =
 abbrev μ-loop : tie.MeasureT-loop
 μ-loop lots good₀ i₀ good i = length lots - i
 
-loop-holds : tie.Need-loop-holds Inv-loop μ-loop
-loop-holds c = search needs
-
-mul-x : tie.Need-mul-x Inv-loop μ-loop
-mul-x c = search needs
-
-shared-slice-copy-out-x : tie.Need-shared-slice-copy-out-x Inv-loop μ-loop
-shared-slice-copy-out-x c = search needs
-
-within-requires : tie.Need-within-requires Inv-loop μ-loop
-within-requires c κs = search needs
-
-add-i : tie.Need-add-i Inv-loop μ-loop
-add-i c = search needs
-
-loop-less : tie.Need-loop-less Inv-loop μ-loop
-loop-less c = search needs
-
 loop-again : tie.Need-loop-again Inv-loop μ-loop
 loop-again c =
     let s = c .before .before .before .before in
@@ -59,11 +42,11 @@ lots-right-spec =
     (tie.spec
     Inv-loop
     μ-loop
-    loop-holds
-    mul-x
-    shared-slice-copy-out-x
-    within-requires
-    add-i
-    loop-less
+    (λ c. search needs)
+    (λ c. search needs)
+    (λ c. search needs)
+    (λ c κs. search needs)
+    (λ c. search needs)
+    (λ c. search needs)
     loop-again
     returns)

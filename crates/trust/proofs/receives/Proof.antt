@@ -1,3 +1,4 @@
+-- Both sums and what is left of each are the whole; no report adds more than a word can hold, and there are few.
 use mathlib.Core.Path.{_≡_, ap, _∙_}
 use Prim.Native.Nat.{_+_, _-_, _*_, _≤_, _<_}
 use native.Mathlib.Omega.{arith}
@@ -24,91 +25,47 @@ Inv-loop subs lots earlier s received₀ delivered₀ i₀ received delivered i 
 abbrev μ-loop : tie.MeasureT-loop
 μ-loop subs lots earlier s received₀ delivered₀ i₀ received delivered i = length subs - i
 
+-- the turn's beginning, once both sums are counted, and the function's start from there
+abbrev atCounted : tie.After-counted2 Inv-loop μ-loop → tie.In-loop Inv-loop μ-loop
+atCounted c = c .before .before .before .before .before .before .before .before .before
+
+abbrev atTurn : tie.In-loop Inv-loop μ-loop → tie.Start Inv-loop μ-loop
+atTurn c = c .before .before .before .before
+
 loop-holds : tie.Need-loop-holds Inv-loop μ-loop
 unfolding receipts deliveries numbers
 loop-holds c = (search needs, search needs, search needs, omega arith, omega arith)
 
-mul-x : tie.Need-mul-x Inv-loop μ-loop
-mul-x c = search needs
-
-shared-slice-copy-out-x : tie.Need-shared-slice-copy-out-x Inv-loop μ-loop
-shared-slice-copy-out-x c = search needs
-
-shared-slice-read-counted : tie.Need-shared-slice-read-counted Inv-loop μ-loop
-shared-slice-read-counted c = search needs
-
-mul-counted : tie.Need-mul-counted Inv-loop μ-loop
-mul-counted c = search needs
-
-shared-slice-read-counted-2 : tie.Need-shared-slice-read-counted-2 Inv-loop μ-loop
-shared-slice-read-counted-2 c = search needs
-
-due-requires : tie.Need-due-requires Inv-loop μ-loop
-due-requires c κs = search needs
-
-counted-requires : tie.Need-counted-requires Inv-loop μ-loop
-counted-requires c κs = search needs
-
-cast-received : tie.Need-cast-received Inv-loop μ-loop
-cast-received c = search needs
-
-add-received : tie.Need-add-received Inv-loop μ-loop
-add-received c = search needs
-
-shared-slice-read-counted-3 : tie.Need-shared-slice-read-counted-3 Inv-loop μ-loop
-shared-slice-read-counted-3 c = search needs
-
-mul-counted-2 : tie.Need-mul-counted-2 Inv-loop μ-loop
-mul-counted-2 c = search needs
-
-shared-slice-read-counted-4 : tie.Need-shared-slice-read-counted-4 Inv-loop μ-loop
-shared-slice-read-counted-4 c = search needs
-
-owed-requires : tie.Need-owed-requires Inv-loop μ-loop
-owed-requires c κs = search needs
-
-counted-requires-2 : tie.Need-counted-requires-2 Inv-loop μ-loop
-counted-requires-2 c κs = search needs
-
-cast-delivered : tie.Need-cast-delivered Inv-loop μ-loop
-cast-delivered c = search needs
-
-add-delivered : tie.Need-add-delivered Inv-loop μ-loop
-add-delivered c = search needs
-
-add-i : tie.Need-add-i Inv-loop μ-loop
-add-i c = search needs
-
-loop-less : tie.Need-loop-less Inv-loop μ-loop
-loop-less c = search needs
-
 loop-again : tie.Need-loop-again Inv-loop μ-loop
 loop-again c =
-    let s = c .before .before .before .before .before .before .before .before .before .before .before .before .before in
-    let l = c .before .before .before .before .before .before .before .before .before .before .loop in
-    let rs = unfaced (now (s .args .subs)) (now (s .args .lots)) (now (s .args .earlier)) in
-    let n = getD (now (s .args .lots)) (l .i) (pos 0) in
-    let z = toZ-ofZ w32 n (search needs) in
-    let r : c .before .before .before .before .counted .result ≡ receiptOf rs (s .args .s) (l .i) =
-    c .before .before .before .before .counted .ensures ∙ ap (countedFor (s .args .s) (getD (now (s .args .earlier)) (l .i) 0) (getD (now (s .args .subs)) (l .i) 0)) (c .before .before .before .before .before .due .ensures ∙ ap dueOf z) in
-    let d : c .counted2 .result ≡ deliveryOf rs (s .args .s) (l .i) =
-    c .counted2 .ensures ∙ ap (countedFor (s .args .s) (getD (now (s .args .earlier)) (l .i) 0) (getD (now (s .args .subs)) (l .i) 0)) (c .before .owed .ensures ∙ ap owedOf z) in
-    let h : l .i < length (now (s .args .subs)) = search needs in (
+    let t = atCounted c in
+    let a = atTurn t .args in
+    let l = t .before .loop in
+    let rs = unfaced (now (a .subs)) (now (a .lots)) (now (a .earlier)) in
+    let n = length (now (a .subs)) in
+    let z = toZ-ofZ w32 (getD (now (a .lots)) (l .i) (pos 0)) (search needs) in
+    let counts = countedFor (a .s) (getD (now (a .earlier)) (l .i) 0) (getD (now (a .subs)) (l .i) 0) in
+    let first = c .before .before .before .before in
+    let r : first .counted .result ≡ receiptOf rs (a .s) (l .i) =
+    first .counted .ensures ∙ ap counts (first .before .due .ensures ∙ ap dueOf z) in
+    let d : c .counted2 .result ≡ deliveryOf rs (a .s) (l .i) =
+    c .counted2 .ensures ∙ ap counts (c .before .owed .ensures ∙ ap owedOf z) in
+    let h : l .i < n = search needs in (
       search needs,
-      omega (arith, l .inv .1, c .before .before .before .before .counted .ok),
+      omega (arith, l .inv .1, first .counted .ok),
       omega (arith, l .inv .2, c .counted2 .ok),
-      omega (arith, l .inv .3, r, total-number (receiptOf rs (s .args .s)) (length (now (s .args .subs))) (l .i) h),
-      omega (arith, l .inv .4, d, total-number (deliveryOf rs (s .args .s)) (length (now (s .args .subs))) (l .i) h),
+      omega (arith, l .inv .3, r, total-number (receiptOf rs (a .s)) n (l .i) h),
+      omega (arith, l .inv .4, d, total-number (deliveryOf rs (a .s)) n (l .i) h),
     )
 
 returns : tie.Need-returns Inv-loop μ-loop
 returns c =
-    let s = c .before .before .before .before in
+    let a = c .before .before .before .before .args in
     let l = c .before .loop in
-    let rs = unfaced (now (s .args .subs)) (now (s .args .lots)) (now (s .args .earlier)) in
-    let n = length (now (s .args .subs)) in
-    let r : l .received ≡ receipts rs (s .args .s) = omega (arith, l .inv .3, total-numbers-end (receiptOf rs (s .args .s)) n (l .i) (omega arith)) in
-    let d : l .delivered ≡ deliveries rs (s .args .s) = omega (arith, l .inv .4, total-numbers-end (deliveryOf rs (s .args .s)) n (l .i) (omega arith)) in
+    let rs = unfaced (now (a .subs)) (now (a .lots)) (now (a .earlier)) in
+    let n = length (now (a .subs)) in
+    let r : l .received ≡ receipts rs (a .s) = omega (arith, l .inv .3, total-numbers-end (receiptOf rs (a .s)) n (l .i) (omega arith)) in
+    let d : l .delivered ≡ deliveries rs (a .s) = omega (arith, l .inv .4, total-numbers-end (deliveryOf rs (a .s)) n (l .i) (omega arith)) in
     rw (r, d)
 
 pub receives-spec : {M : Type 1} → statement M
@@ -118,23 +75,23 @@ receives-spec =
     Inv-loop
     μ-loop
     loop-holds
-    mul-x
-    shared-slice-copy-out-x
-    shared-slice-read-counted
-    mul-counted
-    shared-slice-read-counted-2
-    due-requires
-    counted-requires
-    cast-received
-    add-received
-    shared-slice-read-counted-3
-    mul-counted-2
-    shared-slice-read-counted-4
-    owed-requires
-    counted-requires-2
-    cast-delivered
-    add-delivered
-    add-i
-    loop-less
+    (λ c. search needs)
+    (λ c. search needs)
+    (λ c. search needs)
+    (λ c. search needs)
+    (λ c. search needs)
+    (λ c κs. search needs)
+    (λ c κs. search needs)
+    (λ c. search needs)
+    (λ c. search needs)
+    (λ c. search needs)
+    (λ c. search needs)
+    (λ c. search needs)
+    (λ c κs. search needs)
+    (λ c κs. search needs)
+    (λ c. search needs)
+    (λ c. search needs)
+    (λ c. search needs)
+    (λ c. search needs)
     loop-again
     returns)

@@ -1,20 +1,18 @@
 -- Each return is the first question answered with no: those before it were answered yes.
 use mathlib.Core.Path.{_≡_, sym, _∙_}
-use mathlib.Core.Bool.{Bool, true, false, _&&_}
 use mathlib.Core.List.{List}
-use Prim.Native.Nat.{_≤_}
 use denote.Ref.{now}
 use lib.Dec.{leb}
-use lib.ListN.{length, take}
+use lib.ListN.{take}
 use borrow.Author.Tests.{le-leb, lt-leb, not-true, not-false}
-use Rattle.rules.specs.Measures.{lastAccount, mostLots, between}
-use Rattle.rules.specs.Book.{all, withinSize}
+use Rattle.rules.specs.Measures.{lastAccount, mostLots}
+use Rattle.rules.specs.Book.{all}
 use Rattle.rules.specs.Questions.{Question}
 use Rattle.laws.proofs.Basics.{and-both}
 use Rattle.laws.proofs.Scans.{and-false}
 use Rattle.laws.proofs.Answers.{AllYes, stops, no-no}
-use Rattle.trust.specs.Reports.{Reports, reports, mostReports}
-use Rattle.trust.specs.Trust.{drawnRight, fewRight, reportAsks}
+use Rattle.trust.specs.Reports.{Reports, reports}
+use Rattle.trust.specs.Trust.{reportAsks}
 use Rattle.trust.proofs.Asks.{below-most}
 use borrow.Author.Needs.{needs}
 use Rattle.trust.proofs.report_asks.Statement.{statement}

@@ -1,3 +1,4 @@
+-- The test is that of the definition.
 use borrow.Author.Tests.{eq-eqb, ne-eqb}
 use Rattle.trust.proofs.same.Statement.{statement}
 use Rattle.trust.proofs.same.Tie as tie

@@ -1,5 +1,5 @@
-use mathlib.Core.Path.{_≡_, ap, sym, _∙_}
-use mathlib.Core.Bool.{true}
+-- The three tests of a report that takes part; one without lots has size 0 either way.
+use mathlib.Core.Path.{ap, sym, _∙_}
 use denote.Ref.{now}
 use lib.ListN.{getD}
 use lib.IntN.{pos}

@@ -1,4 +1,5 @@
-use mathlib.Core.Path.{_≡_, ap, _∙_}
+-- The sizes of the first k reports are written, and their sum with what is left is the eligible lots.
+use mathlib.Core.Path.{_≡_}
 use Prim.Native.Nat.{ℕ, _+_, _-_, _*_, _≤_, _<_}
 use native.Mathlib.Omega.{arith}
 use denote.Ref.{now}
@@ -26,27 +27,6 @@ loop-holds : tie.Need-loop-holds Inv-loop μ-loop
 unfolding eligibleLots numbers
 loop-holds c = (search needs, search needs, search needs, omega arith, λ j h. absurd (omega arith))
 
-size-of-requires : tie.Need-size-of-requires Inv-loop μ-loop
-size-of-requires c κs = search needs
-
-mul-sizes : tie.Need-mul-sizes Inv-loop μ-loop
-mul-sizes c = search needs
-
-slice-write-sizes : tie.Need-slice-write-sizes Inv-loop μ-loop
-slice-write-sizes c = search needs
-
-cast-sum : tie.Need-cast-sum Inv-loop μ-loop
-cast-sum c = search needs
-
-add-sum : tie.Need-add-sum Inv-loop μ-loop
-add-sum c = search needs
-
-add-k : tie.Need-add-k Inv-loop μ-loop
-add-k c = search needs
-
-loop-less : tie.Need-loop-less Inv-loop μ-loop
-loop-less c = search needs
-
 loop-again : tie.Need-loop-again Inv-loop μ-loop
 loop-again c =
     let s = c .before .before .before .before .before .before in
@@ -58,9 +38,6 @@ loop-again c =
       omega (arith, l .inv .3, c .size-of .ensures, total-number (sizeOf rs) (length (now (s .args .subs))) (l .k) (omega arith)),
       fills (sizeOf rs) (l .sizes) (l .k) (c .size-of .result) (omega (arith, l .inv .1, s .pre .room)) (c .size-of .ensures) (l .inv .4),
     )
-
-same-length : tie.Need-same-length Inv-loop μ-loop
-same-length c = search needs
 
 returns : tie.Need-returns Inv-loop μ-loop
 returns c =
@@ -79,13 +56,13 @@ sizes-of-spec =
     Inv-loop
     μ-loop
     loop-holds
-    size-of-requires
-    mul-sizes
-    slice-write-sizes
-    cast-sum
-    add-sum
-    add-k
-    loop-less
+    (λ c κs. search needs)
+    (λ c. search needs)
+    (λ c. search needs)
+    (λ c. search needs)
+    (λ c. search needs)
+    (λ c. search needs)
+    (λ c. search needs)
     loop-again
-    same-length
+    (λ c. search needs)
     returns)
