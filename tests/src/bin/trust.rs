@@ -213,8 +213,11 @@ fn large() -> Case {
     }
 }
 
-/// What spoils a case that is accepted: each edge is one that is not passed and one that is.
-const EDGES: [fn(&mut Case); 16] = [
+/// What is done to a case that is accepted.
+type Edge = fn(&mut Case);
+
+/// What spoils it: for each question a number just past its edge.
+const EDGES: [Edge; 16] = [
     |case| case.places = MOST_REPORTS - 1,
     |case| case.failing = 64,
     |case| case.reports[255].counterparty = 64,
@@ -265,7 +268,7 @@ fn lengths() -> Result<u64, Mismatch> {
         |columns| columns.counterparties.push(0),
         |columns| columns.earlier.clear(),
     ];
-    let others: [(fn(&mut Case), u32); 6] = [
+    let others: [(Edge, u32); 6] = [
         (|_| (), 21),
         (|case| case.places = 255, 1),
         (|case| case.reports[1].counterparty = 64, 5),
