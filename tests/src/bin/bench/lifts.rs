@@ -5,6 +5,7 @@ use crate::timing::{columns, times, COLUMNS};
 use reference::book::{Book, Phase, ISSUES};
 use reference::calls::{ask_on_sound, commit_on_sound, Ticket};
 use reference::units::{handed, units_of};
+use std::ops::Range;
 use tests::engines::by_reference;
 use tests::steps::Call;
 
@@ -16,14 +17,16 @@ const ISSUE: u32 = 3;
 /// Prints the table.
 pub fn run(rounds: usize) {
     println!("\n### Lifts on a busy book, in nanoseconds\n");
-    println!("| call | lifts in each issue | answer | {COLUMNS} |");
-    println!("|---|--:|--:|--:|--:|--:|");
-    for lifts in [0, 7, 8] {
-        let book = lifted_book(lifts);
+    println!("| call | lifts in an issue | issues with lifts | answer | {COLUMNS} |");
+    println!("|---|--:|--:|--:|--:|--:|--:|");
+    let here = ISSUE as usize..ISSUE as usize + 1;
+    for (lifts, issues) in [(0, 0..0), (7, here.clone()), (8, here), (8, 0..ISSUES)] {
+        let number = issues.len();
+        let book = lifted_book(lifts, issues);
         for call in measured_calls(&book) {
             let answer = by_reference(&mut book.clone(), &call, &mut [0; 4_096]);
             let times = columns(times(&book, &call, rounds));
-            println!("| {} | {lifts} | {} | {times} |", call.name(), answer.number);
+            println!("| {} | {lifts} | {number} | {} | {times} |", call.name(), answer.number);
         }
     }
 }
@@ -42,10 +45,10 @@ fn measured_calls(book: &Book) -> Vec<Call> {
     ]
 }
 
-/// A busy book in Settling with so many lifts in each issue, of units that lie far apart.
-fn lifted_book(lifts: usize) -> Book {
+/// A busy book in Settling with so many lifts in each of some issues, of units that lie far apart.
+fn lifted_book(lifts: usize, issues: Range<usize>) -> Book {
     let mut book = busy_book(Phase::Settling, ENTRIES);
-    for issue in 0..ISSUES as u32 {
+    for issue in issues.start as u32..issues.end as u32 {
         for at in 0..lifts {
             let ticket = ticket(&book, issue, at);
             let answer = commit_on_sound(&mut book, &ticket, &mut [0; 4_096]);
