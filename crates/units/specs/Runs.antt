@@ -3,7 +3,7 @@ use mathlib.Core.Path.{_≡_}
 use mathlib.Core.Bool.{true, cond}
 use mathlib.Core.List.{List, [], _∷_, _++_, map}
 use Prim.Native.Nat.{ℕ, suc, _+_, _*_, _/_, _%_, _≤_, _<_, min}
-use lib.Dec.{ltb}
+use lib.Dec.{leb, ltb}
 use lib.ListN.{length, take, drop, getD, replicate}
 use lib.IntN.{ℤ}
 use Rattle.rules.specs.Measures.{Every, unitLots, mostLots, total}
@@ -56,9 +56,15 @@ fullOf u = accountLots (u .account) (u .lots / unitLots * unitLots)
 abbrev pub smallLots : ℕ → ℕ
 smallLots x = x % unitLots
 
--- the runs of accounts with these dues: the full units, largest due first, then the small ones, largest first
+-- lots where they are at least so many
+abbrev pub atLeast : ℕ → ℕ → ℕ
+atLeast least x = cond (leb least x) x 0
+
+-- the runs of accounts with these dues: of those with a full unit the full units, largest due first; then the small ones,
+-- largest first
 unfoldable pub runsOf : List ℕ → List AccountLots
-runsOf dues = map fullOf (largestFirst (byAccount 0 dues)) ++ largestFirst (byAccount 0 (map smallLots dues))
+runsOf dues =
+    map fullOf (largestFirst (byAccount 0 (map (atLeast unitLots) dues))) ++ largestFirst (byAccount 0 (map smallLots dues))
 
 -- n keys that are ranked already, largest first, and a key of a lower account
 pub record CanInsert (keys : List ℕ) (n key : ℕ) : Type 0 where
