@@ -148,11 +148,12 @@ static int lift(void)
 }
 
 /* The charge on each entry of the ledger, as the roll lays it. */
-static int show_charges_on_entries(uint32_t days, uint32_t rate, uint32_t price)
+static int show_charges_on_entries(uint32_t days, uint32_t rate, uint32_t price,
+                                   uint32_t accrued)
 {
     for (size_t at = 0; at < book.entries; at++) {
         uint64_t yen = 0;
-        if (day_charge(book.lots[at], price, days, rate, &yen) != DAY_DONE) {
+        if (day_charge(book.lots[at], price, days, rate, accrued, &yen) != DAY_DONE) {
             return 0;
         }
         printf("account %d owes account %d %" PRIu32 " lots since day %d: %" PRIu64 " yen\n",
@@ -162,14 +163,15 @@ static int show_charges_on_entries(uint32_t days, uint32_t rate, uint32_t price)
 }
 
 /* P9: the roll, and the charges of the accounts. */
-static int roll(uint32_t days, uint32_t rate, uint32_t price)
+static int roll(uint32_t days, uint32_t rate, uint32_t price, uint32_t accrued)
 {
-    uint32_t prices[DAY_ISSUES];
+    uint32_t quotes[DAY_QUOTES];
     for (size_t issue = 0; issue < DAY_ISSUES; issue++) {
-        prices[issue] = price;
+        quotes[issue] = price;
+        quotes[DAY_ISSUES + issue] = accrued;
     }
-    if (!show_charges_on_entries(days, rate, price) ||
-        !done("roll", day_book_roll(&book, days, rate, prices))) {
+    if (!show_charges_on_entries(days, rate, price, accrued) ||
+        !done("roll", day_book_roll(&book, days, rate, quotes))) {
         return 0;
     }
     printf("day %d, phase %" PRIu32 "\n", book.day, book.phase);
@@ -200,7 +202,7 @@ int main(void)
 {
     day_book_fresh(&book);
     int as_expected = take_trades() && show_units() && deliver(5, 345000) && deliver(4, 200000) &&
-                      deliver_too_much() && lift() && cut(&book) && roll(1, 300, 100000) &&
+                      deliver_too_much() && lift() && cut(&book) && roll(1, 300, 100000, 0) &&
                       mark(1);
     if (fflush(stdout) != 0 || ferror(stdout)) {
         perror("day: the lines could not be written");

@@ -19,25 +19,37 @@ struct range {
     uint32_t refusal;
 };
 
-/* The numbers of a charge in the order of the command; a value takes the first two. */
-static const struct range ranges[] = {
-    {"LOTS", 1, DAY_MOST_LOTS, DAY_REFUSED_LOTS},
-    {"PRICE", 1, DAY_MOST_PRICE, DAY_REFUSED_TERMS},
-    {"DAYS", 1, DAY_MOST_DAYS, DAY_REFUSED_TERMS},
-    {"RATE", 0, DAY_MOST_RATE, DAY_REFUSED_TERMS},
+enum number { LOTS, PRICE, DAYS, RATE, ACCRUED, NUMBERS };
+
+static const struct range ranges[NUMBERS] = {
+    [LOTS] = {"LOTS", 1, DAY_MOST_LOTS, DAY_REFUSED_LOTS},
+    [PRICE] = {"PRICE", 1, DAY_MOST_PRICE, DAY_REFUSED_TERMS},
+    [DAYS] = {"DAYS", 1, DAY_MOST_DAYS, DAY_REFUSED_TERMS},
+    [RATE] = {"RATE", 0, DAY_MOST_RATE, DAY_REFUSED_TERMS},
+    [ACCRUED] = {"ACCRUED", 0, DAY_MOST_ACCRUED, DAY_REFUSED_TERMS},
 };
 
-enum { VALUE_NUMBERS = 2, CHARGE_NUMBERS = 4 };
+/* What a command takes, in its order: how many numbers, and which. */
+struct command {
+    const char *name;
+    size_t count;
+    enum number takes[NUMBERS];
+};
+
+static const struct command value = {"value", 3, {LOTS, PRICE, ACCRUED}};
+static const struct command charge = {"charge", 5, {LOTS, PRICE, DAYS, RATE, ACCRUED}};
 
 static void usage(FILE *to)
 {
-    fputs("usage: measures value LOTS PRICE\n"
-          "       measures charge LOTS PRICE DAYS RATE\n"
+    fputs("usage: measures value LOTS PRICE ACCRUED\n"
+          "       measures charge LOTS PRICE DAYS RATE ACCRUED\n"
           "Prints yen, rounded down.\n"
-          "  LOTS   1 to 20000000, lots of 50,000 yen face\n"
-          "  PRICE  1 to 200000, thousandths of a yen per 100 yen face\n"
-          "  DAYS   1 to 12\n"
-          "  RATE   0 to 10000, hundredths of a percent a year\n"
+          "  LOTS     1 to 20000000, lots of 50,000 yen face\n"
+          "  PRICE    1 to 200000, thousandths of a yen per 100 yen face\n"
+          "  DAYS     1 to 12\n"
+          "  RATE     0 to 10000, hundredths of a percent a year\n"
+          "  ACCRUED  0 to 10000, accrued interest in the measure of the price;\n"
+          "           price and accrued together at most 200000\n"
           "Status: 0 done, 1 refused, 2 bad use, 3 the answer could not be written.\n",
           to);
 }
@@ -64,16 +76,23 @@ static int read_number(const char *word, uint32_t *number)
     return 1;
 }
 
-/* Says which number is out of which range. */
-static int refused(uint32_t refusal, const uint32_t *numbers, size_t count)
+/* Says which number is out of which range, or that price and accrued together are too much. */
+static int refused(uint32_t refusal, const uint32_t *numbers, const struct command *command)
 {
+    int told = 0;
     fprintf(stderr, "measures: refused %" PRIu32, refusal);
-    for (size_t i = 0; i < count; i++) {
-        const struct range *r = &ranges[i];
-        if (r->refusal == refusal && (numbers[i] < r->low || numbers[i] > r->high)) {
+    for (size_t i = 0; i < command->count; i++) {
+        enum number at = command->takes[i];
+        const struct range *r = &ranges[at];
+        if (r->refusal == refusal && (numbers[at] < r->low || numbers[at] > r->high)) {
             fprintf(stderr, ": %s is %" PRIu32 ", give %" PRIu32 " to %" PRIu32, r->name,
-                    numbers[i], r->low, r->high);
+                    numbers[at], r->low, r->high);
+            told = 1;
         }
+    }
+    if (!told) {
+        fprintf(stderr, ": PRICE and ACCRUED together are %" PRIu32 ", give at most %" PRIu32,
+                numbers[PRICE] + numbers[ACCRUED], (uint32_t)DAY_MOST_PRICE);
     }
     fputc('\n', stderr);
     return REFUSED;
@@ -81,8 +100,8 @@ static int refused(uint32_t refusal, const uint32_t *numbers, size_t count)
 
 int main(int argc, char **argv)
 {
-    uint32_t n[CHARGE_NUMBERS];
-    size_t count;
+    uint32_t n[NUMBERS] = {0};
+    const struct command *command;
     uint64_t yen = 0;
 
     if (argc == 2 && strcmp(argv[1], "--help") == 0) {
@@ -90,28 +109,31 @@ int main(int argc, char **argv)
         return DONE;
     }
     if (argc > 1 && strcmp(argv[1], "value") == 0) {
-        count = VALUE_NUMBERS;
+        command = &value;
     } else if (argc > 1 && strcmp(argv[1], "charge") == 0) {
-        count = CHARGE_NUMBERS;
+        command = &charge;
     } else {
         fputs("measures: say 'value' or 'charge'\n", stderr);
         return bad_use();
     }
-    if ((size_t)argc != count + 2) {
-        fprintf(stderr, "measures: %s takes %zu numbers, not %d\n", argv[1], count, argc - 2);
+    if ((size_t)argc != command->count + 2) {
+        fprintf(stderr, "measures: %s takes %zu numbers, not %d\n", command->name, command->count,
+                argc - 2);
         return bad_use();
     }
-    for (size_t i = 0; i < count; i++) {
-        if (!read_number(argv[i + 2], &n[i])) {
+    for (size_t i = 0; i < command->count; i++) {
+        enum number at = command->takes[i];
+        if (!read_number(argv[i + 2], &n[at])) {
             fprintf(stderr, "measures: %s is '%s', not a whole number from 0 to %" PRIu32 "\n",
-                    ranges[i].name, argv[i + 2], UINT32_MAX);
+                    ranges[at].name, argv[i + 2], UINT32_MAX);
             return bad_use();
         }
     }
-    uint32_t refusal = count == VALUE_NUMBERS ? day_value(n[0], n[1], &yen)
-                                              : day_charge(n[0], n[1], n[2], n[3], &yen);
+    uint32_t refusal =
+        command == &value ? day_value(n[LOTS], n[PRICE], n[ACCRUED], &yen)
+                          : day_charge(n[LOTS], n[PRICE], n[DAYS], n[RATE], n[ACCRUED], &yen);
     if (refusal != 0) {
-        return refused(refusal, n, count);
+        return refused(refusal, n, command);
     }
     if (printf("%" PRIu64 "\n", yen) < 0 || fflush(stdout) != 0) {
         perror("measures: the answer could not be written");

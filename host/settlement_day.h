@@ -3,7 +3,7 @@
  * The functions are in four static libraries, which `make libraries` makes:
  *
  *     target/staticlib/libexports.a   day_sound day_unit day_call day_ask day_commit day_read
- *                                     day_prices day_write
+ *                                     day_quotes day_write
  *     target/staticlib/libdesk.a      day_value day_charge
  *     target/staticlib/libentries.a   entry_meet
  *     target/staticlib/libtrust.a     day_trust
@@ -30,6 +30,7 @@ extern "C" {
 /* ---- sizes */
 
 #define DAY_ISSUES 16u      /* issues 0 to 15 */
+#define DAY_QUOTES 32u      /* of a roll: a price for each issue, then an accrued amount for each */
 #define DAY_ACCOUNTS 64u    /* netting accounts 0 to 63 */
 #define DAY_PLACES 1024u    /* nets and delivered lots: issue i and account a stand at i * 64 + a */
 #define DAY_LIFTS 8u        /* the most lifts that stand for an issue */
@@ -37,7 +38,7 @@ extern "C" {
 #define DAY_LIFT_PLACES 288u /* lifts: word w of issue i stands at i * 18 + w */
 #define DAY_ENTRIES 2048u   /* the most fail entries of the ledger */
 #define DAY_OUT_WORDS 4096u /* an output of deliver, commit, cutoff, resolve has at least so many words */
-#define DAY_TAPE_WORDS 17u  /* the output of day_write has at least so many words */
+#define DAY_TAPE_WORDS 33u  /* the output of day_write has at least so many words */
 #define DAY_REPORTS 256u    /* the most trade reports, and the places of the output of day_trust */
 #define DAY_SUB_ACCOUNTS 32u /* sub-accounts 0 to 31 */
 #define DAY_STACK_BYTES 32768u /* the most stack that a call needs; measured: 20,496 */
@@ -54,6 +55,7 @@ extern "C" {
 #define DAY_MOST_LOTS 20000000u /* of a trade, a delivery, a fail entry; of a net to either side */
 #define DAY_UNIT_LOTS 100000u   /* a full unit; a lot is 50,000 yen face */
 #define DAY_MOST_PRICE 200000u  /* prices are thousandths of a yen per 100 yen face, from 1 */
+#define DAY_MOST_ACCRUED 10000u /* accrued amounts, from 0; with the price at most DAY_MOST_PRICE */
 #define DAY_MOST_DAYS 12u       /* days of a roll, from 1 */
 #define DAY_MOST_RATE 10000u    /* rates are hundredths of a percent a year, from 0 */
 #define DAY_LAST_DAY 65535u     /* the last day, which does not roll */
@@ -72,7 +74,7 @@ extern "C" {
 #define DAY_PAIR_OFF 4u /* issue, account: fails to it and from it cancel; any phase */
 #define DAY_CLOSE 5u    /* Taking to Settling */
 #define DAY_CUTOFF 6u   /* what has not come is failed; Settling to Cut */
-#define DAY_ROLL 7u     /* days, rate (prices beside it): fails are charged; Cut to the next Taking */
+#define DAY_ROLL 7u     /* days, rate (quotes beside it): fails are charged; Cut to the next Taking */
 #define DAY_MARK 13u    /* issue, mark: it takes even lots only (0: any lots); any phase */
 
 /* ---- kinds of the records in an output; each record is two words (day_record_at reads one) */
@@ -84,7 +86,7 @@ extern "C" {
 /* ---- refusals: the number of the first question answered 'no'; nothing is changed then */
 
 #define DAY_DONE 0u
-#define DAY_REFUSED_OUTPUT 1u   /* the output has fewer than 4,096 words (writer: 17, trust: 256) */
+#define DAY_REFUSED_OUTPUT 1u   /* the output has fewer than 4,096 words (writer: 33, trust: 256) */
 #define DAY_REFUSED_BOOK 2u     /* the book is not sound, or a column has another length */
 #define DAY_REFUSED_PHASE 3u    /* the call belongs to another phase */
 #define DAY_REFUSED_ISSUE 4u    /* the issue is above 15 */
@@ -94,7 +96,7 @@ extern "C" {
 #define DAY_REFUSED_NET 8u      /* a net would pass 20,000,000 lots to one side */
 #define DAY_REFUSED_OWED 9u     /* the account does not owe that many lots */
 #define DAY_REFUSED_ROOM 10u    /* the ledger would have more than 2,048 entries */
-#define DAY_REFUSED_TERMS 11u   /* price, days or rate out of range, or prices are not sixteen */
+#define DAY_REFUSED_TERMS 11u   /* price, accrued, days or rate out of range, or quotes are not 32 */
 #define DAY_REFUSED_LAST 12u    /* the day is 65,535 */
 #define DAY_REFUSED_TAPE 13u    /* the tape ends before the instruction does */
 #define DAY_REFUSED_WORD 14u    /* a kind or unused bits are wrong; a kind that is none of 1..7, 13 */
@@ -112,7 +114,7 @@ extern "C" {
  *
  * A book goes in as three numbers, sixteen marks and nine columns. An issue's mark is 0 where it takes
  * any lots, and any other number where it takes even lots only; the call stores 1 or 0. A column, the
- * prices, the words and an output are a pointer and a length in this order: nets and delivered 1,024
+ * quotes, the words and an output are a pointer and a length in this order: nets and delivered 1,024
  * each, lifts 288, charges 64, the ledger's five columns 2,048 each. A column of another length is a
  * damaged book. The number returned, but for day_sound's, is the refusal's, 0 where it is done. */
 
@@ -142,10 +144,10 @@ uint32_t day_unit(uint16_t day, uint32_t phase, size_t entries, const uint8_t ma
                   uint32_t issue, uint32_t k, uint32_t answer[3]);
 
 /* The call of an instruction, made in place on any book. Only deliver, cutoff and resolve use the
- * output, and only roll the prices. count is that of the records written (for pair-off, of the
+ * output, and only roll the quotes. count is that of the records written (for pair-off, of the
  * steps), cancelled pair-off's lots; both are 0 on a refusal. */
 uint32_t day_call(uint32_t kind, uint32_t a, uint32_t b, uint32_t c, uint32_t d,
-                  const uint32_t *prices, size_t prices_length,
+                  const uint32_t *quotes, size_t quotes_length,
                   uint16_t *day, uint32_t *phase, size_t *entries, uint8_t marks[16],
                   int32_t *nets, size_t nets_length,
                   uint32_t *delivered, size_t delivered_length,
@@ -192,20 +194,23 @@ uint32_t day_commit(const uint32_t ticket[6], uint16_t day, uint32_t phase, size
 uint32_t day_read(const uint32_t *words, size_t words_length, uint32_t instruction[5],
                   size_t *count);
 
-/* The prices in the words after a roll's head, 0 where a word is missing. */
-void day_prices(const uint32_t *words, size_t words_length, uint32_t prices[16]);
+/* The quotes in the words after a roll's head, sixteen prices and then sixteen accrued amounts, 0
+ * where a word is missing. */
+void day_quotes(const uint32_t *words, size_t words_length, uint32_t quotes[32]);
 
-/* Writes an instruction, with the prices of a roll; count is that of the words written, 0 on a
+/* Writes an instruction, with the quotes of a roll; count is that of the words written, 0 on a
  * refusal (1, 15). */
 uint32_t day_write(uint32_t kind, uint32_t a, uint32_t b, uint32_t c, uint32_t d,
-                   const uint32_t *prices, size_t prices_length,
+                   const uint32_t *quotes, size_t quotes_length,
                    uint32_t *out, size_t out_length, size_t *count);
 
-/* The value of lots at a price, in yen rounded down; 0 yen on a refusal (7, 11). */
-uint32_t day_value(uint32_t lots, uint32_t price, uint64_t *yen);
+/* The value of lots at a price, in yen rounded down, plus that of their accrued amount, rounded down
+ * for itself; 0 yen on a refusal (7, 11). */
+uint32_t day_value(uint32_t lots, uint32_t price, uint32_t accrued, uint64_t *yen);
 
 /* The charge on that value, in yen rounded down, for days at a rate; 0 yen on a refusal (7, 11). */
-uint32_t day_charge(uint32_t lots, uint32_t price, uint32_t days, uint32_t rate, uint64_t *yen);
+uint32_t day_charge(uint32_t lots, uint32_t price, uint32_t days, uint32_t rate, uint32_t accrued,
+                    uint64_t *yen);
 
 /* A fail entry kept as a struct. */
 struct day_entry {
@@ -328,16 +333,16 @@ static inline struct day_unit_answer day_book_unit(const struct day_book *book, 
     return unit;
 }
 
-/* The call of an instruction, with prices and an output of these lengths. */
+/* The call of an instruction, with quotes and an output of these lengths. */
 static inline struct day_answer day_book_call(struct day_book *book, uint32_t kind, uint32_t a,
                                               uint32_t b, uint32_t c, uint32_t d,
-                                              const uint32_t *prices, size_t prices_length,
+                                              const uint32_t *quotes, size_t quotes_length,
                                               uint32_t *out, size_t out_length)
 {
     struct day_answer answer;
     answer.count = 0;
     answer.cancelled = 0;
-    answer.refusal = day_call(kind, a, b, c, d, prices, prices_length, &book->day, &book->phase,
+    answer.refusal = day_call(kind, a, b, c, d, quotes, quotes_length, &book->day, &book->phase,
                               &book->entries, book->marks, book->nets, DAY_PLACES,
                               book->delivered, DAY_PLACES, book->lifts, DAY_LIFT_PLACES,
                               book->charges, DAY_ACCOUNTS, book->issues, DAY_ENTRIES,
@@ -391,7 +396,7 @@ static inline struct day_answer day_book_commit(struct day_book *book, struct da
     return answer;
 }
 
-/* A call that uses neither prices nor output. */
+/* A call that uses neither quotes nor output. */
 static inline struct day_answer day_book_plain(struct day_book *book, uint32_t kind, uint32_t a,
                                                uint32_t b, uint32_t c, uint32_t d)
 {
@@ -446,10 +451,10 @@ static inline struct day_answer day_book_pair_off(struct day_book *book, uint32_
 }
 
 static inline struct day_answer day_book_roll(struct day_book *book, uint32_t days, uint32_t rate,
-                                              const uint32_t prices[DAY_ISSUES])
+                                              const uint32_t quotes[DAY_QUOTES])
 {
     uint32_t unused = 0;
-    return day_book_call(book, DAY_ROLL, days, rate, 0, 0, prices, DAY_ISSUES, &unused, 0);
+    return day_book_call(book, DAY_ROLL, days, rate, 0, 0, quotes, DAY_QUOTES, &unused, 0);
 }
 
 /* The mark of an issue: 1 where it takes even lots only from now on, 0 where it takes any again. */
@@ -486,7 +491,7 @@ static inline const char *day_refusal_text(uint32_t refusal)
     case DAY_REFUSED_NET: return "a net would pass 20,000,000 lots to one side";
     case DAY_REFUSED_OWED: return "the account does not owe that many lots";
     case DAY_REFUSED_ROOM: return "the ledger would have more than 2,048 entries";
-    case DAY_REFUSED_TERMS: return "price, days or rate is out of range";
+    case DAY_REFUSED_TERMS: return "price, accrued, days or rate is out of range";
     case DAY_REFUSED_LAST: return "the day is 65,535, the last one";
     case DAY_REFUSED_TAPE: return "the tape ends before the instruction does";
     case DAY_REFUSED_WORD: return "a word's kind or its unused bits are wrong";

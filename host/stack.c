@@ -16,7 +16,7 @@ static unsigned char stack[STACK] __attribute__((aligned(4096)));
 static struct day_book book;
 static uint32_t out[DAY_OUT_WORDS];
 static uint32_t words[DAY_TAPE_WORDS];
-static uint32_t prices[DAY_ISSUES];
+static uint32_t quotes[DAY_QUOTES];
 static uint32_t refusal;
 
 /* Every issue is in multiples of 100,000 yen. */
@@ -74,12 +74,12 @@ static void make_deliver(void) { refusal |= day_book_deliver(&book, 15, 62, 500,
 static void make_cutoff(void) { refusal |= day_book_cutoff(&book, out).refusal; }
 static void make_resolve(void) { refusal |= day_book_resolve(&book, 15, 62, 400, out).refusal; }
 static void make_pair_off(void) { refusal |= day_book_pair_off(&book, 15, 0).count < 63; }
-static void make_roll(void) { refusal |= day_book_roll(&book, 12, 10000, prices).refusal; }
+static void make_roll(void) { refusal |= day_book_roll(&book, 12, 10000, quotes).refusal; }
 
 static void make_write(void)
 {
     size_t count;
-    refusal |= day_write(DAY_ROLL, 1, 300, 0, 0, prices, DAY_ISSUES, words, DAY_TAPE_WORDS, &count);
+    refusal |= day_write(DAY_ROLL, 1, 300, 0, 0, quotes, DAY_QUOTES, words, DAY_TAPE_WORDS, &count);
 }
 
 static void make_read(void)
@@ -87,14 +87,14 @@ static void make_read(void)
     uint32_t instruction[5];
     size_t count;
     refusal |= day_read(words, DAY_TAPE_WORDS, instruction, &count);
-    day_prices(words, DAY_TAPE_WORDS, prices);
+    day_quotes(words, DAY_TAPE_WORDS, quotes);
 }
 
 static void make_charge(void)
 {
     uint64_t yen;
-    refusal |= day_charge(20000000, 200000, 12, 10000, &yen);
-    refusal |= day_value(20000000, 200000, &yen);
+    refusal |= day_charge(20000000, 190000, 12, 10000, 10000, &yen);
+    refusal |= day_value(20000000, 190000, 10000, &yen);
 }
 
 /* 256 reports, the worst case of every question and of the allotting. */
@@ -163,7 +163,8 @@ int main(void)
     int good = 1;
     size_t thread_alone = used(&measures[0]);
     for (size_t issue = 0; issue < DAY_ISSUES; issue++) {
-        prices[issue] = 99999;
+        quotes[issue] = 99999;
+        quotes[DAY_ISSUES + issue] = 9999;
     }
     day_book_fresh(&book);
     for (size_t i = 1; i < sizeof measures / sizeof measures[0]; i++) {

@@ -87,10 +87,10 @@ pub fn commit(book: &mut Book, ticket: &Ticket, out: &mut [u32]) -> Answer {
     raw::commit(&mut book.columns_mut(), &ticket.numbers(), out)
 }
 
-/// The call of an instruction. Only roll looks at the prices, and only deliver, cutoff and resolve
+/// The call of an instruction. Only roll looks at the quotes, and only deliver, cutoff and resolve
 /// at the output, which has at least 4,096 words for them; for the others both may be empty.
-pub fn call(book: &mut Book, instruction: &Instruction, prices: &[u32], out: &mut [u32]) -> Answer {
-    raw::call(&mut book.columns_mut(), &instruction.fields(), prices, out)
+pub fn call(book: &mut Book, instruction: &Instruction, quotes: &[u32], out: &mut [u32]) -> Answer {
+    raw::call(&mut book.columns_mut(), &instruction.fields(), quotes, out)
 }
 
 /// trade: from's net falls, to's rises.
@@ -129,8 +129,8 @@ pub fn pair_off(book: &mut Book, issue: u32, account: u32) -> Answer {
     call(book, &Instruction::PairOff { issue, account }, &[], &mut [])
 }
 
-/// roll: each entry is charged; nets, delivered lots, lifts and counts are 0, day rises by 1, to
-/// Taking.
-pub fn roll(book: &mut Book, days: u32, rate: u32, prices: &[u32]) -> Answer {
-    call(book, &Instruction::Roll { days, rate }, prices, &mut [])
+/// roll, with sixteen prices and then sixteen accrued amounts: each entry is charged; nets, delivered
+/// lots, lifts and counts are 0, day rises by 1, to Taking.
+pub fn roll(book: &mut Book, days: u32, rate: u32, quotes: &[u32]) -> Answer {
+    call(book, &Instruction::Roll { days, rate }, quotes, &mut [])
 }

@@ -1,14 +1,21 @@
 //! The functions of the static libraries, declared in this one place.
 //!
-//! A column, the prices, the words and an output are a pointer and a length, in this order.
+//! A column, the quotes, the words and an output are a pointer and a length, in this order.
 //! `host/settlement_day.h` has the same declarations for C.
 
 use crate::Entry;
 
 // libdesk.a
 extern "C" {
-    pub fn day_value(lots: u32, price: u32, yen: *mut u64) -> u32;
-    pub fn day_charge(lots: u32, price: u32, days: u32, rate: u32, yen: *mut u64) -> u32;
+    pub fn day_value(lots: u32, price: u32, accrued: u32, yen: *mut u64) -> u32;
+    pub fn day_charge(
+        lots: u32,
+        price: u32,
+        days: u32,
+        rate: u32,
+        accrued: u32,
+        yen: *mut u64,
+    ) -> u32;
 }
 
 // libentries.a
@@ -97,8 +104,8 @@ extern "C" {
         b: u32,
         c: u32,
         d: u32,
-        prices: *const u32,
-        prices_length: usize,
+        quotes: *const u32,
+        quotes_length: usize,
         day: *mut u16,
         phase: *mut u32,
         entries: *mut usize,
@@ -191,7 +198,7 @@ extern "C" {
         count: *mut usize,
     ) -> u32;
 
-    pub fn day_prices(words: *const u32, words_length: usize, prices: *mut [u32; 16]);
+    pub fn day_quotes(words: *const u32, words_length: usize, quotes: *mut [u32; 32]);
 
     pub fn day_write(
         kind: u32,
@@ -199,8 +206,8 @@ extern "C" {
         b: u32,
         c: u32,
         d: u32,
-        prices: *const u32,
-        prices_length: usize,
+        quotes: *const u32,
+        quotes_length: usize,
         out: *mut u32,
         out_length: usize,
         count: *mut usize,

@@ -4,7 +4,8 @@
 /// there is none.
 pub type Fields = [u32; 5];
 
-/// A call with its numbers; a roll's sixteen prices stand beside it.
+/// A call with its numbers; a roll's sixteen prices and sixteen accrued amounts stand beside
+/// it.
 #[derive(Clone, Copy, Debug, PartialEq, Eq)]
 pub enum Instruction {
     Trade { issue: u32, from: u32, to: u32, lots: u32 },

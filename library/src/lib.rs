@@ -34,6 +34,8 @@ pub use refusal::Refusal;
 
 /// Issues 0 to 15.
 pub const ISSUES: usize = 16;
+/// What a roll is given: a price for each issue, then an accrued amount for each.
+pub const QUOTES: usize = 2 * ISSUES;
 /// Netting accounts 0 to 63.
 pub const ACCOUNTS: usize = 64;
 /// The places of nets and of delivered lots: one for each issue and account.
@@ -49,4 +51,4 @@ pub const ENTRIES: usize = 2_048;
 /// The words that the output of deliver, commit, cutoff and resolve has at the least.
 pub const OUTPUT_WORDS: usize = 4_096;
 /// The words that the output of the tape writer has at the least.
-pub const WRITER_WORDS: usize = 17;
+pub const WRITER_WORDS: usize = 1 + QUOTES;

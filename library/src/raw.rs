@@ -4,9 +4,9 @@
 //! is damaged: the library refuses it by 2. There are always sixteen marks.
 
 use crate::declarations::{
-    day_ask, day_call, day_commit, day_prices, day_read, day_sound, day_unit, day_write,
+    day_ask, day_call, day_commit, day_quotes, day_read, day_sound, day_unit, day_write,
 };
-use crate::{Fields, ISSUES};
+use crate::{Fields, ISSUES, QUOTES};
 
 /// What stands in a count before the library writes it: no answer has it.
 const NOT_WRITTEN: usize = usize::MAX;
@@ -162,10 +162,10 @@ pub fn unit(book: &Columns, issue: u32, k: u32) -> UnitAnswer {
 }
 
 /// The call of an instruction given by its fields, made in place on any book.
-pub fn call(book: &mut ColumnsMut, fields: &Fields, prices: &[u32], out: &mut [u32]) -> Answer {
+pub fn call(book: &mut ColumnsMut, fields: &Fields, quotes: &[u32], out: &mut [u32]) -> Answer {
     let [kind, a, b, c, d] = *fields;
     let (mut count, mut cancelled) = (NOT_WRITTEN, u64::MAX);
-    // SAFETY: there are sixteen marks; columns, prices and output are given with their lengths. All
+    // SAFETY: there are sixteen marks; columns, quotes and output are given with their lengths. All
     // live through the call, and none of those that it may write overlaps another: each is a
     // reference of its own.
     let refusal = unsafe {
@@ -175,8 +175,8 @@ pub fn call(book: &mut ColumnsMut, fields: &Fields, prices: &[u32], out: &mut [u
             b,
             c,
             d,
-            prices.as_ptr(),
-            prices.len(),
+            quotes.as_ptr(),
+            quotes.len(),
             book.day,
             book.phase,
             book.entries,
@@ -292,22 +292,23 @@ pub fn read(words: &[u32]) -> ReadAnswer {
     ReadAnswer { refusal, fields, count }
 }
 
-/// The prices in the words after a roll's head, issue 0 first, 0 where a word is missing.
-pub fn prices(words: &[u32]) -> [u32; ISSUES] {
-    let mut prices = [u32::MAX; ISSUES];
-    // SAFETY: the words are given with their length, and there are sixteen prices to write.
-    unsafe { day_prices(words.as_ptr(), words.len(), &mut prices) };
-    prices
+/// The quotes in the words after a roll's head, sixteen prices and then sixteen accrued amounts,
+/// issue 0 first in both, 0 where a word is missing.
+pub fn quotes(words: &[u32]) -> [u32; QUOTES] {
+    let mut quotes = [u32::MAX; QUOTES];
+    // SAFETY: the words are given with their length, and there are 32 quotes to write.
+    unsafe { day_quotes(words.as_ptr(), words.len(), &mut quotes) };
+    quotes
 }
 
-/// Writes an instruction given by its fields, with the prices of a roll.
-pub fn write(fields: &Fields, prices: &[u32], out: &mut [u32]) -> WriteAnswer {
+/// Writes an instruction given by its fields, with the quotes of a roll.
+pub fn write(fields: &Fields, quotes: &[u32], out: &mut [u32]) -> WriteAnswer {
     let [kind, a, b, c, d] = *fields;
     let mut count = NOT_WRITTEN;
     let (words, length) = (out.as_mut_ptr(), out.len());
-    // SAFETY: prices and output are given with their lengths and live through the call.
+    // SAFETY: quotes and output are given with their lengths and live through the call.
     let refusal = unsafe {
-        day_write(kind, a, b, c, d, prices.as_ptr(), prices.len(), words, length, &mut count)
+        day_write(kind, a, b, c, d, quotes.as_ptr(), quotes.len(), words, length, &mut count)
     };
     WriteAnswer { refusal, count }
 }

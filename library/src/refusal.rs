@@ -5,7 +5,7 @@ use std::fmt;
 /// Why a call, a question, the reader or the writer refused; the numbers are the paper's.
 #[derive(Clone, Copy, Debug, PartialEq, Eq, PartialOrd, Ord)]
 pub enum Refusal {
-    /// 1: the lent output has fewer than 4,096 words (deliver, commit, cutoff, resolve) or 17
+    /// 1: the lent output has fewer than 4,096 words (deliver, commit, cutoff, resolve) or 33
     /// (writer), or 256 places (trust).
     Output = 1,
     /// 2: the book is not sound: it was changed by something other than the calls.
@@ -26,7 +26,8 @@ pub enum Refusal {
     Owed = 9,
     /// 10: the ledger would have more than 2,048 entries.
     Room = 10,
-    /// 11: days are not 1 to 12, the rate is above 10,000, or prices are not sixteen of 1 to 200,000.
+    /// 11: days are not 1 to 12, the rate is above 10,000, prices and accrued amounts are not sixteen
+    /// each, or an issue's are not 1 to 200,000 and 0 to 10,000, together at most 200,000.
     Terms = 11,
     /// 12: the day is 65,535, the last one.
     LastDay = 12,
@@ -107,8 +108,8 @@ impl Refusal {
             Refusal::Owed => "the account does not owe that many lots",
             Refusal::Room => "the ledger would have more than 2,048 entries",
             Refusal::Terms => {
-                "days are not 1 to 12, the rate is above 10,000, or prices are not sixteen of 1 to \
-                 200,000"
+                "days are not 1 to 12, the rate is above 10,000, a price is not 1 to 200,000, an \
+                 accrued amount is above 10,000, or both together are above 200,000"
             }
             Refusal::LastDay => "the day is 65,535, the last one",
             Refusal::TapeEnds => "the tape ends before the instruction does",

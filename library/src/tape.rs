@@ -1,6 +1,6 @@
 //! The tape's reader and writer.
 
-pub use crate::raw::{prices, WriteAnswer};
+pub use crate::raw::{quotes, WriteAnswer};
 use crate::{raw, Instruction, Refusal};
 
 /// Reads the instruction that begins at the first word: it and its word count, or 13 or 14.
@@ -13,7 +13,7 @@ pub fn read(words: &[u32]) -> Result<(Instruction, usize), Refusal> {
     Ok((instruction, answer.count))
 }
 
-/// Writes an instruction, with the prices of a roll: refusal number and count of words.
-pub fn write(instruction: &Instruction, prices: &[u32], out: &mut [u32]) -> WriteAnswer {
-    raw::write(&instruction.fields(), prices, out)
+/// Writes an instruction, with the quotes of a roll: refusal number and count of words.
+pub fn write(instruction: &Instruction, quotes: &[u32], out: &mut [u32]) -> WriteAnswer {
+    raw::write(&instruction.fields(), quotes, out)
 }

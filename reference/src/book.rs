@@ -2,6 +2,8 @@
 
 /// Issues 0 to 15.
 pub const ISSUES: usize = 16;
+/// What a roll is given: a price for each issue, then an accrued amount for each.
+pub const QUOTES: usize = 2 * ISSUES;
 /// Netting accounts 0 to 63.
 pub const ACCOUNTS: usize = 64;
 /// The most fail entries of the ledger.

@@ -1,14 +1,14 @@
 //! The desk's questions: each answers Ok for 'yes' and its number for 'no'.
 
-use crate::book::{place, Book, Phase, ACCOUNTS, ENTRIES, ISSUES, LIFTS};
+use crate::book::{place, Book, Phase, ACCOUNTS, ENTRIES, ISSUES, LIFTS, QUOTES};
 use crate::calls::Ticket;
-use crate::measures::{MOST_DAYS, MOST_LOTS, MOST_PRICE, MOST_RATE};
+use crate::measures::{MOST_ACCRUED, MOST_DAYS, MOST_LOTS, MOST_PRICE, MOST_RATE};
 use crate::units::{handed, Unit};
 
 /// The words that the output of deliver, commit, cutoff and resolve has at the least.
 pub const CALL_OUTPUT: usize = 4_096;
 /// The words that the output of the tape writer has at the least.
-pub const WRITER_OUTPUT: usize = 17;
+pub const WRITER_OUTPUT: usize = 33;
 
 /// Whether question 2 is put, or the book is known to be sound.
 #[derive(Clone, Copy, Debug, PartialEq, Eq)]
@@ -95,15 +95,18 @@ pub fn rate_in_range(rate: u32) -> Result<(), u32> {
     ask(11, rate <= MOST_RATE)
 }
 
-/// 11. Is the price 1..200,000?
-pub fn price_in_range(price: u32) -> Result<(), u32> {
-    ask(11, (1..=MOST_PRICE).contains(&price))
+/// 11. Is the price 1..200,000, accrued 0..10,000, and are both together at most 200,000?
+pub fn quote_in_range(price: u32, accrued: u32) -> Result<(), u32> {
+    ask(11, (1..=MOST_PRICE).contains(&price))?;
+    ask(11, accrued <= MOST_ACCRUED)?;
+    ask(11, price + accrued <= MOST_PRICE)
 }
 
-/// 11. Are prices sixteen and each 1..200,000?
-pub fn prices_in_range(prices: &[u32]) -> Result<(), u32> {
-    ask(11, prices.len() == ISSUES)?;
-    prices.iter().try_for_each(|&price| price_in_range(price))
+/// 11. Are prices and accrued amounts sixteen each, and right for each issue?
+pub fn quotes_in_range(quotes: &[u32]) -> Result<(), u32> {
+    ask(11, quotes.len() == QUOTES)?;
+    let (prices, accrued) = quotes.split_at(ISSUES);
+    prices.iter().zip(accrued).try_for_each(|(&price, &accrued)| quote_in_range(price, accrued))
 }
 
 /// 12. Is the day below 65,535?

@@ -58,7 +58,7 @@ fn obey(book: &mut Book, instruction: &Instruction, words: &[u32], output: &mut 
         Instruction::Close => calls::close_on_sound(book),
         Instruction::Cutoff => calls::cutoff_on_sound(book, output),
         Instruction::Roll { days, rate } => {
-            calls::roll_on_sound(book, days, rate, &tape::prices(words))
+            calls::roll_on_sound(book, days, rate, &tape::quotes(words))
         }
         Instruction::Mark { issue, mark } => calls::mark_on_sound(book, issue, mark),
     }

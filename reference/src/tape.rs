@@ -1,6 +1,6 @@
 //! Records and tape: 32-bit words, bits 31..28 the kind.
 
-use crate::book::ISSUES;
+use crate::book::QUOTES;
 use crate::calls::Answer;
 use crate::questions::{ask, field_fits, output_has, word_present, word_right, WRITER_OUTPUT};
 
@@ -13,8 +13,8 @@ pub const CUTOFF: u32 = 6;
 pub const ROLL: u32 = 7;
 /// The word after a head, with lots in 27..0.
 pub const LOTS: u32 = 8;
-/// One of the sixteen words after a roll, with price in 17..0.
-pub const PRICE: u32 = 9;
+/// One of the 32 words after a roll, with a price or an accrued amount in 17..0.
+pub const QUOTE: u32 = 9;
 /// The record of a handover from the house.
 pub const HANDOVER: u32 = 10;
 /// The record of a handover in a resolve.
@@ -23,7 +23,8 @@ pub const RESOLVED: u32 = 11;
 pub const FAIL: u32 = 12;
 pub const MARK: u32 = 13;
 
-/// An instruction of the tape; a roll's sixteen prices stand beside it.
+/// An instruction of the tape; a roll's sixteen prices and sixteen accrued amounts stand beside
+/// it.
 #[derive(Clone, Copy, Debug, PartialEq, Eq)]
 pub enum Instruction {
     Trade { issue: u32, from: u32, to: u32, lots: u32 },
@@ -87,17 +88,18 @@ pub fn read(words: &[u32]) -> Result<(Instruction, usize), u32> {
     }
 }
 
-/// The prices of the accepted roll that begins at the first word, issue 0 first.
-pub fn prices(words: &[u32]) -> Vec<u32> {
-    words.iter().skip(1).take(ISSUES).map(|&word| field(word, 17, 0)).collect()
+/// The prices and then the accrued amounts of the accepted roll that begins at the first word,
+/// issue 0 first in both.
+pub fn quotes(words: &[u32]) -> Vec<u32> {
+    words.iter().skip(1).take(QUOTES).map(|&word| field(word, 17, 0)).collect()
 }
 
-/// Writes an instruction, with the prices of a roll: its word count, or 1 or 15.
+/// Writes an instruction, with the quotes of a roll: its word count, or 1 or 15.
 ///
-/// Words after the last keep their content; prices beside another instruction are not looked at.
-pub fn write(instruction: &Instruction, prices: &[u32], output: &mut [u32]) -> Answer {
+/// Words after the last keep their content; quotes beside another instruction are not looked at.
+pub fn write(instruction: &Instruction, quotes: &[u32], output: &mut [u32]) -> Answer {
     let words =
-        output_has(output, WRITER_OUTPUT).and_then(|()| instruction_words(instruction, prices));
+        output_has(output, WRITER_OUTPUT).and_then(|()| instruction_words(instruction, quotes));
     Answer::from(words.map(|words| {
         output[..words.len()].copy_from_slice(&words);
         words.len() as u32
@@ -125,15 +127,15 @@ fn read_lots(words: &[u32]) -> Result<u32, u32> {
     Ok(field(word, 27, 0))
 }
 
-/// A roll: its head, then sixteen kind 9 words.
+/// A roll: its head, then sixteen kind 9 words of prices and sixteen of accrued amounts.
 fn read_roll(words: &[u32], head: u32) -> Result<(Instruction, usize), u32> {
     unused(head, 9, 0)?;
-    for at in 1..=ISSUES {
+    for at in 1..=QUOTES {
         let word = word_present(words, at)?;
-        word_right(field(word, 31, 28) == PRICE)?;
+        word_right(field(word, 31, 28) == QUOTE)?;
         unused(word, 27, 18)?;
     }
-    Ok((Instruction::Roll { days: field(head, 27, 24), rate: field(head, 23, 10) }, 1 + ISSUES))
+    Ok((Instruction::Roll { days: field(head, 27, 24), rate: field(head, 23, 10) }, 1 + QUOTES))
 }
 
 /// A mark: the issue, and the mark in bit 0.
@@ -143,7 +145,7 @@ fn read_mark(head: u32) -> Result<(Instruction, usize), u32> {
 }
 
 /// The words of an instruction, each field put to question 15.
-fn instruction_words(instruction: &Instruction, prices: &[u32]) -> Result<Vec<u32>, u32> {
+fn instruction_words(instruction: &Instruction, quotes: &[u32]) -> Result<Vec<u32>, u32> {
     match *instruction {
         Instruction::Trade { issue, from, to, lots } => {
             Ok(vec![head(TRADE, issue, from)? | put(to, 17, 12)?, lots_word(lots)?])
@@ -157,19 +159,19 @@ fn instruction_words(instruction: &Instruction, prices: &[u32]) -> Result<Vec<u3
         Instruction::PairOff { issue, account } => Ok(vec![head(PAIR_OFF, issue, account)?]),
         Instruction::Close => Ok(vec![CLOSE << 28]),
         Instruction::Cutoff => Ok(vec![CUTOFF << 28]),
-        Instruction::Roll { days, rate } => roll_words(days, rate, prices),
+        Instruction::Roll { days, rate } => roll_words(days, rate, quotes),
         Instruction::Mark { issue, mark } => {
             Ok(vec![MARK << 28 | put(issue, 27, 24)? | put(mark, 0, 0)?])
         }
     }
 }
 
-/// The words of a roll; prices that are not sixteen have no place among its bits.
-fn roll_words(days: u32, rate: u32, prices: &[u32]) -> Result<Vec<u32>, u32> {
-    ask(15, prices.len() == ISSUES)?;
+/// The words of a roll; quotes that are not 32 have no place among its bits.
+fn roll_words(days: u32, rate: u32, quotes: &[u32]) -> Result<Vec<u32>, u32> {
+    ask(15, quotes.len() == QUOTES)?;
     let mut words = vec![ROLL << 28 | put(days, 27, 24)? | put(rate, 23, 10)?];
-    for &price in prices {
-        words.push(PRICE << 28 | put(price, 17, 0)?);
+    for &quote in quotes {
+        words.push(QUOTE << 28 | put(quote, 17, 0)?);
     }
     Ok(words)
 }

@@ -5,6 +5,7 @@ mod common;
 use common::{book_of_ledger, book_of_nets, entry, output, output_of, record};
 use reference::book::{Book, Phase};
 use reference::calls::{self, Answer, PairOffAnswer};
+use reference::measures::same_quotes;
 use reference::tape::{FAIL, HANDOVER, RESOLVED};
 
 const DONE: Answer = Answer { number: 0, count: 0 };
@@ -82,12 +83,23 @@ fn roll_rounds_the_charge_of_each_entry() {
     let mut book =
         book_of_ledger(&[entry(0, 1, 2, 1, 0), entry(0, 1, 2, 1, 0), entry(15, 2, 1, 1, 0)]);
     book.phase = Phase::Cut;
-    let mut prices = [1; 16];
-    prices[0] = 99_999;
-    assert_eq!(calls::roll(&mut book, 12, 10_000, &prices), DONE);
+    let mut quotes = same_quotes(1, 0);
+    quotes[0] = 99_999;
+    assert_eq!(calls::roll(&mut book, 12, 10_000, &quotes), DONE);
     assert_eq!((book.charges[1], book.charges[2]), (-3_286, 3_286));
     assert_eq!((book.day, book.phase), (1, Phase::Taking));
     assert_eq!(book.count, 3);
+}
+
+#[test]
+fn roll_takes_price_and_accrued_of_the_entrys_issue() {
+    let mut book = book_of_ledger(&[entry(1, 1, 2, 3, 0), entry(15, 3, 4, 3, 0)]);
+    book.phase = Phase::Cut;
+    let mut quotes = same_quotes(200_000, 0);
+    (quotes[1], quotes[15]) = (101, 102);
+    quotes[17] = 1;
+    assert_eq!(calls::roll(&mut book, 12, 10_000, &quotes), DONE);
+    assert_eq!(book.charges[1..5], [-4, 4, -5, 5]);
 }
 
 #[test]
@@ -96,7 +108,7 @@ fn a_day_without_trades_passes() {
     let mut out = output();
     assert_eq!(calls::close(&mut book), DONE);
     assert_eq!(calls::cutoff(&mut book, &mut out), DONE);
-    assert_eq!(calls::roll(&mut book, 1, 0, &[1; 16]), DONE);
+    assert_eq!(calls::roll(&mut book, 1, 0, &same_quotes(1, 0)), DONE);
     assert_eq!(out, output());
     assert_eq!(book, Book { day: 1, ..Book::fresh() });
 }

@@ -5,6 +5,7 @@ mod common;
 use common::{book_of_nets, entry, lift, output, output_of, p7_book, record, ticket};
 use reference::book::{Book, Lift, Lifts, Phase};
 use reference::calls::{self, Answer, AskAnswer, Ticket};
+use reference::measures::same_quotes;
 use reference::tape::{FAIL, HANDOVER};
 use reference::units::units_of;
 
@@ -75,7 +76,7 @@ fn a_cutoff_follows_the_lifted_order() {
     let unit = calls::unit(&book, 0, 5);
     assert_eq!((unit.account, unit.lots), (1, 30_000));
     assert_eq!(calls::ask(&book, 0, 7).number, 3);
-    assert_eq!(calls::roll(&mut book, 1, 300, &[100_000; 16]).number, 0);
+    assert_eq!(calls::roll(&mut book, 1, 300, &same_quotes(100_000, 0)).number, 0);
     assert_eq!(book.lifts, [Lifts::default(); 16]);
     assert_eq!(&book.charges[2..6], &[143_834, 205_479, -123_287, -226_026]);
     assert!(book.sound());

@@ -5,6 +5,7 @@ mod common;
 use common::{book_of_ledger, book_of_nets, entry, lift, output, output_of, record};
 use reference::book::{Book, Phase};
 use reference::calls::{self, Answer};
+use reference::measures::same_quotes;
 use reference::tape::{FAIL, HANDOVER, RESOLVED};
 
 /// Done, with this count of records.
@@ -83,7 +84,7 @@ fn the_mark_stays_over_days_and_an_entry_holds_it() {
     assert_eq!(calls::trade(&mut book, 3, 4, 1, 2), done(0));
     calls::close(&mut book);
     calls::cutoff(&mut book, &mut out);
-    assert_eq!(calls::roll(&mut book, 1, 300, &[100_000; 16]), done(0));
+    assert_eq!(calls::roll(&mut book, 1, 300, &same_quotes(100_000, 0)), done(0));
     assert_eq!(book.marks, marked_book().marks);
     assert!(book.nets.iter().all(|&net| net == 0));
     assert_eq!(calls::mark(&mut book, 3, 0), refused(20));
@@ -107,7 +108,7 @@ fn mark_in_any_phase_and_nets_of_the_day_hold_it_until_the_roll() {
     let mut book = book_of_nets(Phase::Cut, &[(1, 2), (2, -2)]);
     book.delivered[2] = 2;
     assert_eq!(calls::mark(&mut book, 0, 1), refused(20));
-    assert_eq!(calls::roll(&mut book, 1, 0, &[1; 16]), done(0));
+    assert_eq!(calls::roll(&mut book, 1, 0, &same_quotes(1, 0)), done(0));
     assert_eq!(calls::mark(&mut book, 0, 1), done(0));
 }
 
@@ -156,7 +157,7 @@ fn commit_pair_off_cutoff_and_roll_have_no_19() {
     assert_eq!(calls::commit(&mut book, &ticket, &mut out), done(1));
     assert_eq!(calls::cutoff(&mut book, &mut out), done(1));
     assert!(book.sound());
-    assert_eq!(calls::roll(&mut book, 1, 300, &[99_999; 16]), done(0));
+    assert_eq!(calls::roll(&mut book, 1, 300, &same_quotes(99_999, 0)), done(0));
     let entries = [entry(3, 1, 2, 30, 0), entry(3, 2, 3, 20, 0), entry(3, 2, 1, 6, 0)];
     let mut book = Book { marks: marked_book().marks, ..book_of_ledger(&entries) };
     let answer = calls::pair_off(&mut book, 3, 2);

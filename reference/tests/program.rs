@@ -1,5 +1,6 @@
 //! What the program prints.
 
+use reference::measures::same_quotes;
 use reference::run::run;
 use reference::tape::{write, Instruction};
 
@@ -8,12 +9,12 @@ fn bytes(words: &[u32]) -> Vec<u8> {
     words.iter().flat_map(|word| word.to_le_bytes()).collect()
 }
 
-/// The tape of instructions; every price is 100,000.
+/// The tape of instructions; every price is 100,000, nothing accrued.
 fn tape(instructions: &[Instruction]) -> Vec<u8> {
     let mut tape = Vec::new();
     for instruction in instructions {
-        let mut words = [0; 17];
-        let answer = write(instruction, &[100_000; 16], &mut words);
+        let mut words = [0; 33];
+        let answer = write(instruction, &same_quotes(100_000, 0), &mut words);
         assert_eq!(answer.number, 0);
         tape.extend(bytes(&words[..answer.count as usize]));
     }
@@ -71,7 +72,7 @@ fn the_settled_days_p5_to_p9() {
     ]);
     let lines =
         "0 trade 0 0\n2 trade 0 0\n4 trade 0 0\n6 close 0 0\n7 deliver 0 3\n9 deliver 0 2\n\
-        11 cutoff 0 5\n12 roll 0 0\n29 resolve 0 2\n31 pair-off 0 0\n\
+        11 cutoff 0 5\n12 roll 0 0\n45 resolve 0 2\n47 pair-off 0 0\n\
         F 0 4 2 5000 0\nF 0 4 3 25000 0\nF 0 5 1 25000 0\n\
         C 1 123287\nC 2 20547\nC 3 205478\nC 4 -123286\nC 5 -226026\n";
     assert_eq!(run(&tape), lines);
@@ -106,5 +107,14 @@ fn the_count_of_pair_off_is_its_steps() {
         Instruction::PairOff { issue: 0, account: 2 },
     ]);
     let text = run(&tape);
-    assert!(text.ends_with("24 cutoff 0 1\n25 pair-off 0 1\nF 0 1 2 10 0\n"), "{text}");
+    assert!(text.ends_with("40 cutoff 0 1\n41 pair-off 0 1\nF 0 1 2 10 0\n"), "{text}");
+}
+
+#[test]
+fn an_older_roll_ends_reading() {
+    let mut words = vec![0x5000_0000, 0x6000_0000, 0x7104_b000];
+    words.extend([0x9001_86a0; 16]);
+    assert_eq!(run(&bytes(&words)), "0 close 0 0\n1 cutoff 0 0\n2 tape 13 0\n");
+    words.push(0x5000_0000);
+    assert_eq!(run(&bytes(&words)), "0 close 0 0\n1 cutoff 0 0\n2 tape 14 0\n");
 }

@@ -7,6 +7,7 @@ use common::{
 };
 use reference::book::{Book, Entry, Phase};
 use reference::calls::{self, Answer, AskAnswer, PairOffAnswer, Ticket, UnitAnswer};
+use reference::measures::same_quotes;
 
 /// A book that is not sound: its nets do not sum to 0.
 fn damaged(book: &Book) -> Book {
@@ -195,23 +196,32 @@ fn pair_off_asks_2_4_5() {
 fn roll_asks_2_3_11_12() {
     let cut = Book { day: u16::MAX, ..p8_book(0) };
     let taking = Book { day: u16::MAX, ..Book::fresh() };
-    let roll = |days, rate, prices: Vec<u32>| {
-        move |book: &mut Book, _: &mut [u32]| calls::roll(book, days, rate, &prices)
+    let roll = |days, rate, quotes: Vec<u32>| {
+        move |book: &mut Book, _: &mut [u32]| calls::roll(book, days, rate, &quotes)
     };
-    let with = |at: usize, price| {
-        let mut prices = vec![1; 16];
-        prices[at] = price;
-        prices
+    let with = |at: usize, number| {
+        let mut quotes = same_quotes(1, 0).to_vec();
+        quotes[at] = number;
+        quotes
     };
     refused(&damaged(&taking), 0, 2, roll(0, 0, vec![]));
     refused(&taking, 0, 3, roll(0, 0, vec![]));
     refused(&cut, 0, 11, roll(0, 0, with(0, 1)));
     refused(&cut, 0, 11, roll(13, 0, with(0, 1)));
     refused(&cut, 0, 11, roll(1, 10_001, with(0, 1)));
-    refused(&cut, 0, 11, roll(1, 0, vec![1; 15]));
-    refused(&cut, 0, 11, roll(1, 0, vec![1; 17]));
+    refused(&cut, 0, 11, roll(1, 0, vec![1; 31]));
+    refused(&cut, 0, 11, roll(1, 0, vec![1; 33]));
     refused(&cut, 0, 11, roll(1, 0, with(0, 0)));
+    refused(&cut, 0, 11, roll(1, 0, vec![1; 16]));
     refused(&cut, 0, 11, roll(1, 0, with(15, 200_001)));
+    refused(&cut, 0, 11, roll(1, 0, with(16, 10_001)));
+    refused(&cut, 0, 11, roll(1, 0, with(31, u32::MAX)));
+    let mut high = with(15, 190_001);
+    high[31] = 10_000;
+    refused(&cut, 0, 11, roll(1, 0, high.clone()));
+    high[15] = 190_000;
+    refused(&cut, 0, 12, roll(1, 0, high));
+    refused(&cut, 0, 12, roll(1, 0, with(31, 10_000)));
     refused(&cut, 0, 12, roll(12, 10_000, with(15, 200_000)));
 }
 

@@ -5,7 +5,7 @@ mod common;
 use common::{book_of_ledger, entry, output, output_of, p5_book, p8_book, record};
 use reference::book::{place, Book, Phase};
 use reference::calls::{self, Answer, PairOffAnswer, UnitAnswer};
-use reference::measures::{charge, value};
+use reference::measures::{charge, same_quotes, value};
 use reference::tape::{FAIL, HANDOVER};
 use reference::units::units;
 
@@ -89,7 +89,10 @@ fn p8_cutoff() {
 fn p9_roll() {
     let mut book = p8_book(7);
     let ledger = book.ledger();
-    assert_eq!(calls::roll(&mut book, 1, 300, &[100_000; 16]), Answer { number: 0, count: 0 });
+    assert_eq!(
+        calls::roll(&mut book, 1, 300, &same_quotes(100_000, 0)),
+        Answer { number: 0, count: 0 }
+    );
     let mut rolled = Book::fresh();
     rolled.day = 1;
     rolled.charges[1..6].copy_from_slice(&[123_287, 20_547, 205_478, -123_286, -226_026]);
@@ -108,15 +111,15 @@ fn p10_pair_off() {
 
 #[test]
 fn p11_value_and_charge() {
-    assert_eq!(value(1, 99_999), (0, 49_999));
-    assert_eq!(charge(1, 99_999, 12, 10_000), (0, 1_643));
+    assert_eq!(value(1, 99_999, 0), (0, 49_999));
+    assert_eq!(charge(1, 99_999, 12, 10_000, 0), (0, 1_643));
 }
 
 #[test]
 fn lots_0_and_20_000_001_are_refused_by_7() {
     for lots in [0, 20_000_001] {
-        assert_eq!(value(lots, 1), (7, 0));
-        assert_eq!(charge(lots, 1, 1, 1), (7, 0));
+        assert_eq!(value(lots, 1, 0), (7, 0));
+        assert_eq!(charge(lots, 1, 1, 1, 0), (7, 0));
         let mut book = Book::fresh();
         assert_eq!(calls::trade(&mut book, 0, 1, 2, lots), Answer { number: 7, count: 0 });
         assert_eq!(book, Book::fresh());

@@ -5,6 +5,7 @@ mod common;
 use common::{book_of_nets, entry, lift, output, p8_book};
 use reference::book::{place, Book, Lift, Phase, LIFTS};
 use reference::calls;
+use reference::measures::same_quotes;
 use reference::soundness::CONDITIONS;
 
 /// The conditions that a book breaks.
@@ -270,7 +271,10 @@ fn random_call(state: &mut u64, book: &mut Book, out: &mut [u32]) -> u32 {
     match below(state, 50) {
         0 => calls::close(book).number,
         1 => calls::cutoff(book, out).number,
-        2 => calls::roll(book, 1 + below(state, 12), below(state, 10_001), &[100_000; 16]).number,
+        2 => {
+            calls::roll(book, 1 + below(state, 12), below(state, 10_001), &same_quotes(100_000, 0))
+                .number
+        }
         3 => calls::pair_off(book, issue, from).number,
         4 => calls::mark(book, below(state, 4), below(state, 2)).number,
         5..=7 => calls::resolve(book, issue, from, lots, out).number,

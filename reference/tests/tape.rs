@@ -1,12 +1,12 @@
 //! The tape reader and the tape writer.
 
 use reference::calls::Answer;
-use reference::tape::{prices, read, write, Instruction};
+use reference::tape::{quotes, read, write, Instruction};
 
-/// One of each instruction with its words; a roll's prices are 1 to 16.
+/// One of each instruction with its words; a roll's prices are 1 to 16, its accrued amounts 17 to 32.
 fn examples() -> Vec<(Instruction, Vec<u32>)> {
     let mut roll = vec![0x7c9c_4000];
-    roll.extend((1..=16).map(|price| 0x9000_0000 | price));
+    roll.extend((1..=32).map(|quote| 0x9000_0000 | quote));
     vec![
         (Instruction::Trade { issue: 0, from: 1, to: 2, lots: 3 }, vec![0x1004_2000, 0x8000_0003]),
         (
@@ -25,9 +25,9 @@ fn examples() -> Vec<(Instruction, Vec<u32>)> {
     ]
 }
 
-/// The prices of the example roll.
-fn example_prices() -> Vec<u32> {
-    (1..=16).collect()
+/// The quotes of the example roll.
+fn example_quotes() -> Vec<u32> {
+    (1..=32).collect()
 }
 
 #[test]
@@ -42,7 +42,7 @@ fn the_reader_takes_the_instruction_and_counts_its_words() {
         assert_eq!(read(&words), Ok((instruction, count)));
     }
     let (_, roll) = examples().remove(7);
-    assert_eq!(prices(&roll), example_prices());
+    assert_eq!(quotes(&roll), example_quotes());
 }
 
 #[test]
@@ -75,7 +75,7 @@ fn words_are_asked_one_by_one() {
     assert_eq!(read(&[0x1004_2000, 0x9000_0003]), Err(14));
     assert_eq!(read(&[0x1004_2000, 0x0000_0003]), Err(14));
     let (_, roll) = examples().remove(7);
-    for at in 1..=16 {
+    for at in 1..=32 {
         for wrong in [0x8000_0001, 0x9004_0001, 0x9800_0001, 0xa000_0001] {
             let mut words = roll.clone();
             words[at] = wrong;
@@ -87,11 +87,20 @@ fn words_are_asked_one_by_one() {
 }
 
 #[test]
+fn an_older_roll_of_17_words_is_refused() {
+    let (_, roll) = examples().remove(7);
+    assert_eq!(read(&roll[..17]), Err(13));
+    for after in [0x5000_0000, 0x1004_2000, 0x7c9c_4000, 0] {
+        assert_eq!(read(&[&roll[..17], &[after]].concat()), Err(14));
+    }
+}
+
+#[test]
 fn the_reader_passes_on_what_the_book_refuses() {
     let mut words = vec![0x7fff_fc00];
-    words.extend([0x9003_ffff; 16]);
-    assert_eq!(read(&words), Ok((Instruction::Roll { days: 15, rate: 16_383 }, 17)));
-    assert_eq!(prices(&words), [262_143; 16]);
+    words.extend([0x9003_ffff; 32]);
+    assert_eq!(read(&words), Ok((Instruction::Roll { days: 15, rate: 16_383 }, 33)));
+    assert_eq!(quotes(&words), [262_143; 32]);
     let trade = Instruction::Trade { issue: 0, from: 0, to: 0, lots: 0 };
     assert_eq!(read(&[0x1000_0000, 0x8000_0000]), Ok((trade, 2)));
 }
@@ -99,42 +108,42 @@ fn the_reader_passes_on_what_the_book_refuses() {
 #[test]
 fn the_writer_writes_what_the_reader_reads() {
     for (instruction, words) in examples() {
-        let mut output = [7; 18];
-        let answer = write(&instruction, &example_prices(), &mut output);
+        let mut output = [7; 34];
+        let answer = write(&instruction, &example_quotes(), &mut output);
         assert_eq!(answer, Answer { number: 0, count: words.len() as u32 });
         assert_eq!(output[..words.len()], words);
         assert!(output[words.len()..].iter().all(|&word| word == 7));
-        if words.len() < 17 {
+        if words.len() < 33 {
             assert_eq!(write(&instruction, &[u32::MAX; 3], &mut output), answer);
         }
     }
 }
 
 /// The writer refuses by this number and leaves the output as it was.
-fn refused(number: u32, instruction: Instruction, prices: &[u32], words: usize) {
+fn refused(number: u32, instruction: Instruction, quotes: &[u32], words: usize) {
     let mut output = vec![7; words];
-    assert_eq!(write(&instruction, prices, &mut output), Answer { number, count: 0 });
+    assert_eq!(write(&instruction, quotes, &mut output), Answer { number, count: 0 });
     assert!(output.iter().all(|&word| word == 7));
 }
 
 #[test]
 fn the_writer_asks_1_and_15() {
-    refused(1, Instruction::Close, &[], 16);
+    refused(1, Instruction::Close, &[], 32);
     refused(1, Instruction::PairOff { issue: 16, account: 64 }, &[], 0);
-    refused(15, Instruction::Trade { issue: 16, from: 0, to: 1, lots: 1 }, &[], 17);
-    refused(15, Instruction::Trade { issue: 0, from: 64, to: 1, lots: 1 }, &[], 17);
-    refused(15, Instruction::Trade { issue: 0, from: 0, to: 64, lots: 1 }, &[], 17);
-    refused(15, Instruction::Trade { issue: 0, from: 0, to: 1, lots: 1 << 28 }, &[], 17);
-    refused(15, Instruction::Deliver { issue: 0, account: 64, lots: 1 }, &[], 17);
-    refused(15, Instruction::Resolve { issue: 16, account: 0, lots: 1 }, &[], 17);
-    refused(15, Instruction::PairOff { issue: 0, account: u32::MAX }, &[], 17);
-    refused(15, Instruction::Roll { days: 16, rate: 0 }, &[0; 16], 17);
-    refused(15, Instruction::Roll { days: 0, rate: 16_384 }, &[0; 16], 17);
-    refused(15, Instruction::Roll { days: 0, rate: 0 }, &[262_144; 16], 17);
-    refused(15, Instruction::Roll { days: 0, rate: 0 }, &[0; 15], 17);
-    refused(15, Instruction::Roll { days: 0, rate: 0 }, &[0; 17], 17);
-    refused(1, Instruction::Mark { issue: 16, mark: 2 }, &[], 16);
-    refused(15, Instruction::Mark { issue: 16, mark: 1 }, &[], 17);
-    refused(15, Instruction::Mark { issue: 0, mark: 2 }, &[], 17);
-    refused(15, Instruction::Mark { issue: 0, mark: u32::MAX }, &[], 17);
+    refused(15, Instruction::Trade { issue: 16, from: 0, to: 1, lots: 1 }, &[], 33);
+    refused(15, Instruction::Trade { issue: 0, from: 64, to: 1, lots: 1 }, &[], 33);
+    refused(15, Instruction::Trade { issue: 0, from: 0, to: 64, lots: 1 }, &[], 33);
+    refused(15, Instruction::Trade { issue: 0, from: 0, to: 1, lots: 1 << 28 }, &[], 33);
+    refused(15, Instruction::Deliver { issue: 0, account: 64, lots: 1 }, &[], 33);
+    refused(15, Instruction::Resolve { issue: 16, account: 0, lots: 1 }, &[], 33);
+    refused(15, Instruction::PairOff { issue: 0, account: u32::MAX }, &[], 33);
+    refused(15, Instruction::Roll { days: 16, rate: 0 }, &[0; 32], 33);
+    refused(15, Instruction::Roll { days: 0, rate: 16_384 }, &[0; 32], 33);
+    refused(15, Instruction::Roll { days: 0, rate: 0 }, &[262_144; 32], 33);
+    refused(15, Instruction::Roll { days: 0, rate: 0 }, &[0; 31], 33);
+    refused(15, Instruction::Roll { days: 0, rate: 0 }, &[0; 33], 33);
+    refused(1, Instruction::Mark { issue: 16, mark: 2 }, &[], 32);
+    refused(15, Instruction::Mark { issue: 16, mark: 1 }, &[], 33);
+    refused(15, Instruction::Mark { issue: 0, mark: 2 }, &[], 33);
+    refused(15, Instruction::Mark { issue: 0, mark: u32::MAX }, &[], 33);
 }

@@ -2,6 +2,7 @@
 
 use crate::bytes::split;
 use crate::input::Input;
+use crate::text::why_ended;
 use crate::why::why;
 use library::{calls, tape, Book, OUTPUT_WORDS};
 
@@ -24,16 +25,20 @@ pub fn check(file: &str, input: &Input) -> Checked {
         match tape::read(&words[at..]) {
             Ok((instruction, count)) => {
                 checked.instructions += 1;
-                let prices = tape::prices(&words[at..]);
-                let answer = calls::call(&mut book, &instruction, &prices, &mut output);
+                let quotes = tape::quotes(&words[at..]);
+                let answer = calls::call(&mut book, &instruction, &quotes, &mut output);
                 if let Some(refusal) = answer.refused() {
-                    let (name, why) = (instruction.name(), why(&book, &instruction, refusal));
+                    let (name, why) =
+                        (instruction.name(), why(&book, &instruction, &quotes, refusal));
                     checked.refusals.push(format!("{}: {name}: {why}", places.at(at)));
                 }
                 at += count;
             }
             Err(refusal) => {
-                checked.refusals.push(format!("{}: reading ends here: {refusal}", places.at(at)));
+                let why = why_ended(&words[at..], refusal);
+                let (place, number) = (places.at(at), refusal.number());
+                let line = format!("{place}: reading ends here: refused by {number}: {why}");
+                checked.refusals.push(line);
                 break;
             }
         }
@@ -98,6 +103,28 @@ mod tests {
         assert_eq!(found.refusals[..4], expected);
         assert!(found.refusals[4].starts_with("day.txt:9:1: roll: refused by 11: "));
         assert_eq!((found.refusals.len(), found.instructions), (5, 8));
+    }
+
+    #[test]
+    fn refusals_of_a_roll_name_the_number() {
+        let mut day = "close\ncutoff\n".to_string();
+        let rolls = [
+            ("roll 13 10001 0 accrued 0", "days are 13"),
+            ("roll 12 10001 0 accrued 0", "the rate is 10001"),
+            ("roll 12 10000 0 accrued 5", "the price of issue 0 is 0"),
+            ("roll 12 10000 1 accrued 10001", "the accrued amount of issue 0 is 10001"),
+            (
+                "roll 1 0 190000 accrued 0 0 0 0 0 0 0 0 0 0 0 0 0 0 0 10000\n\
+                 close\ncutoff\nroll 1 0 190001 accrued 0 0 0 0 0 0 0 0 0 0 0 0 0 0 0 10000",
+                "price and accrued amount of issue 15 are together 200001",
+            ),
+        ];
+        rolls.iter().for_each(|(roll, _)| day.push_str(&format!("{roll}\n")));
+        let found = checked(&day);
+        assert_eq!(found.refusals.len(), rolls.len());
+        for (refusal, (_, behind)) in found.refusals.iter().zip(rolls) {
+            assert!(refusal.contains("roll: refused by 11: ") && refusal.ends_with(behind));
+        }
     }
 
     #[test]

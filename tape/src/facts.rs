@@ -40,7 +40,7 @@ pub enum Fact {
     /// The charge that a roll lays on an entry, and what it is made of.
     Charge { terms: Terms, from: u32, to: u32, lots: u32, value: u64, yen: u64 },
     /// Reading ends before the tape does.
-    ReadingEnds { word: usize, refusal: Refusal },
+    ReadingEnds { word: usize, refusal: Refusal, why: String },
     /// The book at the end.
     End { phase: &'static str, entries: usize, charged: usize },
     /// An issue that is marked at the end: it takes even lots only.
@@ -51,11 +51,13 @@ pub enum Fact {
     Charged { account: u32, yen: i64 },
 }
 
-/// The terms of a charge: of which issue, at which price, for how many days at which rate.
+/// The terms of a charge: of which issue, at which price and accrued amount, for how many days at
+/// which rate.
 #[derive(Clone, Copy, Debug, PartialEq, Eq)]
 pub struct Terms {
     pub issue: u32,
     pub price: u32,
+    pub accrued: u32,
     pub days: u32,
     pub rate: u32,
 }

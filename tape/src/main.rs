@@ -8,6 +8,7 @@ use std::{env, fs};
 use tape::input::{self, Input};
 use tape::run::Ran;
 use tape::telling::{self, Form, Only};
+use tape::text::Line;
 use tape::{bytes, check, run, text};
 
 const USAGE: &str = "\
@@ -124,7 +125,9 @@ fn obey(command: &Command) -> Result<Ended, String> {
 /// The tape of a text, as bytes or as hexadecimal numbers.
 fn write(command: &Command) -> Result<Vec<u8>, String> {
     let text = input::text_of(get(&command.input)?)?;
-    let tape = text::to_tape(&text).map_err(|faults| input::listed(name_of(command), &faults))?;
+    let lines = text::lines_of(&text).map_err(|faults| input::listed(name_of(command), &faults))?;
+    say_notes(command, &lines);
+    let tape: Vec<u8> = lines.into_iter().flat_map(|line| line.bytes).collect();
     if command.hex {
         return bytes::to_hex(&tape).map(String::into_bytes);
     }
@@ -150,7 +153,16 @@ fn day_of(command: &Command) -> Result<Input, String> {
     if command.hex {
         return input::of_hex(name_of(command), bytes);
     }
-    input::of_any(name_of(command), bytes)
+    let input = input::of_any(name_of(command), bytes)?;
+    say_notes(command, input.lines.as_deref().unwrap_or_default());
+    Ok(input)
+}
+
+/// Says what is to be said of lines that are right.
+fn say_notes(command: &Command, lines: &[Line]) {
+    for note in text::notes(lines) {
+        eprintln!("tape: {}", note.in_file(name_of(command)));
+    }
 }
 
 /// Tells what the book will refuse.

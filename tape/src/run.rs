@@ -1,5 +1,7 @@
 //! The program `dayrun` run on a tape, and whether it read all of it and wrote all its lines.
 
+use crate::bytes::split;
+use crate::text::older_roll;
 use std::env;
 use std::io::{self, BufRead, BufReader, Write};
 use std::path::PathBuf;
@@ -34,9 +36,20 @@ pub fn run(program: Option<&str>, tape: &[u8], output: &mut dyn Write) -> Result
         Err(error) => Ran::NotWhole(format!("the lines could not be written: {error}")),
         Ok(_) if !said.is_empty() => Ran::NotWhole(said),
         Ok(_) if !status.success() => Ran::NotWhole(format!("{name} ended with {status}")),
-        Ok(Some(line)) => Ran::NotWhole(format!("reading ended before the tape did: {line}")),
+        Ok(Some(line)) => {
+            let what = advice(tape, &line);
+            Ran::NotWhole(format!("reading ended before the tape did: {line}{what}"))
+        }
         Ok(None) => Ran::Whole,
     })
+}
+
+/// What is to be said of the words at which reading ended, by the line that says so.
+fn advice(tape: &[u8], line: &str) -> String {
+    let (words, _) = split(tape);
+    let at = line.split(' ').next().and_then(|index| index.parse().ok());
+    let older = at.and_then(|at: usize| words.get(at..)).and_then(older_roll);
+    older.map(|what| format!("; {what}")).unwrap_or_default()
 }
 
 /// Gives the tape to the program and copies what it prints. Answers the line with which reading
@@ -116,6 +129,20 @@ mod tests {
         assert!(matches!(said, Ran::NotWhole(why) if why.starts_with("dayrun: the lines")));
         let (failed, _) = ran("failed", "exit 3");
         assert!(matches!(failed, Ran::NotWhole(why) if why.contains("exit status: 3")));
+    }
+
+    #[test]
+    fn an_older_roll_at_which_reading_ended_is_told() {
+        let mut words = vec![0x5000_0000, 0x7104_b000];
+        words.extend([0x9001_86a0; 16]);
+        let tape = crate::bytes::join(&words);
+        let told = advice(&tape, "1 tape 13 0");
+        assert!(
+            told.starts_with("; this roll has no accrued amounts: put sixteen words"),
+            "{told}"
+        );
+        assert_eq!(advice(&tape, "0 tape 14 0"), "");
+        assert_eq!(advice(&tape, "99 tape 13 0"), "");
     }
 
     #[test]

@@ -6,10 +6,13 @@
 
 use crate::bytes::split;
 use crate::facts::{Fact, Terms};
+use crate::text::why_ended;
 use crate::units::{close, runs, Case, Run, Walk};
 use crate::why::{owed_today, why};
 use library::calls::{self, Answer};
-use library::{desk, place, tape, Book, Entry, Instruction, Phase, ACCOUNTS, ISSUES, OUTPUT_WORDS};
+use library::{
+    desk, place, tape, Book, Entry, Instruction, Phase, ACCOUNTS, ISSUES, OUTPUT_WORDS, QUOTES,
+};
 use std::io;
 
 /// The kind of the record of a fail; the others are handovers.
@@ -57,7 +60,8 @@ pub fn tell<'a>(tape: &[u8], sink: &'a mut Sink<'a>) -> io::Result<()> {
                 at += count;
             }
             Err(refusal) => {
-                story.fact(&Fact::ReadingEnds { word: at, refusal })?;
+                let why = why_ended(&words[at..], refusal);
+                story.fact(&Fact::ReadingEnds { word: at, refusal, why })?;
                 break;
             }
         }
@@ -83,15 +87,16 @@ impl Story<'_> {
             return self.fact(&Fact::Instruction { word, instruction, refusal: None });
         }
         let roll = matches!(instruction, Instruction::Roll { .. });
-        let prices = if roll { tape::prices(words) } else { [0; ISSUES] };
+        let quotes = if roll { tape::quotes(words) } else { [0; QUOTES] };
         let entries: Vec<Entry> = if roll { self.book.ledger().collect() } else { Vec::new() };
-        let answer = calls::call(&mut self.book, &instruction, &prices, &mut self.output);
-        let refusal =
-            answer.refused().map(|refusal| (refusal, why(&self.book, &instruction, refusal)));
+        let answer = calls::call(&mut self.book, &instruction, &quotes, &mut self.output);
+        let refusal = answer
+            .refused()
+            .map(|refusal| (refusal, why(&self.book, &instruction, &quotes, refusal)));
         let refused = refusal.is_some();
         let told = Fact::Instruction { word, instruction, refusal };
         if let (Instruction::Roll { days, rate }, false) = (instruction, refused) {
-            return self.rolled(&told, &entries, days, rate, &prices);
+            return self.rolled(&told, &entries, days, rate, &quotes);
         }
         self.fact(&told)?;
         if refused {
@@ -222,15 +227,16 @@ impl Story<'_> {
         entries: &[Entry],
         days: u32,
         rate: u32,
-        prices: &[u32; ISSUES],
+        quotes: &[u32; QUOTES],
     ) -> io::Result<()> {
         let ended = self.book.day - 1;
         (self.sink)(ended, told)?;
         for &Entry { issue, from, to, lots, .. } in entries {
-            let price = prices[usize::from(issue) % ISSUES];
-            let (_, value) = desk::value(lots, price);
-            let (_, yen) = desk::charge(lots, price, days, rate);
-            let terms = Terms { issue: issue.into(), price, days, rate };
+            let at = usize::from(issue) % ISSUES;
+            let (price, accrued) = (quotes[at], quotes[ISSUES + at]);
+            let (_, value) = desk::value(lots, price, accrued);
+            let (_, yen) = desk::charge(lots, price, days, rate, accrued);
+            let terms = Terms { issue: issue.into(), price, accrued, days, rate };
             let fact = Fact::Charge { terms, from: from.into(), to: to.into(), lots, value, yen };
             (self.sink)(ended, &fact)?;
         }

@@ -9,8 +9,8 @@ use library::{tape, Instruction, Refusal, ISSUES, WRITER_WORDS};
 
 /// The instructions' forms, for errors.
 const FORMS: &str = "trade ISSUE FROM TO LOTS, close, deliver ISSUE ACCOUNT LOTS, cutoff, \
-    resolve ISSUE ACCOUNT LOTS, pair-off ISSUE ACCOUNT, roll DAYS RATE PRICE (one price, or \
-    sixteen), mark ISSUE MARK (1: even lots only, 0: any lots), word HEX, byte HEX";
+    resolve ISSUE ACCOUNT LOTS, pair-off ISSUE ACCOUNT, roll DAYS RATE PRICE accrued ACCRUED (one \
+    price or sixteen, one accrued amount or sixteen), mark ISSUE MARK (1: even lots only, 0: any lots), word HEX, byte HEX";
 
 /// A field of an instruction: its name and the highest number that fits its bits.
 type Field = (&'static str, u32);
@@ -23,7 +23,18 @@ const LOTS: Field = ("lots", (1 << 28) - 1);
 const DAYS: Field = ("days", 15);
 const RATE: Field = ("rate", (1 << 14) - 1);
 const PRICE: Field = ("price", (1 << 18) - 1);
+const ACCRUED: Field = ("accrued", (1 << 18) - 1);
 const MARK: Field = ("mark", 1);
+
+/// The word between the prices and the accrued amounts of a roll.
+const ACCRUED_WORD: &str = "accrued";
+
+/// What is said of a roll without accrued amounts.
+const NO_ACCRUED: &str = "this roll has no accrued amounts: they are taken as 0 for every issue";
+
+/// What is said where reading ends at a roll of the older form.
+const OLDER_ROLL: &str = "this roll has no accrued amounts: put sixteen words of kind 9 after its \
+    prices, 90000000 where nothing is accrued";
 
 /// What one line of a text puts on the tape.
 #[derive(Clone, Debug, PartialEq, Eq)]
@@ -33,6 +44,17 @@ pub struct Line {
     /// The column at which it begins, from 1.
     pub column: usize,
     pub bytes: Vec<u8>,
+    /// What is to be said of it, though it is right.
+    pub note: Option<&'static str>,
+}
+
+/// What is to be said of lines that are right.
+pub fn notes(lines: &[Line]) -> Vec<Fault> {
+    let note = |line: &Line| {
+        let what = line.note?.to_string();
+        Some(Fault { line: line.number, column: line.column, what })
+    };
+    lines.iter().filter_map(note).collect()
 }
 
 /// The bytes of a tape in text form, or everything that is wrong with it.
@@ -52,7 +74,8 @@ pub fn lines_of(text: &str) -> Result<Vec<Line>, Vec<Fault>> {
         match line_bytes(name, arguments, ended) {
             Ok(bytes) => {
                 ended = name.text == "byte";
-                lines.push(Line { number, column: name.column, bytes });
+                let note = note_of(name, arguments);
+                lines.push(Line { number, column: name.column, bytes, note });
             }
             Err(more) => faults.extend(more),
         }
@@ -61,6 +84,12 @@ pub fn lines_of(text: &str) -> Result<Vec<Line>, Vec<Fault>> {
         return Ok(lines);
     }
     Err(faults)
+}
+
+/// What is to be said of a line that is right.
+fn note_of(name: &Word, arguments: &[Word]) -> Option<&'static str> {
+    let names_them = arguments.iter().any(|word| word.text == ACCRUED_WORD);
+    (name.text == "roll" && !names_them).then_some(NO_ACCRUED)
 }
 
 /// The bytes of one line; after a single byte only single bytes can stand.
@@ -76,9 +105,9 @@ fn line_bytes(name: &Word, arguments: &[Word], ended: bool) -> Result<Vec<u8>, V
         let word = raw::<u32>(name, arguments, 8).map_err(|fault| vec![fault])?;
         return Ok(word.to_le_bytes().to_vec());
     }
-    let (instruction, prices) = instruction_of(name, arguments)?;
+    let (instruction, quotes) = instruction_of(name, arguments)?;
     let mut words = [0; WRITER_WORDS];
-    let answer = tape::write(&instruction, &prices, &mut words);
+    let answer = tape::write(&instruction, &quotes, &mut words);
     match Refusal::of(answer.refusal) {
         None => Ok(join(&words[..answer.count])),
         Some(refusal) => Err(vec![name.fault(format!("the writer says: {refusal}"))]),
@@ -96,7 +125,7 @@ fn raw<T: TryFrom<u32>>(name: &Word, arguments: &[Word], digits: usize) -> Resul
     number.ok_or_else(|| word.fault(wanted))
 }
 
-/// The instruction of a line, with the prices of a roll.
+/// The instruction of a line, with the quotes of a roll.
 fn instruction_of(name: &Word, words: &[Word]) -> Result<(Instruction, Vec<u32>), Vec<Fault>> {
     let take = |fields: &[Field]| numbers(name, fields, words);
     let instruction = match name.text {
@@ -132,22 +161,41 @@ fn instruction_of(name: &Word, words: &[Word]) -> Result<(Instruction, Vec<u32>)
     Ok((instruction, Vec::new()))
 }
 
-/// A roll: days, rate, and sixteen prices or one for all issues.
+/// A roll: days, rate, one price or sixteen; then `accrued` with one amount or sixteen, or nothing
+/// for 0.
 fn roll_of(name: &Word, words: &[Word]) -> Result<(Instruction, Vec<u32>), Vec<Fault>> {
-    let sixteen = words.len() == 2 + ISSUES;
-    let mut fields = vec![DAYS, RATE];
-    fields.extend([PRICE; ISSUES].iter().take(if sixteen { ISSUES } else { 1 }));
-    if words.len() != fields.len() {
+    let mut parts = words.splitn(2, |word| word.text == ACCRUED_WORD);
+    let (first, second) = (parts.next().unwrap_or_default(), parts.next());
+    let right = |count: usize| count == 1 || count == ISSUES;
+    if first.len() < 2 || !right(first.len() - 2) || !second.is_none_or(|words| right(words.len()))
+    {
         let what = format!(
-            "roll takes days, rate and sixteen prices (issue 0 first), or one price for all \
-             issues; here are {} numbers",
+            "roll takes days, rate, sixteen prices (issue 0 first) or one price for all issues, \
+             then `accrued` with sixteen amounts or one; here are {} words",
             words.len()
         );
         return Err(vec![name.fault(what)]);
     }
-    let numbers = numbers(name, &fields, words)?;
-    let prices = if sixteen { numbers[2..].to_vec() } else { vec![numbers[2]; ISSUES] };
-    Ok((Instruction::Roll { days: numbers[0], rate: numbers[1] }, prices))
+    let mut fields = vec![DAYS, RATE];
+    fields.resize(first.len(), PRICE);
+    let mut all = first.to_vec();
+    if let Some(second) = second {
+        fields.resize(first.len() + second.len(), ACCRUED);
+        all.extend_from_slice(second);
+    }
+    let numbers = numbers(name, &fields, &all)?;
+    let (prices, accrued) = numbers[2..].split_at(first.len() - 2);
+    let quotes = [for_issues(prices), for_issues(accrued)].concat();
+    Ok((Instruction::Roll { days: numbers[0], rate: numbers[1] }, quotes))
+}
+
+/// A number for each issue: the sixteen that are given, or the one for all; 0 where none is.
+fn for_issues(given: &[u32]) -> Vec<u32> {
+    match given {
+        [] => vec![0; ISSUES],
+        [one] => vec![*one; ISSUES],
+        all => all.to_vec(),
+    }
 }
 
 /// The numbers of an instruction, each of which must fit its bits; all that do not are told.
@@ -209,18 +257,18 @@ pub fn of_tape(tape: &[u8]) -> String {
     while at < words.len() {
         match tape::read(&words[at..]) {
             Ok((instruction, count)) => {
-                text.push_str(&line_of(&instruction, &tape::prices(&words[at..])));
+                text.push_str(&line_of(&instruction, &tape::quotes(&words[at..])));
                 text.push('\n');
                 at += count;
             }
             Err(refusal) => {
-                text.push_str(&ended(at, refusal));
+                text.push_str(&ended(&words, at, refusal));
                 break;
             }
         }
     }
     if at == words.len() && !stray.is_empty() {
-        text.push_str(&ended(at, Refusal::TapeEnds));
+        text.push_str(&ended(&words, at, Refusal::TapeEnds));
     }
     text.extend(words[at..].iter().map(|word| format!("word {word:08x}\n")));
     text.extend(stray.iter().map(|byte| format!("byte {byte:02x}\n")));
@@ -228,13 +276,27 @@ pub fn of_tape(tape: &[u8]) -> String {
 }
 
 /// The comment where reading ends.
-fn ended(at: usize, refusal: Refusal) -> String {
-    let (number, meaning) = (refusal.number(), refusal.meaning());
-    format!("# reading ends at word {at}, number {number}: {meaning}\n")
+fn ended(words: &[u32], at: usize, refusal: Refusal) -> String {
+    let (number, why) = (refusal.number(), why_ended(&words[at..], refusal));
+    format!("# reading ends at word {at}, number {number}: {why}\n")
 }
 
-/// The line of an instruction, with the prices of a roll.
-pub fn line_of(instruction: &Instruction, prices: &[u32]) -> String {
+/// Why reading ends at these words, and what to do where they begin with a roll of the older form.
+pub fn why_ended(words: &[u32], refusal: Refusal) -> String {
+    let meaning = refusal.meaning();
+    older_roll(words).map_or(meaning.to_string(), |what| format!("{meaning}; {what}"))
+}
+
+/// What to do where the words begin with a roll of 17 words, as it was before accrued amounts.
+pub fn older_roll(words: &[u32]) -> Option<&'static str> {
+    let kind = |word: &u32| word >> 28;
+    let (head, rest) = words.split_first()?;
+    let prices = rest.iter().take_while(|word| kind(word) == 9).count();
+    (kind(head) == 7 && prices == ISSUES).then_some(OLDER_ROLL)
+}
+
+/// The line of an instruction, with the quotes of a roll.
+pub fn line_of(instruction: &Instruction, quotes: &[u32]) -> String {
     match *instruction {
         Instruction::Trade { issue, from, to, lots } => format!("trade {issue} {from} {to} {lots}"),
         Instruction::Deliver { issue, account, lots } => {
@@ -248,12 +310,17 @@ pub fn line_of(instruction: &Instruction, prices: &[u32]) -> String {
         Instruction::Close => "close".to_string(),
         Instruction::Cutoff => "cutoff".to_string(),
         Instruction::Roll { days, rate } => {
-            let alike = prices.iter().all(|price| *price == prices[0]);
-            let prices = if alike { &prices[..1] } else { prices };
-            let prices: String = prices.iter().map(|price| format!(" {price}")).collect();
-            format!("roll {days} {rate}{prices}")
+            let (prices, accrued) = quotes.split_at(ISSUES.min(quotes.len()));
+            format!("roll {days} {rate}{} {ACCRUED_WORD}{}", listed(prices), listed(accrued))
         }
     }
+}
+
+/// Numbers of the issues, a space before each; one alone where all are alike.
+fn listed(numbers: &[u32]) -> String {
+    let alike = numbers.windows(2).all(|pair| pair[0] == pair[1]);
+    let numbers = numbers.iter().take(if alike { 1 } else { ISSUES });
+    numbers.map(|number| format!(" {number}")).collect()
 }
 
 #[cfg(test)]
@@ -280,8 +347,38 @@ mod tests {
     #[test]
     fn every_line_is_read_back() {
         let text = "trade 15 63 0 268435455\nclose\ndeliver 0 63 0\ncutoff\nresolve 15 0 1\n\
-            pair-off 7 9\nmark 15 1\nmark 0 0\nroll 15 16383 262143\nroll 1 2 1 2 3 4 5 6 7 8 9 10 11 12 13 14 15 16\n";
+            pair-off 7 9\nmark 15 1\nmark 0 0\nroll 15 16383 262143 accrued 0\nroll 1 2 1 2 3 4 5 6 7 8 9 10 11 12 13 14 15 16 accrued 262143\n\
+            roll 1 2 3 accrued 1 2 3 4 5 6 7 8 9 10 11 12 13 14 15 16\n";
         assert_eq!(of_tape(&to_tape(text).unwrap()), text);
+    }
+
+    #[test]
+    fn a_roll_without_accrued_amounts_has_0_and_says_so() {
+        let text = "close\n  roll 1 300 100000\nroll 1 300 100000 accrued 0\n";
+        let lines = lines_of(text).unwrap();
+        assert_eq!(lines[1].bytes, lines[2].bytes);
+        let notes = notes(&lines);
+        assert_eq!(notes.len(), 1);
+        let told = "day.txt:2:3: this roll has no accrued amounts: they are taken as 0 for every \
+            issue";
+        assert_eq!(notes[0].in_file("day.txt"), told);
+        assert_eq!(of_tape(&lines[1].bytes), "roll 1 300 100000 accrued 0\n");
+    }
+
+    #[test]
+    fn a_roll_of_the_older_form_is_told_what_to_do() {
+        let mut words = vec![0x7104_b000];
+        words.extend([0x9001_86a0; 16]);
+        for (after, number) in [(&[][..], 13), (&[0x5000_0000], 14), (&[0x7104_b000], 14)] {
+            let text = of_tape(&join(&[&words[..], after].concat()));
+            let first = text.lines().next().unwrap();
+            assert!(first.starts_with(&format!("# reading ends at word 0, number {number}")));
+            assert!(first.ends_with("put sixteen words of kind 9 after its prices, 90000000 where nothing is accrued"), "{first}");
+            assert_eq!(to_tape(&text).unwrap(), join(&[&words[..], after].concat()));
+        }
+        for other in [&words[..16], &[&words[..], &[0x9000_0000]].concat()] {
+            assert!(!of_tape(&join(other)).contains("accrued"));
+        }
     }
 
     #[test]
@@ -314,7 +411,13 @@ mod tests {
             ("deliver 0 x 1", (1, 11), "account \"x\" is not a number: write digits alone"),
             ("trade 0 1 2 268435456", (1, 13), "lots \"268435456\" does not fit"),
             ("trade 0 1 2 99999999999", (1, 13), "lots \"99999999999\" does not fit"),
-            ("roll 1 2", (1, 1), "roll takes days, rate and sixteen prices"),
+            ("roll 1 2", (1, 1), "roll takes days, rate, sixteen prices"),
+            ("roll 1 2 3 4", (1, 1), "roll takes days, rate, sixteen prices"),
+            ("roll 1 2 3 accrued", (1, 1), "roll takes days, rate, sixteen prices"),
+            ("roll 1 2 accrued 3", (1, 1), "roll takes days, rate, sixteen prices"),
+            ("roll 1 2 3 accrued 4 5", (1, 1), "roll takes days, rate, sixteen prices"),
+            ("roll 1 2 3 accrued 262144", (1, 20), "accrued \"262144\" does not fit its bits"),
+            ("roll 1 2 3 accrued accrued", (1, 20), "accrued \"accrued\" is not a number"),
             ("roll 16 2 3", (1, 6), "days \"16\" does not fit"),
             ("mark 3", (1, 1), "mark takes issue, mark; here are 1 numbers"),
             (

@@ -1,10 +1,20 @@
 //! Why the book refuses an instruction: the question that it answers 'no', and the numbers behind it.
 
 use crate::measure::Lots;
-use library::{Book, Instruction, Refusal, ACCOUNTS};
+use library::{Book, Instruction, Refusal, ACCOUNTS, ISSUES};
+
+/// The limits of a roll's numbers.
+const MOST_DAYS: u32 = 12;
+const MOST_RATE: u32 = 10_000;
+const MOST_PRICE: u32 = 200_000;
+const MOST_ACCRUED: u32 = 10_000;
 
 /// The refusal with what the book says about it, in one sentence.
-pub fn why(book: &Book, instruction: &Instruction, refusal: Refusal) -> String {
+pub fn why(book: &Book, instruction: &Instruction, quotes: &[u32], refusal: Refusal) -> String {
+    if let (Refusal::Terms, Instruction::Roll { days, rate }) = (refusal, *instruction) {
+        let behind = terms(days, rate, quotes).unwrap_or_default();
+        return format!("{refusal}; {behind}");
+    }
     match behind(book, instruction, refusal) {
         Some(behind) => format!("{refusal}; {behind}"),
         None => refusal.to_string(),
@@ -40,6 +50,28 @@ fn behind(book: &Book, instruction: &Instruction, refusal: Refusal) -> Option<St
         (Refusal::Room, _) => Some(format!("it has {} entries before the cutoff", book.entries)),
         _ => None,
     }
+}
+
+/// The first number of a roll that is out of range.
+fn terms(days: u32, rate: u32, quotes: &[u32]) -> Option<String> {
+    if !(1..=MOST_DAYS).contains(&days) {
+        return Some(format!("days are {days}"));
+    }
+    if rate > MOST_RATE {
+        return Some(format!("the rate is {rate}"));
+    }
+    let (prices, accrued) = quotes.split_at(ISSUES.min(quotes.len()));
+    (0..).zip(prices.iter().zip(accrued)).find_map(|(issue, (&price, &accrued))| {
+        if !(1..=MOST_PRICE).contains(&price) {
+            return Some(format!("the price of issue {issue} is {price}"));
+        }
+        if accrued > MOST_ACCRUED {
+            return Some(format!("the accrued amount of issue {issue} is {accrued}"));
+        }
+        let sum = price + accrued;
+        let what = format!("price and accrued amount of issue {issue} are together {sum}");
+        (sum > MOST_PRICE).then_some(what)
+    })
 }
 
 /// The phase that a call belongs to, if it is one alone.

@@ -97,6 +97,40 @@ fn check_tells_refusals_with_status_1() {
 }
 
 #[test]
+fn a_roll_without_accrued_amounts_is_told() {
+    let said =
+        "tape: standard input:1:1: this roll has no accrued amounts: they are taken as 0 for \
+                every issue\n";
+    let (status, hex, notes) = ended(&["write", "--hex"], b"roll 1 300 100000\n");
+    assert_eq!((status, notes.as_str()), (0, said));
+    assert_eq!(hex.matches("90000000").count(), 16);
+    let with = ended(&["write", "--hex"], b"roll 1 300 100000 accrued 0\n");
+    assert_eq!(with, (0, hex, "".into()));
+    assert_eq!(ended(&["explain"], b"roll 1 300 100000\n").2, said);
+    assert_eq!(ended(&["check"], b"roll 1 300 100000\n").2, said);
+}
+
+#[test]
+fn an_older_roll_is_told_what_to_do() {
+    let roll = format!("7104b000{}", " 900186a0".repeat(16));
+    let advice = "this roll has no accrued amounts: put sixteen words of kind 9 after its prices, \
+                  90000000 where nothing is accrued\n";
+    for (after, number) in [("", 13), (" 50000000", 14)] {
+        let words = format!("{roll}{after}");
+        let (status, printed, _) = ended(&["check", "--hex"], words.as_bytes());
+        assert_eq!(status, 1);
+        let line = printed.lines().next().unwrap_or_default();
+        assert!(line.contains(&format!("refused by {number}")), "{printed}");
+        assert!(format!("{line}\n").ends_with(advice), "{printed}");
+        for form in [&["read", "--hex"][..], &["explain", "--hex"], &["explain", "--hex", "--json"]]
+        {
+            let told = ended(form, words.as_bytes()).1;
+            assert!(told.contains(advice.trim_end()), "{told}");
+        }
+    }
+}
+
+#[test]
 fn an_output_that_fails_is_told() {
     let full = std::fs::File::options().write(true).open("/dev/full").expect("/dev/full");
     let output = Command::new(env!("CARGO_BIN_EXE_tape")).arg("--help").stdout(full).output();

@@ -194,7 +194,7 @@ pub fn by_reference(book: &mut Book, call: &Call, out: &mut [u32]) -> Answer {
             let answer = calls::pair_off(book, issue, account);
             plain(answer.number, &[answer.steps.into(), answer.lots])
         }
-        Call::Roll { days, rate, ref prices } => counted(calls::roll(book, days, rate, prices)),
+        Call::Roll { days, rate, ref quotes } => counted(calls::roll(book, days, rate, quotes)),
         Call::Mark { issue, mark } => counted(calls::mark(book, issue, mark)),
     }
 }
@@ -224,8 +224,8 @@ pub fn by_reference_on_sound(book: &mut Book, call: &Call, out: &mut [u32]) -> A
             let answer = calls::pair_off_on_sound(book, issue, account);
             plain(answer.number, &[answer.steps.into(), answer.lots])
         }
-        Call::Roll { days, rate, ref prices } => {
-            counted(calls::roll_on_sound(book, days, rate, prices))
+        Call::Roll { days, rate, ref quotes } => {
+            counted(calls::roll_on_sound(book, days, rate, quotes))
         }
         Call::Mark { issue, mark } => counted(calls::mark_on_sound(book, issue, mark)),
     }
@@ -257,7 +257,7 @@ pub fn by_library(book: &mut library::Book, call: &Call, out: &mut [u32]) -> Ans
             library::calls::resolve(book, issue, account, lots, out)
         }
         Call::PairOff { issue, account } => library::calls::pair_off(book, issue, account),
-        Call::Roll { days, rate, ref prices } => library::calls::roll(book, days, rate, prices),
+        Call::Roll { days, rate, ref quotes } => library::calls::roll(book, days, rate, quotes),
         Call::Mark { issue, mark } => library::calls::mark(book, issue, mark),
     };
     plain(answer.refusal, &[answer.count as u64, answer.cancelled])

@@ -3,8 +3,8 @@
 use crate::books::{random_lots, suited, two_of, Shape};
 use crate::rng::Rng;
 use crate::steps::Call;
-use reference::book::{place, Book, Phase, ACCOUNTS};
-use reference::measures::{MOST_DAYS, MOST_LOTS, MOST_PRICE, MOST_RATE};
+use reference::book::{place, Book, Phase, ACCOUNTS, ISSUES, QUOTES};
+use reference::measures::{MOST_ACCRUED, MOST_DAYS, MOST_LOTS, MOST_PRICE, MOST_RATE};
 use reference::questions::issue_is_empty;
 use reference::units::{handed, units_of};
 
@@ -165,7 +165,7 @@ fn random_unit(rng: &mut Rng, shape: &Shape, book: &Book) -> Call {
     Call::Unit { issue, k }
 }
 
-/// A roll with prices at their limits, or any.
+/// A roll with prices and accrued amounts at their limits, or any.
 fn random_roll(rng: &mut Rng) -> Call {
     let highest = rng.chance(1, 4);
     let days = if highest { MOST_DAYS } else { rng.range(1, MOST_DAYS) };
@@ -174,13 +174,25 @@ fn random_roll(rng: &mut Rng) -> Call {
         _ if highest => MOST_RATE,
         _ => rng.range(0, MOST_RATE),
     };
-    let prices = (0..16).map(|_| match rng.range(0, 4) {
-        0 => 1,
-        1 => MOST_PRICE,
-        2 => 2 * rng.range(1, 50_000) + 1,
-        _ => rng.range(1, MOST_PRICE),
-    });
-    Call::Roll { days, rate, prices: prices.collect() }
+    let mut quotes = vec![0; QUOTES];
+    for issue in 0..ISSUES {
+        let price = match rng.range(0, 5) {
+            0 => 1,
+            1 => MOST_PRICE,
+            2 => 2 * rng.range(1, 50_000) + 1,
+            3 => MOST_PRICE - MOST_ACCRUED,
+            _ => rng.range(1, MOST_PRICE),
+        };
+        let most = MOST_ACCRUED.min(MOST_PRICE - price);
+        let accrued = match rng.range(0, 3) {
+            0 => 0,
+            1 => most,
+            2 => rng.range(0, most) | u32::from(most > 0),
+            _ => rng.range(0, most),
+        };
+        (quotes[issue], quotes[ISSUES + issue]) = (price, accrued.min(most));
+    }
+    Call::Roll { days, rate, quotes }
 }
 
 /// The length of an output: at the limit mostly.
@@ -229,23 +241,25 @@ fn out_of_range(rng: &mut Rng, call: Call) -> Call {
         (Call::PairOff { account, .. }, 0) => Call::PairOff { issue: place, account },
         (Call::PairOff { issue, .. }, _) => Call::PairOff { issue, account: place },
         (Call::Mark { mark, .. }, _) => Call::Mark { issue: place, mark },
-        (Call::Roll { days, rate, prices }, _) => wrong_roll(rng, days, rate, prices),
+        (Call::Roll { days, rate, quotes }, _) => wrong_roll(rng, days, rate, quotes),
         (call, _) => call,
     }
 }
 
-/// A roll with days, rate, the number of prices or one price out of range.
-fn wrong_roll(rng: &mut Rng, days: u32, rate: u32, mut prices: Vec<u32>) -> Call {
-    match rng.range(0, 4) {
-        0 => Call::Roll { days: *rng.pick(&[0, 13, 16, u32::MAX]), rate, prices },
-        1 => Call::Roll { days, rate: *rng.pick(&[10_001, 16_384, u32::MAX]), prices },
-        2 => {
-            prices.resize(*rng.pick(&[0, 1, 15, 17]), 100_000);
-            Call::Roll { days, rate, prices }
+/// A roll with days, rate, the number of quotes, a price, an accrued amount or the sum of both out of
+/// range.
+fn wrong_roll(rng: &mut Rng, days: u32, rate: u32, mut quotes: Vec<u32>) -> Call {
+    let issue = rng.range(0, 15) as usize;
+    match rng.range(0, 6) {
+        0 => return Call::Roll { days: *rng.pick(&[0, 13, 16, u32::MAX]), rate, quotes },
+        1 => return Call::Roll { days, rate: *rng.pick(&[10_001, 16_384, u32::MAX]), quotes },
+        2 => quotes.resize(*rng.pick(&[0, 1, 16, 17, 31, 33]), 10_000),
+        3 => quotes[ISSUES + issue] = *rng.pick(&[MOST_ACCRUED + 1, 65_536, u32::MAX]),
+        4 => {
+            quotes[ISSUES + issue] = rng.range(1, MOST_ACCRUED);
+            quotes[issue] = MOST_PRICE + 1 - quotes[ISSUES + issue];
         }
-        _ => {
-            prices[rng.range(0, 15) as usize] = *rng.pick(&[0, MOST_PRICE + 1, u32::MAX]);
-            Call::Roll { days, rate, prices }
-        }
+        _ => quotes[issue] = *rng.pick(&[0, MOST_PRICE + 1, u32::MAX]),
     }
+    Call::Roll { days, rate, quotes }
 }

@@ -6,6 +6,7 @@ use crate::random_calls::random_call;
 use crate::rng::Rng;
 use crate::steps::Call;
 use reference::book::Book;
+use reference::questions::WRITER_OUTPUT;
 use reference::tape::{self, Instruction};
 
 /// The most instructions of a small tape.
@@ -53,7 +54,7 @@ pub fn day_tape(rng: &mut Rng, instructions: u32, few: bool) -> Vec<u8> {
 /// The words of a call that a tape can hold.
 pub fn words_of(call: &Call) -> Option<Vec<u32>> {
     let none: &[u32] = &[];
-    let (instruction, prices) = match *call {
+    let (instruction, quotes) = match *call {
         Call::Sound | Call::Unit { .. } | Call::Ask { .. } | Call::Commit { .. } => return None,
         Call::Trade { issue, from, to, lots } => {
             (Instruction::Trade { issue, from, to, lots }, none)
@@ -68,12 +69,12 @@ pub fn words_of(call: &Call) -> Option<Vec<u32>> {
         }
         Call::PairOff { issue, account } => (Instruction::PairOff { issue, account }, none),
         Call::Mark { issue, mark } => (Instruction::Mark { issue, mark }, none),
-        Call::Roll { days, rate, ref prices } => {
-            (Instruction::Roll { days, rate }, prices.as_slice())
+        Call::Roll { days, rate, ref quotes } => {
+            (Instruction::Roll { days, rate }, quotes.as_slice())
         }
     };
-    let mut words = vec![0; 17];
-    let answer = tape::write(&instruction, prices, &mut words);
+    let mut words = vec![0; WRITER_OUTPUT];
+    let answer = tape::write(&instruction, quotes, &mut words);
     words.truncate(answer.count as usize);
     (answer.number == 0).then_some(words)
 }

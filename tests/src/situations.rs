@@ -4,7 +4,7 @@ use crate::engines::Answer;
 use crate::steps::Call;
 use reference::book::{place, Book, Entry, ENTRIES, ISSUES};
 use reference::calls::{ask_on_sound, Ticket};
-use reference::measures::{MOST_DAYS, MOST_LOTS, MOST_PRICE, MOST_RATE, UNIT_LOTS};
+use reference::measures::{MOST_ACCRUED, MOST_DAYS, MOST_LOTS, MOST_PRICE, MOST_RATE, UNIT_LOTS};
 use reference::units::{handed, units, units_of, Unit};
 use std::cmp::Reverse;
 use std::collections::BTreeMap;
@@ -25,7 +25,7 @@ pub const NUMBERS: [(&str, &[u32]); 11] = [
 ];
 
 /// The situations that a run of random lists must meet.
-const SITUATIONS: [&str; 103] = [
+const SITUATIONS: [&str; 105] = [
     "trade: a net reaches 20,000,000",
     "trade: a net reaches -20,000,000",
     "trade: refused for from's net alone",
@@ -103,6 +103,8 @@ const SITUATIONS: [&str; 103] = [
     "roll: entries of several days",
     "roll: price 1 charges 0 yen",
     "roll: highest price, rate and days",
+    "roll: highest price and accrued amount together",
+    "roll: price and accrued amount round apart",
     "roll: day becomes 65,535",
     "roll: lots were delivered",
     "roll: lifts and counts are cleared",
@@ -159,7 +161,7 @@ impl Coverage {
             Call::Cutoff { .. } => self.cutoff(made),
             Call::Resolve { issue, account, .. } => self.resolve(made, issue, account),
             Call::PairOff { issue, account } => self.pair_off(made, issue, account),
-            Call::Roll { days, rate, ref prices } => self.roll(made, days, rate, prices),
+            Call::Roll { days, rate, ref quotes } => self.roll(made, days, rate, quotes),
             Call::Ask { issue, unit } => self.ask(made, issue, unit),
             Call::Commit { ref ticket, .. } => self.commit(made, ticket),
             Call::Mark { issue, mark } => self.mark(made, issue, mark),
@@ -467,16 +469,23 @@ impl Coverage {
     }
 
     /// The situations of a roll.
-    fn roll(&mut self, made: &Made, days: u32, rate: u32, prices: &[u32]) {
+    fn roll(&mut self, made: &Made, days: u32, rate: u32, quotes: &[u32]) {
         if made.answer.number != 0 {
             return;
         }
         let ledger = made.before.ledger();
         let several = ledger.first().zip(ledger.last()).is_some_and(|(a, b)| a.day != b.day);
         self.meet("roll: entries of several days", several);
-        let nothing = |e: &Entry| prices[usize::from(e.issue)] == 1 && e.lots < 9 && rate > 0;
+        let price = |e: &Entry| quotes[usize::from(e.issue)];
+        let accrued = |e: &Entry| quotes[ISSUES + usize::from(e.issue)];
+        let nothing = |e: &Entry| price(e) == 1 && accrued(e) == 0 && e.lots < 9 && rate > 0;
         self.meet("roll: price 1 charges 0 yen", ledger.iter().any(nothing));
-        let highest = |e: &Entry| prices[usize::from(e.issue)] == MOST_PRICE;
+        let together =
+            |e: &Entry| accrued(e) == MOST_ACCRUED && price(e) + accrued(e) == MOST_PRICE;
+        self.meet("roll: highest price and accrued amount together", ledger.iter().any(together));
+        let apart = |e: &Entry| [e.lots, price(e), accrued(e)].iter().all(|number| number % 2 == 1);
+        self.meet("roll: price and accrued amount round apart", ledger.iter().any(apart));
+        let highest = |e: &Entry| price(e) == MOST_PRICE;
         let highest = ledger.iter().any(highest) && rate == MOST_RATE && days == MOST_DAYS;
         self.meet("roll: highest price, rate and days", highest);
         self.meet("roll: day becomes 65,535", made.after.day == u16::MAX);

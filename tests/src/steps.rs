@@ -69,7 +69,7 @@ pub enum Call {
     Cutoff { out: usize },
     Resolve { issue: u32, account: u32, lots: u32, out: usize },
     PairOff { issue: u32, account: u32 },
-    Roll { days: u32, rate: u32, prices: Vec<u32> },
+    Roll { days: u32, rate: u32, quotes: Vec<u32> },
     Mark { issue: u32, mark: u32 },
 }
 
@@ -232,9 +232,9 @@ impl fmt::Display for Call {
             Call::Cutoff { out } => write!(text, " out {out}"),
             Call::PairOff { issue, account } => write!(text, " {issue} {account}"),
             Call::Mark { issue, mark } => write!(text, " {issue} {mark}"),
-            Call::Roll { days, rate, prices } => {
+            Call::Roll { days, rate, quotes } => {
                 write!(text, " {days} {rate}")?;
-                prices.iter().try_for_each(|price| write!(text, " {price}"))
+                quotes.iter().try_for_each(|quote| write!(text, " {quote}"))
             }
         }
     }
@@ -327,7 +327,7 @@ fn call_of(name: &str, words: &mut Words) -> Result<Call, String> {
         "pair-off" => Call::PairOff { issue: words.number()?, account: words.number()? },
         "mark" => Call::Mark { issue: words.number()?, mark: words.number()? },
         "roll" => {
-            Call::Roll { days: words.number()?, rate: words.number()?, prices: words.rest()? }
+            Call::Roll { days: words.number()?, rate: words.number()?, quotes: words.rest()? }
         }
         other => return Err(format!("there is no call {other:?}")),
     })

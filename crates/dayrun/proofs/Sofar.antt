@@ -116,7 +116,7 @@ module _ (p r : Place) (bytes bytes′ text : List ℕ) (d : Stepped p bytes byt
       went-as _ _ _ _ _ _ (d .fed .decoded .front) (ap (λ (k : ℕ). not (eqb (k % 4) 0)) (sym size)) refl refl (d .parted .went)
 
   -- a read that fails leaves the run where it is
-  failed-waits : p .end < p .start + 68 → p .start ≤ p .end → r .failed ≡ true → r .over ≡ false
+  failed-waits : p .end < p .start + 132 → p .start ≤ p .end → r .failed ≡ true → r .over ≡ false
   failed-waits k h e =
       let f = d .fed .refilled in
       let s : saysFailed (f .said) ≡ true = sym (f .took .failed) ∙ sym (d .parted .failed) ∙ e in

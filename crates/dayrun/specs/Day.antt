@@ -20,12 +20,12 @@ pub record Buffers (bytes words text out : List ℕ) : Type 0 where
   pub lines : length text ≡ 327680
   pub output : length out ≡ 4096
 
--- a sound book, and bytes in the buffer that are not yet used; where the run goes on there are fewer than seventeen words and a
+-- a sound book, and bytes in the buffer that are not yet used; where the run goes on there are fewer than thirty-three words and a
 -- stray, so a read has room; where the last read failed the run is not over
 pub record Standing (p : Place) : Type 0 where
   pub order : p .start ≤ p .end
   pub within : p .end ≤ 16384
-  pub few : p .over ≡ false → p .end < p .start + 68
+  pub few : p .over ≡ false → p .end < p .start + 132
   pub waits : p .failed ≡ true → p .over ≡ false
   pub sound : sound (p .book) ≡ true
 

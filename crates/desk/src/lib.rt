@@ -20,18 +20,29 @@ fn plain(a: Amount, yen: &mut u64) -> u32
     }
 }
 
-// The value of lots at a price: 0 with the yen, or 7 (lots) or 11 (price) with 0 yen.
+// The value of lots at a price and an accrued amount: 0 with the yen, or 7 (lots) or 11 (price, accrued) with 0 yen.
 #[no_mangle]
-pub extern "C" fn day_value(lots: u32, price: u32, yen: &mut u64) -> u32
-    ensures { λ r. ⌜ Plain (value lots price) r (now (yen .exit)) ⌝ }
+pub extern "C" fn day_value(lots: u32, price: u32, accrued: u32, yen: &mut u64) -> u32
+    ensures { λ r. ⌜ Plain (value lots price accrued) r (now (yen .exit)) ⌝ }
 {
-    plain(measures::value(Lots(lots), price), yen)
+    plain(measures::value(Lots(lots), price, accrued), yen)
 }
 
-// The charge on lots at a price over days at a rate: 0 with the yen, or 7 (lots) or 11 (price, days, rate) with 0 yen.
+// The charge on lots at a price and an accrued amount over days at a rate: 0 with the yen, or 7 (lots) or 11 (the other numbers)
+// with 0 yen.
 #[no_mangle]
-pub extern "C" fn day_charge(lots: u32, price: u32, days: u32, rate: u32, yen: &mut u64) -> u32
-    ensures { λ r. ⌜ Plain (charge lots price days rate) r (now (yen .exit)) ⌝ }
+pub extern "C" fn day_charge(
+    lots: u32,
+    price: u32,
+    days: u32,
+    rate: u32,
+    accrued: u32,
+    yen: &mut u64,
+) -> u32
+    ensures { λ r. ⌜ Plain (charge lots price days rate accrued) r (now (yen .exit)) ⌝ }
 {
-    plain(measures::charge(Lots(lots), price, days, rate), yen)
+    plain(
+        measures::charge(Lots(lots), price, days, rate, accrued),
+        yen,
+    )
 }

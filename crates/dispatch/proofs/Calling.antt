@@ -24,15 +24,15 @@ use Rattle.dispatch.specs.Dispatch.{asksWhere, calledWhere, calledIn, be
 -- Question 1
 
 -- it is asked of the output alone
-pub room-of : (x : Instruction) (prices out : List ℕ) → firstNo (outputAsks (callOf x [] out)) ≡ firstNo (outputAsks (callOf x prices out))
-room-of (instruction.Trade i f t x) prices out = refl
-room-of (instruction.Deliver i a x) prices out = refl
-room-of (instruction.Resolve i a x) prices out = refl
-room-of (instruction.PairOff i a) prices out = refl
-room-of instruction.Close prices out = refl
-room-of instruction.Cutoff prices out = refl
-room-of (instruction.Roll days rate) prices out = refl
-room-of (instruction.Mark i m) prices out = refl
+pub room-of : (x : Instruction) (quotes out : List ℕ) → firstNo (outputAsks (callOf x [] out)) ≡ firstNo (outputAsks (callOf x quotes out))
+room-of (instruction.Trade i f t x) quotes out = refl
+room-of (instruction.Deliver i a x) quotes out = refl
+room-of (instruction.Resolve i a x) quotes out = refl
+room-of (instruction.PairOff i a) quotes out = refl
+room-of instruction.Close quotes out = refl
+room-of instruction.Cutoff quotes out = refl
+room-of (instruction.Roll days rate) quotes out = refl
+room-of (instruction.Mark i m) quotes out = refl
 
 -- a 'no' among the first questions is the first 'no' of all
 no-first : (ps qs : List Question) (n : ℕ) → firstNo ps ≡ suc n → firstNo (ps ++ qs) ≡ suc n
@@ -50,49 +50,49 @@ others (Commit t out) qs h = said-yes 1 (leb outputWords (length out)) qs (yes 0
 others (Cutoff out) qs h = said-yes 1 (leb outputWords (length out)) qs (yes 0 (leb outputWords (length out)) [] h .first)
 others (Resolve i a x out) qs h = said-yes 1 (leb outputWords (length out)) qs (yes 0 (leb outputWords (length out)) [] h .first)
 others (PairOff i a) qs h = refl
-others (Roll days rate prices) qs h = refl
+others (Roll days rate quotes) qs h = refl
 others (Mark i m) qs h = refl
 
 -- Refusals
 
 -- the output is as it came
-as-came : (x : Instruction) (prices out : List ℕ) (n : ℕ) (b : Book) (e : Effect) →
-    out ≡ outAfter (callOf x prices out) out (answer (suc n) b (lentTo (callOf x prices out)) e)
-as-came (instruction.Trade i f t x) prices out n b e = refl
-as-came (instruction.Deliver i a x) prices out n b e = refl
-as-came (instruction.Resolve i a x) prices out n b e = refl
-as-came (instruction.PairOff i a) prices out n b e = refl
-as-came instruction.Close prices out n b e = refl
-as-came instruction.Cutoff prices out n b e = refl
-as-came (instruction.Roll days rate) prices out n b e = refl
-as-came (instruction.Mark i m) prices out n b e = refl
+as-came : (x : Instruction) (quotes out : List ℕ) (n : ℕ) (b : Book) (e : Effect) →
+    out ≡ outAfter (callOf x quotes out) out (answer (suc n) b (lentTo (callOf x quotes out)) e)
+as-came (instruction.Trade i f t x) quotes out n b e = refl
+as-came (instruction.Deliver i a x) quotes out n b e = refl
+as-came (instruction.Resolve i a x) quotes out n b e = refl
+as-came (instruction.PairOff i a) quotes out n b e = refl
+as-came instruction.Close quotes out n b e = refl
+as-came instruction.Cutoff quotes out n b e = refl
+as-came (instruction.Roll days rate) quotes out n b e = refl
+as-came (instruction.Mark i m) quotes out n b e = refl
 
 -- a refusal by its number
-pub unchanged : (b : Book) (x : Instruction) (prices out : List ℕ) (s : State) (k n : ℕ) → k ≡ suc n →
-    TurnIs (beside (callOf x prices out) out (answer k b (lentTo (callOf x prices out)) (effect b (callOf x prices out)))) (refusedTurn (suc n) s) b out
-unchanged b x prices out s k n h =
+pub unchanged : (b : Book) (x : Instruction) (quotes out : List ℕ) (s : State) (k n : ℕ) → k ≡ suc n →
+    TurnIs (beside (callOf x quotes out) out (answer k b (lentTo (callOf x quotes out)) (effect b (callOf x quotes out)))) (refusedTurn (suc n) s) b out
+unchanged b x quotes out s k n h =
     rw h
     (record {
       refusal = refl;
       count = refl;
       cancelled = refl;
       book = refl;
-      out = as-came x prices out n b (effect b (callOf x prices out));
+      out = as-came x quotes out n b (effect b (callOf x quotes out));
     })
 
-module _ (good : Bool) (b : Book) (x : Instruction) (prices out : List ℕ) (s : State) where
+module _ (good : Bool) (b : Book) (x : Instruction) (quotes out : List ℕ) (s : State) where
   abbrev call : Call
-  call = callOf x prices out
+  call = callOf x quotes out
 
   refused : (n : ℕ) → firstNo (asksWhere good b call) ≡ suc n →
       TurnIs (beside call out (calledWhere good b call)) (refusedTurn (suc n) s) b out
   unfolding calledWhere
-  refused n h = unchanged b x prices out s (firstNo (asksWhere good b call)) n h
+  refused n h = unchanged b x quotes out s (firstNo (asksWhere good b call)) n h
 
   pub too-short : (n : ℕ) → n ≡ firstNo (outputAsks (callOf x [] out)) → (n ≡ 0 → ⊥) →
       TurnIs (beside call out (calledWhere good b call)) (refusedTurn n s) b out
   too-short zero e h = absurd (h refl)
-  too-short (suc n) e h = refused n (no-first (outputAsks call) (ask 2 good ∷ ownAsks b call) n (sym (room-of x prices out) ∙ sym e))
+  too-short (suc n) e h = refused n (no-first (outputAsks call) (ask 2 good ∷ ownAsks b call) n (sym (room-of x quotes out) ∙ sym e))
 
   pub unsound : HasRoom call → good ≡ false → TurnIs (beside call out (calledWhere good b call)) (refusedTurn 2 s) b out
   unsound room h = refused 1 (others call (ask 2 good ∷ ownAsks b call) room ∙ said-no 2 good (ownAsks b call) h)

@@ -30,10 +30,10 @@ abbrev pub beside : Call → List ℕ → Answer → Answer
 beside c out d =
     record { refusal = d .refusal; count = d .count; cancelled = d .cancelled; book = d .book; out = outAfter c out d }
 
--- an instruction, with roll's prices and an output beside it, made on the columns of a state
+-- an instruction, with roll's quotes and an output beside it, made on the columns of a state
 abbrev pub Called : Instruction → Column ℕ → Column ℕ → State → Turn → Columns → Type 0
-Called x prices out s r c =
-    let call = callOf x (now (prices .entry)) (now (out .entry)) in
+Called x quotes out s r c =
+    let call = callOf x (now (quotes .entry)) (now (out .entry)) in
     TurnIs (beside call (now (out .entry)) (calledIn (c .before s) call)) r (c .after (r .state)) (now (out .exit))
 
 abbrev pub refusedTurn : ℕ → State → Turn

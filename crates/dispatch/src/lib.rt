@@ -43,10 +43,10 @@ fn refused(no: u32, s: State) -> Turn
     }
 }
 
-// The call of an instruction, with roll's prices and an output beside it, on any book.
+// The call of an instruction, with roll's quotes and an output beside it, on any book.
 pub fn call(
     x: Instruction,
-    prices: &[u32],
+    quotes: &[u32],
     s: State,
     nets: &mut [i32],
     delivered: &mut [u32],
@@ -59,7 +59,7 @@ pub fn call(
     days: &mut [u16],
     out: &mut [u32],
 ) -> Turn
-    ensures { λ r. ⌜ Called x prices out s r (columns nets delivered lifts charges issues froms tos lots days) ⌝ }
+    ensures { λ r. ⌜ Called x quotes out s r (columns nets delivered lifts charges issues froms tos lots days) ⌝ }
 {
     let no = output_asks(x, out);
     if no != 0 {
@@ -81,7 +81,7 @@ pub fn call(
     }
     running::answer(
         x,
-        prices,
+        quotes,
         s,
         nets,
         delivered,

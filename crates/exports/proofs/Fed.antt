@@ -35,10 +35,10 @@ numbers n k x = record { refusal = n; count = k; cancelled = x; state = stateOf 
 
 -- a call of a kind of 1 to 7 or 13, in columns of a book's lengths and with one of its phases, and what that gave
 pub data ByHost (b : Book) : Call → Answer → Type 0 where
-  told : (kind : ℕ) (x : Instruction) (prices out : List ℕ) (h : Host) (n k lots : ℕ) (words : List ℕ) →
+  told : (kind : ℕ) (x : Instruction) (quotes out : List ℕ) (h : Host) (n k lots : ℕ) (words : List ℕ) →
       isKind kind ≡ true → h .phase ≤ 2 → lengthsRight b ≡ true →
-      CallIs (beside (callOf x prices out) out (dayCalled kind (h .phase) b (callOf x prices out))) h n k lots words →
-      ByHost b (callOf x prices out) (gave (callOf x prices out) (numbers n k lots) (h .after) words)
+      CallIs (beside (callOf x quotes out) out (dayCalled kind (h .phase) b (callOf x quotes out))) h n k lots words →
+      ByHost b (callOf x quotes out) (gave (callOf x quotes out) (numbers n k lots) (h .after) words)
   asks : (phase i k n : ℕ) (ticket : List ℕ) → phase ≤ 2 → lengthsRight b ≡ true → AskIs (dayAsked phase b i k) n ticket →
       ByHost b (Ask i k) (record { refusal = n; count = 0; cancelled = 0; book = b; out = [] })
   commits : (phase : ℕ) (ticket out : List ℕ) (n k : ℕ) (lifts words : List ℕ) → phase ≤ 2 → lengthsRight b ≡ true →
@@ -83,8 +83,8 @@ pub demand3-of-hosts : {s : State} → Made ByHost s → Demand3 s
 demand3-of-hosts m = demand3-of ByHost right m
   where
     right : (b : Book) (c : Call) (r : Answer) → ByHost b c r → r ≡ called b c
-    right b _ _ (told kind x prices out h n k lots words i p l t) =
-        let c = callOf x prices out in
+    right b _ _ (told kind x quotes out h n k lots words i p l t) =
+        let c = callOf x quotes out in
         gave-answer b c (numbers n k lots) (h .after) out words
         (gives b c out h n k lots words (rw (same-call kind (h .phase) b c i p l) at t))
     right b _ _ (asks phase i k n ticket p l t) = nothing b i k n (t .refusal ∙ same-ask phase b i k p l)

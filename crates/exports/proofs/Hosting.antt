@@ -42,15 +42,15 @@ pub of-kind : (kind phase : ℕ) (b : Book) (c : Call) → isKind kind ≡ true 
 unfolding calledWhere dayCalled
 of-kind kind phase b c h = rw h
 
-pub no-kind : (kind phase : ℕ) (b : Book) (x : Instruction) (prices out : List ℕ) (s : State) → isKind kind ≡ false →
-    TurnIs (beside (callOf x prices out) out (dayCalled kind phase b (callOf x prices out))) (refusedTurn 14 s) b out
+pub no-kind : (kind phase : ℕ) (b : Book) (x : Instruction) (quotes out : List ℕ) (s : State) → isKind kind ≡ false →
+    TurnIs (beside (callOf x quotes out) out (dayCalled kind phase b (callOf x quotes out))) (refusedTurn 14 s) b out
 unfolding dayCalled
-no-kind kind phase b x prices out s h =
-    unchanged b x prices out s _ 13 (said-no 14 (isKind kind) (asksWhere (soundAt phase b) b (callOf x prices out)) h)
+no-kind kind phase b x quotes out s h =
+    unchanged b x quotes out s _ 13 (said-no 14 (isKind kind) (asksWhere (soundAt phase b) b (callOf x quotes out)) h)
 
-module _ (kind phase : ℕ) (x y : Instruction) (prices out : List ℕ) (right : isKind kind ≡ true) (same : y ≡ x) where
+module _ (kind phase : ℕ) (x y : Instruction) (quotes out : List ℕ) (right : isKind kind ≡ true) (same : y ≡ x) where
   abbrev call : Call
-  call = callOf x prices out
+  call = callOf x quotes out
 
   -- question 1, and then a number that is no phase
   module _ (b : Book) (s : State) (n : ℕ) (e : n ≡ firstNo (outputAsks (callOf y [] out))) where
@@ -58,16 +58,16 @@ module _ (kind phase : ℕ) (x y : Instruction) (prices out : List ℕ) (right :
     number = e ∙ ap (λ u. firstNo (outputAsks (callOf u [] out))) same
 
     pub short : (n ≡ 0 → ⊥) → TurnIs (beside call out (dayCalled kind phase b call)) (refusedTurn n s) b out
-    short h = rw (← of-kind kind phase b call right) (too-short (soundAt phase b) b x prices out s n number h)
+    short h = rw (← of-kind kind phase b call right) (too-short (soundAt phase b) b x quotes out s n number h)
 
     pub no-phase : n ≡ 0 → 2 < phase → TurnIs (beside call out (dayCalled kind phase b call)) (refusedTurn 2 s) b out
     no-phase z h =
         rw (← of-kind kind phase b call right)
-        (unsound (soundAt phase b) b x prices out s (sym (room-of x prices out) ∙ sym number ∙ z) (damaged phase b h))
+        (unsound (soundAt phase b) b x quotes out s (sym (room-of x quotes out) ∙ sym number ∙ z) (damaged phase b h))
 
   -- else the call is made
   pub made : (f : State → Book) (s t : State) (r : Turn) (b′ : Book) (out′ : List ℕ) → phase ≤ 2 → t ≡ s →
-      TurnIs (beside (callOf y prices out) out (calledIn (f t) (callOf y prices out))) r b′ out′ →
+      TurnIs (beside (callOf y quotes out) out (calledIn (f t) (callOf y quotes out))) r b′ out′ →
       TurnIs (beside call out (dayCalled kind phase (f s) call)) r b′ out′
   made f s t r b′ out′ h e w =
       rw (← of-kind kind phase (f s) call right, le-leb phase 2 h, ← e, ← same) w

@@ -14,15 +14,15 @@ use Rattle.exports.specs.Fields.{isKind}
 use Rattle.exports.specs.Words.{dayWritten, written}
 
 module _ (kind : ℕ) (x : Instruction) where
-  pub too-short : (prices out : List ℕ) → length out < tapeWords → WriteAnswerIs (dayWritten kind x prices out) (written 1 0) out
+  pub too-short : (quotes out : List ℕ) → length out < tapeWords → WriteAnswerIs (dayWritten kind x quotes out) (written 1 0) out
   unfolding dayWritten
-  too-short prices out h = rw (lt-leb tapeWords (length out) h) (record { refusal = refl; count = refl; out = refl })
+  too-short quotes out h = rw (lt-leb tapeWords (length out) h) (record { refusal = refl; count = refl; out = refl })
 
-  pub no-kind : (prices out : List ℕ) → tapeWords ≤ length out → isKind kind ≡ false → WriteAnswerIs (dayWritten kind x prices out) (written 15 0) out
+  pub no-kind : (quotes out : List ℕ) → tapeWords ≤ length out → isKind kind ≡ false → WriteAnswerIs (dayWritten kind x quotes out) (written 15 0) out
   unfolding dayWritten
-  no-kind prices out h n = rw (le-leb tapeWords (length out) h, n) (record { refusal = refl; count = refl; out = refl })
+  no-kind quotes out h n = rw (le-leb tapeWords (length out) h, n) (record { refusal = refl; count = refl; out = refl })
 
-  pub of-kind : (y : Instruction) (prices out : List ℕ) (r : Written) (lent : List ℕ) → y ≡ x → isKind kind ≡ true →
-      WriteAnswerIs (writeOf y prices out) r lent → WriteAnswerIs (dayWritten kind x prices out) (written (r .refusal) (r .count)) lent
+  pub of-kind : (y : Instruction) (quotes out : List ℕ) (r : Written) (lent : List ℕ) → y ≡ x → isKind kind ≡ true →
+      WriteAnswerIs (writeOf y quotes out) r lent → WriteAnswerIs (dayWritten kind x quotes out) (written (r .refusal) (r .count)) lent
   unfolding dayWritten writeOf
-  of-kind y prices out r lent e h w = rw (← e, h) (record { refusal = w .refusal; count = w .count; out = w .out })
+  of-kind y quotes out r lent e h w = rw (← e, h) (record { refusal = w .refusal; count = w .count; out = w .out })

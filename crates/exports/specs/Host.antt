@@ -85,8 +85,8 @@ pub record CallIs (d : Answer) (h : Host) (number records lots : ℕ) (words : L
   pub stage : h .phaseAfter ≡ cond (leb (h .phase) 2) (numberOf (d .book .phase)) (h .phase)
   pub out : words ≡ d .out
 
--- an instruction of a kind, with roll's prices and an output beside it, made on a host's book
+-- an instruction of a kind, with roll's quotes and an output beside it, made on a host's book
 abbrev pub DayCalled : ℕ → Instruction → Column ℕ → Column ℕ → ℕ → Place → Place → Host → Type 0
-DayCalled kind x prices out number count cancelled h =
-    let call = callOf x (now (prices .entry)) (now (out .entry)) in
+DayCalled kind x quotes out number count cancelled h =
+    let call = callOf x (now (quotes .entry)) (now (out .entry)) in
     CallIs (beside call (now (out .entry)) (dayCalled kind (h .phase) (h .before) call)) h number (now (count .exit)) (now (cancelled .exit)) (now (out .exit))

@@ -23,8 +23,8 @@ pub record ReadIs (d : ReadAnswer) (number : ℕ) (fields : List ℕ) (words : �
 
 -- an instruction of a kind, written: a kind that is none of 1 to 7 nor 13 fits no bits
 unfoldable pub dayWritten : ℕ → Instruction → List ℕ → List ℕ → WriteAnswer
-dayWritten kind x prices out =
-    writeAnswer (firstNo (askOutput tapeWords out ∷ ask 15 (isKind kind && fieldsFit x prices) ∷ [])) (wordsOf x prices) out
+dayWritten kind x quotes out =
+    writeAnswer (firstNo (askOutput tapeWords out ∷ ask 15 (isKind kind && fieldsFit x quotes) ∷ [])) (wordsOf x quotes) out
 
 -- what the writer answers
 abbrev pub written : ℕ → ℕ → Written

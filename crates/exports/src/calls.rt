@@ -113,7 +113,7 @@ pub extern "C" fn day_unit<'a>(
     told(found, answer)
 }
 
-// The call of an instruction, with roll's prices and an output beside it.
+// The call of an instruction, with roll's quotes and an output beside it.
 #[no_mangle]
 pub extern "C" fn day_call(
     kind: u32,
@@ -121,7 +121,7 @@ pub extern "C" fn day_call(
     b: u32,
     c: u32,
     d: u32,
-    prices: &[u32],
+    quotes: &[u32],
     day: &mut u16,
     phase: &mut u32,
     entries: &mut usize,
@@ -139,7 +139,7 @@ pub extern "C" fn day_call(
     count: &mut usize,
     cancelled: &mut u64,
 ) -> u32
-    ensures { λ r. ⌜ DayCalled kind (instructionOf kind a b c d) prices out r count cancelled (host day phase entries marks (columns nets delivered lifts charges issues froms tos lots days)) ⌝ }
+    ensures { λ r. ⌜ DayCalled kind (instructionOf kind a b c d) quotes out r count cancelled (host day phase entries marks (columns nets delivered lifts charges issues froms tos lots days)) ⌝ }
 {
     *count = 0;
     *cancelled = 0;
@@ -158,7 +158,7 @@ pub extern "C" fn day_call(
     let s = state_of(*day, stage, *entries, *marks);
     let r = dispatch::call(
         x,
-        prices,
+        quotes,
         s,
         nets,
         delivered,

@@ -6,7 +6,7 @@ use rules::Read;
 ghost use mathlib.Core.Path.{_≡_};
 ghost use lib.ListN.{replicate};
 ghost use lib.Seq.{sets};
-ghost use Rattle.rules.specs.Tape.{readOf, readAnswer, pricesOf};
+ghost use Rattle.rules.specs.Tape.{readOf, readAnswer, quotesOf};
 ghost use Rattle.tape.specs.Answers.{WriteAnswerIs};
 ghost use Rattle.exports.specs.Fields.{instructionOf};
 ghost use Rattle.exports.specs.Words.{ReadIs, dayWritten, written};
@@ -37,16 +37,16 @@ pub extern "C" fn day_read(words: &[u32], instruction: &mut [u32; 5], count: &mu
     read_out(tape::read(words), instruction, count)
 }
 
-// The prices in the words after a roll's head, 0 where a word is missing.
+// The quotes in the words after a roll's head, sixteen prices and then sixteen accrued amounts, 0 where a word is missing.
 #[no_mangle]
-pub extern "C" fn day_prices(words: &[u32], prices: &mut [u32; 16])
-    ensures { λ _. ⌜ now (prices .exit) ≡ sets (replicate 16 0) 0 (pricesOf (now (words .entry))) ⌝ }
+pub extern "C" fn day_quotes(words: &[u32], quotes: &mut [u32; 32])
+    ensures { λ _. ⌜ now (quotes .exit) ≡ sets (replicate 32 0) 0 (quotesOf (now (words .entry))) ⌝ }
 {
-    *prices = [0; 16];
-    tape::prices(words, prices);
+    *quotes = [0; 32];
+    tape::quotes(words, quotes);
 }
 
-// Writes an instruction, with the prices of a roll.
+// Writes an instruction, with the quotes of a roll.
 #[no_mangle]
 pub extern "C" fn day_write(
     kind: u32,
@@ -54,21 +54,21 @@ pub extern "C" fn day_write(
     b: u32,
     c: u32,
     d: u32,
-    prices: &[u32],
+    quotes: &[u32],
     out: &mut [u32],
     count: &mut usize,
 ) -> u32
-    ensures { λ r. ⌜ WriteAnswerIs (dayWritten kind (instructionOf kind a b c d) (now (prices .entry)) (now (out .entry))) (written r (now (count .exit))) (now (out .exit)) ⌝ }
+    ensures { λ r. ⌜ WriteAnswerIs (dayWritten kind (instructionOf kind a b c d) (now (quotes .entry)) (now (out .entry))) (written r (now (count .exit))) (now (out .exit)) ⌝ }
 {
     *count = 0;
-    if out.len() < 17 {
+    if out.len() < 33 {
         return 1;
     }
     if !is_kind(kind) {
         return 15;
     }
     let x = instruction_of(kind, a, b, c, d);
-    let r = tape::write(x, prices, out);
+    let r = tape::write(x, quotes, out);
     *count = r.count;
     r.refusal
 }

@@ -14,12 +14,12 @@ pub record Decoded (bytes words : List ℕ) (count : ℕ) : Type 0 where
   pub fits : count ≤ length words
   pub front : take count words ≡ wordsIn bytes
 
--- fewer bytes are left than seventeen words and a stray have, and a buffer has room for more
+-- fewer bytes are left than thirty-three words and a stray have, and a buffer has room for more
 pub record Few (start end : ℕ) (buffer : List ℕ) : Type 0 where
   pub order : start ≤ end
   pub within : end ≤ length buffer
-  pub few : end < start + 68
-  pub room : 68 ≤ length buffer
+  pub few : end < start + 132
+  pub room : 132 ≤ length buffer
 
 -- what a read answered, with room for so many bytes behind those left
 pub record Took (got : ℤ) (left room : ℕ) (r : Fill) : Type 0 where

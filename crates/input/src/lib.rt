@@ -45,12 +45,12 @@ fn decode(bytes: &[u8], words: &mut [u32]) -> usize
     n
 }
 
-// The bytes from `start` to `end`, fewer than seventeen words and a stray, go to the front.
+// The bytes from `start` to `end`, fewer than thirty-three words and a stray, go to the front.
 fn shift(buffer: &mut [u8], start: usize, end: usize) -> usize
     requires { ⌜ Few start end (now buffer) ⌝ }
     ensures { λ r. ⌜ (r ≡ end - start) × (take (end - start) (now (buffer .exit)) ≡ take (end - start) (drop start (now (buffer .entry)))) ⌝ }
 {
-    let mut kept = [0u8; 68];
+    let mut kept = [0u8; 132];
     let left = bytes::copy(&buffer[start..end], &mut kept);
     bytes::copy(&kept[..left], buffer);
     left

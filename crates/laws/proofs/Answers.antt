@@ -89,7 +89,7 @@ numbered b (Commit t out) = omega arith
 numbered b (Cutoff out) = omega arith
 numbered b (Resolve i a x out) = omega arith
 numbered b (PairOff i a) = omega arith
-numbered b (Roll days rate prices) = omega arith
+numbered b (Roll days rate quotes) = omega arith
 numbered b (Mark i m) = omega arith
 
 -- a property of a call's answer: of what it does where all is answered 'yes', and of every refusal
@@ -101,15 +101,15 @@ by-answer P b c y n = either-way P (asks b c) b (lentTo c) (effect b c) (numbere
 -- By its number
 
 -- an output that is long enough has room for any call
-pub has-room : (x : Instruction) (prices out : List ℕ) → outputWords ≤ length out → HasRoom (callOf x prices out)
-has-room (instruction.Trade i f t x) prices out h = refl
-has-room (instruction.Deliver i a x) prices out h = said-yes 1 (leb outputWords (length out)) [] (le-leb outputWords (length out) h)
-has-room (instruction.Resolve i a x) prices out h = said-yes 1 (leb outputWords (length out)) [] (le-leb outputWords (length out) h)
-has-room (instruction.PairOff i a) prices out h = refl
-has-room instruction.Close prices out h = refl
-has-room instruction.Cutoff prices out h = said-yes 1 (leb outputWords (length out)) [] (le-leb outputWords (length out) h)
-has-room (instruction.Roll days rate) prices out h = refl
-has-room (instruction.Mark i m) prices out h = refl
+pub has-room : (x : Instruction) (quotes out : List ℕ) → outputWords ≤ length out → HasRoom (callOf x quotes out)
+has-room (instruction.Trade i f t x) quotes out h = refl
+has-room (instruction.Deliver i a x) quotes out h = said-yes 1 (leb outputWords (length out)) [] (le-leb outputWords (length out) h)
+has-room (instruction.Resolve i a x) quotes out h = said-yes 1 (leb outputWords (length out)) [] (le-leb outputWords (length out) h)
+has-room (instruction.PairOff i a) quotes out h = refl
+has-room instruction.Close quotes out h = refl
+has-room instruction.Cutoff quotes out h = said-yes 1 (leb outputWords (length out)) [] (le-leb outputWords (length out) h)
+has-room (instruction.Roll days rate) quotes out h = refl
+has-room (instruction.Mark i m) quotes out h = refl
 
 -- and a call that is lent one had room in it
 pub room-in : (out : List ℕ) → firstNo (askOutput outputWords out ∷ []) ≡ 0 → outputWords ≤ length out
@@ -124,7 +124,7 @@ room b (Commit t out) h = said-yes 1 (leb outputWords (length out)) (askSound b 
 room b (Cutoff out) h = said-yes 1 (leb outputWords (length out)) (askSound b ∷ ownAsks b (Cutoff out)) (yes 0 (leb outputWords (length out)) [] h .first)
 room b (Resolve i a x out) h = said-yes 1 (leb outputWords (length out)) (askSound b ∷ ownAsks b (Resolve i a x out)) (yes 0 (leb outputWords (length out)) [] h .first)
 room b (PairOff i a) h = refl
-room b (Roll days rate prices) h = refl
+room b (Roll days rate quotes) h = refl
 room b (Mark i m) h = refl
 
 -- a sound book and enough room leave the call's own questions

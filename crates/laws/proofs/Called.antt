@@ -11,15 +11,15 @@ use lib.IntN.{pos}
 use borrow.Author.Tests.{leb-true, ltb-true, eqb-false, not-true}
 use Rattle.rules.specs.declared.Book.{Book}
 use Rattle.rules.specs.declared.Phase.the-variants.{Settling}
-use Rattle.rules.specs.Measures.{issueCount, mostLots, mostDays, mostRate, between}
+use Rattle.rules.specs.Measures.{quoteCount, mostLots, mostDays, mostRate, between}
 use Rattle.rules.specs.Handover.{covered}
-use Rattle.rules.specs.Book.{all, deliveredTotal, orderOf, ledgerOf, liftConditions, liftsSound, cellsEven, sound, conditions, withNets, withPhase, fresh}
-use Rattle.rules.specs.Questions.{priceRight, noNet, noEntry}
+use Rattle.rules.specs.Book.{deliveredTotal, orderOf, ledgerOf, liftConditions, liftsSound, cellsEven, sound, conditions, withNets, withPhase, fresh}
+use Rattle.rules.specs.Questions.{quotesRight, noNet, noEntry}
 use Rattle.rules.specs.Calls.{Call, Trade, Close, Deliver, Ask, Commit, Cutoff, Resolve, PairOff, Roll, Mark, Answer, tradedNets, lentTo, asks, effect, called}
 use Rattle.laws.proofs.Basics.{and-left, and-right}
 use Rattle.laws.proofs.Sound.{SoundBook, lots-parts, sound-parts, parts-sound}
 use Rattle.laws.proofs.Answers.{AllYes, by-answer}
-use Rattle.laws.proofs.Charges.{charged-length, prices-most}
+use Rattle.laws.proofs.Charges.{charged-length, quotes-most}
 use Rattle.laws.proofs.Kept.{trade-kept, close-kept, deliver-kept, commit-kept, cutoff-kept, resolve-kept, pair-off-kept, roll-kept, mark-kept}
 
 -- as a book's fields are
@@ -85,11 +85,11 @@ keeps b (Resolve i a x out) y s =
 keeps b (PairOff i a) y s =
     as-before b (effect b (PairOff i a) .book) s (refl, refl, refl, refl)
     (pair-off-kept b (s .parts) i a (omega (arith, leb-true i 15 (y .1 .0))))
-keeps b (Roll days rate prices) y s =
+keeps b (Roll days rate quotes) y s =
     let c₁ = between 1 mostDays days in
     let c₂ = leb rate mostRate in
-    let c₃ = eqb (length prices) issueCount in
-    let c₄ = all priceRight prices in
+    let c₃ = eqb (length quotes) quoteCount in
+    let c₄ = quotesRight quotes in
     let h₁ = and-left (c₁ && c₂ && c₃) c₄ (y .1 .1 .0) in
     let h₂ = and-left (c₁ && c₂) c₃ h₁ in
     record {
@@ -97,11 +97,11 @@ keeps b (Roll days rate prices) y s =
         nets = length-replicate 1024 (pos 0);
         delivered = length-replicate {A = ℕ} 1024 0;
         lifts = length-replicate {A = ℕ} 288 0;
-        charges = charged-length days rate prices (ledgerOf b) (b .charges) ∙ s .sizes .charges;
+        charges = charged-length days rate quotes (ledgerOf b) (b .charges) ∙ s .sizes .charges;
       };
-      parts = roll-kept b (s .sizes .charges) (s .parts) days rate prices
+      parts = roll-kept b (s .sizes .charges) (s .parts) days rate quotes
           (leb-true days mostDays (and-right (leb 1 days) (leb days mostDays) (and-left c₁ c₂ h₂)))
-          (leb-true rate mostRate (and-right c₁ c₂ h₂)) (prices-most prices (and-right (c₁ && c₂ && c₃) c₄ (y .1 .1 .0)));
+          (leb-true rate mostRate (and-right c₁ c₂ h₂)) (quotes-most quotes (and-right (c₁ && c₂ && c₃) c₄ (y .1 .1 .0)));
     }
 keeps b (Mark i m) y s =
     let c₁ = noNet (b .nets) i in

@@ -15,7 +15,7 @@ use Rattle.rules.specs.declared.Book.{Book}
 use Rattle.rules.specs.declared.Phase.{Phase}
 use Rattle.rules.specs.declared.Phase.the-variants.{Taking, Settling, Cut}
 use Rattle.rules.specs.declared.Ticket.{Ticket}
-use Rattle.rules.specs.Measures.{mostLots, mostEntries, mostCharge, mostDays, mostRate, mostPrice, total, dueOf, owedOf}
+use Rattle.rules.specs.Measures.{mostLots, mostEntries, mostCharge, mostDays, mostRate, total, dueOf, owedOf}
 use Rattle.rules.specs.Handover.{covered}
 use Rattle.rules.specs.Fails.{Fail}
 use Rattle.rules.specs.Ledger.{isFrom, meet, pairing, charged}
@@ -34,7 +34,7 @@ use Rattle.laws.proofs.Meeting.{length-meet, sound-meet, days-meet, day
 use Rattle.laws.proofs.Stepping.{pairing-sound}
 use Rattle.laws.proofs.Records.{each-joined}
 use Rattle.laws.proofs.Issue.{entries-sound}
-use Rattle.laws.proofs.Charges.{charged-balance, charged-most}
+use Rattle.laws.proofs.Charges.{Quoted, charged-balance, charged-most}
 
 -- Trade
 
@@ -207,9 +207,9 @@ none-due : (ns : List ℤ) → Every (λ n. n ≡ pos 0) ns → total dueOf ns �
 none-due [] h = refl
 none-due (n ∷ ns) h = omega (arith, ap dueOf (h .0), ap owedOf (h .0), none-due ns (h .1))
 
-pub roll-kept : (b : Book) → length (b .charges) ≡ 64 → SoundBook b → (days rate : ℕ) (prices : List ℕ) → days ≤ mostDays → rate ≤ mostRate →
-    Every (λ p. p ≤ mostPrice) prices → SoundBook (rolled b days rate prices)
-roll-kept b n g days rate prices hd hr hp =
+pub roll-kept : (b : Book) → length (b .charges) ≡ 64 → SoundBook b → (days rate : ℕ) (quotes : List ℕ) → days ≤ mostDays → rate ≤ mostRate →
+    Quoted quotes → SoundBook (rolled b days rate quotes)
+roll-kept b n g days rate quotes hd hr hp =
     let f = g .ledger in
     let l = length-ledger b in
     record {
@@ -229,11 +229,11 @@ roll-kept b n g days rate prices hd hr hp =
         unusedLots = f .unusedLots;
         unusedDays = f .unusedDays;
       };
-      balance = charged-balance days rate prices (ledgerOf b) (b .charges) n (f .each) (g .balance);
+      balance = charged-balance days rate quotes (ledgerOf b) (b .charges) n (f .each) (g .balance);
       bounded = each-map (λ c. natAbs c ≤ mostCharge * b .day + length (ledgerOf b) * 65753424657)
           (λ c. natAbs c ≤ mostCharge * (b .day + 1)) (λ c q. omega (arith, q, l, f .count))
-          (charged days rate prices (ledgerOf b) (b .charges))
-          (charged-most days rate prices (ledgerOf b) (b .charges) (mostCharge * b .day) hd hr hp (f .each) (g .bounded));
+          (charged days rate quotes (ledgerOf b) (b .charges))
+          (charged-most days rate quotes (ledgerOf b) (b .charges) (mostCharge * b .day) hd hr hp (f .each) (g .bounded));
       lifts = λ j hj. lifts-none Taking (orderIn (replicate 1024 (pos 0)) (replicate 288 0) j) (deliveredTotal (replicate 1024 0) j) j 288;
       even = λ j hj. even-none (b .marks) 1024 1024 j;
       evenEntries = g .evenEntries;

@@ -1,13 +1,14 @@
 -- A scan with a flag: the flag and the test of what is left are together the test of the whole.
 use mathlib.Core.Path.{_≡_, refl, ap, sym, _∙_}
 use mathlib.Core.Bool.{Bool, true, false, _&&_}
-use mathlib.Core.List.{List, map}
-use Prim.Native.Nat.{ℕ, _+_, _≤_, _<_}
+use mathlib.Core.List.{List, _∷_, map}
+use Prim.Native.Nat.{ℕ, suc, _+_, _-_, _≤_, _<_}
+use native.Mathlib.Omega.{arith}
 use native.Mathlib.Numerals.{add-one}
 use lib.ListN.{length, drop, getD, drop-of-length-le}
 use lib.Seq.{drop-cons}
 use Rattle.rules.specs.Measures.{sum}
-use Rattle.rules.specs.Book.{all}
+use Rattle.rules.specs.Book.{tabulate, all}
 
 -- Tests joined
 
@@ -56,3 +57,19 @@ sum-more f xs i d h = rw add-one (ap (λ l. sum (map f l)) (drop-cons xs i d h))
 
 pub sum-none {ℓ} : {A : Type ℓ} (f : A → ℕ) (xs : List A) (i : ℕ) → length xs ≤ i → sum (map f (drop i xs)) ≡ 0
 sum-none f xs i h = ap (λ l. sum (map f l)) (drop-of-length-le xs h)
+
+-- All issues
+
+-- what is left of a test of all issues, from issue i on
+abbrev pub restOfIssues : (ℕ → Bool) → ℕ → Bool
+restOfIssues p i = all p (tabulate (λ j. j) i (16 - i))
+
+pub issues-more : (p : ℕ → Bool) (i : ℕ) (g r whole : Bool) → i < 16 → r ≡ p i → g && restOfIssues p i ≡ whole → (g && r) && restOfIssues p (i + 1) ≡ whole
+issues-more p i g r whole h er e =
+    let k : 16 - i ≡ suc (16 - (i + 1)) = omega arith in
+    let f : tabulate (λ j. j) i (16 - i) ≡ i ∷ tabulate (λ j. j) (i + 1) (16 - (i + 1)) =
+    ap (λ n. tabulate (λ j. j) i n) k ∙ ap (λ j. i ∷ tabulate (λ v. v) j (16 - (i + 1))) (sym (add-one i)) in
+    rw er (and-assoc g _ _ ∙ ap (λ t. g && t) (sym (rw f)) ∙ e)
+
+pub issues-end : (p : ℕ → Bool) (i : ℕ) (g whole : Bool) → i ≡ 16 → g && restOfIssues p i ≡ whole → g ≡ whole
+issues-end p i g whole ei e = sym (and-true g) ∙ ap (λ t. g && t) (sym (rw ei refl)) ∙ e

@@ -39,7 +39,7 @@ each-tab {ℓ} : {A : Type ℓ} (P : A → Type 0) (f : ℕ → A) (k n : ℕ) �
 each-tab P f k zero h = tt
 each-tab P f k (suc n) h = (h k (omega arith), each-tab P f (suc k) n (λ i l. h i (omega arith)))
 
-tab-each {ℓ} : {A : Type ℓ} (P : A → Type 0) (f : ℕ → A) (k n i : ℕ) → Every P (tabulate f k n) → k ≤ i → i < k + n → P (f i)
+pub tab-each {ℓ} : {A : Type ℓ} (P : A → Type 0) (f : ℕ → A) (k n i : ℕ) → Every P (tabulate f k n) → k ≤ i → i < k + n → P (f i)
 tab-each P f k zero i p h l = absurd (omega arith)
 tab-each P f k (suc n) i p h l =
     byTest (eqb k i)

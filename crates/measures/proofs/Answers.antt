@@ -5,7 +5,7 @@ use mathlib.Core.List.{[], _∷_}
 use Prim.Native.Nat.{ℕ, zero, suc, _<_}
 use native.Mathlib.Omega.{arith}
 use Rattle.rules.specs.Measures.{mostLots, between, valueOf, chargeOf}
-use Rattle.rules.specs.Questions.{ask, firstNo, priceRight, termRight}
+use Rattle.rules.specs.Questions.{ask, firstNo, quoteRight, termRight}
 use Rattle.rules.specs.Calls.{someYen, noYen, yenAnswer, value, charge}
 use Rattle.measures.specs.Range.{Priced, Termed}
 use Rattle.measures.proofs.Limits.{left, right, priced, termed}
@@ -32,30 +32,30 @@ refused : (n y : ℕ) → 0 < n → noYen n ≡ yenAnswer n y
 refused zero y h = absurd (omega arith)
 refused (suc n) y h = refl
 
-module _ (x p n : ℕ) (e : n ≡ number (between 1 mostLots x) (priceRight p)) where
-  pub value-refused : 0 < n → noYen n ≡ value x p
+module _ (x p a n : ℕ) (e : n ≡ number (between 1 mostLots x) (quoteRight p a)) where
+  pub value-refused : 0 < n → noYen n ≡ value x p a
   unfolding value
-  value-refused h = rw (← e) (refused n (valueOf x p) h)
+  value-refused h = rw (← e) (refused n (valueOf x p a) h)
 
   module _ (z : n ≡ 0) where
-    pub value-priced : Priced x p
-    value-priced = let w = both-yes _ _ (sym e ∙ z) in priced x p (w .0) (w .1)
+    pub value-priced : Priced x p a
+    value-priced = let w = both-yes _ _ (sym e ∙ z) in priced x p a (w .0) (w .1)
 
-    pub value-yen : (y : ℕ) → y ≡ valueOf x p → someYen y ≡ value x p
+    pub value-yen : (y : ℕ) → y ≡ valueOf x p a → someYen y ≡ value x p a
     unfolding value
     value-yen y h = rw (← e, z, h)
 
-module _ (x p d r n : ℕ) (e : n ≡ number (between 1 mostLots x) (priceRight p && termRight d r)) where
-  pub charge-refused : 0 < n → noYen n ≡ charge x p d r
+module _ (x p d r a n : ℕ) (e : n ≡ number (between 1 mostLots x) (quoteRight p a && termRight d r)) where
+  pub charge-refused : 0 < n → noYen n ≡ charge x p d r a
   unfolding charge
-  charge-refused h = rw (together (between 1 mostLots x) (priceRight p) (termRight d r), ← e) (refused n (chargeOf x p d r) h)
+  charge-refused h = rw (together (between 1 mostLots x) (quoteRight p a) (termRight d r), ← e) (refused n (chargeOf x p d r a) h)
 
   module _ (z : n ≡ 0) where
-    pub charge-priced : Priced x p × Termed d r
+    pub charge-priced : Priced x p a × Termed d r
     charge-priced =
         let w = both-yes _ _ (sym e ∙ z) in
-        (priced x p (w .0) (left (priceRight p) (termRight d r) (w .1)), termed d r (right (priceRight p) (termRight d r) (w .1)))
+        (priced x p a (w .0) (left (quoteRight p a) (termRight d r) (w .1)), termed d r (right (quoteRight p a) (termRight d r) (w .1)))
 
-    pub charge-yen : (y : ℕ) → y ≡ chargeOf x p d r → someYen y ≡ charge x p d r
+    pub charge-yen : (y : ℕ) → y ≡ chargeOf x p d r a → someYen y ≡ charge x p d r a
     unfolding charge
-    charge-yen y h = rw (together (between 1 mostLots x) (priceRight p) (termRight d r), ← e, z, h)
+    charge-yen y h = rw (together (between 1 mostLots x) (quoteRight p a) (termRight d r), ← e, z, h)

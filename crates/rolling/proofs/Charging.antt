@@ -9,7 +9,7 @@ use lib.Dec.{ltb}
 use lib.ListN.{length, take, drop, getD, set, replicate, length-set, replicate-append-replicate, drop-of-length-le}
 use lib.Seq.{drop-cons, take-suc-set, take-all}
 use lib.IntN.{ℤ, pos, negsuc, natAbs, negℤ, _+ℤ_, _-ℤ_}
-use Rattle.rules.specs.Measures.{chargeOf}
+use Rattle.rules.specs.Measures.{priceIn, accruedIn, chargeOf}
 use Rattle.rules.specs.Ledger.{entry, charged}
 use Rattle.rules.specs.Book.{entries, headOr0}
 use Rattle.laws.proofs.Ledger.{noEntry, length-entries, entry-at}
@@ -78,27 +78,27 @@ room-taken cs f t y h =
 pub length-paid : (f t y : ℕ) (cs : List ℤ) → length (paid f t y cs) ≡ length cs
 length-paid f t y cs = simp length-set
 
-module _ (days rate : ℕ) (prices : List ℕ) where
+module _ (days rate : ℕ) (quotes : List ℕ) where
   -- the days of the entries count for nothing
   pub other-days : (n : ℕ) (is fs ts xs ds es : List ℕ) (cs : List ℤ) →
-      charged days rate prices (entries n is fs ts xs ds) cs ≡ charged days rate prices (entries n is fs ts xs es) cs
+      charged days rate quotes (entries n is fs ts xs ds) cs ≡ charged days rate quotes (entries n is fs ts xs es) cs
   other-days zero is fs ts xs ds es cs = refl
   other-days (suc n) is fs ts xs ds es cs =
       other-days n (tail is) (tail fs) (tail ts) (tail xs) (tail ds) (tail es)
-      (paid (headOr0 fs) (headOr0 ts) (chargeOf (headOr0 xs) (getD prices (headOr0 is) 0) days rate) cs)
+      (paid (headOr0 fs) (headOr0 ts) (chargeOf (headOr0 xs) (priceIn quotes (headOr0 is)) days rate (accruedIn quotes (headOr0 is))) cs)
 
   module _ (n : ℕ) (is fs ts xs : List ℕ) (k : ℕ) (whole cs : List ℤ) where
-    pub charge-more : (y : ℕ) → k < n → y ≡ chargeOf (getD xs k 0) (getD prices (getD is k 0) 0) days rate →
-        charged days rate prices (drop k (entries n is fs ts xs [])) cs ≡ whole →
-        charged days rate prices (drop (k + 1) (entries n is fs ts xs [])) (paid (getD fs k 0) (getD ts k 0) y cs) ≡ whole
+    pub charge-more : (y : ℕ) → k < n → y ≡ chargeOf (getD xs k 0) (priceIn quotes (getD is k 0)) days rate (accruedIn quotes (getD is k 0)) →
+        charged days rate quotes (drop k (entries n is fs ts xs [])) cs ≡ whole →
+        charged days rate quotes (drop (k + 1) (entries n is fs ts xs [])) (paid (getD fs k 0) (getD ts k 0) y cs) ≡ whole
     charge-more y h ey e =
         let es = entries n is fs ts xs [] in
         let l : k < length es = omega (arith, length-entries n is fs ts xs []) in
         let d : drop k es ≡ entry (getD is k 0) (getD fs k 0) (getD ts k 0) (getD xs k 0) (getD [] k 0) ∷ drop (suc k) es =
         drop-cons es k noEntry l ∙ ap (λ v. v ∷ drop (suc k) es) (entry-at n is fs ts xs [] k h) in
-        rw (ey, add-one) (sym (ap (λ v. charged days rate prices v cs) d) ∙ e)
+        rw (ey, add-one) (sym (ap (λ v. charged days rate quotes v cs) d) ∙ e)
 
-    pub charge-end : n ≤ k → charged days rate prices (drop k (entries n is fs ts xs [])) cs ≡ whole → cs ≡ whole
+    pub charge-end : n ≤ k → charged days rate quotes (drop k (entries n is fs ts xs [])) cs ≡ whole → cs ≡ whole
     charge-end h e =
         let l : length (entries n is fs ts xs []) ≤ k = omega (arith, length-entries n is fs ts xs []) in
-        sym (ap (λ v. charged days rate prices v cs) (drop-of-length-le (entries n is fs ts xs []) l)) ∙ e
+        sym (ap (λ v. charged days rate quotes v cs) (drop-of-length-le (entries n is fs ts xs []) l)) ∙ e

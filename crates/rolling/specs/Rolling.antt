@@ -5,7 +5,7 @@ use Prim.Native.Nat.{ℕ, _+_, _*_, _≤_, _<_, _^_}
 use lib.ListN.{length, getD, set, replicate}
 use lib.IntN.{ℤ, pos, natAbs, _+ℤ_, _-ℤ_}
 use denote.Ref.{now}
-use Rattle.rules.specs.Measures.{mostLots, mostPrice, mostEntries, mostCharge, lastDay}
+use Rattle.rules.specs.Measures.{mostLots, mostPrice, mostEntries, mostCharge, lastDay, priceIn, accruedIn}
 use Rattle.rules.specs.Ledger.{charged}
 use Rattle.rules.specs.Book.{entries}
 use Rattle.measures.specs.Range.{Termed}
@@ -28,10 +28,10 @@ pub record Payable (cs : List ℤ) (f t y : ℕ) : Type 0 where
   pub room : (a : ℕ) → natAbs (getD cs a (pos 0)) + (y + y) < 2 ^ 63
 
 -- terms in range, entries with numbers in range, charges of a day before the last
-pub record Chargeable (days rate : ℕ) (prices : List ℕ) (n : ℕ) (is fs ts xs : List ℕ) (cs : List ℤ) : Type 0 where
+pub record Chargeable (days rate : ℕ) (quotes : List ℕ) (n : ℕ) (is fs ts xs : List ℕ) (cs : List ℤ) : Type 0 where
   pub term : Termed days rate
-  pub priced : length prices ≡ 16
-  pub price : (i : ℕ) → getD prices i 0 ≤ mostPrice
+  pub counted : length quotes ≡ 32
+  pub quoted : (i : ℕ) → i < 16 → priceIn quotes i + accruedIn quotes i ≤ mostPrice
   pub count : n ≤ mostEntries
   pub issues : length is ≡ 2048
   pub froms : length fs ≡ 2048
@@ -45,8 +45,8 @@ pub record Chargeable (days rate : ℕ) (prices : List ℕ) (n : ℕ) (is fs ts 
   pub charge : (a : ℕ) → natAbs (getD cs a (pos 0)) ≤ mostCharge * lastDay
 
 -- each entry is charged; its day counts for nothing
-pub record Charged (days rate : ℕ) (prices : List ℕ) (n : ℕ) (is fs ts xs : List ℕ) (cs after : List ℤ) : Type 0 where
-  pub charges : (ds : List ℕ) → after ≡ charged days rate prices (entries n is fs ts xs ds) cs
+pub record Charged (days rate : ℕ) (quotes : List ℕ) (n : ℕ) (is fs ts xs : List ℕ) (cs after : List ℤ) : Type 0 where
+  pub charges : (ds : List ℕ) → after ≡ charged days rate quotes (entries n is fs ts xs ds) cs
 
 pub record Cells (ns : List ℤ) (ds ls : List ℕ) : Type 0 where
   pub nets : length ns ≡ 1024
@@ -61,9 +61,9 @@ pub record Rolled (ns : List ℤ) (ds ls : List ℕ) : Type 0 where
 
 -- the same of lent columns
 abbrev pub canCharge : ℕ → ℕ → Lent ℕ → ℕ → Lent ℕ → Lent ℕ → Lent ℕ → Lent ℕ → Lent ℤ → Type 0
-canCharge days rate prices n issues froms tos lots charges =
-    Chargeable days rate (now prices) n (now issues) (now froms) (now tos) (now lots) (now charges)
+canCharge days rate quotes n issues froms tos lots charges =
+    Chargeable days rate (now quotes) n (now issues) (now froms) (now tos) (now lots) (now charges)
 
 abbrev pub wasCharged : ℕ → ℕ → Column ℕ → ℕ → Column ℕ → Column ℕ → Column ℕ → Column ℕ → Column ℤ → Type 0
-wasCharged days rate prices n issues froms tos lots charges =
-    Charged days rate (now (prices .entry)) n (now (issues .entry)) (now (froms .entry)) (now (tos .entry)) (now (lots .entry)) (now (charges .entry)) (now (charges .exit))
+wasCharged days rate quotes n issues froms tos lots charges =
+    Charged days rate (now (quotes .entry)) n (now (issues .entry)) (now (froms .entry)) (now (tos .entry)) (now (lots .entry)) (now (charges .entry)) (now (charges .exit))

@@ -4,27 +4,27 @@ ghost use mathlib.Core.Path.{_≡_};
 ghost use Prim.Native.Nat.{_+_, _<_};
 ghost use lib.ListN.{length, replicate};
 ghost use lib.IntN.{pos, _+ℤ_, _-ℤ_};
-ghost use Rattle.rules.specs.Book.{all};
-ghost use Rattle.rules.specs.Questions.{firstNo, priceRight};
+ghost use Rattle.rules.specs.Questions.{firstNo, quotesRight};
 ghost use Rattle.rules.specs.Calls.{rollAsks};
 ghost use Rattle.rolling.specs.Rolling.{Room, Payable, paid, canCharge, wasCharged, Cells, Rolled};
 
-// Is each price 1..200,000?
-fn prices_right(prices: &[u32]) -> bool
-    ensures { λ r. ⌜ r ≡ all priceRight (now (prices .entry)) ⌝ }
+// Are price and accrued amount of each issue right?
+fn quotes_right(quotes: &[u32]) -> bool
+    requires { ⌜ length (now quotes) ≡ 32 ⌝ }
+    ensures { λ r. ⌜ r ≡ quotesRight (now (quotes .entry)) ⌝ }
 {
     let mut good = true;
     let mut i: usize = 0;
-    while i < prices.len() {
-        good = good & measures::price_right(prices[i]);
+    while i < 16 {
+        good = good & measures::quote_right(quotes[i], quotes[16 + i]);
         i += 1;
     }
     good
 }
 
 // roll's questions but that of soundness: the number of the first 'no', 0 where there is none.
-pub fn roll_asks(phase: Phase, today: u16, days: u32, rate: u32, prices: &[u32]) -> u32
-    ensures { λ r. ⌜ r ≡ firstNo (rollAsks phase today days rate (now (prices .entry))) ⌝ }
+pub fn roll_asks(phase: Phase, today: u16, days: u32, rate: u32, quotes: &[u32]) -> u32
+    ensures { λ r. ⌜ r ≡ firstNo (rollAsks phase today days rate (now (quotes .entry))) ⌝ }
 {
     if !book::cut(phase) {
         return 3;
@@ -32,10 +32,10 @@ pub fn roll_asks(phase: Phase, today: u16, days: u32, rate: u32, prices: &[u32])
     if !measures::term_right(days, rate) {
         return 11;
     }
-    if prices.len() != 16 {
+    if quotes.len() != 32 {
         return 11;
     }
-    if !prices_right(prices) {
+    if !quotes_right(quotes) {
         return 11;
     }
     if today < 65_535 {
@@ -75,7 +75,7 @@ fn pay(charges: &mut [i64], f: usize, t: usize, y: u64)
 fn charge_entries<'a>(
     days: u32,
     rate: u32,
-    prices: &[u32],
+    quotes: &[u32],
     count: usize,
     issues: &'a [u8],
     froms: &'a [u8],
@@ -83,13 +83,13 @@ fn charge_entries<'a>(
     lots: &'a [u32],
     charges: &mut [i64],
 )
-    requires { ⌜ canCharge days rate prices count issues froms tos lots charges ⌝ }
-    ensures { λ _. ⌜ wasCharged days rate prices count issues froms tos lots charges ⌝ }
+    requires { ⌜ canCharge days rate quotes count issues froms tos lots charges ⌝ }
+    ensures { λ _. ⌜ wasCharged days rate quotes count issues froms tos lots charges ⌝ }
 {
     let mut k: usize = 0;
     while k < count {
         let i = issues[k] as usize;
-        let y = measures::charge_of(lots[k], prices[i], days, rate);
+        let y = measures::charge_of(lots[k], quotes[i], days, rate, quotes[16 + i]);
         let f = froms[k] as usize;
         let t = tos[k] as usize;
         pay(charges, f, t, y);
@@ -123,7 +123,7 @@ fn clear_words(words: &mut [u32])
 pub fn roll_in<'a>(
     days: u32,
     rate: u32,
-    prices: &[u32],
+    quotes: &[u32],
     count: usize,
     issues: &'a [u8],
     froms: &'a [u8],
@@ -134,10 +134,10 @@ pub fn roll_in<'a>(
     delivered: &mut [u32],
     lifts: &mut [u32],
 )
-    requires { ⌜ canCharge days rate prices count issues froms tos lots charges × Cells (now nets) (now delivered) (now lifts) ⌝ }
-    ensures { λ _. ⌜ wasCharged days rate prices count issues froms tos lots charges × Rolled (now (nets .exit)) (now (delivered .exit)) (now (lifts .exit)) ⌝ }
+    requires { ⌜ canCharge days rate quotes count issues froms tos lots charges × Cells (now nets) (now delivered) (now lifts) ⌝ }
+    ensures { λ _. ⌜ wasCharged days rate quotes count issues froms tos lots charges × Rolled (now (nets .exit)) (now (delivered .exit)) (now (lifts .exit)) ⌝ }
 {
-    charge_entries(days, rate, prices, count, issues, froms, tos, lots, charges);
+    charge_entries(days, rate, quotes, count, issues, froms, tos, lots, charges);
     clear_nets(nets);
     clear_words(delivered);
     clear_words(lifts);

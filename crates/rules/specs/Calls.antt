@@ -24,7 +24,7 @@ use Rattle.rules.specs.Fails.{Fail, fails}
 use Rattle.rules.specs.Ledger.{entry, isFrom, meet, met, Pairing, pairing, charged}
 use Rattle.rules.specs.Book.{tabulate, row, cell, netAt, deliveredAt, obligationsOf, deliveredTotal, liftCell, liftNumber, countAt, Orders, orderOf, ledgerOf, withDay, withPhase, withMarks, withNets, withDelivered, withLifts, withCharges, withLedger}
 use Rattle.rules.specs.Records.{Rec, handover, recordOf, words, over}
-use Rattle.rules.specs.Questions.{Question, firstNo, askOutput, askSound, askTaking, askSettling, askCut, askIssue, askAccount, askAccounts, askDiffer, askLots, askNets, askOwedToday, askOwedInLedger, askEntries, askRoll, askPrice, askTerm, askDay, askUnhanded, askTicket, askLifts, askEven, askUnused}
+use Rattle.rules.specs.Questions.{Question, firstNo, askOutput, askSound, askTaking, askSettling, askCut, askIssue, askAccount, askAccounts, askDiffer, askLots, askNets, askOwedToday, askOwedInLedger, askEntries, askRoll, askQuote, askTerm, askDay, askUnhanded, askTicket, askLifts, askEven, askUnused}
 
 -- a call with its arguments and the output lent to it
 pub data Call : Type 0 where
@@ -170,17 +170,17 @@ resolveRecords es i a x = map (recordOf 11) (met (isFrom i a) x es)
 abbrev pub pairOffAsks : ℕ → ℕ → List Question
 pairOffAsks i a = askIssue i ∷ askAccount a ∷ []
 
--- roll days, rate, sixteen prices (Cut): charges; then nets and delivered lots are 0, lifts and count are cleared, day rises
+-- roll days, rate, sixteen prices, sixteen accrued amounts (Cut): charges; then nets and delivered lots are 0, lifts and count are cleared, day rises
 -- by 1, to Taking
 abbrev pub rollAsks : Phase → ℕ → ℕ → ℕ → List ℕ → List Question
-rollAsks phase today days rate prices = askCut phase ∷ askRoll days rate prices ∷ askDay today ∷ []
+rollAsks phase today days rate quotes = askCut phase ∷ askRoll days rate quotes ∷ askDay today ∷ []
 
 abbrev pub rolled : Book → ℕ → ℕ → List ℕ → Book
-rolled b days rate prices =
+rolled b days rate quotes =
     withDay
     (withLifts
     (withDelivered
-    (withNets (withCharges b (charged days rate prices (ledgerOf b) (b .charges))) (replicate cellCount (pos 0)))
+    (withNets (withCharges b (charged days rate quotes (ledgerOf b) (b .charges))) (replicate cellCount (pos 0)))
     (replicate cellCount 0))
     (replicate liftCells 0))
     (b .day + 1)
@@ -205,7 +205,7 @@ lentTo (Commit t out) = out
 lentTo (Cutoff out) = out
 lentTo (Resolve i a x out) = out
 lentTo (PairOff i a) = []
-lentTo (Roll days rate prices) = []
+lentTo (Roll days rate quotes) = []
 lentTo (Mark i m) = []
 
 -- question 1 is asked of deliver, commit, cutoff and resolve
@@ -218,7 +218,7 @@ outputAsks (Commit t out) = askOutput outputWords out ∷ []
 outputAsks (Cutoff out) = askOutput outputWords out ∷ []
 outputAsks (Resolve i a x out) = askOutput outputWords out ∷ []
 outputAsks (PairOff i a) = []
-outputAsks (Roll days rate prices) = []
+outputAsks (Roll days rate quotes) = []
 outputAsks (Mark i m) = []
 
 -- and is answered 'yes'
@@ -235,7 +235,7 @@ ownAsks b (Commit t out) = commitAsks (b .phase) (b .day) (orderOf b) (b .delive
 ownAsks b (Cutoff out) = cutoffAsks (b .phase) (b .count) (length (newEntries (b .day) (orderOf b) (b .nets) (b .delivered)))
 ownAsks b (Resolve i a x out) = resolveAsks (b .marks) (ledgerOf b) i a x
 ownAsks b (PairOff i a) = pairOffAsks i a
-ownAsks b (Roll days rate prices) = rollAsks (b .phase) (b .day) days rate prices
+ownAsks b (Roll days rate quotes) = rollAsks (b .phase) (b .day) days rate quotes
 ownAsks b (Mark i m) = markAsks (b .nets) (ledgerOf b) i
 
 abbrev pub asks : Book → Call → List Question
@@ -261,7 +261,7 @@ effect b (Cutoff out) =
     (cutoffRecords (b .day) (orderOf b) (b .nets) (b .delivered))
 effect b (Resolve i a x out) = writes (withLedger b (meet (isFrom i a) x (ledgerOf b))) (resolveRecords (ledgerOf b) i a x)
 effect b (PairOff i a) = pairedOff b (pairing (b .day) i a (ledgerOf b))
-effect b (Roll days rate prices) = changes (rolled b days rate prices)
+effect b (Roll days rate quotes) = changes (rolled b days rate quotes)
 effect b (Mark i m) = changes (withMarks b (markedAs (b .marks) i m))
 
 -- a call's answer, on any book and any output
@@ -335,12 +335,12 @@ abbrev pub yenAnswer : ℕ → ℕ → AmountAnswer
 yenAnswer zero y = someYen y
 yenAnswer (suc r) y = noYen (suc r)
 
-unfoldable pub value : ℕ → ℕ → AmountAnswer
-value lots price = yenAnswer (firstNo (askLots lots ∷ askPrice price ∷ [])) (valueOf lots price)
+unfoldable pub value : ℕ → ℕ → ℕ → AmountAnswer
+value lots price accrued = yenAnswer (firstNo (askLots lots ∷ askQuote price accrued ∷ [])) (valueOf lots price accrued)
 
-unfoldable pub charge : ℕ → ℕ → ℕ → ℕ → AmountAnswer
-charge lots price days rate =
-    yenAnswer (firstNo (askLots lots ∷ askPrice price ∷ askTerm days rate ∷ [])) (chargeOf lots price days rate)
+unfoldable pub charge : ℕ → ℕ → ℕ → ℕ → ℕ → AmountAnswer
+charge lots price days rate accrued =
+    yenAnswer (firstNo (askLots lots ∷ askQuote price accrued ∷ askTerm days rate ∷ [])) (chargeOf lots price days rate accrued)
 
 -- the paper's number and yen for each case of the enum
 abbrev pub amountAnswer : Amount → AmountAnswer

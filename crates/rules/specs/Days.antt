@@ -17,8 +17,9 @@ use Rattle.rules.specs.Lifts.{liftOf, lift, handedFrom}
 use Rattle.rules.specs.Fails.{lacks, fails}
 use Rattle.rules.specs.Ledger.{entry, pairing}
 use Rattle.rules.specs.Book.{liftConditions, liftsSound, conditions, sound, liftsAt, countAt, orderIn, orderOf, stockOf, ledgerOf, cellsEven, withMarks, withLedger, fresh}
+use Rattle.rules.specs.Questions.{quotesRight}
 use Rattle.rules.specs.Calls.{Trade, Close, Deliver, Commit, Cutoff, Resolve, PairOff, Roll, Mark, Answer, ticketFor, someTicket, noTicket, oneUnit, noUnit, someYen, noYen, called, asked, unit, value, charge, issuePartials, issueFails}
-use Rattle.rules.specs.Tape.{readOf, pricesOf}
+use Rattle.rules.specs.Tape.{readOf, quotesOf, rollWord, quoteWord}
 use Rattle.rules.specs.Run.{Ran, runOf, answerOf, failLines, chargeLines, line}
 use Rattle.rules.specs.Text.{decimal, lineText, failText, chargeText, ranOf, closingText, printedOf}
 use Rattle.rules.specs.Tally.{State, afterAll, start, inIssue}
@@ -52,9 +53,9 @@ delivered2 = called (delivered1 .book) (Deliver 0 4 200000 lent)
 unfoldable pub cut : Answer
 cut = called (delivered2 .book) (Cutoff lent)
 
--- P9: roll, 1 day, 300, price 100,000
+-- P9: roll, 1 day, 300, price 100,000, accrued 0
 unfoldable pub rolled1 : Answer
-rolled1 = called (cut .book) (Roll 1 300 (replicate 16 100000))
+rolled1 = called (cut .book) (Roll 1 300 (replicate 16 100000 ++ replicate 16 0))
 
 -- an entry of issue 0, day 0
 abbrev pub fail : ℕ → ℕ → ℕ → Entry
@@ -113,7 +114,17 @@ unfoldable pub markedCut : Answer
 markedCut = called (markedDelivery .book) (Cutoff lent)
 
 unfoldable pub markedRoll : Answer
-markedRoll = called (markedCut .book) (Roll 1 300 (replicate 16 100000))
+markedRoll = called (markedCut .book) (Roll 1 300 (replicate 16 100000 ++ replicate 16 0))
+
+-- 1 sells 3 lots of issue 1 to 2 and fails; roll, 12 days, 10,000, price 101, accrued 1, and 10,000 in the other issues
+unfoldable pub accruing : State
+accruing =
+    afterAll start
+    (Trade 1 1 2 3 ∷ Close ∷ Cutoff lent ∷ Roll 12 10000 (replicate 16 101 ++ (10000 ∷ 1 ∷ replicate 14 10000)) ∷ [])
+
+-- a roll of 17 words, as it was before accrued amounts
+abbrev pub olderRoll : List ℕ
+olderRoll = rollWord 1 300 ∷ replicate 16 (quoteWord 100000)
 
 -- the example of 'The program'
 abbrev pub exampleTape : List ℕ
@@ -196,12 +207,12 @@ ledgerDays =
     -- P10: 1→2 5, 1→3 20; 2 steps, 25 lots
     case (ledgerOf (pairedOff .book)) (fail 1 2 5 ∷ fail 1 3 20 ∷ [])
     ∷ case (pairedOff .refusal ∷ pairedOff .count ∷ pairedOff .cancelled ∷ []) (0 ∷ 2 ∷ 25 ∷ [])
-    -- P11: 1 lot at 99,999: value 49,999; 12 days at 10,000: 1,643
-    ∷ case (value 1 99999) (someYen 49999)
-    ∷ case (charge 1 99999 12 10000) (someYen 1643)
+    -- P11: 1 lot at 99,999, accrued 0: value 49,999; 12 days at 10,000: 1,643
+    ∷ case (value 1 99999 0) (someYen 49999)
+    ∷ case (charge 1 99999 12 10000 0) (someYen 1643)
     ∷ case (called fresh (Trade 0 1 2 0) .refusal ∷ called fresh (Trade 0 1 2 20000001) .refusal ∷ []) (7 ∷ 7 ∷ [])
-    ∷ case (value 0 1) (noYen 7)
-    ∷ case (value 20000001 1) (noYen 7)
+    ∷ case (value 0 1 0) (noYen 7)
+    ∷ case (value 20000001 1 0) (noYen 7)
     ∷ []
 
 -- the example of 'The program', through tape and run
@@ -217,11 +228,11 @@ programDays =
 abbrev pub ownDays : List Case
 ownDays =
     -- charge rounds twice: 1 lot at 61 has value 30, and 12 days at 10,000 give 0 and not 1
-    case (charge 1 61 12 10000) (someYen 0)
+    case (charge 1 61 12 10000 0) (someYen 0)
     -- lots are asked before the price
-    ∷ case (value 0 0) (noYen 7)
+    ∷ case (value 0 0 0) (noYen 7)
     -- the limits themselves are within
-    ∷ case (charge 20000000 200000 12 10000) (someYen 65753424657)
+    ∷ case (charge 20000000 200000 12 10000 0) (someYen 65753424657)
     -- resolve: 4→2 is met whole and goes, 4→3 falls
     ∷ case (numbers 5 resolved) (0 ∷ 2 ∷ 0xb0102000 ∷ 0x80001388 ∷ 0xb0103000 ∷ 0x800003e8 ∷ 7 ∷ [])
     ∷ case (ledgerOf (resolved .book)) (fail 4 3 24000 ∷ fail 5 3 25000 ∷ fail 5 1 30000 ∷ [])
@@ -268,7 +279,7 @@ liftDays =
     -- the tally knows the lift from the commit
     ∷ case (parted .tally .lifts 0) (liftOf 3 0 ∷ [])
     -- a roll clears lifts and count
-    ∷ case (called (partedCut .book) (Roll 1 300 (replicate 16 100000)) .book .lifts) (replicate 288 0)
+    ∷ case (called (partedCut .book) (Roll 1 300 (replicate 16 100000 ++ replicate 16 0)) .book .lifts) (replicate 288 0)
     ∷ []
 
 -- days with a marked issue
@@ -325,33 +336,55 @@ rankingDays =
     ∷ case (ranksBefore unitLots (250000 ∷ 250000 ∷ []) (accountLots 1 100000) (accountLots 0 100000)) false
     ∷ []
 
+-- days with accrued interest
+abbrev pub accruedDays : List Case
+accruedDays =
+    -- the two parts round apart: 1 lot at 61 and accrued 1 has value 30 and 0, not 31
+    case (value 1 61 1) (someYen 30)
+    ∷ case (charge 1 61 12 10000 1) (someYen 0)
+    -- 3 lots at 101 and accrued 1 have value 151 and 1; the charge on 152 is 4, and on 153 it would be 5
+    ∷ case (accruing .book .charges) (pos 0 ∷ negsuc 3 ∷ pos 4 ∷ replicate 61 (pos 0))
+    -- the limits themselves are within, and the largest charge is that of price 200,000 alone
+    ∷ case (charge 20000000 190000 12 10000 10000) (someYen 65753424657)
+    ∷ case (value 1 190001 10000) (noYen 11)
+    ∷ case (value 1 1 10001) (noYen 11)
+    ∷ case (value 1 0 5) (noYen 11)
+    -- an older roll: 13 at the tape's end, 14 where another word follows
+    ∷ case (runOf olderRoll false .lines) (line 0 name.Tape 13 0 ∷ [])
+    ∷ case (runOf (olderRoll ++ (0x50000000 ∷ [])) false .lines) (line 0 name.Tape 14 0 ∷ [])
+    ∷ []
+
 unfoldable pub baseDays : List Case
 baseDays = unitDays ++ bookDays ++ ledgerDays ++ programDays ++ ownDays
 
 unfoldable pub settledDays : List Case
 unfolding baseDays
-settledDays = baseDays ++ (liftDays ++ (markDays ++ rankingDays))
+settledDays = baseDays ++ (liftDays ++ (markDays ++ (rankingDays ++ accruedDays)))
 
 -- each by computing what the definitions give
 
 pub baseSettled : Holds baseDays
-unfolding baseDays units handovers partials lacks fails pairing valueOf chargeOf liftConditions liftsSound cellsEven conditions sound lift handedFrom orderIn issuePartials issueFails called asked unit value charge readOf pricesOf answerOf runOf decimal lineText failText chargeText ranOf closingText printedOf inIssue traded1 traded2 traded3 closed delivered1 delivered2 cut rolled1 pairedOff resolved committed7 eightLifts parted partedCut markedTrade markedClose markedDelivery markedCut markedRoll exampleRun tallied talliedCut
+unfolding baseDays units handovers partials lacks fails pairing valueOf chargeOf quotesRight liftConditions liftsSound cellsEven conditions sound orderIn issuePartials issueFails called unit value charge readOf quotesOf answerOf runOf decimal lineText failText chargeText ranOf closingText printedOf inIssue traded1 traded2 traded3 closed delivered1 delivered2 cut rolled1 pairedOff resolved exampleRun tallied talliedCut
 baseSettled =
     (refl, (refl, (refl, (refl, (refl, (refl, (refl, (refl, (refl, (refl, (refl, (refl, (refl, (refl, (refl, (refl, (refl, (refl, (refl, (refl, (refl, (refl, (refl, (refl, (refl, (refl, (refl, (refl, (refl, (refl, (refl, (refl, (refl, (refl, (refl, tt)))))))))))))))))))))))))))))))))))
 
 pub liftSettled : Holds liftDays
-unfolding units handovers partials lacks fails pairing valueOf chargeOf liftConditions liftsSound cellsEven conditions sound lift handedFrom orderIn issuePartials issueFails called asked unit value charge readOf pricesOf answerOf runOf decimal lineText failText chargeText ranOf closingText printedOf inIssue traded1 traded2 traded3 closed delivered1 delivered2 cut rolled1 pairedOff resolved committed7 eightLifts parted partedCut markedTrade markedClose markedDelivery markedCut markedRoll exampleRun tallied talliedCut
+unfolding units handovers partials lacks fails valueOf chargeOf quotesRight liftConditions liftsSound cellsEven conditions sound lift handedFrom orderIn issuePartials issueFails called asked traded1 traded2 traded3 closed delivered1 delivered2 committed7 eightLifts parted partedCut
 liftSettled =
     (refl, (refl, (refl, (refl, (refl, (refl, (refl, (refl, (refl, (refl, (refl, (refl, (refl, (refl, (refl, (refl, tt))))))))))))))))
 
 pub markSettled : Holds markDays
-unfolding units handovers partials lacks fails pairing valueOf chargeOf liftConditions liftsSound cellsEven conditions sound lift handedFrom orderIn issuePartials issueFails called asked unit value charge readOf pricesOf answerOf runOf decimal lineText failText chargeText ranOf closingText printedOf inIssue traded1 traded2 traded3 closed delivered1 delivered2 cut rolled1 pairedOff resolved committed7 eightLifts parted partedCut markedTrade markedClose markedDelivery markedCut markedRoll exampleRun tallied talliedCut
+unfolding units handovers partials lacks fails valueOf chargeOf quotesRight liftConditions liftsSound cellsEven conditions sound orderIn issuePartials issueFails called readOf quotesOf answerOf runOf markedTrade markedClose markedDelivery markedCut markedRoll
 markSettled =
     (refl, (refl, (refl, (refl, (refl, (refl, (refl, (refl, (refl, (refl, (refl, (refl, (refl, tt)))))))))))))
 
 pub rankingSettled : Holds rankingDays
 unfolding units ranksBefore
 rankingSettled = (refl, (refl, (refl, (refl, (refl, tt)))))
+
+pub accruedSettled : Holds accruedDays
+unfolding units partials lacks fails valueOf chargeOf quotesRight liftConditions liftsSound cellsEven conditions sound orderIn issuePartials issueFails called value charge readOf answerOf runOf accruing
+accruedSettled = (refl, (refl, (refl, (refl, (refl, (refl, (refl, (refl, (refl, tt)))))))))
 
 -- and so all of them
 abbrev bothHold : (cs ds : List Case) → Holds cs → Holds ds → Holds (cs ++ ds)
@@ -361,5 +394,6 @@ bothHold (case x y ∷ cs) ds hs ks = (hs .0, bothHold cs ds (hs .1) ks)
 pub settled : Holds settledDays
 unfolding settledDays
 settled =
-    bothHold baseDays (liftDays ++ (markDays ++ rankingDays)) baseSettled
-    (bothHold liftDays (markDays ++ rankingDays) liftSettled (bothHold markDays rankingDays markSettled rankingSettled))
+    bothHold baseDays (liftDays ++ (markDays ++ (rankingDays ++ accruedDays))) baseSettled
+    (bothHold liftDays (markDays ++ (rankingDays ++ accruedDays)) liftSettled
+    (bothHold markDays (rankingDays ++ accruedDays) markSettled (bothHold rankingDays accruedDays rankingSettled accruedSettled)))

@@ -6,7 +6,7 @@ use lib.Dec.{eqb, ltb}
 use lib.ListN.{getD, set}
 use lib.IntN.{ℤ, pos, _+ℤ_, _-ℤ_}
 use Rattle.rules.specs.declared.Entry.{Entry}
-use Rattle.rules.specs.Measures.{total, chargeOf}
+use Rattle.rules.specs.Measures.{total, priceIn, accruedIn, chargeOf}
 
 abbrev pub entry : ℕ → ℕ → ℕ → ℕ → ℕ → Entry
 entry i f t x d = record { issue = i; from = f; to = t; lots = x; day = d }
@@ -108,8 +108,8 @@ mostSteps a b = cond (bothAbove0 a b) (a + b - 1) 0
 
 -- roll: for each entry its charge is taken from 'from' and given to 'to'
 abbrev pub charged : ℕ → ℕ → List ℕ → List Entry → List ℤ → List ℤ
-charged days rate prices [] cs = cs
-charged days rate prices (e ∷ es) cs =
-    let y = chargeOf (e .lots) (getD prices (e .issue) 0) days rate in
+charged days rate quotes [] cs = cs
+charged days rate quotes (e ∷ es) cs =
+    let y = chargeOf (e .lots) (priceIn quotes (e .issue)) days rate (accruedIn quotes (e .issue)) in
     let taken = set cs (e .from) (getD cs (e .from) (pos 0) -ℤ pos y) in
-    charged days rate prices es (set taken (e .to) (getD taken (e .to) (pos 0) +ℤ pos y))
+    charged days rate quotes es (set taken (e .to) (getD taken (e .to) (pos 0) +ℤ pos y))

@@ -3,6 +3,7 @@ use mathlib.Core.Bool.{Bool, _&&_}
 use Prim.Native.Nat.{ℕ, suc, _+_, _*_, _/_}
 use lib.Dec.{leb}
 use lib.IntN.{ℤ, pos, negsuc}
+use lib.ListN.{getD}
 use mathlib.Core.List.{List, [], _∷_}
 
 -- 16 issues (0 to 15)
@@ -51,6 +52,14 @@ mostRate = 10000
 abbrev pub mostPrice : ℕ
 mostPrice = 200000
 
+-- accrued amounts 0..10,000, in the same measure; price and accrued together are at most 200,000
+abbrev pub mostAccrued : ℕ
+mostAccrued = 10000
+
+-- roll takes 32 quotes: sixteen prices, then sixteen accrued amounts, issue 0 first in both
+abbrev pub quoteCount : ℕ
+quoteCount = 32
+
 -- each charge is of size at most this × day
 abbrev pub mostCharge : ℕ
 mostCharge = 134663013697536
@@ -70,9 +79,9 @@ liftCells = 288
 abbrev pub outputWords : ℕ
 outputWords = 4096
 
--- and that of the tape writer at least 17
+-- and that of the tape writer at least 33
 abbrev pub tapeWords : ℕ
-tapeWords = 17
+tapeWords = 33
 
 -- x lies in lo..hi
 abbrev pub between : ℕ → ℕ → ℕ → Bool
@@ -101,10 +110,17 @@ abbrev pub owedOf : ℤ → ℕ
 owedOf (pos n) = 0
 owedOf (negsuc n) = suc n
 
--- value = lots × price / 2 rounded down
-unfoldable pub valueOf : ℕ → ℕ → ℕ
-valueOf lots price = lots * price / 2
+-- the price of an issue, and its accrued amount
+abbrev pub priceIn : List ℕ → ℕ → ℕ
+priceIn quotes i = getD quotes i 0
+
+abbrev pub accruedIn : List ℕ → ℕ → ℕ
+accruedIn quotes i = getD quotes (issueCount + i) 0
+
+-- value = lots × price / 2 rounded down plus lots × accrued / 2 rounded down
+unfoldable pub valueOf : ℕ → ℕ → ℕ → ℕ
+valueOf lots price accrued = lots * price / 2 + lots * accrued / 2
 
 -- charge = value × rate × days / 3,650,000 rounded down
-unfoldable pub chargeOf : ℕ → ℕ → ℕ → ℕ → ℕ
-chargeOf lots price days rate = valueOf lots price * rate * days / 3650000
+unfoldable pub chargeOf : ℕ → ℕ → ℕ → ℕ → ℕ → ℕ
+chargeOf lots price days rate accrued = valueOf lots price accrued * rate * days / 3650000

@@ -9,11 +9,11 @@ use Rattle.rules.specs.declared.Book.{Book}
 use Rattle.rules.specs.declared.Entry.{Entry}
 use Rattle.rules.specs.declared.Phase.{Phase}
 use Rattle.rules.specs.declared.Ticket.{Ticket}
-use Rattle.rules.specs.Measures.{issueCount, lastIssue, lastAccount, mostLots, mostEntries, mostLifts, lastDay, mostDays, mostRate, mostPrice, between, owedOf}
+use Rattle.rules.specs.Measures.{issueCount, lastIssue, lastAccount, mostLots, mostEntries, mostLifts, lastDay, mostDays, mostRate, mostPrice, mostAccrued, quoteCount, between, priceIn, accruedIn, owedOf}
 use Rattle.rules.specs.Units.{AccountLots}
 use Rattle.rules.specs.Handover.{covered}
 use Rattle.rules.specs.Ledger.{isFrom, lotsOf}
-use Rattle.rules.specs.Book.{isTaking, isSettling, isCut, all, isZero, row, withinSize, netAt, deliveredAt, lotsEven, sound}
+use Rattle.rules.specs.Book.{isTaking, isSettling, isCut, tabulate, all, isZero, row, withinSize, netAt, deliveredAt, lotsEven, sound}
 
 pub data Question : Type 0 where
   ask : ℕ → Bool → Question
@@ -77,18 +77,26 @@ askOwedInLedger es i a x = ask 9 (leb x (lotsOf (isFrom i a) es))
 abbrev pub askEntries : ℕ → ℕ → Question
 askEntries old new = ask 10 (leb (old + new) mostEntries)
 
--- 11. Are days 1..12, rate 0..10,000, prices sixteen and each 1..200,000?
+-- 11. Are days 1..12, rate 0..10,000, prices sixteen and each 1..200,000, accrued amounts sixteen and each 0..10,000, and
+-- price and accrued together at most 200,000?
 abbrev pub termRight : ℕ → ℕ → Bool
 termRight days rate = between 1 mostDays days && leb rate mostRate
 
-abbrev pub priceRight : ℕ → Bool
-priceRight price = between 1 mostPrice price
+abbrev pub quoteRight : ℕ → ℕ → Bool
+quoteRight price accrued = between 1 mostPrice price && leb accrued mostAccrued && leb (price + accrued) mostPrice
+
+-- for each issue
+abbrev pub quoteRightIn : List ℕ → ℕ → Bool
+quoteRightIn quotes i = quoteRight (priceIn quotes i) (accruedIn quotes i)
+
+unfoldable pub quotesRight : List ℕ → Bool
+quotesRight quotes = all (quoteRightIn quotes) (tabulate (λ i. i) 0 issueCount)
 
 abbrev pub askRoll : ℕ → ℕ → List ℕ → Question
-askRoll days rate prices = ask 11 (termRight days rate && eqb (length prices) issueCount && all priceRight prices)
+askRoll days rate quotes = ask 11 (termRight days rate && eqb (length quotes) quoteCount && quotesRight quotes)
 
-abbrev pub askPrice : ℕ → Question
-askPrice price = ask 11 (priceRight price)
+abbrev pub askQuote : ℕ → ℕ → Question
+askQuote price accrued = ask 11 (quoteRight price accrued)
 
 abbrev pub askTerm : ℕ → ℕ → Question
 askTerm days rate = ask 11 (termRight days rate)

@@ -42,9 +42,9 @@ rateBits = bits 10 14
 abbrev pub markBits : Field
 markBits = bits 0 1
 
--- a kind 9 word has a price in 17..0
-abbrev pub priceBits : Field
-priceBits = bits 0 18
+-- a kind 9 word has a price or an accrued amount in 17..0
+abbrev pub quoteBits : Field
+quoteBits = bits 0 18
 
 -- a number put into a field, and what a field of a word holds
 abbrev pub inField : Field → ℕ → ℕ

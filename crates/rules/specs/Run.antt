@@ -17,18 +17,18 @@ use Rattle.rules.specs.declared.Read.the-variants.{Instr, Refused}
 use Rattle.rules.specs.Measures.{outputWords}
 use Rattle.rules.specs.Book.{ledgerOf, fresh}
 use Rattle.rules.specs.Calls.{Call, Trade, Close, Deliver, Cutoff, Resolve, PairOff, Roll, Mark, Answer, called}
-use Rattle.rules.specs.Tape.{readOf, pricesOf}
+use Rattle.rules.specs.Tape.{readOf, quotesOf}
 
--- an instruction, with roll's prices and a lent output, as a call
+-- an instruction, with roll's quotes and a lent output, as a call
 abbrev pub callOf : Instruction → List ℕ → List ℕ → Call
-callOf (instruction.Trade i f t x) prices out = Trade i f t x
-callOf (instruction.Deliver i a x) prices out = Deliver i a x out
-callOf (instruction.Resolve i a x) prices out = Resolve i a x out
-callOf (instruction.PairOff i a) prices out = PairOff i a
-callOf instruction.Close prices out = Close
-callOf instruction.Cutoff prices out = Cutoff out
-callOf (instruction.Roll days rate) prices out = Roll days rate prices
-callOf (instruction.Mark i m) prices out = Mark i m
+callOf (instruction.Trade i f t x) quotes out = Trade i f t x
+callOf (instruction.Deliver i a x) quotes out = Deliver i a x out
+callOf (instruction.Resolve i a x) quotes out = Resolve i a x out
+callOf (instruction.PairOff i a) quotes out = PairOff i a
+callOf instruction.Close quotes out = Close
+callOf instruction.Cutoff quotes out = Cutoff out
+callOf (instruction.Roll days rate) quotes out = Roll days rate quotes
+callOf (instruction.Mark i m) quotes out = Mark i m
 
 abbrev pub nameOf : Instruction → Name
 nameOf (instruction.Trade i f t x) = name.Trade
@@ -50,7 +50,7 @@ anyOutput = replicate outputWords 0
 
 -- the answer to an instruction that stands at the front of some words
 unfoldable pub answerOf : Book → Instruction → List ℕ → Answer
-answerOf b x ws = called b (callOf x (pricesOf ws) anyOutput)
+answerOf b x ws = called b (callOf x (quotesOf ws) anyOutput)
 
 -- the lines printed, and the book at the end
 pub record Ran : Type 0 where

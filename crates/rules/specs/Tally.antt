@@ -112,7 +112,7 @@ counted (Cutoff out) rs t =
 counted (Resolve i a x out) rs t =
     record { today = t .today; inAll = countHanded 11 rs (countGiven i a x (t .inAll)); rows = t .rows; lifts = t .lifts }
 counted (PairOff i a) rs t = t
-counted (Roll days rate prices) rs t = record { today = noCounts; inAll = t .inAll; rows = λ i. []; lifts = λ i. [] }
+counted (Roll days rate quotes) rs t = record { today = noCounts; inAll = t .inAll; rows = λ i. []; lifts = λ i. [] }
 counted (Mark i m) rs t = t
 
 -- 'between close and cutoff': a close was accepted and no cutoff since
@@ -125,7 +125,7 @@ settlingAfter (Commit w out) s = s
 settlingAfter (Cutoff out) s = false
 settlingAfter (Resolve i a x out) s = s
 settlingAfter (PairOff i a) s = s
-settlingAfter (Roll days rate prices) s = s
+settlingAfter (Roll days rate quotes) s = s
 settlingAfter (Mark i m) s = s
 
 -- whether a call was accepted, from its number

@@ -10,9 +10,9 @@ use Rattle.rules.specs.declared.Read.{Read}
 use Rattle.rules.specs.declared.Read.the-variants.{Instr, Refused}
 use Rattle.rules.specs.declared.Word.{Word}
 use Rattle.rules.specs.declared.Word.the-variants.{Head, After, Wrong}
-use Rattle.rules.specs.Measures.{issueCount, tapeWords}
+use Rattle.rules.specs.Measures.{quoteCount, tapeWords}
 use Rattle.rules.specs.Book.{all}
-use Rattle.rules.specs.Records.{Field, bits, kindBits, issueBits, fromBits, toBits, lotsBits, daysBits, rateBits, markBits, priceBits, inField, ofField, headWord, lotsWord, over}
+use Rattle.rules.specs.Records.{Field, bits, kindBits, issueBits, fromBits, toBits, lotsBits, daysBits, rateBits, markBits, quoteBits, inField, ofField, headWord, lotsWord, over}
 use Rattle.rules.specs.Questions.{ask, firstNo, askOutput}
 
 abbrev pub kindOf : ℕ → ℕ
@@ -41,9 +41,9 @@ kinds =
     ∷ kind 4 (head (bits 0 18) 0 0 (λ w x. PairOff (ofField issueBits w) (ofField fromBits w)))
     ∷ kind 5 (head (bits 0 28) 0 0 (λ w x. Close))
     ∷ kind 6 (head (bits 0 28) 0 0 (λ w x. Cutoff))
-    -- 7 roll: then sixteen kind 9 words
-    ∷ kind 7 (head (bits 0 10) issueCount 9 (λ w x. Roll (ofField daysBits w) (ofField rateBits w)))
-    -- 8 lots in 27..0, 9 price in 17..0
+    -- 7 roll: then sixteen kind 9 words of prices and sixteen of accrued amounts
+    ∷ kind 7 (head (bits 0 10) quoteCount 9 (λ w x. Roll (ofField daysBits w) (ofField rateBits w)))
+    -- 8 lots in 27..0, 9 price or accrued amount in 17..0
     ∷ kind 8 (after (bits 0 0))
     ∷ kind 9 (after (bits 18 10))
     -- 13 mark: one word, bits 23..1 unused
@@ -106,9 +106,9 @@ abbrev pub readAnswer : Read → ReadAnswer
 readAnswer (Instr x n) = record { refusal = 0; instruction = x ∷ []; count = n }
 readAnswer (Refused r) = record { refusal = r; instruction = []; count = 0 }
 
--- roll's sixteen prices, issue 0 first, taken from their words
-unfoldable pub pricesOf : List ℕ → List ℕ
-pricesOf ws = map (ofField priceBits) (take issueCount (drop 1 ws))
+-- roll's sixteen prices and sixteen accrued amounts, issue 0 first in both, taken from their words
+unfoldable pub quotesOf : List ℕ → List ℕ
+quotesOf ws = map (ofField quoteBits) (take quoteCount (drop 1 ws))
 
 -- the words of an instruction
 abbrev pub rollWord : ℕ → ℕ → ℕ
@@ -117,20 +117,20 @@ rollWord days rate = inField kindBits 7 + inField daysBits days + inField rateBi
 abbrev pub markWord : ℕ → ℕ → ℕ
 markWord i m = inField kindBits 13 + inField issueBits i + inField markBits m
 
-abbrev pub priceWord : ℕ → ℕ
-priceWord price = inField kindBits 9 + inField priceBits price
+abbrev pub quoteWord : ℕ → ℕ
+quoteWord quote = inField kindBits 9 + inField quoteBits quote
 
 abbrev pub wordsOf : Instruction → List ℕ → List ℕ
-wordsOf (Trade i f t x) prices = headWord 1 i f t ∷ lotsWord x ∷ []
-wordsOf (Deliver i a x) prices = headWord 2 i a 0 ∷ lotsWord x ∷ []
-wordsOf (Resolve i a x) prices = headWord 3 i a 0 ∷ lotsWord x ∷ []
-wordsOf (PairOff i a) prices = headWord 4 i a 0 ∷ []
-wordsOf Close prices = headWord 5 0 0 0 ∷ []
-wordsOf Cutoff prices = headWord 6 0 0 0 ∷ []
-wordsOf (Roll days rate) prices = rollWord days rate ∷ map priceWord prices
-wordsOf (Mark i m) prices = markWord i m ∷ []
+wordsOf (Trade i f t x) quotes = headWord 1 i f t ∷ lotsWord x ∷ []
+wordsOf (Deliver i a x) quotes = headWord 2 i a 0 ∷ lotsWord x ∷ []
+wordsOf (Resolve i a x) quotes = headWord 3 i a 0 ∷ lotsWord x ∷ []
+wordsOf (PairOff i a) quotes = headWord 4 i a 0 ∷ []
+wordsOf Close quotes = headWord 5 0 0 0 ∷ []
+wordsOf Cutoff quotes = headWord 6 0 0 0 ∷ []
+wordsOf (Roll days rate) quotes = rollWord days rate ∷ map quoteWord quotes
+wordsOf (Mark i m) quotes = markWord i m ∷ []
 
--- 15. Does each field fit its bits? A roll has sixteen prices (house)
+-- 15. Does each field fit its bits? A roll has 32 quotes (house)
 abbrev pub fits : Field → ℕ → Bool
 fits f x = ltb x (2 ^ f .width)
 
@@ -139,15 +139,15 @@ abbrev pub headFits : ℕ → ℕ → ℕ → ℕ → Bool
 headFits i f t x = fits issueBits i && fits fromBits f && fits toBits t && fits lotsBits x
 
 abbrev pub fieldsFit : Instruction → List ℕ → Bool
-fieldsFit (Trade i f t x) prices = headFits i f t x
-fieldsFit (Deliver i a x) prices = headFits i a 0 x
-fieldsFit (Resolve i a x) prices = headFits i a 0 x
-fieldsFit (PairOff i a) prices = headFits i a 0 0
-fieldsFit Close prices = true
-fieldsFit Cutoff prices = true
-fieldsFit (Roll days rate) prices =
-    fits daysBits days && fits rateBits rate && eqb (length prices) issueCount && all (fits priceBits) prices
-fieldsFit (Mark i m) prices = fits issueBits i && fits markBits m
+fieldsFit (Trade i f t x) quotes = headFits i f t x
+fieldsFit (Deliver i a x) quotes = headFits i a 0 x
+fieldsFit (Resolve i a x) quotes = headFits i a 0 x
+fieldsFit (PairOff i a) quotes = headFits i a 0 0
+fieldsFit Close quotes = true
+fieldsFit Cutoff quotes = true
+fieldsFit (Roll days rate) quotes =
+    fits daysBits days && fits rateBits rate && eqb (length quotes) quoteCount && all (fits quoteBits) quotes
+fieldsFit (Mark i m) quotes = fits issueBits i && fits markBits m
 
 -- what the writer answers: number, count of words, output words
 pub record WriteAnswer : Type 0 where
@@ -161,5 +161,5 @@ writeAnswer zero ws out = record { refusal = 0; count = length ws; out = over ws
 writeAnswer (suc r) ws out = record { refusal = suc r; count = 0; out = out }
 
 unfoldable pub writeOf : Instruction → List ℕ → List ℕ → WriteAnswer
-writeOf x prices out =
-    writeAnswer (firstNo (askOutput tapeWords out ∷ ask 15 (fieldsFit x prices) ∷ [])) (wordsOf x prices) out
+writeOf x quotes out =
+    writeAnswer (firstNo (askOutput tapeWords out ∷ ask 15 (fieldsFit x quotes) ∷ [])) (wordsOf x quotes) out

@@ -80,7 +80,7 @@ pub enum Asked {
     Refused(u32),
 }
 
-// An instruction of the tape. Roll's sixteen prices stand beside it.
+// An instruction of the tape. Roll's sixteen prices and sixteen accrued amounts stand beside it.
 pub enum Instruction {
     // issue, from, to, lots
     Trade(u32, u32, u32, u32),

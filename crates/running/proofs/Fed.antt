@@ -22,7 +22,7 @@ wordsLent (Commit t lent) out = out
 wordsLent (Cutoff lent) out = out
 wordsLent (Resolve i a x lent) out = out
 wordsLent (PairOff i a) out = []
-wordsLent (Roll days rate prices) out = []
+wordsLent (Roll days rate quotes) out = []
 wordsLent (Mark i m) out = []
 
 -- a turn, the book and the words that it left, as an answer
@@ -39,8 +39,8 @@ words-lent b (Commit t lent) r b′ out out′ g = g .words
 words-lent b (Cutoff lent) r b′ out out′ g = g .words
 words-lent b (Resolve i a x lent) r b′ out out′ g = g .words
 words-lent b (PairOff i a) r b′ out out′ g = by-answer (λ d. [] ≡ d .out) b (PairOff i a) (λ y. refl) (λ n. refl)
-words-lent b (Roll days rate prices) r b′ out out′ g =
-    by-answer (λ d. [] ≡ d .out) b (Roll days rate prices) (λ y. refl) (λ n. refl)
+words-lent b (Roll days rate quotes) r b′ out out′ g =
+    by-answer (λ d. [] ≡ d .out) b (Roll days rate quotes) (λ y. refl) (λ n. refl)
 words-lent b (Mark i m) r b′ out out′ g = by-answer (λ d. [] ≡ d .out) b (Mark i m) (λ y. refl) (λ n. refl)
 
 -- what a turn gives is the call's answer
@@ -56,12 +56,12 @@ gave-answer b c r b′ out out′ g =
 
 -- an instruction made on a book through it, and what that gave
 pub data InPlace (b : Book) : Call → Answer → Type 0 where
-  turned : (x : Instruction) (prices out : List ℕ) (r : Turn) (b′ : Book) (out′ : List ℕ) → Gives b (callOf x prices out) r b′ out out′ →
-      InPlace b (callOf x prices out) (gave (callOf x prices out) r b′ out′)
+  turned : (x : Instruction) (quotes out : List ℕ) (r : Turn) (b′ : Book) (out′ : List ℕ) → Gives b (callOf x quotes out) r b′ out out′ →
+      InPlace b (callOf x quotes out) (gave (callOf x quotes out) r b′ out′)
 
 -- so demand 3 holds after every list of instructions made through it
 pub demand3-in-place : {s : State} → Made InPlace s → Demand3 s
 demand3-in-place m = demand3-of InPlace right m
   where
     right : (b : Book) (c : Call) (r : Answer) → InPlace b c r → r ≡ called b c
-    right b _ _ (turned x prices out r b′ out′ g) = gave-answer b (callOf x prices out) r b′ out out′ g
+    right b _ _ (turned x quotes out r b′ out′ g) = gave-answer b (callOf x quotes out) r b′ out out′ g

@@ -117,12 +117,12 @@ paired-off s s′ is fs ts xs ds i a r is′ fs′ ts′ xs′ ds′ b e w =
       out = refl;
     }
 
-pub rolled-on : (s s′ : State) (nets : List ℤ) (delivered lifts : List ℕ) (charges : List ℤ) (is fs ts xs : List ℕ) (days rate : ℕ) (prices : List ℕ)
+pub rolled-on : (s s′ : State) (nets : List ℤ) (delivered lifts : List ℕ) (charges : List ℤ) (is fs ts xs : List ℕ) (days rate : ℕ) (quotes : List ℕ)
     (nets′ : List ℤ) (delivered′ lifts′ : List ℕ) (charges′ : List ℤ) (b : Book) → s′ ≡ nextDay s →
-    charges′ ≡ charged days rate prices (entries (s .entries) is fs ts xs (b .days)) charges →
+    charges′ ≡ charged days rate quotes (entries (s .entries) is fs ts xs (b .days)) charges →
     nets′ ≡ replicate 1024 (pos 0) → delivered′ ≡ replicate 1024 0 → lifts′ ≡ replicate 288 0 →
-    Does (effect (butDays s nets delivered lifts charges is fs ts xs b) (Roll days rate prices)) [] 0 0 (butDays s′ nets′ delivered′ lifts′ charges′ is fs ts xs b) []
-rolled-on s s′ nets delivered lifts charges is fs ts xs days rate prices nets′ delivered′ lifts′ charges′ b e c n d l =
+    Does (effect (butDays s nets delivered lifts charges is fs ts xs b) (Roll days rate quotes)) [] 0 0 (butDays s′ nets′ delivered′ lifts′ charges′ is fs ts xs b) []
+rolled-on s s′ nets delivered lifts charges is fs ts xs days rate quotes nets′ delivered′ lifts′ charges′ b e c n d l =
     record { count = refl; cancelled = refl; book = rw (e, c, n, d, l); out = refl }
 
 pub marked-on : (s s′ : State) (nets : List ℤ) (is ms : List ℕ) (i m : ℕ) (b : Book) → s′ ≡ withMarks s ms → ms ≡ markedAs (s .marks) i m →

@@ -37,7 +37,7 @@ outAfter (Commit t lent) out d = d .out
 outAfter (Cutoff lent) out d = d .out
 outAfter (Resolve i a x lent) out d = d .out
 outAfter (PairOff i a) out d = out
-outAfter (Roll days rate prices) out d = out
+outAfter (Roll days rate quotes) out d = out
 outAfter (Mark i m) out d = out
 
 -- a call made on a book: number, count, lots cancelled, book and output are the call's
@@ -48,10 +48,10 @@ pub record Gives (b : Book) (c : Call) (r : Turn) (b′ : Book) (out out′ : Li
   pub book : b′ ≡ called b c .book
   pub words : out′ ≡ outAfter c out (called b c)
 
--- an instruction, with roll's prices and an output beside it, made on the book of a state and its columns
+-- an instruction, with roll's quotes and an output beside it, made on the book of a state and its columns
 abbrev pub Answered : Instruction → Column ℕ → Column ℕ → State → Turn → Columns → Type 0
-Answered x prices out s r c =
-    Gives (c .before s) (callOf x (now (prices .entry)) (now (out .entry))) r (c .after (r .state)) (now (out .entry)) (now (out .exit))
+Answered x quotes out s r c =
+    Gives (c .before s) (callOf x (now (quotes .entry)) (now (out .entry))) r (c .after (r .state)) (now (out .entry)) (now (out .exit))
 
 -- One call, on the columns that it reads or changes
 

@@ -239,14 +239,14 @@ fn roll<'a>(
     lots: &'a [u32],
     days: u32,
     rate: u32,
-    prices: &[u32],
+    quotes: &[u32],
 ) -> Turn
     requires { ⌜ rollReady s nets delivered lifts charges issues froms tos lots ⌝ }
-    ensures { λ r. ⌜ Turns (onCharges nets delivered lifts charges issues froms tos lots) s (Roll days rate (now (prices .entry))) r [] ⌝ }
+    ensures { λ r. ⌜ Turns (onCharges nets delivered lifts charges issues froms tos lots) s (Roll days rate (now (quotes .entry))) r [] ⌝ }
 {
     let today = s.day;
     let phase = s.phase;
-    let no = rolling::roll_asks(phase, today, days, rate, prices);
+    let no = rolling::roll_asks(phase, today, days, rate, quotes);
     if no != 0 {
         return Turn {
             refusal: no,
@@ -259,7 +259,7 @@ fn roll<'a>(
     rolling::roll_in(
         days,
         rate,
-        prices,
+        quotes,
         n,
         issues,
         froms,
@@ -305,10 +305,10 @@ fn mark<'a>(s: State, nets: &'a [i32], issues: &'a [u8], i: u32, m: u32) -> Turn
 }
 
 // The answer to an instruction of a sound book in its columns: number, count, lots cancelled, book and
-// output are those of the call. Roll's prices stand beside it.
+// output are those of the call. Roll's quotes stand beside it.
 pub fn answer(
     x: Instruction,
-    prices: &[u32],
+    quotes: &[u32],
     s: State,
     nets: &mut [i32],
     delivered: &mut [u32],
@@ -321,8 +321,8 @@ pub fn answer(
     days: &mut [u16],
     out: &mut [u32],
 ) -> Turn
-    requires { ⌜ soundColumns s nets delivered lifts charges issues froms tos lots days × HasRoom (callOf x (now prices) (now out)) ⌝ }
-    ensures { λ r. ⌜ Answered x prices out s r (columns nets delivered lifts charges issues froms tos lots days) ⌝ }
+    requires { ⌜ soundColumns s nets delivered lifts charges issues froms tos lots days × HasRoom (callOf x (now quotes) (now out)) ⌝ }
+    ensures { λ r. ⌜ Answered x quotes out s r (columns nets delivered lifts charges issues froms tos lots days) ⌝ }
 {
     match x {
         Instruction::Trade(i, f, t, x) => trade(s, nets, i, f, t, x),
@@ -354,7 +354,7 @@ pub fn answer(
             lots,
             term,
             rate,
-            prices,
+            quotes,
         ),
         Instruction::Mark(i, m) => mark(s, nets, issues, i, m),
     }

@@ -13,8 +13,7 @@ use borrow.Author.Tests.{lt-ltb}
 use Rattle.rules.specs.Measures.{dueOf, owedOf}
 use Rattle.rules.specs.Book.{all, row, headOr0, entries, isEven, lotsEven, cellsEven, entryEven}
 use Rattle.laws.proofs.Ledger.{noEntry, length-entries, entry-at}
-use Rattle.laws.proofs.Scans.{and-true, and-turn, all-more, all-end}
-use Rattle.soundness.proofs.LiftLaws.{restOfIssues}
+use Rattle.laws.proofs.Scans.{and-true, and-turn, all-more, all-end, restOfIssues}
 use Rattle.soundness.specs.EvenScan.{rowEven, allCells, allLots}
 
 -- a net is even if what is due and what is owed is

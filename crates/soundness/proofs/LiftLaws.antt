@@ -3,8 +3,7 @@
 use mathlib.Core.Path.{_≡_, refl, ap, sym, _∙_}
 use mathlib.Core.Bool.{Bool, true, false, cond, _&&_, false≢true}
 use mathlib.Core.List.{List, [], _∷_}
-use Prim.Native.Nat.{ℕ, suc, _+_, _-_, _*_, _≤_, _<_}
-use native.Mathlib.Numerals.{add-one}
+use Prim.Native.Nat.{ℕ, _+_, _-_, _*_, _≤_, _<_}
 use native.Mathlib.Nat.{zero-add}
 use native.Mathlib.Omega.{arith}
 use lib.Dec.{leb, ltb, lit<}
@@ -18,7 +17,7 @@ use Rattle.rules.specs.Handover.{covered}
 use Rattle.rules.specs.Lifts.{Lift}
 use Rattle.rules.specs.Book.{Orders, isTaking, isZero, tabulate, all, row, balanced, withinSize, withinOwed, deliveredTotal, liftNumber, countAt, placesIn, liftsAt, orderIn, placesSound, liftConditions, liftsSound}
 use Rattle.laws.proofs.Basics.{byTest, and-left, and-right, all-at, length-tab, getD-tab}
-use Rattle.laws.proofs.Scans.{and-true, and-false, and-assoc}
+use Rattle.laws.proofs.Scans.{restOfIssues, and-true, and-false}
 use Rattle.laws.proofs.Cells.{length-row, getD-block, within-row}
 use Rattle.laws.proofs.Cutoff.{delivered-due}
 use Rattle.laws.proofs.Lifts.{length-lifted}
@@ -183,20 +182,6 @@ unfolding netsSound
 scan-sized ns ds ls c = and-left (all (withinSize mostLots) ns) _ (c .sound)
 
 -- All issues
-
--- what is left of a test of all issues, from issue i on
-abbrev pub restOfIssues : (ℕ → Bool) → ℕ → Bool
-restOfIssues p i = all p (tabulate (λ j. j) i (16 - i))
-
-pub issues-more : (p : ℕ → Bool) (i : ℕ) (g r whole : Bool) → i < 16 → r ≡ p i → g && restOfIssues p i ≡ whole → (g && r) && restOfIssues p (i + 1) ≡ whole
-issues-more p i g r whole h er e =
-    let k : 16 - i ≡ suc (16 - (i + 1)) = omega arith in
-    let f : tabulate (λ j. j) i (16 - i) ≡ i ∷ tabulate (λ j. j) (i + 1) (16 - (i + 1)) =
-    ap (λ n. tabulate (λ j. j) i n) k ∙ ap (λ j. i ∷ tabulate (λ v. v) j (16 - (i + 1))) (sym (add-one i)) in
-    rw er (and-assoc g _ _ ∙ ap (λ t. g && t) (sym (rw f)) ∙ e)
-
-pub issues-end : (p : ℕ → Bool) (i : ℕ) (g whole : Bool) → i ≡ 16 → g && restOfIssues p i ≡ whole → g ≡ whole
-issues-end p i g whole ei e = sym (and-true g) ∙ ap (λ t. g && t) (sym (rw ei refl)) ∙ e
 
 pub lifts-start : (phase : Phase) (ns : List ℤ) (ds ls : List ℕ) → restOfIssues (liftsSound phase (orderIn ns ls) ds ls) 0 ≡ allLifts phase ns ds ls
 unfolding allLifts

@@ -23,7 +23,7 @@ keeps s (Commit t out) v = keeps-commit s v t out
 keeps s (Cutoff out) v = keeps-cutoff s v out
 keeps s (Resolve i a x out) v = keeps-resolve s v i a x out
 keeps s (PairOff i a) v = keeps-pair-off s v i a
-keeps s (Roll days rate prices) v = keeps-roll s v days rate prices
+keeps s (Roll days rate quotes) v = keeps-roll s v days rate quotes
 keeps s (Mark i m) v = keeps-mark s v i m
 
 keeps-all : (s : State) (cs : List Call) → Inv s → Inv (afterAll s cs)

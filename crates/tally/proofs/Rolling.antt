@@ -24,15 +24,15 @@ cut-not-settling Taking h = refl
 cut-not-settling Settling h = absurd (false≢true h)
 cut-not-settling Cut h = refl
 
-pub keeps-roll : (s : State) → Inv s → (days rate : ℕ) (prices : List ℕ) → Keeps (Roll days rate prices) s (called (s .book) (Roll days rate prices))
-keeps-roll s v days rate prices =
+pub keeps-roll : (s : State) → Inv s → (days rate : ℕ) (quotes : List ℕ) → Keeps (Roll days rate quotes) s (called (s .book) (Roll days rate quotes))
+keeps-roll s v days rate quotes =
     let b = s .book in
-    by-answer (Keeps (Roll days rate prices) s) b (Roll days rate prices)
+    by-answer (Keeps (Roll days rate quotes) s) b (Roll days rate quotes)
     (λ y. record {
       sizeNets = length-replicate 1024 (pos 0);
       sizeDelivered = length-replicate {A = ℕ} 1024 0;
       sizeLifts = length-replicate {A = ℕ} 288 0;
-      sizeCharges = charged-length days rate prices (ledgerOf b) (b .charges) ∙ v .sizeCharges;
+      sizeCharges = charged-length days rate quotes (ledgerOf b) (b .charges) ∙ v .sizeCharges;
       nets = λ i a h k. rw (no-net i a h k) refl;
       given = none-delivered;
       handed = λ i a. refl;
@@ -40,7 +40,7 @@ keeps-roll s v days rate prices =
       rows = λ i h. (refl, row-zeros i 1024);
       lifts = λ i h. sym (no-lifts i 288);
       balance = v .balance;
-      charges = charged-balance days rate prices (ledgerOf b) (b .charges) (v .sizeCharges)
+      charges = charged-balance days rate quotes (ledgerOf b) (b .charges) (v .sizeCharges)
           (sound-parts b (y .0) .ledger .each) (v .charges);
     })
     (λ r. v)

@@ -7,9 +7,9 @@ use native.Mathlib.Omega.{arith}
 use lib.ListN.{getD, take}
 use Rattle.rules.specs.declared.Instruction.{Instruction}
 use Rattle.rules.specs.declared.Read.the-variants.{Instr}
-use Rattle.rules.specs.Measures.{issueCount}
-use Rattle.rules.specs.Records.{bits, issueBits, fromBits, toBits, lotsBits, daysBits, rateBits, markBits, priceBits, ofField, headWord, lotsWord}
-use Rattle.rules.specs.Tape.{kindOf, Kind, head, after, none, kindAt, isAfter, wordAs, wordsWrong, readOf, pricesOf, rollWord, markWord, priceWord, wordsOf}
+use Rattle.rules.specs.Measures.{quoteCount}
+use Rattle.rules.specs.Records.{bits, issueBits, fromBits, toBits, lotsBits, daysBits, rateBits, markBits, quoteBits, ofField, headWord, lotsWord}
+use Rattle.rules.specs.Tape.{kindOf, Kind, head, after, none, kindAt, isAfter, wordAs, wordsWrong, readOf, quotesOf, rollWord, markWord, quoteWord, wordsOf}
 use Rattle.laws.proofs.Basics.{byTest}
 use Rattle.tape.proofs.Table.{by-kind, Clears, after-is}
 use Rattle.tape.proofs.Sized.{read-is}
@@ -62,8 +62,8 @@ module _ (w k : ℕ) (word : w < 2 ^ 32) (kind : kindOf w ≡ k) where
   lots-back : k ≡ 8 → w ≡ lotsWord (ofField lotsBits w)
   lots-back e = omega arith
 
-  price-back : k ≡ 9 → ofField (bits 18 10) w ≡ 0 → w ≡ priceWord (ofField priceBits w)
-  price-back e z =
+  quote-back : k ≡ 9 → ofField (bits 18 10) w ≡ 0 → w ≡ quoteWord (ofField quoteBits w)
+  quote-back e z =
       let s : w ≡ k * 268435456 + w / 262144 % 1024 * 262144 + w % 262144 = omega arith in
       omega arith
 
@@ -85,26 +85,26 @@ lots-after : (ws : List ℕ) → Words ws → 0 ≡ wordsWrong 8 1 ws → take 1
 lots-after [] b e = absurd (omega arith)
 lots-after (w ∷ ws) b e = joined (lots-back w 8 (b 0) (first-right 8 0 w ws e .0) refl) refl
 
-prices-after : (n : ℕ) (ws : List ℕ) → Words ws → 0 ≡ wordsWrong 9 n ws →
-    take n ws ≡ map priceWord (map (ofField priceBits) (take n ws))
-prices-after zero ws b e = refl
-prices-after (suc n) [] b e = refl
-prices-after (suc n) (w ∷ ws) b e =
+quotes-after : (n : ℕ) (ws : List ℕ) → Words ws → 0 ≡ wordsWrong 9 n ws →
+    take n ws ≡ map quoteWord (map (ofField quoteBits) (take n ws))
+quotes-after zero ws b e = refl
+quotes-after (suc n) [] b e = refl
+quotes-after (suc n) (w ∷ ws) b e =
     let r = first-right 9 n w ws e in
-    joined (price-back w 9 (b 0) (r .0) refl (r .1)) (prices-after n ws (λ i. b (suc i)) (r .2))
+    joined (quote-back w 9 (b 0) (r .0) refl (r .1)) (quotes-after n ws (λ i. b (suc i)) (r .2))
 
 -- each head by its line
 module _ (w : ℕ) (rest : List ℕ) (b : Words (w ∷ rest)) where
   abbrev Back : ℕ → Kind → Type 0
   Back k (head u n j f) =
       kindOf w ≡ k → ofField u w ≡ 0 → 0 ≡ wordsWrong j n rest →
-      take (1 + n) (w ∷ rest) ≡ wordsOf (f w (ofField lotsBits (getD rest 0 0))) (pricesOf (w ∷ rest))
+      take (1 + n) (w ∷ rest) ≡ wordsOf (f w (ofField lotsBits (getD rest 0 0))) (quotesOf (w ∷ rest))
   Back k (after u) = Unit {0}
   Back k none = Unit {0}
 
   roll-back : Back 7 (kindAt 7)
-  unfolding pricesOf
-  roll-back e z r = joined (terms w 7 (b 0) e refl z) (prices-after issueCount rest (λ i. b (suc i)) r)
+  unfolding quotesOf
+  roll-back e z r = joined (terms w 7 (b 0) e refl z) (quotes-after quoteCount rest (λ i. b (suc i)) r)
 
   lots : 0 ≡ wordsWrong 8 1 rest → take 1 rest ≡ lotsWord (ofField lotsBits (getD rest 0 0)) ∷ []
   lots r = lots-after rest (λ i. b (suc i)) r
@@ -122,7 +122,7 @@ module _ (w : ℕ) (rest : List ℕ) (b : Words (w ∷ rest)) where
 
 -- the words that are read as an instruction are exactly those written for it
 pub read-is-written : (ws : List ℕ) (x : Instruction) (n : ℕ) → Words ws → readOf ws ≡ Instr x n →
-    take n ws ≡ wordsOf x (pricesOf ws)
+    take n ws ≡ wordsOf x (quotesOf ws)
 unfolding readOf
 read-is-written [] x n b e = let z : _≡_ {A = ℕ} 0 1 = cc in absurd (omega arith)
 read-is-written (w ∷ rest) x n b e =
@@ -130,4 +130,4 @@ read-is-written (w ∷ rest) x n b e =
     let f = r .first in
     let l = rw (f .line) at (back w rest b (kindOf w)) in
     ap (λ (m : ℕ). take m (w ∷ rest)) (f .count) ∙ l refl (f .clears) (r .right)
-    ∙ sym (ap (λ (y : Instruction). wordsOf y (pricesOf (w ∷ rest))) (f .is))
+    ∙ sym (ap (λ (y : Instruction). wordsOf y (quotesOf (w ∷ rest))) (f .is))

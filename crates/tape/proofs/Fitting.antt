@@ -7,9 +7,9 @@ use borrow.Author.Tests.{ltb-true, eqb-true}
 use lib.Dec.{eqb}
 use lib.ListN.{length}
 use Rattle.rules.specs.declared.Instruction.the-variants.{Roll}
-use Rattle.rules.specs.Measures.{issueCount}
+use Rattle.rules.specs.Measures.{quoteCount}
 use Rattle.rules.specs.Book.{all}
-use Rattle.rules.specs.Records.{issueBits, fromBits, toBits, lotsBits, daysBits, rateBits, markBits, priceBits}
+use Rattle.rules.specs.Records.{issueBits, fromBits, toBits, lotsBits, daysBits, rateBits, markBits, quoteBits}
 use Rattle.rules.specs.Tape.{fits, headFits, fieldsFit}
 use Rattle.laws.proofs.Basics.{and-left, and-right}
 use Rattle.words.specs.Fits.{HeadFits}
@@ -40,22 +40,22 @@ mark-fits i m e =
       mark = ltb-true m 2 (and-right (fits issueBits i) (fits markBits m) e);
     }
 
-pub record RollFits (days rate : ℕ) (prices : List ℕ) : Type 0 where
+pub record RollFits (days rate : ℕ) (quotes : List ℕ) : Type 0 where
   pub day : days < 2 ^ 4
   pub rates : rate < 2 ^ 14
-  pub count : length prices ≡ issueCount
-  pub each : all (fits priceBits) prices ≡ true
+  pub count : length quotes ≡ quoteCount
+  pub each : all (fits quoteBits) quotes ≡ true
 
-pub roll-fits : (days rate : ℕ) (prices : List ℕ) → fieldsFit (Roll days rate) prices ≡ true → RollFits days rate prices
-roll-fits days rate prices e =
+pub roll-fits : (days rate : ℕ) (quotes : List ℕ) → fieldsFit (Roll days rate) quotes ≡ true → RollFits days rate quotes
+roll-fits days rate quotes e =
     let a = fits daysBits days in
     let b = fits rateBits rate in
-    let n = eqb (length prices) issueCount in
-    let p = and-left (a && b && n) (all (fits priceBits) prices) e in
+    let n = eqb (length quotes) quoteCount in
+    let p = and-left (a && b && n) (all (fits quoteBits) quotes) e in
     let q = and-left (a && b) n p in
     record {
       day = ltb-true days 16 (and-left a b q);
       rates = ltb-true rate 16384 (and-right a b q);
-      count = eqb-true (length prices) issueCount (and-right (a && b) n p);
-      each = and-right (a && b && n) (all (fits priceBits) prices) e;
+      count = eqb-true (length quotes) quoteCount (and-right (a && b) n p);
+      each = and-right (a && b && n) (all (fits quoteBits) quotes) e;
     }

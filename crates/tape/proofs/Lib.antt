@@ -1,7 +1,7 @@
 -- Laws of the tape.
 pub mod Table
 pub mod Reading
-pub mod PriceWords
+pub mod QuoteWords
 pub mod Fitting
 pub mod Writing
 pub mod Sized

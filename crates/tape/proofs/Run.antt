@@ -17,7 +17,7 @@ use Rattle.rules.specs.Measures.{outputWords}
 use Rattle.rules.specs.Book.{fresh}
 use Rattle.rules.specs.Questions.{Question, firstNo, askOutput, askSound}
 use Rattle.rules.specs.Calls.{Deliver, Cutoff, Resolve, Answer, Effect, answer, ownAsks, effect, called}
-use Rattle.rules.specs.Tape.{readOf, pricesOf}
+use Rattle.rules.specs.Tape.{readOf, quotesOf}
 use Rattle.rules.specs.Run.{Ran, callOf, nameOf, line, anyOutput, answerOf, ended, stopped, afterLine, afterRead, runFrom, runRest, runOf}
 use Rattle.tape.proofs.Sized.{read-sized}
 
@@ -95,24 +95,24 @@ module _ (b : Book) (out lent : List ℕ) (room : outputWords ≤ length out) (a
   any-asked qs e =
       rw (le-leb outputWords (length out) room, le-leb outputWords (length lent) also) (any-out (firstNo qs) b out lent e)
 
-  pub answer-any-output : (x : Instruction) (prices : List ℕ) →
-      SameAnswer (called b (callOf x prices out)) (called b (callOf x prices lent))
+  pub answer-any-output : (x : Instruction) (quotes : List ℕ) →
+      SameAnswer (called b (callOf x quotes out)) (called b (callOf x quotes lent))
   unfolding called
-  answer-any-output (instruction.Trade i f t x) prices = same (called b (callOf (instruction.Trade i f t x) prices out))
-  answer-any-output (instruction.Deliver i a x) prices =
+  answer-any-output (instruction.Trade i f t x) quotes = same (called b (callOf (instruction.Trade i f t x) quotes out))
+  answer-any-output (instruction.Deliver i a x) quotes =
       any-asked (askSound b ∷ ownAsks b (Deliver i a x out)) (effect b (Deliver i a x out))
-  answer-any-output (instruction.Resolve i a x) prices =
+  answer-any-output (instruction.Resolve i a x) quotes =
       any-asked (askSound b ∷ ownAsks b (Resolve i a x out)) (effect b (Resolve i a x out))
-  answer-any-output (instruction.PairOff i a) prices = same (called b (callOf (instruction.PairOff i a) prices out))
-  answer-any-output instruction.Close prices = same (called b (callOf instruction.Close prices out))
-  answer-any-output instruction.Cutoff prices = any-asked (askSound b ∷ ownAsks b (Cutoff out)) (effect b (Cutoff out))
-  answer-any-output (instruction.Roll days rate) prices = same (called b (callOf (instruction.Roll days rate) prices out))
-  answer-any-output (instruction.Mark i m) prices = same (called b (callOf (instruction.Mark i m) prices out))
+  answer-any-output (instruction.PairOff i a) quotes = same (called b (callOf (instruction.PairOff i a) quotes out))
+  answer-any-output instruction.Close quotes = same (called b (callOf instruction.Close quotes out))
+  answer-any-output instruction.Cutoff quotes = any-asked (askSound b ∷ ownAsks b (Cutoff out)) (effect b (Cutoff out))
+  answer-any-output (instruction.Roll days rate) quotes = same (called b (callOf (instruction.Roll days rate) quotes out))
+  answer-any-output (instruction.Mark i m) quotes = same (called b (callOf (instruction.Mark i m) quotes out))
 
 -- so any such output gives the line and the book of the run
 pub answer-lent : (b : Book) (out : List ℕ) → outputWords ≤ length out → (x : Instruction) (ws : List ℕ) →
-    SameAnswer (called b (callOf x (pricesOf ws) out)) (answerOf b x ws)
+    SameAnswer (called b (callOf x (quotesOf ws) out)) (answerOf b x ws)
 unfolding answerOf
 answer-lent b out room x ws =
     answer-any-output b out anyOutput room
-    (subst (λ (n : ℕ). outputWords ≤ n) (sym (length-replicate {A = ℕ} outputWords 0)) (omega arith)) x (pricesOf ws)
+    (subst (λ (n : ℕ). outputWords ≤ n) (sym (length-replicate {A = ℕ} outputWords 0)) (omega arith)) x (quotesOf ws)

@@ -13,7 +13,7 @@ use Rattle.rules.specs.declared.Written.{Written}
 use Rattle.rules.specs.declared.Instruction.{Instruction}
 use Rattle.rules.specs.Measures.{tapeWords}
 use Rattle.rules.specs.Records.{over}
-use Rattle.rules.specs.Tape.{priceWord, fieldsFit, wordsOf, writeOf}
+use Rattle.rules.specs.Tape.{quoteWord, fieldsFit, wordsOf, writeOf}
 use Rattle.tape.specs.Answers.{WriteAnswerIs, fitted}
 
 pub sets-over : (ws out : List ℕ) → length ws ≤ length out → sets out 0 ws ≡ over ws out
@@ -29,18 +29,18 @@ module _ (fit : Bool) (ws out : List ℕ) where
   all-written n lent e c h f = rw e (record { refusal = refl; count = sym c; out = f ∙ sets-over ws out (omega arith) })
 
 -- the output is asked first; with room enough, the rest is question 15
-module _ (x : Instruction) (prices out : List ℕ) where
+module _ (x : Instruction) (quotes out : List ℕ) where
   pub short-output : (r : Written) → length out < tapeWords → r ≡ record { refusal = 1; count = 0 } →
-      WriteAnswerIs (writeOf x prices out) r out
+      WriteAnswerIs (writeOf x quotes out) r out
   unfolding writeOf
   short-output r h e = rw (lt-leb tapeWords (length out) h, e) (record { refusal = refl; count = refl; out = refl })
 
   pub room-enough : (y : Instruction) (lent : List ℕ) (r : Written) → tapeWords ≤ length out → x ≡ y →
-      WriteAnswerIs (fitted (fieldsFit y prices) (wordsOf y prices) out) r lent → WriteAnswerIs (writeOf x prices out) r lent
+      WriteAnswerIs (fitted (fieldsFit y quotes) (wordsOf y quotes) out) r lent → WriteAnswerIs (writeOf x quotes out) r lent
   unfolding writeOf
   room-enough y lent r h e w = rw (e, le-leb tapeWords (length out) h) w
 
--- one price word stored behind a head
-pub price-stored : (prices out : List ℕ) (at v : ℕ) → at < length prices → v ≡ priceWord (getD prices at 0) →
-    sets (set out (at + 1) v) (at + 1 + 1) (map priceWord (drop (at + 1) prices)) ≡ sets out (at + 1) (map priceWord (drop at prices))
-price-stored prices out at v h e = rw (e, drop-cons prices at 0 h, add-one at, add-one (suc at))
+-- one word of a quote stored behind a head
+pub quote-stored : (quotes out : List ℕ) (at v : ℕ) → at < length quotes → v ≡ quoteWord (getD quotes at 0) →
+    sets (set out (at + 1) v) (at + 1 + 1) (map quoteWord (drop (at + 1) quotes)) ≡ sets out (at + 1) (map quoteWord (drop at quotes))
+quote-stored quotes out at v h e = rw (e, drop-cons quotes at 0 h, add-one at, add-one (suc at))

@@ -6,9 +6,9 @@ use Prim.Native.Nat.{ℕ, _≤_, _<_, _^_}
 use lib.ListN.{length}
 use Rattle.rules.specs.declared.Written.{Written}
 use Rattle.rules.specs.declared.Instruction.the-variants.{Roll}
-use Rattle.rules.specs.Measures.{issueCount, tapeWords}
+use Rattle.rules.specs.Measures.{quoteCount, tapeWords}
 use Rattle.rules.specs.Book.{all}
-use Rattle.rules.specs.Records.{issueBits, markBits, priceBits, headWord, lotsWord}
+use Rattle.rules.specs.Records.{issueBits, markBits, quoteBits, headWord, lotsWord}
 use Rattle.rules.specs.Questions.{ask, firstNo}
 use Rattle.rules.specs.Tape.{markWord, fits, headFits, fieldsFit, WriteAnswer, writeAnswer, wordsOf}
 
@@ -31,17 +31,17 @@ headWords kind i f t x alone out =
 abbrev pub markWords : ℕ → ℕ → List ℕ → WriteAnswer
 markWords i m out = fitted (fits issueBits i && fits markBits m) (markWord i m ∷ []) out
 
--- a roll's head with its prices
+-- a roll's head with its quotes
 abbrev pub rollWords : ℕ → ℕ → List ℕ → List ℕ → WriteAnswer
-rollWords days rate prices out = fitted (fieldsFit (Roll days rate) prices) (wordsOf (Roll days rate) prices) out
+rollWords days rate quotes out = fitted (fieldsFit (Roll days rate) quotes) (wordsOf (Roll days rate) quotes) out
 
 -- the output has room for any instruction, and the kind fits its bits
 pub record Room (kind : ℕ) (out : List ℕ) : Type 0 where
   pub kinds : kind < 2 ^ 4
   pub words : tapeWords ≤ length out
 
--- sixteen prices that fit their bits, and room for them behind a head
-pub record PricesFit (prices out : List ℕ) : Type 0 where
-  pub count : length prices ≡ issueCount
-  pub each : all (fits priceBits) prices ≡ true
+-- 32 quotes that fit their bits, and room for them behind a head
+pub record QuotesFit (quotes out : List ℕ) : Type 0 where
+  pub count : length quotes ≡ quoteCount
+  pub each : all (fits quoteBits) quotes ≡ true
   pub words : tapeWords ≤ length out

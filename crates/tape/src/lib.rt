@@ -12,10 +12,10 @@ ghost use lib.Seq.{sets};
 ghost use Rattle.rules.specs.declared.Instruction.the-variants.{Roll};
 ghost use Rattle.rules.specs.Measures.{tapeWords};
 ghost use Rattle.rules.specs.Book.{all};
-ghost use Rattle.rules.specs.Records.{lotsBits, priceBits, ofField};
+ghost use Rattle.rules.specs.Records.{lotsBits, quoteBits, ofField};
 ghost use Rattle.rules.specs.declared.Word.the-variants.{Head, Wrong};
-ghost use Rattle.rules.specs.Tape.{wordAs, isAfter, wordsWrong, readOf, readAnswer, pricesOf, rollWord, markWord, priceWord, fits, headFits, fieldsFit, writeOf};
-ghost use Rattle.tape.specs.Answers.{WriteAnswerIs, headWords, markWords, rollWords, Room, PricesFit};
+ghost use Rattle.rules.specs.Tape.{wordAs, isAfter, wordsWrong, readOf, readAnswer, quotesOf, rollWord, markWord, quoteWord, fits, headFits, fieldsFit, writeOf};
+ghost use Rattle.tape.specs.Answers.{WriteAnswerIs, headWords, markWords, rollWords, Room, QuotesFit};
 
 // A word taken as x, or a wrong word where its unused bits, which hold `unused`, are not 0.
 fn clear(unused: u32, x: Word) -> Word
@@ -59,7 +59,7 @@ fn word_as(w: u32, lots: u32) -> Word
             w % 1024,
             Instruction::Roll(words::days_of(w), words::rate_of(w)),
             9,
-            17,
+            33,
         ),
         8 => Word::After(8),
         9 => clear(w / 262144 % 1024, Word::After(9)),
@@ -128,20 +128,20 @@ pub fn read(tape: &[u32]) -> rules::Read
     }
 }
 
-// A roll's prices, issue 0 first, from the words after its head into the lent prices, as far as
-// both reach.
-pub fn prices(tape: &[u32], prices: &mut [u32])
-    ensures { λ _. ⌜ now (prices .exit) ≡ sets (now (prices .entry)) 0 (pricesOf (now (tape .entry))) ⌝ }
+// A roll's quotes, sixteen prices and then sixteen accrued amounts, issue 0 first in both, from the words
+// after its head into those lent, as far as both reach.
+pub fn quotes(tape: &[u32], quotes: &mut [u32])
+    ensures { λ _. ⌜ now (quotes .exit) ≡ sets (now (quotes .entry)) 0 (quotesOf (now (tape .entry))) ⌝ }
 {
     let mut at = 0;
-    while at < 16 {
-        if prices.len() <= at {
+    while at < 32 {
+        if quotes.len() <= at {
             return;
         }
         if tape.len() <= at + 1 {
             return;
         }
-        prices[at] = words::price_of(tape[at + 1]);
+        quotes[at] = words::quote_of(tape[at + 1]);
         at += 1;
     }
 }
@@ -216,13 +216,13 @@ fn put_mark(issue: u32, mark: u32, out: &mut [u32]) -> Written
     }
 }
 
-// Does each price fit its bits?
-fn prices_fit(prices: &[u32]) -> bool
-    ensures { λ r. ⌜ r ≡ all (fits priceBits) (now (prices .entry)) ⌝ }
+// Does each quote fit its bits?
+fn quotes_fit(quotes: &[u32]) -> bool
+    ensures { λ r. ⌜ r ≡ all (fits quoteBits) (now (quotes .entry)) ⌝ }
 {
     let mut at = 0;
-    while at < prices.len() {
-        if 262144 <= prices[at] {
+    while at < quotes.len() {
+        if 262144 <= quotes[at] {
             return false;
         }
         at += 1;
@@ -230,12 +230,12 @@ fn prices_fit(prices: &[u32]) -> bool
     true
 }
 
-// A price as a kind 9 word: price in bits 17..0, the rest 0.
-fn price_word(price: u32) -> u32
-    requires { ⌜ price < 2 ^ 18 ⌝ }
-    ensures { λ r. ⌜ r ≡ priceWord price ⌝ }
+// A quote as a kind 9 word: price or accrued amount in bits 17..0, the rest 0.
+fn quote_word(quote: u32) -> u32
+    requires { ⌜ quote < 2 ^ 18 ⌝ }
+    ensures { λ r. ⌜ r ≡ quoteWord quote ⌝ }
 {
-    2415919104 + price
+    2415919104 + quote
 }
 
 // The head of a roll: kind 7, days in bits 27..24, rate in 23..10, the rest 0.
@@ -246,47 +246,47 @@ fn roll_head(days: u32, rate: u32) -> u32
     1879048192 + days * 16777216 + rate * 1024
 }
 
-// Sixteen price words from the output's second word on.
-fn put_prices(prices: &[u32], out: &mut [u32])
-    requires { ⌜ PricesFit (now prices) (now out) ⌝ }
-    ensures { λ _. ⌜ now (out .exit) ≡ sets (now (out .entry)) 1 (map priceWord (now (prices .entry))) ⌝ }
+// The words of 32 quotes from the output's second word on.
+fn put_quotes(quotes: &[u32], out: &mut [u32])
+    requires { ⌜ QuotesFit (now quotes) (now out) ⌝ }
+    ensures { λ _. ⌜ now (out .exit) ≡ sets (now (out .entry)) 1 (map quoteWord (now (quotes .entry))) ⌝ }
 {
     let mut at = 0;
-    while at < 16 {
-        out[at + 1] = price_word(prices[at]);
+    while at < 32 {
+        out[at + 1] = quote_word(quotes[at]);
         at += 1;
     }
 }
 
-// Do the fields of a roll fit their bits? It has sixteen prices.
-fn roll_fits(days: u32, rate: u32, prices: &[u32]) -> bool
-    ensures { λ r. ⌜ r ≡ fieldsFit (Roll days rate) (now (prices .entry)) ⌝ }
+// Do the fields of a roll fit their bits? It has 32 quotes.
+fn roll_fits(days: u32, rate: u32, quotes: &[u32]) -> bool
+    ensures { λ r. ⌜ r ≡ fieldsFit (Roll days rate) (now (quotes .entry)) ⌝ }
 {
-    (days < 16) & (rate < 16384) & (prices.len() == 16) & prices_fit(prices)
+    (days < 16) & (rate < 16384) & (quotes.len() == 32) & quotes_fit(quotes)
 }
 
-// A roll's head and its price words at the front of the output, or refusal 15.
-fn put_roll(days: u32, rate: u32, prices: &[u32], out: &mut [u32]) -> Written
+// A roll's head and the words of its quotes at the front of the output, or refusal 15.
+fn put_roll(days: u32, rate: u32, quotes: &[u32], out: &mut [u32]) -> Written
     requires { ⌜ tapeWords ≤ length (now out) ⌝ }
-    ensures { λ r. ⌜ WriteAnswerIs (rollWords days rate (now (prices .entry)) (now (out .entry))) r (now (out .exit)) ⌝ }
+    ensures { λ r. ⌜ WriteAnswerIs (rollWords days rate (now (quotes .entry)) (now (out .entry))) r (now (out .exit)) ⌝ }
 {
-    if !roll_fits(days, rate, prices) {
+    if !roll_fits(days, rate, quotes) {
         return refused(15);
     }
     out[0] = roll_head(days, rate);
-    put_prices(prices, out);
+    put_quotes(quotes, out);
     Written {
         refusal: 0,
-        count: 17,
+        count: 33,
     }
 }
 
 // The words of an instruction at the front of the output; those after the last keep their content.
-// A roll has sixteen prices; any other instruction ignores them. A refusal changes nothing.
-pub fn write(x: Instruction, prices: &[u32], out: &mut [u32]) -> Written
-    ensures { λ r. ⌜ WriteAnswerIs (writeOf x (now (prices .entry)) (now (out .entry))) r (now (out .exit)) ⌝ }
+// A roll has 32 quotes; any other instruction ignores them. A refusal changes nothing.
+pub fn write(x: Instruction, quotes: &[u32], out: &mut [u32]) -> Written
+    ensures { λ r. ⌜ WriteAnswerIs (writeOf x (now (quotes .entry)) (now (out .entry))) r (now (out .exit)) ⌝ }
 {
-    if out.len() < 17 {
+    if out.len() < 33 {
         return refused(1);
     }
     match x {
@@ -296,7 +296,7 @@ pub fn write(x: Instruction, prices: &[u32], out: &mut [u32]) -> Written
         Instruction::PairOff(issue, account) => put_head(4, issue, account, 0, 0, true, out),
         Instruction::Close => put_head(5, 0, 0, 0, 0, true, out),
         Instruction::Cutoff => put_head(6, 0, 0, 0, 0, true, out),
-        Instruction::Roll(days, rate) => put_roll(days, rate, prices, out),
+        Instruction::Roll(days, rate) => put_roll(days, rate, quotes, out),
         Instruction::Mark(issue, mark) => put_mark(issue, mark, out),
     }
 }

@@ -19,19 +19,19 @@ use Rattle.rules.specs.declared.Read.the-variants.{Instr, Refused}
 use Rattle.rules.specs.Measures.{outputWords}
 use Rattle.rules.specs.Book.{sound}
 use Rattle.rules.specs.Calls.{Call, Answer, called}
-use Rattle.rules.specs.Tape.{readOf, pricesOf}
+use Rattle.rules.specs.Tape.{readOf, quotesOf}
 use Rattle.rules.specs.Run.{Ran, callOf, nameOf, line, anyOutput, answerOf, ended, stopped, afterLine, runRest}
 use Rattle.rules.specs.Text.{lineText, linesText}
 use Rattle.report.specs.Added.{Added}
 use Rattle.laws.proofs.Called.{Sizes, called-sound}
-use Rattle.tape.proofs.Rolls.{roll-prices}
+use Rattle.tape.proofs.Rolls.{roll-quotes}
 use Rattle.tape.proofs.Run.{run-ended, run-refused, run-instruction, not-ended, answer-lent}
 use Rattle.tape.proofs.Sized.{read-sized}
-use Rattle.tape.proofs.Window.{read-append, prices-append}
+use Rattle.tape.proofs.Window.{read-append, quotes-append}
 use Rattle.running.specs.declared.Turn.{Turn}
 use Rattle.running.specs.Turns.{Gives}
 use Rattle.turns.specs.declared.Step.{Step}
-use Rattle.turns.specs.Going.{Begins, rollsOf, Priced, Stepped, enough, strayText, Follows, Goes, onward, Went}
+use Rattle.turns.specs.Going.{Begins, rollsOf, Quoted, Stepped, enough, strayText, Follows, Goes, onward, Went}
 
 -- The answer to the instruction that some words begin with
 
@@ -41,23 +41,23 @@ pub record Says (d : Answer) (t : Turn) (b : Book) : Type 0 where
   pub count : t .count ≡ d .count
   pub book : b ≡ d .book
 
--- a roll's prices are read out of its words, and no other instruction has any
-pub priced : (ws lent prices : List ℕ) (x : Instruction) → Begins ws x → length lent ≡ 16 → (rollsOf x ≡ true → prices ≡ sets lent 0 (pricesOf ws)) →
-    Priced ws x prices
-priced ws lent prices (instruction.Roll d r) g h p =
-    λ out. ap (λ (ps : List ℕ). callOf (instruction.Roll d r) ps out) (p refl ∙ roll-prices ws lent d r (g .count) (g .read) h)
-priced ws lent prices (instruction.Mark i m) g h p = λ out. refl
-priced ws lent prices (instruction.Trade i f t x) g h p = λ out. refl
-priced ws lent prices (instruction.Deliver i a x) g h p = λ out. refl
-priced ws lent prices (instruction.Resolve i a x) g h p = λ out. refl
-priced ws lent prices (instruction.PairOff i a) g h p = λ out. refl
-priced ws lent prices instruction.Close g h p = λ out. refl
-priced ws lent prices instruction.Cutoff g h p = λ out. refl
+-- a roll's quotes are read out of its words, and no other instruction has any
+pub quoted : (ws lent quotes : List ℕ) (x : Instruction) → Begins ws x → length lent ≡ 32 → (rollsOf x ≡ true → quotes ≡ sets lent 0 (quotesOf ws)) →
+    Quoted ws x quotes
+quoted ws lent quotes (instruction.Roll d r) g h p =
+    λ out. ap (λ (ps : List ℕ). callOf (instruction.Roll d r) ps out) (p refl ∙ roll-quotes ws lent d r (g .count) (g .read) h)
+quoted ws lent quotes (instruction.Mark i m) g h p = λ out. refl
+quoted ws lent quotes (instruction.Trade i f t x) g h p = λ out. refl
+quoted ws lent quotes (instruction.Deliver i a x) g h p = λ out. refl
+quoted ws lent quotes (instruction.Resolve i a x) g h p = λ out. refl
+quoted ws lent quotes (instruction.PairOff i a) g h p = λ out. refl
+quoted ws lent quotes instruction.Close g h p = λ out. refl
+quoted ws lent quotes instruction.Cutoff g h p = λ out. refl
 
 -- number, count and book are those of the run
-pub run-answer : (b b′ : Book) (t : Turn) (ws prices out : List ℕ) (x : Instruction) → Priced ws x prices → outputWords ≤ length out →
-    (lent : List ℕ) → Gives b (callOf x prices out) t b′ out lent → Says (answerOf b x ws) t b′
-run-answer b b′ t ws prices out x p room lent i =
+pub run-answer : (b b′ : Book) (t : Turn) (ws quotes out : List ℕ) (x : Instruction) → Quoted ws x quotes → outputWords ≤ length out →
+    (lent : List ℕ) → Gives b (callOf x quotes out) t b′ out lent → Says (answerOf b x ws) t b′
+run-answer b b′ t ws quotes out x p room lent i =
     let a = answer-lent b out room x ws in
     record {
       refusal = i .refusal ∙ ap (λ (k : Call). called b k .refusal) (p out) ∙ a .refusal;
@@ -68,7 +68,7 @@ run-answer b b′ t ws prices out x p room lent i =
 -- which keeps the book sound
 pub answer-sound : (b b′ : Book) (t : Turn) (x : Instruction) (ws : List ℕ) → Sizes b → sound b ≡ true → Says (answerOf b x ws) t b′ → sound b′ ≡ true
 unfolding answerOf
-answer-sound b b′ t x ws z h i = ap sound (i .book) ∙ called-sound b (callOf x (pricesOf ws) anyOutput) z h
+answer-sound b b′ t x ws z h i = ap sound (i .book) ∙ called-sound b (callOf x (quotesOf ws) anyOutput) z h
 
 -- and so is the line
 pub same-line : (i : ℕ) (n m : Name) (r r′ k k′ : ℕ) → n ≡ m → r ≡ r′ → k ≡ k′ → lineText (line i n r k) ≡ lineText (line i m r′ k′)
@@ -78,7 +78,7 @@ same-line i n m r r′ k k′ e f g = rw (e, f, g)
 
 pub some-words : (last : Bool) (n : ℕ) → enough n last ≡ true → 0 < n
 some-words true n h = ltb-true 0 n h
-some-words false n h = let l = leb-true 17 n h in omega arith
+some-words false n h = let l = leb-true 33 n h in omega arith
 
 module _ (last : Bool) (rest more : List ℕ) (h : enough (length rest) last ≡ true) (e : last ≡ true → more ≡ []) where
   nothing-more : last ≡ true → rest ++ more ≡ rest
@@ -86,11 +86,11 @@ module _ (last : Bool) (rest more : List ℕ) (h : enough (length rest) last ≡
 
 same-read : (last : Bool) (rest more : List ℕ) → enough (length rest) last ≡ true → (last ≡ true → more ≡ []) → readOf (rest ++ more) ≡ readOf rest
 same-read true rest more h e = ap readOf (nothing-more true rest more h e refl)
-same-read false rest more h e = read-append rest more (leb-true 17 (length rest) h)
+same-read false rest more h e = read-append rest more (leb-true 33 (length rest) h)
 
-same-prices : (last : Bool) (rest more : List ℕ) → enough (length rest) last ≡ true → (last ≡ true → more ≡ []) → pricesOf (rest ++ more) ≡ pricesOf rest
-same-prices true rest more h e = ap pricesOf (nothing-more true rest more h e refl)
-same-prices false rest more h e = prices-append rest more (leb-true 17 (length rest) h)
+same-quotes : (last : Bool) (rest more : List ℕ) → enough (length rest) last ≡ true → (last ≡ true → more ≡ []) → quotesOf (rest ++ more) ≡ quotesOf rest
+same-quotes true rest more h e = ap quotesOf (nothing-more true rest more h e refl)
+same-quotes false rest more h e = quotes-append rest more (leb-true 33 (length rest) h)
 
 going-on : (rest more : List ℕ) (then : Bool) → 0 < length rest → ended (rest ++ more) then ≡ false
 going-on [] more then h = absurd (omega arith)
@@ -117,16 +117,16 @@ module _ (a : Ran) (text : List ℕ) (i : ℕ) (b : Book) (last : Bool) (rest mo
   goes-turn x k h e q g =
       let all = rest ++ more in
       let ans : List ℕ → Answer = λ ps. called b (callOf x ps anyOutput) in
-      let p = same-prices last rest more h e in
+      let p = same-quotes last rest more h e in
       let d = drop-append-le k rest more (read-sized rest x k q .1) in
-      goes-line a text (line i (nameOf x) (ans (pricesOf rest) .refusal) (ans (pricesOf rest) .count))
-      (runRest (i + k) (ans (pricesOf rest) .book) (drop k rest ++ more) then)
+      goes-line a text (line i (nameOf x) (ans (quotesOf rest) .refusal) (ans (quotesOf rest) .count))
+      (runRest (i + k) (ans (quotesOf rest) .book) (drop k rest ++ more) then)
       (goes-as a text (runRest i b all then)
-      (afterLine (line i (nameOf x) (ans (pricesOf rest) .refusal) (ans (pricesOf rest) .count))
-      (runRest (i + k) (ans (pricesOf rest) .book) (drop k rest ++ more) then))
+      (afterLine (line i (nameOf x) (ans (quotesOf rest) .refusal) (ans (quotesOf rest) .count))
+      (runRest (i + k) (ans (quotesOf rest) .book) (drop k rest ++ more) then))
       (run-instruction i b all then x k (going-on rest more then (some-words last (length rest) h)) (same-read last rest more h e ∙ q)
       ∙ ap (λ (ps : List ℕ). afterLine (line i (nameOf x) (ans ps .refusal) (ans ps .count)) (runRest (i + k) (ans ps .book) (drop k all) then)) p
-      ∙ ap (λ (ws : List ℕ). afterLine (line i (nameOf x) (ans (pricesOf rest) .refusal) (ans (pricesOf rest) .count)) (runRest (i + k) (ans (pricesOf rest) .book) ws then)) d)
+      ∙ ap (λ (ws : List ℕ). afterLine (line i (nameOf x) (ans (quotesOf rest) .refusal) (ans (quotesOf rest) .count)) (runRest (i + k) (ans (quotesOf rest) .book) ws then)) d)
       g)
 
   -- the reader refuses: the run is over
@@ -170,13 +170,13 @@ rest-part ws at = take-all (length ws - at) (drop at ws) (rw length-drop (omega 
 pub rest-enough : (ws : List ℕ) (at : ℕ) (last t : Bool) → t ≡ enough (length ws - at) last → enough (length (drop at ws)) last ≡ t
 rest-enough ws at last t e = ap (λ (n : ℕ). enough n last) (length-drop at ws) ∙ sym e
 
-many-left : (last : Bool) (n : ℕ) → enough n last ≡ true → last ≡ false → 17 ≤ n
+many-left : (last : Bool) (n : ℕ) → enough n last ≡ true → last ≡ false → 33 ≤ n
 many-left true n h e = absurd (let k : _≡_ {A = ℕ} 0 1 = cc in omega arith)
-many-left false n h e = leb-true 17 n h
+many-left false n h e = leb-true 33 n h
 
-few-left : (last : Bool) (n : ℕ) → enough n last ≡ false → last ≡ false → n < 17
+few-left : (last : Bool) (n : ℕ) → enough n last ≡ false → last ≡ false → n < 33
 few-left true n h e = absurd (let k : _≡_ {A = ℕ} 0 1 = cc in omega arith)
-few-left false n h e = leb-false 17 n h
+few-left false n h e = leb-false 33 n h
 
 -- A run on its way: the text so far, and the run from here, whatever follows the words
 

@@ -12,7 +12,7 @@ use Rattle.rules.specs.declared.Name.the-variants.{Tape}
 use Rattle.rules.specs.declared.Read.{Read}
 use Rattle.rules.specs.declared.Read.the-variants.{Instr, Refused}
 use Rattle.rules.specs.Book.{sound}
-use Rattle.rules.specs.Tape.{readOf, pricesOf}
+use Rattle.rules.specs.Tape.{readOf, quotesOf}
 use Rattle.rules.specs.Run.{Ran, line, nameOf, callOf, answerOf, stopped, runRest}
 use Rattle.rules.specs.Text.{lineText, linesText}
 use Rattle.report.specs.Added.{Added}
@@ -23,7 +23,7 @@ pub record Begins (ws : List ℕ) (x : Instruction) : Type 0 where
   pub count : ℕ
   pub read : readOf ws ≡ Instr x count
 
--- an instruction that has prices
+-- an instruction that has quotes
 abbrev pub rollsOf : Instruction → Bool
 rollsOf (instruction.Trade i f t x) = false
 rollsOf (instruction.Deliver i a x) = false
@@ -34,9 +34,9 @@ rollsOf instruction.Cutoff = false
 rollsOf (instruction.Roll days rate) = true
 rollsOf (instruction.Mark i m) = false
 
--- prices with which it is the call of the words
-abbrev pub Priced : List ℕ → Instruction → List ℕ → Type 0
-Priced ws x prices = (out : List ℕ) → callOf x prices out ≡ callOf x (pricesOf ws) out
+-- quotes with which it is the call of the words
+abbrev pub Quoted : List ℕ → Instruction → List ℕ → Type 0
+Quoted ws x quotes = (out : List ℕ) → callOf x quotes out ≡ callOf x (quotesOf ws) out
 
 -- one turn: the instruction's line is put down, and the book is the answer's
 pub record Stepped (ws : List ℕ) (x : Instruction) (index : ℕ) (b : Book) (text text′ : List ℕ) (at : ℕ) (r : Step) (b′ : Book) : Type 0 where
@@ -49,9 +49,9 @@ abbrev pub refusalOf : Read → ℕ
 refusalOf (Instr x k) = 0
 refusalOf (Refused r) = r
 
--- a whole instruction can be read: seventeen words hold any, and the last words are all there are
+-- a whole instruction can be read: thirty-three words hold any, and the last words are all there are
 abbrev pub enough : ℕ → Bool → Bool
-enough left last = cond last (ltb 0 left) (leb 17 left)
+enough left last = cond last (ltb 0 left) (leb 33 left)
 
 -- a last word of 1 to 3 bytes has a line
 abbrev pub strayText : Bool → ℕ → List ℕ
@@ -75,9 +75,9 @@ onward over at b ws stray = cond over (stopped [] b) (runRest at b ws stray)
 -- instruction may have end no run, unless they are the last
 pub record Went (ws : List ℕ) (last stray : Bool) (index : ℕ) (b : Book) (text : List ℕ) (used end : ℕ) (over : Bool) (b′ : Book) : Type 0 where
   pub within : used ≤ length ws
-  pub few : over ≡ false → length ws < used + 17
+  pub few : over ≡ false → length ws < used + 33
   pub goes : over ≡ false → last ≡ false
-  pub waits : last ≡ false → length ws < 17 → over ≡ false
+  pub waits : last ≡ false → length ws < 33 → over ≡ false
   pub fits : end ≤ 72 * (length ws + 1)
   pub sound : sound b′ ≡ true
   pub run : (more : List ℕ) (then : Bool) → Follows last stray more then →

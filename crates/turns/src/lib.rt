@@ -11,7 +11,7 @@ ghost use lib.ListN.{length};
 ghost use Rattle.rules.specs.Run.{nameOf};
 ghost use Rattle.book.specs.States.{columns, ready};
 ghost use Rattle.report.specs.Added.{Added};
-ghost use Rattle.turns.specs.Going.{Begins, rollsOf, Priced, Stepped, refusalOf, enough, strayText, Went};
+ghost use Rattle.turns.specs.Going.{Begins, rollsOf, Quoted, Stepped, refusalOf, enough, strayText, Went};
 
 // After an instruction: where the text ends, and the state.
 pub struct Step {
@@ -43,7 +43,7 @@ fn name_of(x: Instruction) -> Name
     }
 }
 
-// Does the instruction have prices?
+// Does the instruction have quotes?
 fn rolls(x: Instruction) -> bool
     ensures { λ r. ⌜ r ≡ rollsOf x ⌝ }
 {
@@ -59,13 +59,13 @@ fn rolls(x: Instruction) -> bool
     }
 }
 
-// A roll's prices, from the words after its head.
-fn prices_of(words: &[u32], x: Instruction, prices: &mut [u32])
-    requires { ⌜ Begins (now words) x × (length (now prices) ≡ 16) ⌝ }
-    ensures { λ _. ⌜ Priced (now (words .entry)) x (now (prices .exit)) ⌝ }
+// A roll's quotes, from the words after its head.
+fn quotes_of(words: &[u32], x: Instruction, quotes: &mut [u32])
+    requires { ⌜ Begins (now words) x × (length (now quotes) ≡ 32) ⌝ }
+    ensures { λ _. ⌜ Quoted (now (words .entry)) x (now (quotes .exit)) ⌝ }
 {
     if rolls(x) {
-        tape::prices(words, prices);
+        tape::quotes(words, quotes);
     }
 }
 
@@ -91,11 +91,11 @@ fn turn(
     requires { ⌜ Begins (now words) x × ready s nets delivered lifts charges issues froms tos lots days out × (at + 72 ≤ length (now text)) ⌝ }
     ensures { λ r. ⌜ (let c = columns nets delivered lifts charges issues froms tos lots days in Stepped (now (words .entry)) x index (c .before s) (now (text .entry)) (now (text .exit)) at r (c .after (r .state))) ⌝ }
 {
-    let mut prices = [0u32; 16];
-    prices_of(words, x, &mut prices);
+    let mut quotes = [0u32; 32];
+    quotes_of(words, x, &mut quotes);
     let t = running::answer(
         x,
-        &prices,
+        &quotes,
         s,
         nets,
         delivered,
@@ -130,7 +130,7 @@ fn is_enough(left: usize, last: bool) -> bool
     if last {
         return 0 < left;
     }
-    17 <= left
+    33 <= left
 }
 
 // The line of a last word of 1 to 3 bytes, if there is one.

@@ -3,7 +3,7 @@ ghost use mathlib.Core.Path.{_≡_};
 ghost use mathlib.Core.List.{_∷_};
 ghost use Prim.Native.Nat.{_≤_, _<_, _^_};
 ghost use lib.ListN.{length, drop};
-ghost use Rattle.rules.specs.Records.{kindBits, issueBits, fromBits, toBits, lotsBits, daysBits, rateBits, priceBits, ofField, headWord, lotsWord};
+ghost use Rattle.rules.specs.Records.{kindBits, issueBits, fromBits, toBits, lotsBits, daysBits, rateBits, quoteBits, ofField, headWord, lotsWord};
 ghost use Rattle.words.specs.Fits.{HeadFits, PartFits};
 
 // The head of a record or an instruction: kind in bits 31..28, issue in 27..24, from (or the only
@@ -66,8 +66,8 @@ pub fn rate_of(w: u32) -> u32
     w / 1024 % 16384
 }
 
-pub fn price_of(w: u32) -> u32
-    ensures { λ r. ⌜ r ≡ ofField priceBits w ⌝ }
+pub fn quote_of(w: u32) -> u32
+    ensures { λ r. ⌜ r ≡ ofField quoteBits w ⌝ }
 {
     w % 262144
 }

@@ -4,7 +4,7 @@ use crate::book::{Book, Entry, Lifts, Phase, ACCOUNTS, ISSUES};
 use crate::measures::charge;
 use crate::questions::{
     account_in_range, book_is_sound, day_can_rise, days_in_range, issue_in_range, lots_in_range,
-    lots_suit_the_mark, output_has, owes, phase_is, prices_in_range, rate_in_range, Soundness,
+    lots_suit_the_mark, output_has, owes, phase_is, quotes_in_range, rate_in_range, Soundness,
     CALL_OUTPUT,
 };
 use crate::tape::{write_records, Record, RESOLVED};
@@ -99,17 +99,18 @@ pub(super) fn roll(
     book: &mut Book,
     days: u32,
     rate: u32,
-    prices: &[u32],
+    quotes: &[u32],
     soundness: Soundness,
 ) -> Result<u32, u32> {
     book_is_sound(book, soundness)?;
     phase_is(book, Phase::Cut)?;
     days_in_range(days)?;
     rate_in_range(rate)?;
-    prices_in_range(prices)?;
+    quotes_in_range(quotes)?;
     day_can_rise(book)?;
     for entry in book.ledger() {
-        let (_, yen) = charge(entry.lots, prices[usize::from(entry.issue)], days, rate);
+        let issue = usize::from(entry.issue);
+        let (_, yen) = charge(entry.lots, quotes[issue], days, rate, quotes[ISSUES + issue]);
         book.charges[usize::from(entry.from)] -= yen as i64;
         book.charges[usize::from(entry.to)] += yen as i64;
     }

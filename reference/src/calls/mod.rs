@@ -193,13 +193,13 @@ pub fn pair_off_on_sound(book: &mut Book, issue: u32, account: u32) -> PairOffAn
 
 /// roll: each entry is charged; nets, delivered lots, lifts and counts are 0, day rises by 1, to
 /// Taking.
-pub fn roll(book: &mut Book, days: u32, rate: u32, prices: &[u32]) -> Answer {
-    ledger::roll(book, days, rate, prices, Soundness::Asked).into()
+pub fn roll(book: &mut Book, days: u32, rate: u32, quotes: &[u32]) -> Answer {
+    ledger::roll(book, days, rate, quotes, Soundness::Asked).into()
 }
 
 /// roll on a book known to be sound.
-pub fn roll_on_sound(book: &mut Book, days: u32, rate: u32, prices: &[u32]) -> Answer {
-    ledger::roll(book, days, rate, prices, Soundness::Known).into()
+pub fn roll_on_sound(book: &mut Book, days: u32, rate: u32, quotes: &[u32]) -> Answer {
+    ledger::roll(book, days, rate, quotes, Soundness::Known).into()
 }
 
 /// mark: the issue takes even lots only, or any lots again where the mark is 0; in any phase.

@@ -63,8 +63,13 @@ impl Page {
             Fact::Instruction { word, instruction, refusal: Some((_, why)) } => {
                 self.refused.push((day, *word, format!("{}: {why}", instruction.name())));
             }
-            Fact::ReadingEnds { word, refusal } => {
-                self.refused.push((day, *word, format!("reading ends, {refusal}")));
+            Fact::ReadingEnds { word, refusal, why } => {
+                let number = refusal.number();
+                self.refused.push((
+                    day,
+                    *word,
+                    format!("reading ends, refused by {number}: {why}"),
+                ));
             }
             Fact::Charge { .. } => self.charges.push((day, fact.clone())),
             Fact::End { phase, .. } => self.end = Some((day, phase)),
@@ -113,13 +118,13 @@ impl Page {
         let rows = self.charges.iter().map(|(day, fact)| {
             let Fact::Charge { terms, from, to, lots, value, yen } = fact else { return vec![] };
             let numbers = [u64::from(*day), terms.issue.into(), (*from).into(), (*to).into()];
-            let more = [u64::from(*lots), terms.price.into(), *value, terms.days.into()];
-            let last = [terms.rate.into(), *yen];
+            let more = [u64::from(*lots), terms.price.into(), terms.accrued.into(), *value];
+            let last = [terms.days.into(), terms.rate.into(), *yen];
             [&numbers[..], &more, &last].concat().into_iter().map(i128::from).collect()
         });
-        let heads =
-            ["day", "issue", "from", "to", "lots", "price", "value", "days", "rate", "charge, yen"];
-        table(out, "Charges on fails", &heads, &rows.collect::<Vec<_>>())
+        let of = ["day", "issue", "from", "to", "lots"];
+        let terms = ["price", "accrued", "value", "days", "rate", "charge, yen"];
+        table(out, "Charges on fails", &[&of[..], &terms].concat(), &rows.collect::<Vec<_>>())
     }
 
     /// The instructions that were refused.

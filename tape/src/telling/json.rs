@@ -95,9 +95,9 @@ fn instruction(out: &mut impl Write, fact: &Fact) -> io::Result<()> {
                 None => field(out, "refusal", 0),
             }
         }
-        Fact::ReadingEnds { word, refusal } => {
+        Fact::ReadingEnds { word, refusal, why } => {
             field(out, "word", *word as u64)?;
-            refused(out, *refusal, refusal.meaning())
+            refused(out, *refusal, why)
         }
         _ => Ok(()),
     }
@@ -188,7 +188,8 @@ fn charge(out: &mut impl Write, fact: &Fact) -> io::Result<()> {
     match fact {
         Fact::Charge { terms, from, to, lots, value, yen } => {
             owed(out, [terms.issue, *from, *to, *lots])?;
-            numbers(out, &[("price", wide(terms.price)), ("value", *value)])?;
+            numbers(out, &[("price", wide(terms.price)), ("accrued", wide(terms.accrued))])?;
+            field(out, "value", *value)?;
             numbers(out, &[("days", wide(terms.days)), ("rate", wide(terms.rate)), ("yen", *yen)])
         }
         Fact::Charged { account, yen } => {

@@ -22,8 +22,8 @@ pub fn tell(out: &mut impl Write, day: u16, fact: &Fact) -> io::Result<()> {
                 None => writeln!(out),
             }
         }
-        Fact::ReadingEnds { word, refusal } => {
-            writeln!(out, "  word {word}: reading ends, {refusal}")
+        Fact::ReadingEnds { word, refusal, why } => {
+            writeln!(out, "  word {word}: reading ends, refused by {}: {why}", refusal.number())
         }
         Fact::End { phase, entries, charged } => {
             writeln!(out, "\nAt the end: day {day}, {phase}")?;
@@ -186,7 +186,8 @@ fn fail(out: &mut impl Write, fact: &Fact) -> io::Result<()> {
     }
 }
 
-/// An account's charges; or one charge, with the value, the price, the rate and the days behind it.
+/// An account's charges; or one charge, with the value, the price, accrued interest, the rate and the
+/// days behind it.
 fn charge(out: &mut impl Write, fact: &Fact) -> io::Result<()> {
     if let Fact::Charged { account, yen } = fact {
         return write!(out, "account {account}: {} yen", Grouped((*yen).into()));
@@ -195,7 +196,8 @@ fn charge(out: &mut impl Write, fact: &Fact) -> io::Result<()> {
     let (yen, value) = (Grouped((*yen).into()), Grouped((*value).into()));
     let (issue, lots) = (terms.issue, Lots((*lots).into()));
     write!(out, "account {from} is charged {yen} yen for {lots} of issue {issue}, ")?;
-    write!(out, "which account {to} is given: value {value} yen at {}, ", Price(terms.price))?;
+    let (price, accrued) = (Price(terms.price), Price(terms.accrued));
+    write!(out, "which account {to} is given: value {value} yen at {price}, accrued {accrued}, ")?;
     write!(out, "{} at {}", days_text(terms.days), Rate(terms.rate))
 }
 

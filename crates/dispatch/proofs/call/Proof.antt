@@ -27,10 +27,10 @@ abbrev second : tie.After-sound → tie.Else1
 second c = c .before .before .before .before .before .before .before .before .before .before
 
 -- what is known where both are answered 'yes'
-room : (c : tie.Else1) → HasRoom (callOf (first (c .before) .args .x) (now (first (c .before) .args .prices)) (now (first (c .before) .args .out)))
+room : (c : tie.Else1) → HasRoom (callOf (first (c .before) .args .x) (now (first (c .before) .args .quotes)) (now (first (c .before) .args .out)))
 room c =
     let a = first (c .before) .args in
-    sym (room-of (a .x) (now (a .prices)) (now (a .out))) ∙ sym (c .before .output-asks .ensures) ∙ c .if1 .left
+    sym (room-of (a .x) (now (a .quotes)) (now (a .out))) ∙ sym (c .before .output-asks .ensures) ∙ c .if1 .left
 
 good : (c : tie.Else2) → soundIn (book (first (second (c .before) .before))) ≡ true
 good c = sym (c .before .sound .ensures) ∙ not-false _ (c .if2 .left)
@@ -43,7 +43,7 @@ returns c =
     let s = first (c .before .before) in
     let a = s .args in
     rw (c .refused .ensures)
-    (too-short (soundIn (book s)) (book s) (a .x) (now (a .prices)) (now (a .out)) (a .s) (c .before .before .output-asks .result)
+    (too-short (soundIn (book s)) (book s) (a .x) (now (a .quotes)) (now (a .out)) (a .s) (c .before .before .output-asks .result)
     (c .before .before .output-asks .ensures) (c .before .if1 .taken))
 
 returns-2 : tie.Need-returns-2
@@ -52,7 +52,7 @@ returns-2 c =
     let s = first (e .before) in
     let a = s .args in
     rw (c .refused2 .ensures)
-    (unsound (soundIn (book s)) (book s) (a .x) (now (a .prices)) (now (a .out)) (a .s) (room e) (bad (c .before)))
+    (unsound (soundIn (book s)) (book s) (a .x) (now (a .quotes)) (now (a .out)) (a .s) (room e) (bad (c .before)))
 
 answer-requires : tie.Need-answer-requires
 answer-requires c κs =
@@ -67,7 +67,7 @@ returns-3 c =
     let s = first (second (e .before) .before) in
     let a = s .args in
     let b = book s in
-    answered b (callOf (a .x) (now (a .prices)) (now (a .out))) (k .answer .result) _ (now (a .out)) _ (soundIn b) (good e)
+    answered b (callOf (a .x) (now (a .quotes)) (now (a .out))) (k .answer .result) _ (now (a .out)) _ (soundIn b) (good e)
     (sound-book b (good e)) (k .answer .ensures)
 
 pub call-spec : {M : Type 1} → statement M

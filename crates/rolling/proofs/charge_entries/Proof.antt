@@ -15,15 +15,15 @@ use Rattle.rolling.proofs.charge_entries.Statement.{statement}
 use Rattle.rolling.proofs.charge_entries.Tie as tie
 
 abbrev Inv-loop : tie.InvT-loop
-Inv-loop days rate prices count issues froms tos lots charges₀ k₀ charges k =
+Inv-loop days rate quotes count issues froms tos lots charges₀ k₀ charges k =
     (k ≤ count)
     × (length charges ≡ 64)
     × Within (mostCharge * lastDay + k * 131506849314) charges
-    × (charged days rate prices (drop k (entries count issues froms tos lots [])) charges
-    ≡ charged days rate prices (entries count issues froms tos lots []) charges₀)
+    × (charged days rate quotes (drop k (entries count issues froms tos lots [])) charges
+    ≡ charged days rate quotes (entries count issues froms tos lots []) charges₀)
 
 abbrev μ-loop : tie.MeasureT-loop
-μ-loop days rate prices count issues froms tos lots charges₀ k₀ charges k = count - k
+μ-loop days rate quotes count issues froms tos lots charges₀ k₀ charges k = count - k
 
 cast-i : tie.Need-cast-i Inv-loop μ-loop
 cast-i c =
@@ -44,33 +44,54 @@ shared-slice-read-charge-of-2 c =
     let l = c .before .before .before .before .loop in
     let s = c .before .before .before .before .before .before .before .before .before .before in
     let h : l .k < s .args .count = omega arith in
-    omega (arith, s .pre .issue (l .k) h, s .pre .priced)
+    omega (arith, s .pre .issue (l .k) h, s .pre .counted)
 
-charge-of-requires : tie.Need-charge-of-requires Inv-loop μ-loop
-charge-of-requires c κs =
+add-charge-of : tie.Need-add-charge-of Inv-loop μ-loop
+add-charge-of c =
     let l = c .before .before .before .before .loop in
     let s = c .before .before .before .before .before .before .before .before .before .before in
     let h : l .k < s .args .count = omega arith in
-    (record { lots = s .pre .most (l .k) h; price = s .pre .price (getD (now (s .args .issues)) (l .k) 0) }, s .pre .term)
+    omega (arith, s .pre .issue (l .k) h)
+
+mul-charge-of-3 : tie.Need-mul-charge-of-3 Inv-loop μ-loop
+mul-charge-of-3 c =
+    let l = c .before .before .before .before .loop in
+    let s = c .before .before .before .before .before .before .before .before .before .before in
+    let h : l .k < s .args .count = omega arith in
+    record { fits = omega (arith, s .pre .issue (l .k) h) }
+
+shared-slice-read-charge-of-3 : tie.Need-shared-slice-read-charge-of-3 Inv-loop μ-loop
+shared-slice-read-charge-of-3 c =
+    let l = c .before .before .before .before .before .loop in
+    let s = c .before .before .before .before .before .before .before .before .before .before .before in
+    let h : l .k < s .args .count = omega arith in
+    omega (arith, s .pre .issue (l .k) h, s .pre .counted)
+
+charge-of-requires : tie.Need-charge-of-requires Inv-loop μ-loop
+charge-of-requires c κs =
+    let l = c .before .before .before .before .before .loop in
+    let s = c .before .before .before .before .before .before .before .before .before .before .before in
+    let h : l .k < s .args .count = omega arith in
+    (record { lots = s .pre .most (l .k) h; price = s .pre .quoted (getD (now (s .args .issues)) (l .k) 0) (s .pre .issue (l .k) h) }, s .pre .term)
 
 cast-f : tie.Need-cast-f Inv-loop μ-loop
 cast-f c =
-    let l = c .before .before .before .before .before .before .loop in
-    let s = c .before .before .before .before .before .before .before .before .before .before .before .before in
+    let l = c .before .before .before .before .before .before .before .loop in
+    let s = c .before .before .before .before .before .before .before .before .before .before .before .before .before in
     let h : l .k < s .args .count = omega arith in
     record { fits = omega (arith, s .pre .from (l .k) h) }
 
 cast-t : tie.Need-cast-t Inv-loop μ-loop
 cast-t c =
-    let l = c .before .before .before .before .before .before .before .loop in
-    let s = c .before .before .before .before .before .before .before .before .before .before .before .before .before in
+    let l = c .before .before .before .before .before .before .before .before .loop in
+    let s = c .before .before .before .before .before .before .before .before .before .before .before .before .before .before in
     let h : l .k < s .args .count = omega arith in
     record { fits = omega (arith, s .pre .to (l .k) h) }
 
 pay-requires : tie.Need-pay-requires Inv-loop μ-loop
 pay-requires c κs =
-    let l = c .before .before .before .before .before .before .before .before .loop in
-    let s = c .before .before .before .before .before .before .before .before .before .before .before .before .before .before in
+    let l = c .before .before .before .before .before .before .before .before .before .loop in
+    let s = c .before .before .before .before .before .before .before .before .before .before .before .before .before .before .before in
     let h : l .k < s .args .count = omega arith in
     record {
       accounts = l .inv .1;
@@ -81,8 +102,8 @@ pay-requires c κs =
 
 loop-again : tie.Need-loop-again Inv-loop μ-loop
 loop-again c =
-    let l = c .before .before .before .before .before .before .before .before .before .before .loop in
-    let s = c .before .before .before .before .before .before .before .before .before .before .before .before .before .before .before .before in
+    let l = c .before .before .before .before .before .before .before .before .before .before .before .loop in
+    let s = c .before .before .before .before .before .before .before .before .before .before .before .before .before .before .before .before .before in
     let h : l .k < s .args .count = omega arith in
     let y = c .before .before .before .before .before .charge-of in
     let a = s .args in
@@ -94,7 +115,7 @@ loop-again c =
       λ j. let b = within-paid _ f t (y .result) (l .charges) (l .inv .2) j in
           rw p (omega (arith, y .ensures .most)),
       rw p
-          (charge-more (a .days) (a .rate) (now (a .prices)) (a .count) (now (a .issues)) (now (a .froms)) (now (a .tos))
+          (charge-more (a .days) (a .rate) (now (a .quotes)) (a .count) (now (a .issues)) (now (a .froms)) (now (a .tos))
           (now (a .lots)) (l .k) _ (l .charges) (y .result) h (y .ensures .exact) (l .inv .3)),
     )
 
@@ -102,10 +123,10 @@ returns : tie.Need-returns Inv-loop μ-loop
 returns c =
     let l = c .before .loop in
     let a = c .before .before .before .before .before .before .before .args in
-    let e = charge-end (a .days) (a .rate) (now (a .prices)) (a .count) (now (a .issues)) (now (a .froms)) (now (a .tos))
+    let e = charge-end (a .days) (a .rate) (now (a .quotes)) (a .count) (now (a .issues)) (now (a .froms)) (now (a .tos))
     (now (a .lots)) (l .k) _ (l .charges) (omega arith) (l .inv .3) in
     record {
-      charges = λ ds. e ∙ other-days (a .days) (a .rate) (now (a .prices)) (a .count) (now (a .issues))
+      charges = λ ds. e ∙ other-days (a .days) (a .rate) (now (a .quotes)) (a .count) (now (a .issues))
           (now (a .froms)) (now (a .tos))
           (now (a .lots)) [] ds (now (a .charges));
     }
@@ -123,6 +144,9 @@ charge-entries-spec =
     (λ c. search needs)
     mul-charge-of-2
     shared-slice-read-charge-of-2
+    add-charge-of
+    mul-charge-of-3
+    shared-slice-read-charge-of-3
     charge-of-requires
     (λ c. search needs)
     cast-f

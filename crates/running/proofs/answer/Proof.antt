@@ -22,8 +22,8 @@ abbrev begin : tie.After-slice-known8 → tie.Start
 begin c = c .before .before .before .before .before .before .before .before .before
 
 -- a call that is lent the output has room in it
-room : (s : tie.Start) (x : Instruction) → s .args .x ≡ x → HasRoom (callOf x (now (s .args .prices)) (now (s .args .out)))
-room s x e = subst (λ (y : Instruction). HasRoom (callOf y (now (s .args .prices)) (now (s .args .out)))) e (s .pre .1)
+room : (s : tie.Start) (x : Instruction) → s .args .x ≡ x → HasRoom (callOf x (now (s .args .quotes)) (now (s .args .out)))
+room s x e = subst (λ (y : Instruction). HasRoom (callOf y (now (s .args .quotes)) (now (s .args .out)))) e (s .pre .1)
 
 trade-requires : tie.Need-trade-requires
 trade-requires c κs = let s = begin (c .before .before .before .before) in (s .pre .0 .lengths .cells .nets, record { rest = book s; sound = s .pre .0 .sound })

@@ -23,14 +23,14 @@ start c = c .before .before .before .before .before .before .before .before
 
 -- no question is answered 'no'
 answered : (c : tie.Else1) → let a = start (c .before) .args in
-    firstNo (rollAsks (a .s .phase) (a .s .day) (a .days) (a .rate) (now (a .prices))) ≡ 0
+    firstNo (rollAsks (a .s .phase) (a .s .day) (a .days) (a .rate) (now (a .quotes))) ≡ 0
 answered c = sym (c .before .roll-asks .ensures) ∙ c .if1 .left
 
 returns : tie.Need-returns
 returns c b q =
     let s = start (c .before) in
     let a = s .args in
-    turn-no (within s b) (Roll (a .days) (a .rate) (now (a .prices))) refl q (a .s) (c .before .roll-asks .result) (c .before .roll-asks .ensures) (c .if1 .taken)
+    turn-no (within s b) (Roll (a .days) (a .rate) (now (a .quotes))) refl q (a .s) (c .before .roll-asks .result) (c .before .roll-asks .ensures) (c .if1 .taken)
 
 roll-in-requires : tie.Need-roll-in-requires
 roll-in-requires c κs =
@@ -38,7 +38,7 @@ roll-in-requires c κs =
     let s = start (k .before) in
     let a = s .args in
     let l = s .pre .0 in (
-      chargeable (within s (s .pre .1 .rest)) (a .days) (a .rate) (now (a .prices)) (s .pre .1 .sound) (answered k)
+      chargeable (within s (s .pre .1 .rest)) (a .days) (a .rate) (now (a .quotes)) (s .pre .1 .sound) (answered k)
           (l .issue) (l .from) (l .to) (l .lot) (l .accounts),
       record { nets = l .cells .nets; delivered = l .cells .delivered; lifts = l .words },
     )
@@ -47,7 +47,7 @@ next-day-requires : tie.Need-next-day-requires
 next-day-requires c κs =
     let k = c .before .before .before .before .before .before .before .before .before .before .before in
     let a = start (k .before) .args in
-    not-last (a .s .phase) (a .s .day) (a .days) (a .rate) (now (a .prices)) (answered k)
+    not-last (a .s .phase) (a .s .day) (a .days) (a .rate) (now (a .quotes)) (answered k)
 
 returns-2 : tie.Need-returns-2
 returns-2 c b q =
@@ -55,9 +55,9 @@ returns-2 c b q =
     let k = c .before .before .before .before .before .before .before .before .before .before .before .before in
     let s = start (k .before) in
     let a = s .args in
-    turn-yes (within s b) (Roll (a .days) (a .rate) (now (a .prices))) refl q _ (k .before .roll-asks .result) 0 0 _ _ (k .before .roll-asks .ensures) (k .if1 .left)
+    turn-yes (within s b) (Roll (a .days) (a .rate) (now (a .quotes))) refl q _ (k .before .roll-asks .result) 0 0 _ _ (k .before .roll-asks .ensures) (k .if1 .left)
     (rolled-on (a .s) _ (now (a .nets)) (now (a .delivered)) (now (a .lifts)) (now (a .charges)) (now (a .issues)) (now (a .froms)) (now (a .tos)) (now (a .lots))
-    (a .days) (a .rate) (now (a .prices)) _ _ _ _ b (c .next-day .ensures) (d .0 .charges (b .days)) (d .1 .nets) (d .1 .delivered) (d .1 .lifts))
+    (a .days) (a .rate) (now (a .quotes)) _ _ _ _ b (c .next-day .ensures) (d .0 .charges (b .days)) (d .1 .nets) (d .1 .delivered) (d .1 .lifts))
 
 pub roll-spec : {M : Type 1} → statement M
 roll-spec =

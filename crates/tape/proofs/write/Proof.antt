@@ -15,16 +15,16 @@ use Rattle.tape.proofs.write.Tie as tie
 returns : tie.Need-returns
 returns c =
     let a = c .before .before .before .before .args in
-    short-output (a .x) (now (a .prices)) (now (a .out)) _ (c .before .if1 .taken) (c .refused .ensures)
+    short-output (a .x) (now (a .quotes)) (now (a .out)) _ (c .before .if1 .taken) (c .refused .ensures)
 
 -- the instruction is y
 part : (e : tie.Else1) (y : Instruction) (r : Written) (lent : List ℕ) →
     let a = e .before .before .before .args in
-    a .x ≡ y → WriteAnswerIs (fitted (fieldsFit y (now (a .prices))) (wordsOf y (now (a .prices))) (now (a .out))) r lent →
-    WriteAnswerIs (writeOf (a .x) (now (a .prices)) (now (a .out))) r lent
+    a .x ≡ y → WriteAnswerIs (fitted (fieldsFit y (now (a .quotes))) (wordsOf y (now (a .quotes))) (now (a .out))) r lent →
+    WriteAnswerIs (writeOf (a .x) (now (a .quotes)) (now (a .out))) r lent
 part e y r lent p w =
     let a = e .before .before .before .args in
-    room-enough (a .x) (now (a .prices)) (now (a .out)) y lent r (e .if1 .left) p w
+    room-enough (a .x) (now (a .quotes)) (now (a .out)) y lent r (e .if1 .left) p w
 
 pub write-spec : {M : Type 1} → statement M
 write-spec =

@@ -1,4 +1,4 @@
--- The prices are those of the words, and what stands in the output changes nothing: so the answer is the run's.
+-- The quotes are those of the words, and what stands in the output changes nothing: so the answer is the run's.
 use native.Mathlib.Omega.{arith}
 use denote.Ref.{now}
 use Rattle.rules.specs.declared.Book.{Book}
@@ -35,7 +35,7 @@ returns c =
     let s = begin t in
     let a = s .args in
     let l = s .pre .1 .lengths in
-    let i = run-answer (book s) _ (t .answer .result) (now (a .words)) _ (now (a .out)) (a .x) (p .prices-of .ensures) (s .pre .1 .room) _ (t .answer .ensures) in
+    let i = run-answer (book s) _ (t .answer .result) (now (a .words)) _ (now (a .out)) (a .x) (p .quotes-of .ensures) (s .pre .1 .room) _ (t .answer .ensures) in
     record {
       printed = added-as 72 72 _ _ _ _ _ _ (omega arith)
           (same-line (a .index) _ _ _ _ _ _ (c .before .before .before .name-of .ensures) (i .refusal) (i .count)) (c .before .before .line .ensures);

@@ -2,6 +2,7 @@
 
 use crate::timing::{columns, times, COLUMNS};
 use reference::book::{Book, Entry, Phase, ENTRIES};
+use reference::measures::same_quotes;
 use tests::books::{move_lots, two_of, MENU};
 use tests::engines::by_reference;
 use tests::rng::Rng;
@@ -44,7 +45,7 @@ fn measured_calls() -> Vec<(Phase, Call)> {
         (Phase::Settling, Call::Cutoff { out }),
         (Phase::Settling, Call::Resolve { issue, account: 0, lots: 1_000, out }),
         (Phase::Settling, Call::PairOff { issue, account: 0 }),
-        (Phase::Cut, Call::Roll { days: 3, rate: 300, prices: vec![99_999; 16] }),
+        (Phase::Cut, Call::Roll { days: 3, rate: 300, quotes: same_quotes(99_999, 501).to_vec() }),
         (Phase::Taking, Call::Mark { issue, mark: 1 }),
     ]
 }

@@ -3,6 +3,7 @@
 use crate::calls::busy_book;
 use crate::timing::{columns, times, COLUMNS};
 use reference::book::{place, Book, Entry, Phase};
+use reference::measures::same_quotes;
 use tests::steps::Call;
 
 /// Prints the tables.
@@ -68,7 +69,12 @@ fn by_entries(rounds: usize) {
         let resolve = Call::Resolve { issue: 0, account: 0, lots: 1, out: 4_096 };
         line(&resolve, entries, &book, rounds);
         line(&Call::PairOff { issue: 0, account: 0 }, entries, &book, rounds);
-        line(&Call::Roll { days: 1, rate: 300, prices: vec![99_999; 16] }, entries, &book, rounds);
+        line(
+            &Call::Roll { days: 1, rate: 300, quotes: same_quotes(99_999, 501).to_vec() },
+            entries,
+            &book,
+            rounds,
+        );
     }
     table("Pair-off where every entry is met", "entries");
     for entries in [8, 128, 512, 1_024, 2_048] {

@@ -1,6 +1,8 @@
 //! Instructions a second and memory of the program and of the second engine's program.
 
 use reference::book::Phase;
+use reference::measures::same_quotes;
+use reference::questions::WRITER_OUTPUT;
 use reference::tape::{self, Instruction};
 use std::time::Duration;
 use tests::options::Options;
@@ -68,10 +70,10 @@ fn measure(program: &str, tape: &[u8]) -> Result<Printed, String> {
     Ok(quickest)
 }
 
-/// The words of an instruction, with this price for every issue.
+/// The words of an instruction, with this price and accrued amount for every issue.
 fn put(tape: &mut Vec<u8>, instruction: Instruction) {
-    let mut words = [0; 17];
-    let answer = tape::write(&instruction, &[99_999; 16], &mut words);
+    let mut words = [0; WRITER_OUTPUT];
+    let answer = tape::write(&instruction, &same_quotes(99_999, 501), &mut words);
     assert_eq!(answer.number, 0, "the instruction fits");
     tape.extend(words[..answer.count as usize].iter().flat_map(|word| word.to_le_bytes()));
 }

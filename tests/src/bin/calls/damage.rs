@@ -6,6 +6,7 @@
 use crate::Failure;
 use reference::book::{place, Book, Entry, Lift, Phase, ACCOUNTS};
 use reference::calls::Ticket;
+use reference::measures::same_quotes;
 use reference::soundness::MOST_CHARGE_A_DAY;
 use tests::books::{random_book, Shape};
 use tests::case::Case;
@@ -439,7 +440,7 @@ fn every_call() -> Vec<Call> {
         Call::Cutoff { out },
         Call::Resolve { issue, account, lots, out },
         Call::PairOff { issue, account },
-        Call::Roll { days: 1, rate: 300, prices: vec![100_000; 16] },
+        Call::Roll { days: 1, rate: 300, quotes: same_quotes(100_000, 0).to_vec() },
         Call::Mark { issue: 9, mark: 1 },
     ]
 }

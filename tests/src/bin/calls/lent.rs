@@ -2,12 +2,13 @@
 //!
 //! A phase above 2 and columns of other lengths are damage: `sound` says so, the unit question, `ask`
 //! and every call are refused by 2 (by 1 first, where the output is short) and every column and word
-//! stays as it came. A kind that is none is refused by 14 before anything else. Prices and outputs
+//! stays as it came. A kind that is none is refused by 14 before anything else. Quotes and outputs
 //! that a call does not use change nothing.
 
 use crate::Failure;
 use library::raw::{self, Answer, AskAnswer, Columns, ColumnsMut, UnitAnswer};
 use library::{Book, Fields, Phase};
+use reference::measures::same_quotes;
 use tests::books::{random_book, Shape};
 use tests::convert::library_book;
 use tests::engines::pattern;
@@ -198,7 +199,7 @@ fn refused_by_two(lent: &Lent) -> Result<u64, String> {
     for fields in instructions() {
         for out in OUTPUTS {
             let short = uses_output(fields[0]) && out < 4_096;
-            refused(lent, &fields, &[100_000; 16], out, if short { 1 } else { 2 })?;
+            refused(lent, &fields, &same_quotes(100_000, 501), out, if short { 1 } else { 2 })?;
             compared += 1;
         }
     }
@@ -228,7 +229,7 @@ fn no_kinds(book: &Book) -> Result<u64, String> {
     for lent in [Lent::of(book), Lent::of(&damaged)] {
         for kind in NO_KINDS {
             for out in OUTPUTS {
-                refused(&lent, &[kind, 3, 5, 6, 1], &[100_000; 16], out, 14)?;
+                refused(&lent, &[kind, 3, 5, 6, 1], &same_quotes(100_000, 501), out, 14)?;
                 compared += 1;
             }
         }
@@ -240,31 +241,31 @@ fn no_kinds(book: &Book) -> Result<u64, String> {
 fn refused(
     lent: &Lent,
     fields: &Fields,
-    prices: &[u32],
+    quotes: &[u32],
     out: usize,
     number: u32,
 ) -> Result<(), String> {
     let mut after = lent.clone();
     let mut output = pattern(out + 2 * MARGIN);
     let words = &mut output[MARGIN..MARGIN + out];
-    let answer = raw::call(&mut after.columns_mut(), fields, prices, words);
+    let answer = raw::call(&mut after.columns_mut(), fields, quotes, words);
     let case = format!("call {fields:?} with an output of {out} words");
     expect(&case, Answer { refusal: number, count: 0, cancelled: 0 }, answer)?;
     expect(&format!("{case}: the book is as it came"), true, after == *lent)?;
     expect(&format!("{case}: the output is as it came"), true, output == pattern(out + 2 * MARGIN))
 }
 
-/// The calls with prices and outputs that they do not use: the same answer and book as without.
+/// The calls with quotes and outputs that they do not use: the same answer and book as without.
 fn not_used(book: &Book, rng: &mut Rng) -> Result<u64, String> {
     for fields in instructions() {
         let kind = fields[0];
-        let prices: &[u32] = if kind == 7 { &[100_000; 16] } else { &[] };
+        let quotes: &[u32] = if kind == 7 { &same_quotes(100_000, 501) } else { &[] };
         let out = if uses_output(kind) { 4_096 } else { 0 };
-        let (answer, after, words) = made(book, &fields, prices, out);
-        let other_prices: Vec<u32> = (0..rng.range(0, 40)).map(|_| rng.next_u32()).collect();
-        let prices = if kind == 7 { prices } else { &other_prices };
-        let longer = if uses_output(kind) { 4_100 } else { *rng.pick(&[1, 17, 5_000]) };
-        let (answer2, after2, words2) = made(book, &fields, prices, longer);
+        let (answer, after, words) = made(book, &fields, quotes, out);
+        let other_quotes: Vec<u32> = (0..rng.range(0, 40)).map(|_| rng.next_u32()).collect();
+        let quotes = if kind == 7 { quotes } else { &other_quotes };
+        let longer = if uses_output(kind) { 4_100 } else { *rng.pick(&[1, 33, 5_000]) };
+        let (answer2, after2, words2) = made(book, &fields, quotes, longer);
         let case = format!("call {fields:?} with what it does not use");
         expect(&case, answer, answer2)?;
         expect(&format!("{case}: the book"), true, after == after2)?;
@@ -276,10 +277,10 @@ fn not_used(book: &Book, rng: &mut Rng) -> Result<u64, String> {
 }
 
 /// Makes a call on a copy of the book: the answer, the book after it and the output.
-fn made(book: &Book, fields: &Fields, prices: &[u32], out: usize) -> (Answer, Lent, Vec<u32>) {
+fn made(book: &Book, fields: &Fields, quotes: &[u32], out: usize) -> (Answer, Lent, Vec<u32>) {
     let mut after = Lent::of(book);
     let mut output = pattern(out);
-    let answer = raw::call(&mut after.columns_mut(), fields, prices, &mut output);
+    let answer = raw::call(&mut after.columns_mut(), fields, quotes, &mut output);
     (answer, after, output)
 }
 

@@ -7,6 +7,7 @@
 use crate::Failure;
 use reference::book::{place, Book, Phase};
 use reference::calls::{ask_on_sound, Ticket};
+use reference::measures::same_quotes;
 use reference::units::{handed, units_of};
 use tests::case::Case;
 use tests::engines::Answer;
@@ -133,7 +134,7 @@ fn eight(market: &Book) -> Result<u64, Mismatch> {
     case.expect(Call::Commit { ticket: stale, out: OUT }, 17)?;
     case.expect(Call::Commit { ticket, out: OUT - 1 }, 1)?;
     case.expect(Call::Cutoff { out: OUT }, 0)?;
-    case.expect(Call::Roll { days: 1, rate: 300, prices: vec![99_999; 16] }, 0)?;
+    case.expect(Call::Roll { days: 1, rate: 300, quotes: same_quotes(99_999, 0).to_vec() }, 0)?;
     Ok(case.engines.compared)
 }
 

@@ -5,6 +5,7 @@
 
 use crate::Failure;
 use reference::book::{Phase, ACCOUNTS};
+use reference::measures::same_quotes;
 use tests::books::{random_book, Shape};
 use tests::case::Case;
 use tests::random_calls::random_call;
@@ -43,7 +44,11 @@ fn fill_by_calls(coverage: &mut Coverage) -> Result<u64, Mismatch> {
         }
         make(&mut case, coverage, Call::Close)?;
         make(&mut case, coverage, Call::Cutoff { out: 4_096 })?;
-        make(&mut case, coverage, Call::Roll { days: 1, rate: 10_000, prices: vec![99_999; 16] })?;
+        make(
+            &mut case,
+            coverage,
+            Call::Roll { days: 1, rate: 10_000, quotes: same_quotes(99_999, 0).to_vec() },
+        )?;
     }
     let full = case.book().count == 2_048 && case.book().phase == Phase::Settling;
     assert!(full, "the ledger is filled by calls to 2,048 entries, and then cutoff is refused");

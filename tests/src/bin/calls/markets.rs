@@ -5,6 +5,7 @@
 
 use crate::Failure;
 use reference::book::{place, Book};
+use reference::measures::same_quotes;
 use tests::case::Case;
 use tests::report::Mismatch;
 use tests::steps::{Call, Edit};
@@ -90,7 +91,7 @@ fn run_market(market: &[i32; 4], pattern: &[Part; 3], down: bool) -> Result<u64,
     deliver_all(&mut case, pattern, down)?;
     case.expect(Call::Cutoff { out: OUT }, 0)?;
     resolve_some(&mut case)?;
-    case.expect(Call::Roll { days: 3, rate: 411, prices: vec![99_999; 16] }, 0)?;
+    case.expect(Call::Roll { days: 3, rate: 411, quotes: same_quotes(99_999, 0).to_vec() }, 0)?;
     let turned: Vec<i32> = market.iter().map(|net| -net).collect();
     for (account, lots) in ACCOUNTS.iter().zip(turned) {
         case.set(Edit::Net { issue: 5, account: *account as usize, lots })?;
@@ -100,7 +101,7 @@ fn run_market(market: &[i32; 4], pattern: &[Part; 3], down: bool) -> Result<u64,
     for account in ACCOUNTS {
         case.expect(Call::PairOff { issue: 5, account }, 0)?;
     }
-    case.expect(Call::Roll { days: 12, rate: 10_000, prices: vec![1; 16] }, 0)?;
+    case.expect(Call::Roll { days: 12, rate: 10_000, quotes: same_quotes(1, 0).to_vec() }, 0)?;
     Ok(case.engines.compared)
 }
 

@@ -7,6 +7,7 @@
 use crate::Failure;
 use reference::book::Entry;
 use reference::calls::Ticket;
+use reference::measures::same_quotes;
 use tests::case::Case;
 use tests::report::Mismatch;
 use tests::steps::{Call, Edit};
@@ -63,7 +64,7 @@ fn worked_day() -> Result<u64, Failure> {
     case.expect(resolve(99_999), 19)?;
     case.expect(resolve(100_000), 9)?;
     case.expect(resolve(40_000), 0)?;
-    case.expect(Call::Roll { days: 1, rate: 300, prices: vec![100_000; 16] }, 0)?;
+    case.expect(Call::Roll { days: 1, rate: 300, quotes: same_quotes(100_000, 0).to_vec() }, 0)?;
     case.expect(Call::Mark { issue, mark: 1 }, 20)?;
     entries(&case, &[(4, 1, 59_998)])?;
     case.expect(resolve(59_998), 0)?;
@@ -147,7 +148,7 @@ fn market(nets: [u32; 2], delivered: [u32; 2]) -> Result<u64, Mismatch> {
     }
     case.expect(Call::Cutoff { out: OUT }, 0)?;
     marks(&mut case)?;
-    case.expect(Call::Roll { days: 2, rate: 411, prices: vec![99_999; 16] }, 0)?;
+    case.expect(Call::Roll { days: 2, rate: 411, quotes: same_quotes(99_999, 0).to_vec() }, 0)?;
     marks(&mut case)?;
     while let Some(Entry { from, lots, .. }) = first_entry(&case) {
         let account = u32::from(from);

@@ -7,6 +7,7 @@
 use crate::Failure;
 use reference::book::{place, Book, Entry, Lift, Phase};
 use reference::calls::Ticket;
+use reference::measures::same_quotes;
 use tests::books::suited;
 use tests::case::Case;
 use tests::report::Mismatch;
@@ -23,7 +24,7 @@ struct Asked {
     lots: u32,
     days: u32,
     rate: u32,
-    prices: Vec<u32>,
+    quotes: Vec<u32>,
     ticket: Ticket,
     mark: u32,
 }
@@ -199,17 +200,23 @@ const RATE: &[Way] = &[
     (11, |asked| asked.rate = 10_001),
     (11, |asked| asked.rate = u32::MAX),
 ];
-const PRICES: &[Way] = &[
-    (0, |asked| asked.prices = vec![1; 16]),
-    (0, |asked| asked.prices = vec![200_000; 16]),
-    (11, |asked| asked.prices = vec![]),
-    (11, |asked| asked.prices = vec![1; 15]),
-    (11, |asked| asked.prices = vec![1; 17]),
-    (11, |asked| asked.prices[0] = 0),
-    (11, |asked| asked.prices[15] = 0),
-    (11, |asked| asked.prices[0] = 200_001),
-    (11, |asked| asked.prices[15] = 200_001),
-    (11, |asked| asked.prices[7] = u32::MAX),
+const QUOTES: &[Way] = &[
+    (0, |asked| asked.quotes = same_quotes(1, 0).to_vec()),
+    (0, |asked| asked.quotes = same_quotes(200_000, 0).to_vec()),
+    (0, |asked| asked.quotes = same_quotes(190_000, 10_000).to_vec()),
+    (11, |asked| asked.quotes = vec![]),
+    (11, |asked| asked.quotes = vec![1; 16]),
+    (11, |asked| asked.quotes = vec![1; 31]),
+    (11, |asked| asked.quotes = vec![1; 33]),
+    (11, |asked| asked.quotes[0] = 0),
+    (11, |asked| asked.quotes[15] = 0),
+    (11, |asked| asked.quotes[0] = 200_001),
+    (11, |asked| asked.quotes[15] = 200_001),
+    (11, |asked| asked.quotes[7] = u32::MAX),
+    (11, |asked| asked.quotes[16] = 10_001),
+    (11, |asked| asked.quotes[31] = u32::MAX),
+    (11, |asked| (asked.quotes[0], asked.quotes[16]) = (190_001, 10_000)),
+    (11, |asked| (asked.quotes[15], asked.quotes[31]) = (200_000, 1)),
 ];
 const DAY: &[Way] = &[
     (0, |asked| asked.book.day = 0),
@@ -228,7 +235,7 @@ const PLANS: [Plan; 11] = [
     ("cutoff", |asked| Call::Cutoff { out: asked.out }, &[OUTPUT, SETTLING, ROOM, SOUND]),
     ("resolve", resolve, &[OUTPUT, ANY_PHASE, ISSUE, FROM, OWED_IN_LEDGER, SOUND]),
     ("pair-off", pair_off, &[ANY_PHASE, ISSUE, FROM, SOUND]),
-    ("roll", roll, &[CUT, DAYS, RATE, PRICES, DAY, SOUND]),
+    ("roll", roll, &[CUT, DAYS, RATE, QUOTES, DAY, SOUND]),
     ("mark", mark, &[ANY_PHASE, ISSUE, MARK, MARKED_BEFORE, IN_USE, SOUND]),
 ];
 
@@ -273,7 +280,7 @@ fn start() -> Asked {
         lots: 1,
         days: 1,
         rate: 300,
-        prices: vec![100_000; 16],
+        quotes: same_quotes(100_000, 0).to_vec(),
         ticket: Ticket::default(),
         mark: 1,
     }
@@ -326,8 +333,8 @@ fn pair_off(asked: &Asked) -> Call {
 
 /// The roll asked.
 fn roll(asked: &Asked) -> Call {
-    let Asked { days, rate, ref prices, .. } = *asked;
-    Call::Roll { days, rate, prices: prices.clone() }
+    let Asked { days, rate, ref quotes, .. } = *asked;
+    Call::Roll { days, rate, quotes: quotes.clone() }
 }
 
 /// The mark asked.

@@ -6,7 +6,8 @@
 use crate::Failure;
 use library::raw::{self, ReadAnswer, WriteAnswer};
 use library::{Fields, Instruction as LibraryInstruction};
-use reference::book::ISSUES;
+use reference::book::QUOTES;
+use reference::questions::WRITER_OUTPUT;
 use reference::tape::{self, Instruction};
 use std::collections::BTreeMap;
 use std::fmt::Display;
@@ -16,9 +17,9 @@ use tests::report::Mismatch;
 use tests::rng::Rng;
 
 /// The words of a tape that are read at most, a roll's and some more.
-const MOST_WORDS: usize = 20;
+const MOST_WORDS: usize = 36;
 /// The lengths of the writer's output.
-const OUTPUTS: [usize; 6] = [0, 1, 16, 17, 18, 40];
+const OUTPUTS: [usize; 7] = [0, 1, 17, 32, 33, 34, 60];
 
 /// The kinds of the instructions.
 const KINDS: [u32; 8] = [1, 2, 3, 4, 5, 6, 7, 13];
@@ -49,8 +50,8 @@ pub fn run(seed: u64, cases: u64) -> Result<u64, Failure> {
     for at in 0..20 * cases {
         let mut rng = Rng::of_case(seed ^ 0x7461_7065, at);
         compared.read(&random_words(&mut rng))?;
-        let (fields, prices) = random_fields(&mut rng);
-        compared.write(&fields, &prices, *rng.pick(&OUTPUTS))?;
+        let (fields, quotes) = random_fields(&mut rng);
+        compared.write(&fields, &quotes, *rng.pick(&OUTPUTS))?;
     }
     compared.all_met().map_err(Failure::Told)?;
     Ok(compared.answers)
@@ -69,7 +70,7 @@ pub fn replay(text: &str) -> Result<String, String> {
             let fields = [words[0], words[1], words[2], words[3], words[4]];
             compared.write(&fields, &words[6..], words[5] as usize)
         }
-        _ => return Err("--replay takes: read WORDS, or write FIELDS OUT PRICES".to_string()),
+        _ => return Err("--replay takes: read WORDS, or write FIELDS OUT QUOTES".to_string()),
     }
     .map(|_| "the case agrees".to_string())
     .map_err(|mismatch| mismatch.to_string())
@@ -139,15 +140,15 @@ impl Compared {
                     let mut fields = used_fields(kind);
                     fields[field] = if fields[field] == 0 { 0 } else { number };
                     for out in OUTPUTS {
-                        self.write(&fields, &[7; 16], out)?;
+                        self.write(&fields, &[7; QUOTES], out)?;
                     }
                 }
             }
         }
-        for prices in edge_prices() {
+        for quotes in edge_quotes() {
             for out in OUTPUTS {
-                self.write(&used_fields(7), &prices, out)?;
-                self.write(&used_fields(1), &prices, out)?;
+                self.write(&used_fields(7), &quotes, out)?;
+                self.write(&used_fields(1), &quotes, out)?;
             }
         }
         Ok(())
@@ -158,14 +159,14 @@ impl Compared {
         for kind in NO_KINDS {
             for numbers in [0, 1] {
                 for out in OUTPUTS {
-                    self.write(&[kind, numbers, numbers, numbers, numbers], &[7; 16], out)?;
+                    self.write(&[kind, numbers, numbers, numbers, numbers], &[7; QUOTES], out)?;
                 }
             }
         }
         Ok(())
     }
 
-    /// Reads with both readers, prices too, 0 where a word is missing; writes back what was read.
+    /// Reads with both readers, quotes too, 0 where a word is missing; writes back what was read.
     fn read(&mut self, words: &[u32]) -> Result<(), Mismatch> {
         let answer = raw::read(words);
         let expected = match tape::read(words) {
@@ -178,26 +179,26 @@ impl Compared {
         let case = format!("read {}", listed(words.iter().map(|word| format!("{word:08x}"))));
         Mismatch::of(&case, expected, answer)?;
         self.note("read", answer.refusal);
-        let prices = raw::prices(words);
-        let mut expected = tape::prices(words);
-        expected.resize(ISSUES, 0);
-        Mismatch::of(&case, expected, prices.to_vec())?;
+        let quotes = raw::quotes(words);
+        let mut expected = tape::quotes(words);
+        expected.resize(QUOTES, 0);
+        Mismatch::of(&case, expected, quotes.to_vec())?;
         if answer.refusal != 0 {
             return Ok(());
         }
-        let mut written = vec![0; 17];
-        let wrote = raw::write(&answer.fields, &prices, &mut written);
+        let mut written = vec![0; WRITER_OUTPUT];
+        let wrote = raw::write(&answer.fields, &quotes, &mut written);
         Mismatch::of(&case, WriteAnswer { refusal: 0, count: answer.count }, wrote)?;
         Mismatch::of(&case, &words[..answer.count], &written[..answer.count])
     }
 
     /// Writes with both writers, and reads back what was written. A refusal leaves the output as it
     /// came.
-    fn write(&mut self, fields: &Fields, prices: &[u32], out: usize) -> Result<(), Mismatch> {
+    fn write(&mut self, fields: &Fields, quotes: &[u32], out: usize) -> Result<(), Mismatch> {
         let (mut reference, mut library) = (pattern(out + 2), pattern(out + 2));
-        let expected = by_reference(fields, prices, &mut reference[1..=out]);
-        let answer = raw::write(fields, prices, &mut library[1..=out]);
-        let case = format!("write {} {out} {}", listed(fields), listed(prices));
+        let expected = by_reference(fields, quotes, &mut reference[1..=out]);
+        let answer = raw::write(fields, quotes, &mut library[1..=out]);
+        let case = format!("write {} {out} {}", listed(fields), listed(quotes));
         Mismatch::of(&case, expected, answer)?;
         Mismatch::of(&case, &reference, &library)?;
         self.note("write", answer.refusal);
@@ -211,11 +212,11 @@ impl Compared {
 }
 
 /// The second engine's writer; a kind that is none is refused by 15, after question 1.
-fn by_reference(fields: &Fields, prices: &[u32], out: &mut [u32]) -> WriteAnswer {
+fn by_reference(fields: &Fields, quotes: &[u32], out: &mut [u32]) -> WriteAnswer {
     let Some(instruction) = LibraryInstruction::of_fields(*fields) else {
-        return WriteAnswer { refusal: if out.len() < 17 { 1 } else { 15 }, count: 0 };
+        return WriteAnswer { refusal: if out.len() < WRITER_OUTPUT { 1 } else { 15 }, count: 0 };
     };
-    let answer = tape::write(&reference_instruction(&instruction), prices, out);
+    let answer = tape::write(&reference_instruction(&instruction), quotes, out);
     WriteAnswer { refusal: answer.number, count: answer.count as usize }
 }
 
@@ -244,8 +245,8 @@ fn whole_instructions() -> Vec<Vec<u32>> {
             Instruction::Roll { days, rate },
             Instruction::Mark { issue, mark },
         ] {
-            let mut words = vec![0; 17];
-            let count = tape::write(&instruction, &[price; 16], &mut words).count as usize;
+            let mut words = vec![0; WRITER_OUTPUT];
+            let count = tape::write(&instruction, &[price; QUOTES], &mut words).count as usize;
             words.truncate(count);
             words.extend([0x5000_0000, 0xffff_ffff]);
             all.push(words);
@@ -268,14 +269,14 @@ fn used_fields(kind: u32) -> Fields {
     fields
 }
 
-/// Lists of prices: of every length at the edge, and one price at its limits and one past.
-fn edge_prices() -> Vec<Vec<u32>> {
-    let mut all: Vec<Vec<u32>> = [0, 1, 15, 16, 17, 32].map(|length| vec![1; length]).to_vec();
-    for at in 0..16 {
-        for price in [0, (1 << 18) - 1, 1 << 18, u32::MAX] {
-            let mut prices = vec![1; 16];
-            prices[at] = price;
-            all.push(prices);
+/// Lists of quotes: of every length at the edge, and one quote at its limits and one past.
+fn edge_quotes() -> Vec<Vec<u32>> {
+    let mut all: Vec<Vec<u32>> = [0, 1, 16, 17, 31, 32, 33].map(|length| vec![1; length]).to_vec();
+    for at in 0..QUOTES {
+        for quote in [0, (1 << 18) - 1, 1 << 18, u32::MAX] {
+            let mut quotes = vec![1; QUOTES];
+            quotes[at] = quote;
+            all.push(quotes);
         }
     }
     all
@@ -310,7 +311,7 @@ fn random_head(rng: &mut Rng) -> u32 {
     kind << 28 | (bits & used)
 }
 
-/// Random fields of a kind that has them, mostly in range, and prices.
+/// Random fields of a kind that has them, mostly in range, and quotes.
 fn random_fields(rng: &mut Rng) -> (Fields, Vec<u32>) {
     let used = used_fields(*rng.pick(&KINDS));
     let mut fields = used;
@@ -320,7 +321,7 @@ fn random_fields(rng: &mut Rng) -> (Fields, Vec<u32>) {
             fields[at] = rng.next_u32() >> bits;
         }
     }
-    let length = if rng.chance(9, 10) { 16 } else { rng.range(0, 20) };
+    let length = if rng.chance(9, 10) { 32 } else { rng.range(0, 40) };
     let low = rng.range(13, 15);
     (fields, (0..length).map(|_| rng.next_u32() >> low).collect())
 }

@@ -38,7 +38,7 @@ returns c =
     let a = s .args in
     let b = at s (state s) in
     as-it-came _ (now (a .phase)) b 14 (state s) (now (a .out)) refl
-    (no-kind (a .kind) (now (a .phase)) b (asked s) (now (a .prices)) (now (a .out)) (state s)
+    (no-kind (a .kind) (now (a .phase)) b (asked s) (now (a .quotes)) (now (a .out)) (state s)
     (sym (c .before .is-kind .ensures) ∙ not-true _ (c .if1 .taken)))
 
 returns-2 : tie.Need-returns-2
@@ -48,7 +48,7 @@ returns-2 c =
     let a = s .args in
     let b = at s (state s) in
     as-it-came _ (now (a .phase)) b (c .before .output-asks .result) (state s) (now (a .out)) refl
-    (short (a .kind) (now (a .phase)) (asked s) (i .instruction-of .result) (now (a .prices)) (now (a .out)) (kinded (i .before))
+    (short (a .kind) (now (a .phase)) (asked s) (i .instruction-of .result) (now (a .quotes)) (now (a .out)) (kinded (i .before))
     (i .instruction-of .ensures) b (state s) (c .before .output-asks .result) (c .before .output-asks .ensures) (c .if2 .taken))
 
 returns-3 : tie.Need-returns-3
@@ -59,7 +59,7 @@ returns-3 c =
     let a = s .args in
     let b = at s (state s) in
     as-it-came _ (now (a .phase)) b 2 (state s) (now (a .out)) refl
-    (no-phase (a .kind) (now (a .phase)) (asked s) (i .instruction-of .result) (now (a .prices)) (now (a .out)) (kinded (i .before))
+    (no-phase (a .kind) (now (a .phase)) (asked s) (i .instruction-of .result) (now (a .quotes)) (now (a .out)) (kinded (i .before))
     (i .instruction-of .ensures) b (state s) (e .before .output-asks .result) (e .before .output-asks .ensures) (e .if2 .left) (c .if3 .taken))
 
 abbrev made-call : tie.After-number-of → tie.After-call
@@ -79,7 +79,7 @@ returns-4 c =
     let a = s .args in
     as-turned _ (now (a .phase)) (n .number-of .result) (at s (state s)) _ _ _ _ _ _ _ _ _ (k .call .result) _ (e .if3 .left)
     (n .number-of .ensures)
-    (made (a .kind) (now (a .phase)) (asked s) (i .instruction-of .result) (now (a .prices)) (now (a .out)) (kinded (i .before))
+    (made (a .kind) (now (a .phase)) (asked s) (i .instruction-of .result) (now (a .quotes)) (now (a .out)) (kinded (i .before))
     (i .instruction-of .ensures) (at s) (state s) (t .state-of .result) (k .call .result) _ _ (e .if3 .left) (t .state-of .ensures)
     (k .call .ensures))
 

@@ -11,12 +11,12 @@ use Rattle.exports.proofs.reading.day_write.Tie as tie
 returns : tie.Need-returns
 returns c =
     let a = c .before .before .before .args in
-    too-short (a .kind) (instructionOf (a .kind) (a .a) (a .b) (a .c) (a .d)) (now (a .prices)) (now (a .out)) (c .if1 .taken)
+    too-short (a .kind) (instructionOf (a .kind) (a .a) (a .b) (a .c) (a .d)) (now (a .quotes)) (now (a .out)) (c .if1 .taken)
 
 returns-2 : tie.Need-returns-2
 returns-2 c =
     let a = c .before .before .before .before .before .args in
-    no-kind (a .kind) (instructionOf (a .kind) (a .a) (a .b) (a .c) (a .d)) (now (a .prices)) (now (a .out)) (c .before .before .if1 .left)
+    no-kind (a .kind) (instructionOf (a .kind) (a .a) (a .b) (a .c) (a .d)) (now (a .quotes)) (now (a .out)) (c .before .before .if1 .left)
     (sym (c .before .is-kind .ensures) ∙ not-true _ (c .if2 .taken))
 
 returns-3 : tie.Need-returns-3
@@ -24,7 +24,7 @@ returns-3 c =
     let k = c .before .before in
     let e = k .before .before .before in
     let a = e .before .before .before .before .before .args in
-    of-kind (a .kind) (instructionOf (a .kind) (a .a) (a .b) (a .c) (a .d)) (k .before .before .instruction-of .result) (now (a .prices))
+    of-kind (a .kind) (instructionOf (a .kind) (a .a) (a .b) (a .c) (a .d)) (k .before .before .instruction-of .result) (now (a .quotes))
     (now (a .out)) (k .write .result) _ (k .before .before .instruction-of .ensures)
     (sym (e .before .is-kind .ensures) ∙ not-false _ (e .if2 .left)) (k .write .ensures)
 

@@ -7,7 +7,7 @@ use borrow.Author.Needs.{needs}
 use denote.Ref.{now}
 use Rattle.rules.specs.Book.{cellsEven}
 use Rattle.soundness.specs.EvenScan.{allCells}
-use Rattle.soundness.proofs.LiftLaws.{restOfIssues, issues-more, issues-end}
+use Rattle.laws.proofs.Scans.{restOfIssues, issues-more, issues-end}
 use Rattle.soundness.proofs.EvenLaws.{cells-start}
 use Rattle.soundness.proofs.evens.cells_even.Statement.{statement}
 use Rattle.soundness.proofs.evens.cells_even.Tie as tie

@@ -7,7 +7,8 @@ use borrow.Author.Needs.{needs}
 use denote.Ref.{now}
 use Rattle.rules.specs.Book.{orderIn, liftsSound}
 use Rattle.soundness.specs.LiftScan.{allLifts}
-use Rattle.soundness.proofs.LiftLaws.{restOfIssues, issues-more, issues-end, lifts-start}
+use Rattle.laws.proofs.Scans.{restOfIssues, issues-more, issues-end}
+use Rattle.soundness.proofs.LiftLaws.{lifts-start}
 use Rattle.soundness.proofs.lifts.lifts_sound.Statement.{statement}
 use Rattle.soundness.proofs.lifts.lifts_sound.Tie as tie
 
