@@ -1,11 +1,12 @@
 /* The settlement-day book for hosts in C and C++.
  *
- * The functions are in three static libraries, which `make libraries` makes:
+ * The functions are in four static libraries, which `make libraries` makes:
  *
  *     target/staticlib/libexports.a   day_sound day_unit day_call day_ask day_commit day_read
  *                                     day_quotes day_write
  *     target/staticlib/libdesk.a      day_value day_charge
  *     target/staticlib/libentries.a   entry_meet
+ *     target/staticlib/libtrust.a     day_trust
  *
  * Each is proved to answer as the rules say for every number and every book, damaged ones too.
  * What the host has to see to: a pointer is valid for the length given beside it, also where the
@@ -38,6 +39,8 @@ extern "C" {
 #define DAY_ENTRIES 2048u   /* the most fail entries of the ledger */
 #define DAY_OUT_WORDS 4096u /* an output of deliver, commit, cutoff, resolve has at least so many words */
 #define DAY_TAPE_WORDS 33u  /* the output of day_write has at least so many words */
+#define DAY_REPORTS 256u    /* the most trade reports, and the places of the output of day_trust */
+#define DAY_SUB_ACCOUNTS 32u /* sub-accounts 0 to 31 */
 #define DAY_STACK_BYTES 32768u /* the most stack that a call needs; measured: 20,496 */
 
 /* The place of an issue and an account, both in range, in nets and delivered lots. */
@@ -83,13 +86,13 @@ extern "C" {
 /* ---- refusals: the number of the first question answered 'no'; nothing is changed then */
 
 #define DAY_DONE 0u
-#define DAY_REFUSED_OUTPUT 1u   /* the output has fewer than 4,096 words (writer: 33) */
+#define DAY_REFUSED_OUTPUT 1u   /* the output has fewer than 4,096 words (writer: 33, trust: 256) */
 #define DAY_REFUSED_BOOK 2u     /* the book is not sound, or a column has another length */
 #define DAY_REFUSED_PHASE 3u    /* the call belongs to another phase */
 #define DAY_REFUSED_ISSUE 4u    /* the issue is above 15 */
 #define DAY_REFUSED_ACCOUNT 5u  /* an account is above 63 */
 #define DAY_REFUSED_SAME 6u     /* from and to are the same account */
-#define DAY_REFUSED_LOTS 7u     /* lots are not 1 to 20,000,000 */
+#define DAY_REFUSED_LOTS 7u     /* lots are not 1 to 20,000,000 (a report's: within ±20,000,000) */
 #define DAY_REFUSED_NET 8u      /* a net would pass 20,000,000 lots to one side */
 #define DAY_REFUSED_OWED 9u     /* the account does not owe that many lots */
 #define DAY_REFUSED_ROOM 10u    /* the ledger would have more than 2,048 entries */
@@ -103,6 +106,9 @@ extern "C" {
 #define DAY_REFUSED_LIFTS 18u   /* eight lifts stand for the issue */
 #define DAY_REFUSED_ODD 19u     /* lots are odd in a marked issue (trade, deliver, resolve) */
 #define DAY_REFUSED_IN_USE 20u  /* the issue has a net or an entry, so its mark stays (mark) */
+#define DAY_REFUSED_DRAW 21u    /* the list is not each report number just once; a column's length */
+#define DAY_REFUSED_REPORTS 22u /* more than 256 reports, or a sub-account above 31 */
+#define DAY_REFUSED_ELIGIBLE 23u /* the fail is larger than the eligible lots */
 
 /* ---- the libraries' functions
  *
@@ -218,6 +224,21 @@ struct day_entry {
 /* Lowers the lots of the entry at a place by at most so many, and answers how many were met; 0 where
  * there is no such entry. */
 uint32_t entry_meet(struct day_entry *entries, size_t length, size_t at, uint32_t lots);
+
+/* Each trade report's share of a fail inside a trust account, at the place of its number in out, 0
+ * where it takes none. Of one issue's reports of the day the columns have a place each: sub-account,
+ * counterparty, lots (above 0 received, below 0 delivered), earlier fail (0: none). The draw has each
+ * report number from 0 just once, in the order drawn. Reports with an earlier fail are dropped, and
+ * receipts and deliveries of each sub-account set off; those with lots above 0, of sub-accounts that
+ * receive more than they deliver, take lots up to their own, first those whose counterparty is the
+ * failing account, then the others. out has at least 256 places; those beyond the reports keep their
+ * content, and on a refusal (1, 5, 7, 21, 22, 23) all do. */
+uint32_t day_trust(const uint32_t *sub_accounts, size_t sub_accounts_length,
+                   const uint32_t *counterparties, size_t counterparties_length,
+                   const int32_t *lots, size_t lots_length,
+                   const uint8_t *earlier, size_t earlier_length,
+                   const uint32_t *draw, size_t draw_length,
+                   uint32_t fail, uint32_t failing, uint32_t *out, size_t out_length);
 
 /* ---- a book as a struct, and the calls on it */
 
@@ -480,6 +501,9 @@ static inline const char *day_refusal_text(uint32_t refusal)
     case DAY_REFUSED_LIFTS: return "eight lifts stand for the issue";
     case DAY_REFUSED_ODD: return "lots are odd in a marked issue";
     case DAY_REFUSED_IN_USE: return "the issue has a net or an entry";
+    case DAY_REFUSED_DRAW: return "the list is not each report number just once";
+    case DAY_REFUSED_REPORTS: return "more than 256 reports, or a sub-account above 31";
+    case DAY_REFUSED_ELIGIBLE: return "the fail is larger than the eligible lots";
     default: return "no refusal of the rules";
     }
 }

@@ -97,6 +97,22 @@ static void make_charge(void)
     refusal |= day_value(20000000, 190000, 10000, &yen);
 }
 
+/* 256 reports, the worst case of every question and of the allotting. */
+static void make_trust(void)
+{
+    static uint32_t subs[DAY_REPORTS], parties[DAY_REPORTS], draw[DAY_REPORTS];
+    static int32_t lots[DAY_REPORTS];
+    static uint8_t earlier[DAY_REPORTS];
+    for (uint32_t report = 0; report < DAY_REPORTS; report++) {
+        subs[report] = report % DAY_SUB_ACCOUNTS;
+        parties[report] = report % DAY_ACCOUNTS;
+        draw[report] = DAY_REPORTS - 1 - report;
+        lots[report] = 1000;
+    }
+    refusal |= day_trust(subs, DAY_REPORTS, parties, DAY_REPORTS, lots, DAY_REPORTS, earlier,
+                         DAY_REPORTS, draw, DAY_REPORTS, 256000, 4, out, DAY_OUT_WORDS);
+}
+
 static void make_nothing(void) {}
 
 struct measured {
@@ -114,7 +130,7 @@ static const struct measured measures[] = {
     {"unit, lifted", make_unit_lifted},  {"deliver, lifted", make_lifted},
     {"sound, lifted", make_sound},       {"cutoff, lifted", make_cutoff},
     {"pair-off", make_pair_off},  {"write", make_write},           {"read", make_read},
-    {"value and charge", make_charge},
+    {"value and charge", make_charge},   {"trust", make_trust},
 };
 
 static void *run(void *make)

@@ -23,6 +23,26 @@ extern "C" {
     pub fn entry_meet(entries: *mut Entry, length: usize, at: usize, lots: u32) -> u32;
 }
 
+// libtrust.a
+extern "C" {
+    pub fn day_trust(
+        sub_accounts: *const u32,
+        sub_accounts_length: usize,
+        counterparties: *const u32,
+        counterparties_length: usize,
+        lots: *const i32,
+        lots_length: usize,
+        earlier: *const u8,
+        earlier_length: usize,
+        draw: *const u32,
+        draw_length: usize,
+        fail: u32,
+        failing: u32,
+        out: *mut u32,
+        out_length: usize,
+    ) -> u32;
+}
+
 // libexports.a
 extern "C" {
     pub fn day_sound(
