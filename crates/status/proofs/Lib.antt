@@ -1,3 +1,4 @@
 pub mod UpTo
 pub mod Telling
 pub mod Numbers
+pub mod Between
