@@ -1,23 +1,21 @@
 -- In Settling, after any list of calls with no lift of the issue between and no cutoff, a unit that waits for n lots is
 -- handed exactly if n or more were delivered, and else waits for the rest.
 use mathlib.Core.Path.{_≡_, refl, sym, ap, _∙_}
-use mathlib.Core.Bool.{Bool, true, false, cond, not, false≢true, _&&_}
+use mathlib.Core.Bool.{Bool, true, false, cond, not, false≢true}
 use mathlib.Core.List.{List, [], _∷_}
-use Prim.Native.Nat.{ℕ, suc, _+_, _-_, _≤_, _<_}
+use Prim.Native.Nat.{ℕ, _+_, _-_, _≤_, _<_}
 use native.Mathlib.Omega.{arith}
 use native.Mathlib.Nat.{add-zero}
 use lib.Dec.{leb, ltb, eqb}
 use lib.ListN.{length, drop}
-use borrow.Author.Tests.{leb-true, le-leb, ltb-true, ltb-false, lt-ltb, le-ltb, eqb-true, eqb-false, eq-eqb, not-true}
+use borrow.Author.Tests.{leb-true, le-leb, ltb-true, lt-ltb, eqb-true, eqb-false, not-true}
 use Rattle.rules.specs.declared.Book.{Book}
-use Rattle.rules.specs.declared.Phase.{Phase}
-use Rattle.rules.specs.declared.Phase.the-variants.{Taking, Settling, Cut}
 use Rattle.rules.specs.Measures.{sum}
-use Rattle.rules.specs.Units.{AccountLots, sumLots}
+use Rattle.rules.specs.Units.{AccountLots}
 use Rattle.rules.specs.Handover.{covered, stock, firstUnit}
 use Rattle.rules.specs.Book.{isTaking, isSettling, isCut, deliveredAt, deliveredTotal, orderOf, sound}
 use Rattle.rules.specs.Questions.{ask, firstNo}
-use Rattle.rules.specs.Calls.{Call, Trade, Close, Deliver, Ask, Commit, Cutoff, Resolve, PairOff, Roll, Answer, asks, effect, called, commitLift}
+use Rattle.rules.specs.Calls.{Call, Trade, Close, Deliver, Ask, Commit, Cutoff, Resolve, PairOff, Roll, asks, effect, called, commitLift}
 use Rattle.laws.proofs.Basics.{byTest}
 use Rattle.laws.proofs.Answers.{AllYes, by-answer}
 use Rattle.laws.proofs.Cells.{row-other, delivered-rises}
@@ -26,6 +24,7 @@ use Rattle.laws.proofs.Sound.{sound-parts, parts-sound}
 use Rattle.laws.proofs.Called.{Sizes, Standing, stands}
 use Rattle.status.specs.Status.{StatusAnswer, isHanded, waitsFor, failsPartly, failsWholly, statusRefused, covers, wanted, takesStock, inSettling, afterCutoff, statusAnswer, status}
 use Rattle.status.specs.Lists.{after, AllPass, noLift, lotsIn, accepted, brought, HandedFor, Delivery, deliveries, AllAccepted, lotsTo}
+use Rattle.status.proofs.Phases.{settling-left, settling-not-taking, settling-not-cut}
 use Rattle.status.proofs.Telling.{exactly}
 
 -- What an answer says
@@ -79,21 +78,6 @@ handed-covered : (c : Bool) (w : ℕ) → cond c isHanded (waitsFor w) ≡ isHan
 handed-covered true w e = refl
 handed-covered false w e = absurd (let q = ap caseOf e in omega arith)
 
-settling-left : (p : Phase) → isTaking p ≡ false → isCut p ≡ false → isSettling p ≡ true
-settling-left Taking a b = absurd (false≢true (sym a))
-settling-left Settling a b = refl
-settling-left Cut a b = absurd (false≢true (sym b))
-
-not-taking : (p : Phase) → isSettling p ≡ true → isTaking p ≡ false
-not-taking Taking h = absurd (false≢true h)
-not-taking Settling h = refl
-not-taking Cut h = refl
-
-not-cut : (p : Phase) → isSettling p ≡ true → isCut p ≡ false
-not-cut Taking h = refl
-not-cut Settling h = refl
-not-cut Cut h = absurd (false≢true h)
-
 -- a unit waits for n lots
 pub record Waits (b : Book) (i k n : ℕ) : Type 0 where
   pub good : sound b ≡ true
@@ -123,7 +107,7 @@ pub in-settling : (b : Book) (i k : ℕ) → sound b ≡ true → isSettling (b 
     status b i k ≡ inSettling (orderOf b i) (deliveredTotal (b .delivered) i) k
 unfolding status
 in-settling b i k g p h t =
-    simp (g, not-taking (b .phase) p, not-cut (b .phase) p, le-leb i 15 h, lt-ltb k (length (orderOf b i)) t)
+    simp (g, settling-not-taking (b .phase) p, settling-not-cut (b .phase) p, le-leb i 15 h, lt-ltb k (length (orderOf b i)) t)
 
 -- A call between
 
@@ -153,8 +137,8 @@ module _ (b : Book) (z : Sizes b) (i : ℕ) (p : isSettling (b .phase) ≡ true)
       }
 
   does : (c : Call) → noLift i c ≡ true → AllYes (asks b c) → Brings b (effect b c .book) i (lotsIn i c)
-  does (Trade j f t x) h y = absurd (false≢true (sym (not-taking (b .phase) p) ∙ y .1 .0))
-  does Close h y = absurd (false≢true (sym (not-taking (b .phase) p) ∙ y .1 .0))
+  does (Trade j f t x) h y = absurd (false≢true (sym (settling-not-taking (b .phase) p) ∙ y .1 .0))
+  does Close h y = absurd (false≢true (sym (settling-not-taking (b .phase) p) ∙ y .1 .0))
   does (Deliver j a x out) h y =
       delivers j a x out (omega (arith, leb-true j 15 (y .1 .1 .1 .0))) (omega (arith, leb-true a 63 (y .1 .1 .1 .1 .0)))
   does (Ask j k) h y = nothing b i p
@@ -170,7 +154,7 @@ module _ (b : Book) (z : Sizes b) (i : ℕ) (p : isSettling (b .phase) ≡ true)
   does (Cutoff out) h y = absurd (false≢true h)
   does (Resolve j a x out) h y = record { phase = p; order = refl; total = sym (add-zero (deliveredTotal (b .delivered) i)) }
   does (PairOff j a) h y = record { phase = p; order = refl; total = sym (add-zero (deliveredTotal (b .delivered) i)) }
-  does (Roll days rate prices) h y = absurd (false≢true (sym (not-cut (b .phase) p) ∙ y .1 .0))
+  does (Roll days rate prices) h y = absurd (false≢true (sym (settling-not-cut (b .phase) p) ∙ y .1 .0))
 
   brings : (c : Call) → noLift i c ≡ true → Brings b (called b c .book) i (accepted (called b c .refusal) (lotsIn i c))
   brings c h =

@@ -1,5 +1,5 @@
 -- A host's numbers: phases, and what is told of a book whose phase may be none.
-use mathlib.Core.Path.{_≡_, refl, sym, ap, _∙_}
+use mathlib.Core.Path.{_≡_, refl, ap, _∙_}
 use Prim.Native.Nat.{ℕ, zero, suc, _≤_, _<_}
 use borrow.Author.Tests.{le-leb, lt-leb}
 use Rattle.rules.specs.declared.Book.{Book}

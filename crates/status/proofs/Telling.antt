@@ -1,22 +1,22 @@
 -- When a unit is handed, and what is told of it where it is not.
 use mathlib.Core.Path.{_≡_, refl, sym, ap, _∙_}
-use mathlib.Core.Bool.{Bool, true, false, cond, not, _&&_}
+use mathlib.Core.Bool.{Bool, true, false, cond, _&&_}
 use mathlib.Core.List.{List, [], _∷_}
-use Prim.Native.Nat.{ℕ, zero, suc, _-_, _+_, _≤_, _<_}
+use Prim.Native.Nat.{ℕ, zero, suc, _-_, _≤_, _<_}
 use native.Mathlib.Omega.{arith}
 use lib.Dec.{leb, ltb, eqb}
 use lib.ListN.{length, take, drop, length-drop}
 use lib.IntN.{ℤ}
-use borrow.Author.Tests.{leb-true, leb-false, le-leb, lt-leb, lt-ltb, le-ltb, eq-eqb}
+use borrow.Author.Tests.{leb-true, leb-false, le-leb, lt-leb, lt-ltb, le-ltb}
 use Rattle.rules.specs.declared.Book.{Book}
 use Rattle.rules.specs.declared.Phase.{Phase}
 use Rattle.rules.specs.Units.{AccountLots, accountLots, sumLots}
-use Rattle.rules.specs.Handover.{covered, stock, waiting, firstUnit}
+use Rattle.rules.specs.Handover.{covered, stock, firstUnit}
 use Rattle.rules.specs.Book.{isTaking, isCut, deliveredTotal, orderIn}
 use Rattle.laws.proofs.Basics.{byTest, either}
-use Rattle.laws.proofs.Handover.{covered-le, stock-below, waits-short}
+use Rattle.laws.proofs.Handover.{stock-below, waits-short}
 use Rattle.soundness.specs.Sound.{lengthsRight, soundIn}
-use Rattle.status.specs.Status.{StatusAnswer, isHanded, waitsFor, failsPartly, failsWholly, statusRefused, covers, wanted, inSettling, takesStock, afterCutoff, reason, status}
+use Rattle.status.specs.Status.{isHanded, waitsFor, failsPartly, failsWholly, statusRefused, wanted, inSettling, afterCutoff, status}
 use Rattle.status.specs.Columns.{reasonAt, statusOf, statusWhere, statusIn}
 
 -- a unit is handed exactly if the units up to it, it included, have no more lots than are delivered

@@ -1,5 +1,4 @@
 -- What is told of a unit, from the columns of a sound book and from columns of any length.
-use mathlib.Core.Path.{_≡_}
 use mathlib.Core.Bool.{Bool}
 use mathlib.Core.List.{List, [], _∷_}
 use Prim.Native.Nat.{ℕ, _≤_, _<_}

@@ -1,12 +1,12 @@
 -- The settled days P6 to P8, and days with lifts and a resolve: what is told of their units, as one list with one proof.
-use mathlib.Core.Path.{_≡_, refl}
+use mathlib.Core.Path.{refl}
 use mathlib.Core.List.{List, [], _∷_, _++_}
 use Rattle.rules.specs.Units.{units}
 use Rattle.rules.specs.Handover.{handovers, partials}
 use Rattle.rules.specs.Lifts.{lift, handedFrom}
 use Rattle.rules.specs.Fails.{lacks, fails}
-use Rattle.rules.specs.Book.{liftConditions, liftsSound, conditions, sound, orderIn, fresh}
-use Rattle.rules.specs.Calls.{Answer, Deliver, Cutoff, called, issuePartials, issueFails}
+use Rattle.rules.specs.Book.{liftConditions, liftsSound, conditions, sound, orderIn}
+use Rattle.rules.specs.Calls.{Answer, Cutoff, called, issuePartials, issueFails}
 use Rattle.rules.specs.Tally.{inIssue}
 use Rattle.rules.specs.Days.{lent, traded1, traded2, traded3, closed, delivered1, delivered2, cut, resolved, committed7, Case, case, Holds}
 use Rattle.status.specs.Status.{isHanded, waitsFor, failsPartly, failsWholly, statusRefused, inSettling, afterCutoff, status}

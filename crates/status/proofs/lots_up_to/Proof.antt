@@ -1,11 +1,11 @@
 -- The invariant: what is summed, and what is left to sum of the runs from j on.
-use mathlib.Core.Path.{_≡_, refl, sym, ap, _∙_}
-use Prim.Native.Nat.{suc, _+_, _-_, _*_, _/_, _≤_, _<_}
+use mathlib.Core.Path.{_≡_, refl, sym, ap}
+use Prim.Native.Nat.{suc, _+_, _-_, _/_, _≤_, _<_}
 use native.Mathlib.Omega.{arith}
 use denote.Ref.{now}
 use lib.ListN.{take, getD}
 use Rattle.rules.specs.Units.{sumLots}
-use Rattle.units.specs.Runs.{runsIn, unitsOfRuns, unitsIn}
+use Rattle.units.specs.Runs.{unitsOfRuns, unitsIn}
 use Rattle.units.proofs.Loops.{runs-end}
 use Rattle.status.proofs.UpTo.{from, sum-next, up-next, up-last}
 use borrow.Author.Needs.{needs}

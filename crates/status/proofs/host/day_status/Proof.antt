@@ -1,5 +1,5 @@
 -- A number that is no phase is asked first; then what is told is told in plain numbers.
-use mathlib.Core.Path.{_≡_, ap, _∙_}
+use mathlib.Core.Path.{ap, _∙_}
 use denote.Ref.{now}
 use Rattle.rules.specs.declared.Book.{Book}
 use Rattle.book.specs.declared.State.{State}
