@@ -1,7 +1,7 @@
 /* day: the settled day P5 to P9 run through the library, as a host in C runs its book. Prints the
- * units in their order, each delivery with what was handed over, a refused delivery, a lift of unit 7
- * on a copy of the book with the cutoff that follows from it, then the fails of the day's own cutoff
- * and the charges of the roll. */
+ * units in their order, each delivery with what was handed over, a refused delivery, why units have
+ * not come, a lift of unit 7 on a copy of the book with the cutoff that follows from it, then the fails
+ * of the day's own cutoff and the charges of the roll. */
 #include <inttypes.h>
 #include <stdio.h>
 
@@ -86,6 +86,23 @@ static int deliver_too_much(void)
     printf("account 5 delivers 55001 lots: refused by %" PRIu32 ", %s\n", answer.refusal,
            day_refusal_text(answer.refusal));
     return answer.refusal == DAY_REFUSED_OWED && answer.count == 0;
+}
+
+/* Why a unit has not come, as the desk tells it to a receiver. */
+static int tell(uint32_t k)
+{
+    struct day_status_answer told = day_book_status(&book, ISSUE, k);
+    printf("why unit %" PRIu32 " has not come: ", k);
+    switch (told.status) {
+    case DAY_HANDED: printf("it is handed\n"); break;
+    case DAY_WAITING: printf("it waits for %" PRIu32 " lots\n", told.lots); break;
+    case DAY_PARTLY_FAILED: printf("partly failed, %" PRIu32 " lots lacking\n", told.lots); break;
+    case DAY_WHOLLY_FAILED: printf("wholly failed\n"); break;
+    default:
+        printf("refused by %" PRIu32 "\n", told.refusal);
+        return told.refusal == DAY_REFUSED_UNIT && told.lots == 0;
+    }
+    return told.refusal == DAY_DONE;
 }
 
 /* P8: the cutoff, its partial handover and its fails. */
@@ -179,8 +196,9 @@ static int roll(uint32_t days, uint32_t rate, uint32_t price)
 int main(void)
 {
     day_book_fresh(&book);
-    int as_expected = take_trades() && show_units() && deliver(5, 345000) && deliver(4, 200000) &&
-                      deliver_too_much() && lift() && cut(&book) && roll(1, 300, 100000);
+    int as_expected = take_trades() && show_units() && deliver(5, 345000) && tell(2) && tell(3) &&
+                      deliver(4, 200000) && deliver_too_much() && lift() && cut(&book) && tell(5) &&
+                      tell(6) && tell(8) && roll(1, 300, 100000);
     if (fflush(stdout) != 0 || ferror(stdout)) {
         perror("day: the lines could not be written");
         return NOT_WRITTEN;

@@ -23,7 +23,7 @@ use Rattle.laws.proofs.LiftColumn.{raised-order, lift-other, same-words}
 use Rattle.laws.proofs.Sound.{sound-parts, parts-sound}
 use Rattle.laws.proofs.Called.{Sizes, Standing, stands}
 use Rattle.status.specs.Status.{StatusAnswer, isHanded, waitsFor, failsPartly, failsWholly, statusRefused, covers, wanted, takesStock, inSettling, afterCutoff, statusAnswer, status}
-use Rattle.status.specs.Lists.{after, AllPass, noLift, lotsIn, accepted, brought, HandedFor, Delivery, deliveries, AllAccepted, lotsTo}
+use Rattle.status.specs.Lists.{after, AllPass, noLift, lotsIn, ifAccepted, brought, HandedFor, Delivery, deliveries, AllAccepted, lotsTo}
 use Rattle.status.proofs.Phases.{settling-left, settling-not-taking, settling-not-cut}
 use Rattle.status.proofs.Telling.{exactly}
 
@@ -156,9 +156,9 @@ module _ (b : Book) (z : Sizes b) (i : ℕ) (p : isSettling (b .phase) ≡ true)
   does (PairOff j a) h y = record { phase = p; order = refl; total = sym (add-zero (deliveredTotal (b .delivered) i)) }
   does (Roll days rate prices) h y = absurd (false≢true (sym (settling-not-cut (b .phase) p) ∙ y .1 .0))
 
-  brings : (c : Call) → noLift i c ≡ true → Brings b (called b c .book) i (accepted (called b c .refusal) (lotsIn i c))
+  brings : (c : Call) → noLift i c ≡ true → Brings b (called b c .book) i (ifAccepted (called b c .refusal) (lotsIn i c))
   brings c h =
-      by-answer (λ r. Brings b (r .book) i (accepted (r .refusal) (lotsIn i c))) b c (does c h) (λ r. nothing b i p)
+      by-answer (λ r. Brings b (r .book) i (ifAccepted (r .refusal) (lotsIn i c))) b c (does c h) (λ r. nothing b i p)
 
 -- Lists
 

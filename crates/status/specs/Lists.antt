@@ -44,14 +44,15 @@ lotsIn i (Resolve j a x out) = 0
 lotsIn i (PairOff j a) = 0
 lotsIn i (Roll days rate prices) = 0
 
-abbrev pub accepted : ℕ → ℕ → ℕ
-accepted zero x = x
-accepted (suc r) x = 0
+-- 0 where it is refused
+abbrev pub ifAccepted : ℕ → ℕ → ℕ
+ifAccepted zero x = x
+ifAccepted (suc r) x = 0
 
 -- lots delivered to the issue by a list of calls
 abbrev pub brought : ℕ → Book → List Call → ℕ
 brought i b [] = 0
-brought i b (c ∷ cs) = accepted (called b c .refusal) (lotsIn i c) + brought i (called b c .book) cs
+brought i b (c ∷ cs) = ifAccepted (called b c .refusal) (lotsIn i c) + brought i (called b c .book) cs
 
 -- with n more lots the unit is handed; with fewer it is not, and waits for the rest
 pub record HandedFor (n x : ℕ) (s : StatusAnswer) : Type 0 where

@@ -82,7 +82,7 @@ fn deliver_up_to(rng: &mut Rng, book: &Book, issue: u32) -> Result<u64, Failure>
 fn deliver(case: &mut Case, issue: u32, lots: u64) -> Result<(), Failure> {
     let mut left = lots;
     for account in 0..ACCOUNTS as u32 {
-        let owed = case.book().owed_today(issue as usize, account as usize) as u64;
+        let owed = case.book().owed_today(issue as usize, account as usize);
         let lots = owed.min(left);
         if lots > 0 {
             let call = Call::Deliver { issue, account, lots: lots as u32, out: OUT };
