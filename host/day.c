@@ -1,7 +1,8 @@
 /* day: the settled day P5 to P9 run through the library, as a host in C runs its book. Prints the
  * units in their order, each delivery with what was handed over, a refused delivery, why units have
  * not come, a lift of unit 7 on a copy of the book with the cutoff that follows from it, then the fails
- * of the day's own cutoff and the charges of the roll. */
+ * of the day's own cutoff and the charges of the roll; last, in a book of its own, an issue in
+ * multiples of 100,000 yen. */
 #include <inttypes.h>
 #include <stdio.h>
 
@@ -11,9 +12,10 @@ enum status { DONE = 0, NOT_AS_EXPECTED = 1, NOT_WRITTEN = 3 };
 
 static const uint32_t ISSUE = 0;
 
-/* The books and the output are static: together they are 73 kilobytes. */
+/* The books and the output are static: together they are 101 kilobytes. */
 static struct day_book book;
 static struct day_book lifted;
+static struct day_book marked;
 static uint32_t out[DAY_OUT_WORDS];
 
 /* Tells a call that was not done. */
@@ -25,6 +27,14 @@ static int done(const char *call, struct day_answer answer)
     fprintf(stderr, "day: %s is refused by %" PRIu32 ": %s\n", call, answer.refusal,
             day_refusal_text(answer.refusal));
     return 0;
+}
+
+/* Tells a call that is refused as it must be; nothing is changed then. */
+static int refused(const char *call, struct day_answer answer, uint32_t by)
+{
+    printf("%s: refused by %" PRIu32 ", %s\n", call, answer.refusal,
+           day_refusal_text(answer.refusal));
+    return answer.refusal == by && answer.count == 0;
 }
 
 /* P5: the trades that make the nets. */
@@ -79,13 +89,11 @@ static int deliver(uint32_t account, uint32_t lots)
     return 1;
 }
 
-/* A delivery of more than is owed: refused, and nothing is changed. */
+/* A delivery of more than is owed. */
 static int deliver_too_much(void)
 {
     struct day_answer answer = day_book_deliver(&book, ISSUE, 5, 55001, out);
-    printf("account 5 delivers 55001 lots: refused by %" PRIu32 ", %s\n", answer.refusal,
-           day_refusal_text(answer.refusal));
-    return answer.refusal == DAY_REFUSED_OWED && answer.count == 0;
+    return refused("account 5 delivers 55001 lots", answer, DAY_REFUSED_OWED);
 }
 
 /* Why a unit has not come, as the desk tells it to a receiver. */
@@ -128,13 +136,11 @@ static int ask(uint32_t unit, struct day_ticket *ticket)
     return asked.refusal == DAY_DONE;
 }
 
-/* The same ticket again: the count has risen, so it is refused and nothing is changed. */
+/* The same ticket again: the count has risen, so it is refused. */
 static int commit_again(struct day_ticket ticket)
 {
     struct day_answer answer = day_book_commit(&lifted, ticket, out);
-    printf("the same ticket again: refused by %" PRIu32 ", %s\n", answer.refusal,
-           day_refusal_text(answer.refusal));
-    return answer.refusal == DAY_REFUSED_TICKET && answer.count == 0;
+    return refused("the same ticket again", answer, DAY_REFUSED_TICKET);
 }
 
 /* On a copy of the book, parties that wait for each other: unit 7 is settled first, then the cutoff. */
@@ -193,12 +199,27 @@ static int roll(uint32_t days, uint32_t rate, uint32_t price)
     return day_book_sound(&book) == 1;
 }
 
+/* A marked issue takes even lots only, and keeps its mark while it has a net. */
+static int mark(uint32_t issue)
+{
+    day_book_fresh(&marked);
+    if (!done("mark", day_book_mark(&marked, issue, 1))) {
+        return 0;
+    }
+    printf("in a book of its own, issue %" PRIu32 " in multiples of 100,000 yen:\n", issue);
+    return refused("a trade of 129999 lots", day_book_trade(&marked, issue, 4, 1, 129999),
+                   DAY_REFUSED_ODD) &&
+           done("trade", day_book_trade(&marked, issue, 4, 1, 130000)) &&
+           refused("the mark taken away", day_book_mark(&marked, issue, 0), DAY_REFUSED_IN_USE) &&
+           marked.marks[issue] == 1 && day_book_sound(&marked) == 1;
+}
+
 int main(void)
 {
     day_book_fresh(&book);
     int as_expected = take_trades() && show_units() && deliver(5, 345000) && tell(2) && tell(3) &&
                       deliver(4, 200000) && deliver_too_much() && lift() && cut(&book) && tell(5) &&
-                      tell(6) && tell(8) && roll(1, 300, 100000);
+                      tell(6) && tell(8) && roll(1, 300, 100000) && mark(1);
     if (fflush(stdout) != 0 || ferror(stdout)) {
         perror("day: the lines could not be written");
         return NOT_WRITTEN;

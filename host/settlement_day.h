@@ -7,6 +7,7 @@
  *     target/staticlib/libdesk.a      day_value day_charge
  *     target/staticlib/libentries.a   entry_meet
  *     target/staticlib/libstatus.a    day_status
+ *     target/staticlib/libtrust.a     day_trust
  *
  * Each is proved to answer as the rules say for every number and every book, damaged ones too.
  * What the host has to see to: a pointer is valid for the length given beside it, also where the
@@ -38,7 +39,9 @@ extern "C" {
 #define DAY_ENTRIES 2048u   /* the most fail entries of the ledger */
 #define DAY_OUT_WORDS 4096u /* an output of deliver, commit, cutoff, resolve has at least so many words */
 #define DAY_TAPE_WORDS 17u  /* the output of day_write has at least so many words */
-#define DAY_STACK_BYTES 32768u /* the most stack that a call needs; measured: 20,400 */
+#define DAY_REPORTS 256u    /* the most trade reports, and the places of the output of day_trust */
+#define DAY_SUB_ACCOUNTS 32u /* sub-accounts 0 to 31 */
+#define DAY_STACK_BYTES 32768u /* the most stack that a call needs; measured: 20,496 */
 
 /* The place of an issue and an account, both in range, in nets and delivered lots. */
 #define DAY_PLACE(issue, account) ((size_t)(issue) * DAY_ACCOUNTS + (size_t)(account))
@@ -71,6 +74,7 @@ extern "C" {
 #define DAY_CLOSE 5u    /* Taking to Settling */
 #define DAY_CUTOFF 6u   /* what has not come is failed; Settling to Cut */
 #define DAY_ROLL 7u     /* days, rate (prices beside it): fails are charged; Cut to the next Taking */
+#define DAY_MARK 13u    /* issue, mark: it takes even lots only (0: any lots); any phase */
 
 /* ---- kinds of the records in an output; each record is two words (day_record_at reads one) */
 
@@ -81,24 +85,29 @@ extern "C" {
 /* ---- refusals: the number of the first question answered 'no'; nothing is changed then */
 
 #define DAY_DONE 0u
-#define DAY_REFUSED_OUTPUT 1u   /* the output has fewer than 4,096 words (writer: 17) */
+#define DAY_REFUSED_OUTPUT 1u   /* the output has fewer than 4,096 words (writer: 17, trust: 256) */
 #define DAY_REFUSED_BOOK 2u     /* the book is not sound, or a column has another length */
 #define DAY_REFUSED_PHASE 3u    /* the call belongs to another phase */
 #define DAY_REFUSED_ISSUE 4u    /* the issue is above 15 */
 #define DAY_REFUSED_ACCOUNT 5u  /* an account is above 63 */
 #define DAY_REFUSED_SAME 6u     /* from and to are the same account */
-#define DAY_REFUSED_LOTS 7u     /* lots are not 1 to 20,000,000 */
+#define DAY_REFUSED_LOTS 7u     /* lots are not 1 to 20,000,000 (a report's: within ±20,000,000) */
 #define DAY_REFUSED_NET 8u      /* a net would pass 20,000,000 lots to one side */
 #define DAY_REFUSED_OWED 9u     /* the account does not owe that many lots */
 #define DAY_REFUSED_ROOM 10u    /* the ledger would have more than 2,048 entries */
 #define DAY_REFUSED_TERMS 11u   /* price, days or rate out of range, or prices are not sixteen */
 #define DAY_REFUSED_LAST 12u    /* the day is 65,535 */
 #define DAY_REFUSED_TAPE 13u    /* the tape ends before the instruction does */
-#define DAY_REFUSED_WORD 14u    /* a kind or unused bits are wrong; a kind that is none of 1 to 7 */
+#define DAY_REFUSED_WORD 14u    /* a kind or unused bits are wrong; a kind that is none of 1..7, 13 */
 #define DAY_REFUSED_BITS 15u    /* a number does not fit its bits (writer) */
 #define DAY_REFUSED_UNIT 16u    /* there is no such unit, or (ask, commit) it is handed already */
 #define DAY_REFUSED_TICKET 17u  /* account, lots, day or count is not what asking now gives */
 #define DAY_REFUSED_LIFTS 18u   /* eight lifts stand for the issue */
+#define DAY_REFUSED_ODD 19u     /* lots are odd in a marked issue (trade, deliver, resolve) */
+#define DAY_REFUSED_IN_USE 20u  /* the issue has a net or an entry, so its mark stays (mark) */
+#define DAY_REFUSED_DRAW 21u    /* the list is not each report number just once; a column's length */
+#define DAY_REFUSED_REPORTS 22u /* more than 256 reports, or a sub-account above 31 */
+#define DAY_REFUSED_ELIGIBLE 23u /* the fail is larger than the eligible lots */
 
 /* ---- why a unit has not come: the cases of day_status */
 
@@ -110,13 +119,14 @@ extern "C" {
 
 /* ---- the libraries' functions
  *
- * A book goes in as three numbers and nine columns. A column, the prices, the words and an output
- * are a pointer and a length in this order: nets and delivered 1,024 each, lifts 288, charges 64, the
- * ledger's five columns 2,048 each. A column of another length is a damaged book. The number
- * returned, but for day_sound's, is the refusal's, 0 where it is done. */
+ * A book goes in as three numbers, sixteen marks and nine columns. An issue's mark is 0 where it takes
+ * any lots, and any other number where it takes even lots only; the call stores 1 or 0. A column, the
+ * prices, the words and an output are a pointer and a length in this order: nets and delivered 1,024
+ * each, lifts 288, charges 64, the ledger's five columns 2,048 each. A column of another length is a
+ * damaged book. The number returned, but for day_sound's, is the refusal's, 0 where it is done. */
 
 /* 1 where the book is sound, else 0. */
-uint32_t day_sound(uint16_t day, uint32_t phase, size_t entries,
+uint32_t day_sound(uint16_t day, uint32_t phase, size_t entries, const uint8_t marks[16],
                    const int32_t *nets, size_t nets_length,
                    const uint32_t *delivered, size_t delivered_length,
                    const uint32_t *lifts, size_t lifts_length,
@@ -128,7 +138,7 @@ uint32_t day_sound(uint16_t day, uint32_t phase, size_t entries,
                    const uint16_t *days, size_t days_length);
 
 /* The k-th unit of an issue, k from 0: 1, account, lots; or 0, 0, 0 where there is none. */
-uint32_t day_unit(uint16_t day, uint32_t phase, size_t entries,
+uint32_t day_unit(uint16_t day, uint32_t phase, size_t entries, const uint8_t marks[16],
                   const int32_t *nets, size_t nets_length,
                   const uint32_t *delivered, size_t delivered_length,
                   const uint32_t *lifts, size_t lifts_length,
@@ -142,7 +152,7 @@ uint32_t day_unit(uint16_t day, uint32_t phase, size_t entries,
 
 /* Why the k-th unit of an issue, k from 0, has not come, in Settling and in Cut: the case and its lots
  * (0 where it is handed or wholly failed); twice 0 on a refusal (2, 3 in Taking, 4, 16). */
-uint32_t day_status(uint16_t day, uint32_t phase, size_t entries,
+uint32_t day_status(uint16_t day, uint32_t phase, size_t entries, const uint8_t marks[16],
                     const int32_t *nets, size_t nets_length,
                     const uint32_t *delivered, size_t delivered_length,
                     const uint32_t *lifts, size_t lifts_length,
@@ -159,7 +169,7 @@ uint32_t day_status(uint16_t day, uint32_t phase, size_t entries,
  * steps), cancelled pair-off's lots; both are 0 on a refusal. */
 uint32_t day_call(uint32_t kind, uint32_t a, uint32_t b, uint32_t c, uint32_t d,
                   const uint32_t *prices, size_t prices_length,
-                  uint16_t *day, uint32_t *phase, size_t *entries,
+                  uint16_t *day, uint32_t *phase, size_t *entries, uint8_t marks[16],
                   int32_t *nets, size_t nets_length,
                   uint32_t *delivered, size_t delivered_length,
                   uint32_t *lifts, size_t lifts_length,
@@ -173,7 +183,7 @@ uint32_t day_call(uint32_t kind, uint32_t a, uint32_t b, uint32_t c, uint32_t d,
 
 /* Asks for a lift of an issue's unit, by its number, in Settling; changes nothing. The ticket is
  * issue, unit, account, lots, day, count; six times 0 on a refusal. */
-uint32_t day_ask(uint16_t day, uint32_t phase, size_t entries,
+uint32_t day_ask(uint16_t day, uint32_t phase, size_t entries, const uint8_t marks[16],
                  const int32_t *nets, size_t nets_length,
                  const uint32_t *delivered, size_t delivered_length,
                  const uint32_t *lifts, size_t lifts_length,
@@ -188,6 +198,7 @@ uint32_t day_ask(uint16_t day, uint32_t phase, size_t entries,
 /* Lifts the ticket's unit before all unhanded ones, in Settling, and hands on as far as stock covers.
  * Only the lifts and the output are changed; count is that of the records written, 0 on a refusal. */
 uint32_t day_commit(const uint32_t ticket[6], uint16_t day, uint32_t phase, size_t entries,
+                    const uint8_t marks[16],
                     const int32_t *nets, size_t nets_length,
                     const uint32_t *delivered, size_t delivered_length,
                     uint32_t *lifts, size_t lifts_length,
@@ -232,12 +243,28 @@ struct day_entry {
  * there is no such entry. */
 uint32_t entry_meet(struct day_entry *entries, size_t length, size_t at, uint32_t lots);
 
+/* Each trade report's share of a fail inside a trust account, at the place of its number in out, 0
+ * where it takes none. Of one issue's reports of the day the columns have a place each: sub-account,
+ * counterparty, lots (above 0 received, below 0 delivered), earlier fail (0: none). The draw has each
+ * report number from 0 just once, in the order drawn. Reports with an earlier fail are dropped, and
+ * receipts and deliveries of each sub-account set off; those with lots above 0, of sub-accounts that
+ * receive more than they deliver, take lots up to their own, first those whose counterparty is the
+ * failing account, then the others. out has at least 256 places; those beyond the reports keep their
+ * content, and on a refusal (1, 5, 7, 21, 22, 23) all do. */
+uint32_t day_trust(const uint32_t *sub_accounts, size_t sub_accounts_length,
+                   const uint32_t *counterparties, size_t counterparties_length,
+                   const int32_t *lots, size_t lots_length,
+                   const uint8_t *earlier, size_t earlier_length,
+                   const uint32_t *draw, size_t draw_length,
+                   uint32_t fail, uint32_t failing, uint32_t *out, size_t out_length);
+
 /* ---- a book as a struct, and the calls on it */
 
 struct day_book {
     uint16_t day;
     uint32_t phase;
     size_t entries; /* of the ledger's columns, so many are used */
+    uint8_t marks[DAY_ISSUES]; /* 0: the issue takes any lots; else even lots only */
     int32_t nets[DAY_PLACES];
     uint32_t delivered[DAY_PLACES];
     uint32_t lifts[DAY_LIFT_PLACES];
@@ -297,7 +324,7 @@ struct day_record {
     uint32_t lots;
 };
 
-/* Makes the book fresh: day 0, Taking, all zero, ledger empty. */
+/* Makes the book fresh: day 0, Taking, all zero, no issue marked, ledger empty. */
 static inline void day_book_fresh(struct day_book *book)
 {
     memset(book, 0, sizeof *book);
@@ -306,7 +333,7 @@ static inline void day_book_fresh(struct day_book *book)
 /* 1 where the book is sound, else 0. */
 static inline uint32_t day_book_sound(const struct day_book *book)
 {
-    return day_sound(book->day, book->phase, book->entries, book->nets, DAY_PLACES,
+    return day_sound(book->day, book->phase, book->entries, book->marks, book->nets, DAY_PLACES,
                      book->delivered, DAY_PLACES, book->lifts, DAY_LIFT_PLACES,
                      book->charges, DAY_ACCOUNTS, book->issues, DAY_ENTRIES,
                      book->froms, DAY_ENTRIES, book->tos, DAY_ENTRIES,
@@ -319,8 +346,9 @@ static inline struct day_unit_answer day_book_unit(const struct day_book *book, 
 {
     struct day_unit_answer unit;
     uint32_t answer[3] = {0, 0, 0};
-    unit.refusal = day_unit(book->day, book->phase, book->entries, book->nets, DAY_PLACES,
-                            book->delivered, DAY_PLACES, book->lifts, DAY_LIFT_PLACES,
+    unit.refusal = day_unit(book->day, book->phase, book->entries, book->marks,
+                            book->nets, DAY_PLACES, book->delivered, DAY_PLACES,
+                            book->lifts, DAY_LIFT_PLACES,
                             book->charges, DAY_ACCOUNTS, book->issues, DAY_ENTRIES,
                             book->froms, DAY_ENTRIES, book->tos, DAY_ENTRIES,
                             book->lots, DAY_ENTRIES, book->days, DAY_ENTRIES, issue, k, answer);
@@ -336,8 +364,9 @@ static inline struct day_status_answer day_book_status(const struct day_book *bo
 {
     struct day_status_answer told;
     uint32_t answer[2] = {0, 0};
-    told.refusal = day_status(book->day, book->phase, book->entries, book->nets, DAY_PLACES,
-                              book->delivered, DAY_PLACES, book->lifts, DAY_LIFT_PLACES,
+    told.refusal = day_status(book->day, book->phase, book->entries, book->marks,
+                              book->nets, DAY_PLACES, book->delivered, DAY_PLACES,
+                              book->lifts, DAY_LIFT_PLACES,
                               book->charges, DAY_ACCOUNTS, book->issues, DAY_ENTRIES,
                               book->froms, DAY_ENTRIES, book->tos, DAY_ENTRIES,
                               book->lots, DAY_ENTRIES, book->days, DAY_ENTRIES, issue, k, answer);
@@ -356,7 +385,7 @@ static inline struct day_answer day_book_call(struct day_book *book, uint32_t ki
     answer.count = 0;
     answer.cancelled = 0;
     answer.refusal = day_call(kind, a, b, c, d, prices, prices_length, &book->day, &book->phase,
-                              &book->entries, book->nets, DAY_PLACES,
+                              &book->entries, book->marks, book->nets, DAY_PLACES,
                               book->delivered, DAY_PLACES, book->lifts, DAY_LIFT_PLACES,
                               book->charges, DAY_ACCOUNTS, book->issues, DAY_ENTRIES,
                               book->froms, DAY_ENTRIES, book->tos, DAY_ENTRIES,
@@ -371,8 +400,9 @@ static inline struct day_ask_answer day_book_ask(const struct day_book *book, ui
 {
     struct day_ask_answer asked;
     uint32_t ticket[6] = {0, 0, 0, 0, 0, 0};
-    asked.refusal = day_ask(book->day, book->phase, book->entries, book->nets, DAY_PLACES,
-                            book->delivered, DAY_PLACES, book->lifts, DAY_LIFT_PLACES,
+    asked.refusal = day_ask(book->day, book->phase, book->entries, book->marks,
+                            book->nets, DAY_PLACES, book->delivered, DAY_PLACES,
+                            book->lifts, DAY_LIFT_PLACES,
                             book->charges, DAY_ACCOUNTS, book->issues, DAY_ENTRIES,
                             book->froms, DAY_ENTRIES, book->tos, DAY_ENTRIES,
                             book->lots, DAY_ENTRIES, book->days, DAY_ENTRIES, issue, unit, ticket);
@@ -399,7 +429,7 @@ static inline struct day_answer day_book_commit(struct day_book *book, struct da
     numbers[5] = ticket.count;
     answer.count = 0;
     answer.cancelled = 0;
-    answer.refusal = day_commit(numbers, book->day, book->phase, book->entries,
+    answer.refusal = day_commit(numbers, book->day, book->phase, book->entries, book->marks,
                                 book->nets, DAY_PLACES, book->delivered, DAY_PLACES,
                                 book->lifts, DAY_LIFT_PLACES, book->charges, DAY_ACCOUNTS,
                                 book->issues, DAY_ENTRIES, book->froms, DAY_ENTRIES,
@@ -469,6 +499,12 @@ static inline struct day_answer day_book_roll(struct day_book *book, uint32_t da
     return day_book_call(book, DAY_ROLL, days, rate, 0, 0, prices, DAY_ISSUES, &unused, 0);
 }
 
+/* The mark of an issue: 1 where it takes even lots only from now on, 0 where it takes any again. */
+static inline struct day_answer day_book_mark(struct day_book *book, uint32_t issue, uint32_t mark)
+{
+    return day_book_plain(book, DAY_MARK, issue, mark, 0, 0);
+}
+
 /* The record at a place of an output, 0 the first. */
 static inline struct day_record day_record_at(const uint32_t *out, size_t at)
 {
@@ -505,6 +541,11 @@ static inline const char *day_refusal_text(uint32_t refusal)
     case DAY_REFUSED_UNIT: return "there is no such unhanded unit";
     case DAY_REFUSED_TICKET: return "the ticket is not what asking now gives";
     case DAY_REFUSED_LIFTS: return "eight lifts stand for the issue";
+    case DAY_REFUSED_ODD: return "lots are odd in a marked issue";
+    case DAY_REFUSED_IN_USE: return "the issue has a net or an entry";
+    case DAY_REFUSED_DRAW: return "the list is not each report number just once";
+    case DAY_REFUSED_REPORTS: return "more than 256 reports, or a sub-account above 31";
+    case DAY_REFUSED_ELIGIBLE: return "the fail is larger than the eligible lots";
     default: return "no refusal of the rules";
     }
 }

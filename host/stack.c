@@ -1,6 +1,7 @@
 /* stack: how much stack each function of the library uses, measured on a thread whose stack was
- * painted before. Each call is made on a day with nets in all issues and accounts and a ledger of
- * many fails, so that it goes its whole way. Fails where one uses more than DAY_STACK_BYTES. */
+ * painted before. Each call is made on a day with nets in all issues and accounts, all issues marked,
+ * and a ledger of many fails, so that it goes its whole way. Fails where one uses more than
+ * DAY_STACK_BYTES. */
 #ifndef _GNU_SOURCE
 #define _POSIX_C_SOURCE 200809L
 #endif
@@ -18,12 +19,20 @@ static uint32_t words[DAY_TAPE_WORDS];
 static uint32_t prices[DAY_ISSUES];
 static uint32_t refusal;
 
+/* Every issue is in multiples of 100,000 yen. */
+static void make_marks(void)
+{
+    for (uint32_t issue = 0; issue < DAY_ISSUES; issue++) {
+        refusal |= day_book_mark(&book, issue, 1).refusal;
+    }
+}
+
 /* In every issue account 0 buys from all others. */
 static void make_trades(void)
 {
     for (uint32_t issue = 0; issue < DAY_ISSUES; issue++) {
         for (uint32_t other = 1; other < DAY_ACCOUNTS; other++) {
-            refusal |= day_book_trade(&book, issue, other, 0, 999 + other).refusal;
+            refusal |= day_book_trade(&book, issue, other, 0, 998 + 2 * other).refusal;
         }
     }
 }
@@ -89,6 +98,22 @@ static void make_charge(void)
     refusal |= day_value(20000000, 200000, &yen);
 }
 
+/* 256 reports, the worst case of every question and of the allotting. */
+static void make_trust(void)
+{
+    static uint32_t subs[DAY_REPORTS], parties[DAY_REPORTS], draw[DAY_REPORTS];
+    static int32_t lots[DAY_REPORTS];
+    static uint8_t earlier[DAY_REPORTS];
+    for (uint32_t report = 0; report < DAY_REPORTS; report++) {
+        subs[report] = report % DAY_SUB_ACCOUNTS;
+        parties[report] = report % DAY_ACCOUNTS;
+        draw[report] = DAY_REPORTS - 1 - report;
+        lots[report] = 1000;
+    }
+    refusal |= day_trust(subs, DAY_REPORTS, parties, DAY_REPORTS, lots, DAY_REPORTS, earlier,
+                         DAY_REPORTS, draw, DAY_REPORTS, 256000, 4, out, DAY_OUT_WORDS);
+}
+
 static void make_nothing(void) {}
 
 struct measured {
@@ -98,15 +123,16 @@ struct measured {
 
 /* In the order in which a day makes them; the first is what a thread uses by itself. */
 static const struct measured measures[] = {
-    {"nothing", make_nothing},    {"trade", make_trades},          {"unit", make_unit},
-    {"close", make_close},        {"deliver", make_deliver},       {"sound", make_sound},
-    {"cutoff", make_cutoff},      {"resolve", make_resolve},       {"roll", make_roll},
-    {"a day", make_next_trades},  {"ask", make_ask},               {"commit", make_commits},
+    {"nothing", make_nothing},    {"mark", make_marks},            {"trade", make_trades},
+    {"unit", make_unit},          {"close", make_close},           {"deliver", make_deliver},
+    {"sound", make_sound},        {"cutoff", make_cutoff},         {"resolve", make_resolve},
+    {"roll", make_roll},          {"a day", make_next_trades},     {"ask", make_ask},
+    {"commit", make_commits},
     {"unit, lifted", make_unit_lifted},  {"status, lifted", make_status},
     {"deliver, lifted", make_lifted},    {"sound, lifted", make_sound},
     {"cutoff, lifted", make_cutoff},     {"status, cut", make_status},
     {"pair-off", make_pair_off},  {"write", make_write},           {"read", make_read},
-    {"value and charge", make_charge},
+    {"value and charge", make_charge},   {"trust", make_trust},
 };
 
 static void *run(void *make)

@@ -15,7 +15,7 @@ uses() { # NAME
 }
 
 mkdir -p build
-read -ra first <<<"dayrun $(uses desk)$(uses entries)$(uses exports)"
+read -ra first <<<"dayrun $(uses desk)$(uses entries)$(uses exports)$(uses trust)"
 rt check "${first[@]}" 2>&1 | scripts/progress.sh build/dayrun.log "${first[@]}"
 make --no-print-directory libraries
 cargo build --quiet --release --offline -p tape

@@ -1,8 +1,8 @@
-//! The book: day, phase, nets, delivered lots, lifts, charges and the ledger of fails, in plain
+//! The book: day, phase, marks, nets, delivered lots, lifts, charges and the ledger of fails, in plain
 //! columns.
 
 use crate::raw::{Columns, ColumnsMut};
-use crate::{Entry, ACCOUNTS, ENTRIES, LIFTS, LIFT_PLACES, LIFT_WORDS, PLACES};
+use crate::{Entry, ACCOUNTS, ENTRIES, ISSUES, LIFTS, LIFT_PLACES, LIFT_WORDS, PLACES};
 
 /// The phase of the day as its number; any number can be held, and one above 2 is damage.
 #[derive(Clone, Copy, Debug, PartialEq, Eq)]
@@ -42,6 +42,8 @@ pub struct Book {
     pub phase: Phase,
     /// The number of fail entries, which are the first of the ledger's five columns.
     pub entries: usize,
+    /// The issues' marks: 0 where it takes any lots, any other number where it takes even ones only.
+    pub marks: [u8; ISSUES],
     pub nets: [i32; PLACES],
     pub delivered: [u32; PLACES],
     pub lifts: [u32; LIFT_PLACES],
@@ -56,16 +58,17 @@ pub struct Book {
 /// The place of an issue and account in the columns of nets and delivered lots, if both are in range.
 pub fn place(issue: u32, account: u32) -> Option<usize> {
     let (issue, account) = (issue as usize, account as usize);
-    (issue < crate::ISSUES && account < ACCOUNTS).then_some(issue * ACCOUNTS + account)
+    (issue < ISSUES && account < ACCOUNTS).then_some(issue * ACCOUNTS + account)
 }
 
 impl Book {
-    /// A fresh book: day 0, Taking, all zero, ledger empty.
+    /// A fresh book: day 0, Taking, all zero, no issue marked, ledger empty.
     pub fn fresh() -> Book {
         Book {
             day: 0,
             phase: Phase::TAKING,
             entries: 0,
+            marks: [0; ISSUES],
             nets: [0; PLACES],
             delivered: [0; PLACES],
             lifts: [0; LIFT_PLACES],
@@ -76,6 +79,11 @@ impl Book {
             lots: [0; ENTRIES],
             days: [0; ENTRIES],
         }
+    }
+
+    /// Does the issue take even lots only? An issue above 15 does not.
+    pub fn is_marked(&self, issue: u32) -> bool {
+        self.marks.get(issue as usize).is_some_and(|&mark| mark != 0)
     }
 
     /// An account's net in an issue; 0 where one of them is out of range.
@@ -135,6 +143,7 @@ impl Book {
             day: self.day,
             phase: self.phase.0,
             entries: self.entries,
+            marks: &self.marks,
             nets: &self.nets,
             delivered: &self.delivered,
             lifts: &self.lifts,
@@ -153,6 +162,7 @@ impl Book {
             day: &mut self.day,
             phase: &mut self.phase.0,
             entries: &mut self.entries,
+            marks: &mut self.marks,
             nets: &mut self.nets,
             delivered: &mut self.delivered,
             lifts: &mut self.lifts,
@@ -183,6 +193,7 @@ mod tests {
             day: u16::MAX,
             phase: Phase(u32::MAX),
             entries: usize::MAX,
+            marks: [u8::MAX; ISSUES],
             nets: [i32::MIN; PLACES],
             delivered: [u32::MAX; PLACES],
             lifts: [u32::MAX; LIFT_PLACES],
@@ -205,6 +216,7 @@ mod tests {
         assert_eq!((book.entry(ENTRIES), book.entry(usize::MAX)), (None, None));
         assert_eq!((book.lifts(15).count(), book.lifts(16).count()), (LIFTS, 0));
         assert_eq!((book.count(15), book.count(u32::MAX)), (u32::MAX, 0));
+        assert_eq!([0, 15, 16, u32::MAX].map(|at| book.is_marked(at)), [true, true, false, false]);
         assert_eq!(book.phase.name(), None);
     }
 
@@ -226,6 +238,7 @@ mod tests {
             calls::resolve(&mut book, 0, 1, 2, &mut out),
             calls::pair_off(&mut book, 0, 1),
             calls::roll(&mut book, 1, 300, &[100_000; 16]),
+            calls::mark(&mut book, 0, 0),
         ];
         assert!(answers.iter().all(|answer| answer.refused() == Some(Refusal::Book)));
         assert!(book == damaged() && out == [7; crate::OUTPUT_WORDS]);
@@ -263,6 +276,22 @@ mod tests {
         );
         let unit = calls::unit(&book, 3, 0).unit.map(|unit| unit.account);
         assert_eq!((unit, calls::sound(&book)), (Some(2), true));
+    }
+
+    #[test]
+    fn a_marked_issue_takes_even_lots_alone() {
+        let mut book = Book::fresh();
+        assert_eq!(calls::mark(&mut book, 3, 1).refusal, 0);
+        assert_eq!((book.is_marked(3), book.is_marked(4), book.marks[3]), (true, false, 1));
+        let marked = book.clone();
+        assert_eq!(calls::trade(&mut book, 3, 8, 1, 7).refused(), Some(Refusal::OddLots));
+        assert!(book == marked);
+        assert_eq!(calls::trade(&mut book, 3, 8, 1, 8).refused(), None);
+        assert_eq!(calls::mark(&mut book, 3, 0).refused(), Some(Refusal::InUse));
+        assert_eq!(calls::mark(&mut book, 16, 0).refused(), Some(Refusal::Issue));
+        assert_eq!(calls::trade(&mut book, 3, 1, 8, 8).refused(), None);
+        assert_eq!(calls::mark(&mut book, 3, 0).refused(), None);
+        assert!(book == Book::fresh());
     }
 
     #[test]

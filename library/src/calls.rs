@@ -159,6 +159,12 @@ pub fn resolve(book: &mut Book, issue: u32, account: u32, lots: u32, out: &mut [
     call(book, &Instruction::Resolve { issue, account, lots }, &[], out)
 }
 
+/// mark: the issue takes even lots only, or any lots again where the mark is 0; in any phase, while it
+/// has no net and no entry.
+pub fn mark(book: &mut Book, issue: u32, mark: u32) -> Answer {
+    call(book, &Instruction::Mark { issue, mark }, &[], &mut [])
+}
+
 /// pair-off: the account's first entry in and first entry out fall together; the count is of steps.
 pub fn pair_off(book: &mut Book, issue: u32, account: u32) -> Answer {
     call(book, &Instruction::PairOff { issue, account }, &[], &mut [])

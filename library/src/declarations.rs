@@ -22,6 +22,7 @@ extern "C" {
         day: u16,
         phase: u32,
         entries: usize,
+        marks: *const [u8; 16],
         nets: *const i32,
         nets_length: usize,
         delivered: *const u32,
@@ -46,12 +47,33 @@ extern "C" {
     ) -> u32;
 }
 
+// libtrust.a
+extern "C" {
+    pub fn day_trust(
+        sub_accounts: *const u32,
+        sub_accounts_length: usize,
+        counterparties: *const u32,
+        counterparties_length: usize,
+        lots: *const i32,
+        lots_length: usize,
+        earlier: *const u8,
+        earlier_length: usize,
+        draw: *const u32,
+        draw_length: usize,
+        fail: u32,
+        failing: u32,
+        out: *mut u32,
+        out_length: usize,
+    ) -> u32;
+}
+
 // libexports.a
 extern "C" {
     pub fn day_sound(
         day: u16,
         phase: u32,
         entries: usize,
+        marks: *const [u8; 16],
         nets: *const i32,
         nets_length: usize,
         delivered: *const u32,
@@ -76,6 +98,7 @@ extern "C" {
         day: u16,
         phase: u32,
         entries: usize,
+        marks: *const [u8; 16],
         nets: *const i32,
         nets_length: usize,
         delivered: *const u32,
@@ -110,6 +133,7 @@ extern "C" {
         day: *mut u16,
         phase: *mut u32,
         entries: *mut usize,
+        marks: *mut [u8; 16],
         nets: *mut i32,
         nets_length: usize,
         delivered: *mut u32,
@@ -138,6 +162,7 @@ extern "C" {
         day: u16,
         phase: u32,
         entries: usize,
+        marks: *const [u8; 16],
         nets: *const i32,
         nets_length: usize,
         delivered: *const u32,
@@ -166,6 +191,7 @@ extern "C" {
         day: u16,
         phase: u32,
         entries: usize,
+        marks: *const [u8; 16],
         nets: *const i32,
         nets_length: usize,
         delivered: *const u32,

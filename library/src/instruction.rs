@@ -1,7 +1,7 @@
 //! An instruction: a call with its numbers, and the fields in which the library takes it.
 
-/// An instruction as the library gives and takes it: kind 1 to 7, then its numbers, 0 where there
-/// is none.
+/// An instruction as the library gives and takes it: kind 1 to 7 or 13, then its numbers, 0 where
+/// there is none.
 pub type Fields = [u32; 5];
 
 /// A call with its numbers; a roll's sixteen prices stand beside it.
@@ -14,6 +14,7 @@ pub enum Instruction {
     Close,
     Cutoff,
     Roll { days: u32, rate: u32 },
+    Mark { issue: u32, mark: u32 },
 }
 
 impl Instruction {
@@ -27,10 +28,11 @@ impl Instruction {
             Instruction::Close => [5, 0, 0, 0, 0],
             Instruction::Cutoff => [6, 0, 0, 0, 0],
             Instruction::Roll { days, rate } => [7, days, rate, 0, 0],
+            Instruction::Mark { issue, mark } => [13, issue, mark, 0, 0],
         }
     }
 
-    /// The instruction of fields; none where the kind is not 1 to 7.
+    /// The instruction of fields; none where the kind is not 1 to 7 or 13.
     pub fn of_fields([kind, a, b, c, d]: Fields) -> Option<Instruction> {
         Some(match kind {
             1 => Instruction::Trade { issue: a, from: b, to: c, lots: d },
@@ -40,6 +42,7 @@ impl Instruction {
             5 => Instruction::Close,
             6 => Instruction::Cutoff,
             7 => Instruction::Roll { days: a, rate: b },
+            13 => Instruction::Mark { issue: a, mark: b },
             _ => return None,
         })
     }
@@ -54,6 +57,7 @@ impl Instruction {
             Instruction::Close => "close",
             Instruction::Cutoff => "cutoff",
             Instruction::Roll { .. } => "roll",
+            Instruction::Mark { .. } => "mark",
         }
     }
 }
@@ -64,14 +68,19 @@ mod tests {
 
     #[test]
     fn fields_there_and_back() {
-        for fields in
-            [[1, 2, 3, 4, 5], [2, 3, 4, 5, 0], [3, 4, 5, 6, 0], [4, 5, 6, 0, 0], [7, 1, 2, 0, 0]]
-        {
+        for fields in [
+            [1, 2, 3, 4, 5],
+            [2, 3, 4, 5, 0],
+            [3, 4, 5, 6, 0],
+            [4, 5, 6, 0, 0],
+            [7, 1, 2, 0, 0],
+            [13, 15, 1, 0, 0],
+        ] {
             assert_eq!(Instruction::of_fields(fields).map(|found| found.fields()), Some(fields));
         }
         assert_eq!(Instruction::of_fields([5, 0, 0, 0, 0]), Some(Instruction::Close));
         assert_eq!(Instruction::of_fields([6, 0, 0, 0, 0]), Some(Instruction::Cutoff));
-        for kind in [0, 8, 9, 15, 16, u32::MAX] {
+        for kind in [0, 8, 9, 12, 14, 15, 16, 29, u32::MAX] {
             assert_eq!(Instruction::of_fields([kind, 0, 0, 0, 0]), None);
         }
     }

@@ -1,5 +1,6 @@
 //! The proved library, called safely from Rust: a book and the calls on it, lifts of one unit, why a
-//! unit has not come, the tape's reader and writer, value and charge, entries met.
+//! unit has not come, the tape's reader and writer, value and charge, entries met, a fail inside a
+//! trust account.
 //!
 //! ```
 //! use library::{calls, Book, Instruction, OUTPUT_WORDS};
@@ -24,6 +25,7 @@ mod instruction;
 pub mod raw;
 mod refusal;
 pub mod tape;
+pub mod trust;
 
 pub use book::{place, Book, Lift, Phase};
 pub use calls::{Status, Ticket};

@@ -1,7 +1,7 @@
 //! The library's functions over columns of any length and plain numbers, nothing turned into types.
 //!
 //! A book whose columns have other lengths than 1,024, 288, 64 and 2,048, or whose phase is above 2,
-//! is damaged: the library refuses it by 2.
+//! is damaged: the library refuses it by 2. There are always sixteen marks.
 
 use crate::declarations::{
     day_ask, day_call, day_commit, day_prices, day_read, day_sound, day_status, day_unit, day_write,
@@ -11,12 +11,14 @@ use crate::{Fields, ISSUES};
 /// What stands in a count before the library writes it: no answer has it.
 const NOT_WRITTEN: usize = usize::MAX;
 
-/// A book as it is lent to a question: three numbers and nine columns, of any length.
+/// A book as it is lent to a question: three numbers, the marks of the issues, any number but 0 being
+/// one, and nine columns, of any length.
 #[derive(Clone, Copy, Debug, PartialEq, Eq)]
 pub struct Columns<'a> {
     pub day: u16,
     pub phase: u32,
     pub entries: usize,
+    pub marks: &'a [u8; ISSUES],
     pub nets: &'a [i32],
     pub delivered: &'a [u32],
     pub lifts: &'a [u32],
@@ -34,6 +36,7 @@ pub struct ColumnsMut<'a> {
     pub day: &'a mut u16,
     pub phase: &'a mut u32,
     pub entries: &'a mut usize,
+    pub marks: &'a mut [u8; ISSUES],
     pub nets: &'a mut [i32],
     pub delivered: &'a mut [u32],
     pub lifts: &'a mut [u32],
@@ -99,12 +102,14 @@ pub struct WriteAnswer {
 
 /// Is the book sound? 1 if it is, 0 if not.
 pub fn sound(book: &Columns) -> u32 {
-    // SAFETY: each column is given with its length and lives through the call, which reads it alone.
+    // SAFETY: there are sixteen marks, and each column is given with its length; they live through the
+    // call, which reads them alone.
     unsafe {
         day_sound(
             book.day,
             book.phase,
             book.entries,
+            book.marks,
             book.nets.as_ptr(),
             book.nets.len(),
             book.delivered.as_ptr(),
@@ -130,13 +135,14 @@ pub fn sound(book: &Columns) -> u32 {
 /// The k-th unit of an issue, k from 0.
 pub fn unit(book: &Columns, issue: u32, k: u32) -> UnitAnswer {
     let mut answer = [u32::MAX; 3];
-    // SAFETY: each column is given with its length and lives through the call, which reads it alone;
-    // the answer has the three words that are written.
+    // SAFETY: there are sixteen marks, and each column is given with its length; they live through the
+    // call, which reads them alone; the answer has the three words that are written.
     let refusal = unsafe {
         day_unit(
             book.day,
             book.phase,
             book.entries,
+            book.marks,
             book.nets.as_ptr(),
             book.nets.len(),
             book.delivered.as_ptr(),
@@ -168,8 +174,9 @@ pub fn unit(book: &Columns, issue: u32, k: u32) -> UnitAnswer {
 pub fn call(book: &mut ColumnsMut, fields: &Fields, prices: &[u32], out: &mut [u32]) -> Answer {
     let [kind, a, b, c, d] = *fields;
     let (mut count, mut cancelled) = (NOT_WRITTEN, u64::MAX);
-    // SAFETY: columns, prices and output are given with their lengths, live through the call, and
-    // none of those that it may write overlaps another: each is a reference of its own.
+    // SAFETY: there are sixteen marks; columns, prices and output are given with their lengths. All
+    // live through the call, and none of those that it may write overlaps another: each is a
+    // reference of its own.
     let refusal = unsafe {
         day_call(
             kind,
@@ -182,6 +189,7 @@ pub fn call(book: &mut ColumnsMut, fields: &Fields, prices: &[u32], out: &mut [u
             book.day,
             book.phase,
             book.entries,
+            book.marks,
             book.nets.as_mut_ptr(),
             book.nets.len(),
             book.delivered.as_mut_ptr(),
@@ -212,13 +220,14 @@ pub fn call(book: &mut ColumnsMut, fields: &Fields, prices: &[u32], out: &mut [u
 /// What is told of the k-th unit of an issue, k from 0.
 pub fn status(book: &Columns, issue: u32, k: u32) -> StatusAnswer {
     let mut answer = [u32::MAX; 2];
-    // SAFETY: each column is given with its length and lives through the call, which reads it alone;
-    // the answer has the two numbers that are written.
+    // SAFETY: there are sixteen marks, and each column is given with its length; they live through the
+    // call, which reads them alone; the answer has the two numbers that are written.
     let refusal = unsafe {
         day_status(
             book.day,
             book.phase,
             book.entries,
+            book.marks,
             book.nets.as_ptr(),
             book.nets.len(),
             book.delivered.as_ptr(),
@@ -249,13 +258,14 @@ pub fn status(book: &Columns, issue: u32, k: u32) -> StatusAnswer {
 /// The ticket for a lift of an issue's unit, by its number.
 pub fn ask(book: &Columns, issue: u32, unit: u32) -> AskAnswer {
     let mut ticket = [u32::MAX; 6];
-    // SAFETY: each column is given with its length and lives through the call, which reads it alone;
-    // the ticket has the six numbers that are written.
+    // SAFETY: there are sixteen marks, and each column is given with its length; they live through the
+    // call, which reads them alone; the ticket has the six numbers that are written.
     let refusal = unsafe {
         day_ask(
             book.day,
             book.phase,
             book.entries,
+            book.marks,
             book.nets.as_ptr(),
             book.nets.len(),
             book.delivered.as_ptr(),
@@ -285,14 +295,16 @@ pub fn ask(book: &Columns, issue: u32, unit: u32) -> AskAnswer {
 /// The lift of a ticket, made in place on any book; of the book only the lifts are lent to be written.
 pub fn commit(book: &mut ColumnsMut, ticket: &TicketNumbers, out: &mut [u32]) -> Answer {
     let mut count = NOT_WRITTEN;
-    // SAFETY: columns and output are given with their lengths, live through the call, and neither of
-    // the two that it may write overlaps another: each is a reference of its own.
+    // SAFETY: there are sixteen marks; columns and output are given with their lengths. All live
+    // through the call, and neither of the two that it may write overlaps another: each is a
+    // reference of its own.
     let refusal = unsafe {
         day_commit(
             ticket,
             *book.day,
             *book.phase,
             *book.entries,
+            book.marks,
             book.nets.as_ptr(),
             book.nets.len(),
             book.delivered.as_ptr(),

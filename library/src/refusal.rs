@@ -6,7 +6,7 @@ use std::fmt;
 #[derive(Clone, Copy, Debug, PartialEq, Eq, PartialOrd, Ord)]
 pub enum Refusal {
     /// 1: the lent output has fewer than 4,096 words (deliver, commit, cutoff, resolve) or 17
-    /// (writer).
+    /// (writer), or 256 places (trust).
     Output = 1,
     /// 2: the book is not sound: it was changed by something other than the calls.
     Book = 2,
@@ -18,7 +18,7 @@ pub enum Refusal {
     Account = 5,
     /// 6: from and to are the same account.
     SameAccount = 6,
-    /// 7: lots are not 1 to 20,000,000.
+    /// 7: lots are not 1 to 20,000,000, or a report's are not within ±20,000,000 (trust).
     Lots = 7,
     /// 8: a net would pass 20,000,000 lots to one side.
     Net = 8,
@@ -42,11 +42,22 @@ pub enum Refusal {
     Ticket = 17,
     /// 18: eight lifts stand for the issue (commit).
     Lifts = 18,
+    /// 19: the issue is marked and the lots are odd (trade, deliver, resolve).
+    OddLots = 19,
+    /// 20: the issue has a net or an entry, so its mark cannot be set (mark).
+    InUse = 20,
+    /// 21: the list is not each report number just once, or a column of reports has another length
+    /// (trust).
+    Draw = 21,
+    /// 22: there are more than 256 reports, or a sub-account is above 31 (trust).
+    Reports = 22,
+    /// 23: the fail is larger than the eligible lots (trust).
+    Eligible = 23,
 }
 
 impl Refusal {
     /// All refusals, by their numbers.
-    pub const ALL: [Refusal; 18] = [
+    pub const ALL: [Refusal; 23] = [
         Refusal::Output,
         Refusal::Book,
         Refusal::Phase,
@@ -65,9 +76,14 @@ impl Refusal {
         Refusal::Unit,
         Refusal::Ticket,
         Refusal::Lifts,
+        Refusal::OddLots,
+        Refusal::InUse,
+        Refusal::Draw,
+        Refusal::Reports,
+        Refusal::Eligible,
     ];
 
-    /// The refusal of a number; none for 0, which is done, and above 18.
+    /// The refusal of a number; none for 0, which is done, and for a number that none has.
     pub fn of(number: u32) -> Option<Refusal> {
         Refusal::ALL.into_iter().find(|refusal| refusal.number() == number)
     }
@@ -101,6 +117,11 @@ impl Refusal {
             Refusal::Unit => "there is no such unhanded unit",
             Refusal::Ticket => "the ticket is not what asking now gives",
             Refusal::Lifts => "eight lifts stand for the issue",
+            Refusal::OddLots => "lots are odd in a marked issue",
+            Refusal::InUse => "the issue has a net or an entry",
+            Refusal::Draw => "the list is not each report number just once",
+            Refusal::Reports => "there are more than 256 reports, or a sub-account is above 31",
+            Refusal::Eligible => "the fail is larger than the eligible lots",
         }
     }
 }
@@ -116,11 +137,12 @@ mod tests {
     use super::Refusal;
 
     #[test]
-    fn numbers_are_one_to_eighteen_in_order() {
+    fn numbers_are_those_of_the_papers_in_order() {
         let numbers: Vec<u32> = Refusal::ALL.into_iter().map(Refusal::number).collect();
-        assert_eq!(numbers, (1..=18).collect::<Vec<u32>>());
+        assert_eq!(numbers, (1..=23).collect::<Vec<u32>>());
         assert_eq!(Refusal::of(9), Some(Refusal::Owed));
-        assert_eq!([0, 19, u32::MAX].map(Refusal::of), [None; 3]);
+        assert_eq!(Refusal::of(23), Some(Refusal::Eligible));
+        assert_eq!([0, 24, u32::MAX].map(Refusal::of), [None; 3]);
     }
 
     #[test]

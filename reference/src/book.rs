@@ -1,4 +1,4 @@
-//! The book: day, phase, nets, delivered lots, lifts, charges and the ledger of fails.
+//! The book: day, phase, marks, nets, delivered lots, lifts, charges and the ledger of fails.
 
 /// Issues 0 to 15.
 pub const ISSUES: usize = 16;
@@ -43,11 +43,13 @@ pub struct Lifts {
     pub moves: [Lift; LIFTS],
 }
 
-/// The book in plain columns; nets and delivered lots stand at issue × 64 + account.
+/// The book in plain columns; nets and delivered lots stand at issue × 64 + account. An issue whose
+/// mark is any number but 0 is marked.
 #[derive(Clone, Debug, PartialEq, Eq)]
 pub struct Book {
     pub day: u16,
     pub phase: Phase,
+    pub marks: [u8; ISSUES],
     pub nets: [i32; ISSUES * ACCOUNTS],
     pub delivered: [u32; ISSUES * ACCOUNTS],
     pub lifts: [Lifts; ISSUES],
@@ -66,11 +68,12 @@ pub fn place(issue: usize, account: usize) -> usize {
 }
 
 impl Book {
-    /// A fresh book: day 0, Taking, all zero, ledger empty.
+    /// A fresh book: day 0, Taking, all zero, no issue marked, ledger empty.
     pub fn fresh() -> Book {
         Book {
             day: 0,
             phase: Phase::Taking,
+            marks: [0; ISSUES],
             nets: [0; ISSUES * ACCOUNTS],
             delivered: [0; ISSUES * ACCOUNTS],
             lifts: [Lifts::default(); ISSUES],
@@ -82,6 +85,11 @@ impl Book {
             lots: [0; ENTRIES],
             days: [0; ENTRIES],
         }
+    }
+
+    /// Is the issue marked, so that it takes even lots only? An issue above 15 is not.
+    pub fn is_marked(&self, issue: usize) -> bool {
+        self.marks.get(issue).is_some_and(|&mark| mark != 0)
     }
 
     /// The nets of an issue, by account.

@@ -10,4 +10,5 @@ pub mod questions;
 pub mod run;
 pub mod soundness;
 pub mod tape;
+pub mod trust;
 pub mod units;

@@ -153,3 +153,15 @@ pub fn ticket_is(ticket: &Ticket, now: &Ticket) -> Result<(), u32> {
 pub fn lifts_have_room(lifts: usize) -> Result<(), u32> {
     ask(18, lifts < LIFTS)
 }
+
+/// 19. Are the lots even, if the issue is marked?
+pub fn lots_suit_the_mark(book: &Book, issue: usize, lots: u32) -> Result<(), u32> {
+    ask(19, !book.is_marked(issue) || lots % 2 == 0)
+}
+
+/// 20. Has the issue neither a net nor an entry?
+pub fn issue_is_empty(book: &Book, issue: usize) -> Result<(), u32> {
+    let no_net = book.nets_of(issue).iter().all(|&net| net == 0);
+    let no_entry = book.entries().all(|entry| usize::from(entry.issue) != issue);
+    ask(20, no_net && no_entry)
+}

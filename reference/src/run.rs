@@ -60,6 +60,7 @@ fn obey(book: &mut Book, instruction: &Instruction, words: &[u32], output: &mut 
         Instruction::Roll { days, rate } => {
             calls::roll_on_sound(book, days, rate, &tape::prices(words))
         }
+        Instruction::Mark { issue, mark } => calls::mark_on_sound(book, issue, mark),
     }
 }
 
@@ -73,6 +74,7 @@ fn name(instruction: &Instruction) -> &'static str {
         Instruction::Close => "close",
         Instruction::Cutoff => "cutoff",
         Instruction::Roll { .. } => "roll",
+        Instruction::Mark { .. } => "mark",
     }
 }
 

@@ -11,7 +11,7 @@ pub const MOST_CHARGE_A_DAY: i128 = 134_663_013_697_536;
 pub type Condition = fn(&Book) -> bool;
 
 /// Every condition of soundness with its name; a book is sound when all hold.
-pub const CONDITIONS: [(&str, Condition); 21] = [
+pub const CONDITIONS: [(&str, Condition); 24] = [
     ("nets_in_range", nets_in_range),
     ("nets_sum_to_zero", nets_sum_to_zero),
     ("delivered_within_owed", delivered_within_owed),
@@ -33,6 +33,9 @@ pub const CONDITIONS: [(&str, Condition); 21] = [
     ("lifts_new_at_most_handed", lifts_new_at_most_handed),
     ("no_lift_in_taking", no_lift_in_taking),
     ("count_within_delivered_and_lifts", count_within_delivered_and_lifts),
+    ("marked_nets_even", marked_nets_even),
+    ("marked_delivered_even", marked_delivered_even),
+    ("marked_entries_even", marked_entries_even),
 ];
 
 impl Book {
@@ -165,6 +168,26 @@ pub fn count_within_delivered_and_lifts(book: &Book) -> bool {
     book.lifts.iter().enumerate().all(|(issue, lifts)| {
         u64::from(lifts.count) <= book.delivered_total(issue) + u64::from(lifts.number)
     })
+}
+
+/// The nets of a marked issue are even.
+pub fn marked_nets_even(book: &Book) -> bool {
+    marked_issues(book).all(|issue| book.nets_of(issue).iter().all(|net| net % 2 == 0))
+}
+
+/// The lots delivered in a marked issue are even, account by account.
+pub fn marked_delivered_even(book: &Book) -> bool {
+    marked_issues(book).all(|issue| book.delivered_of(issue).iter().all(|lots| lots % 2 == 0))
+}
+
+/// The entries of a marked issue have even lots.
+pub fn marked_entries_even(book: &Book) -> bool {
+    book.entries().all(|entry| !book.is_marked(entry.issue.into()) || entry.lots % 2 == 0)
+}
+
+/// The marked issues.
+fn marked_issues(book: &Book) -> impl Iterator<Item = usize> + '_ {
+    (0..ISSUES).filter(|&issue| book.is_marked(issue))
 }
 
 /// The issues with lifts that stand, each with them.

@@ -21,6 +21,7 @@ pub const HANDOVER: u32 = 10;
 pub const RESOLVED: u32 = 11;
 /// The record of a fail.
 pub const FAIL: u32 = 12;
+pub const MARK: u32 = 13;
 
 /// An instruction of the tape; a roll's sixteen prices stand beside it.
 #[derive(Clone, Copy, Debug, PartialEq, Eq)]
@@ -32,6 +33,7 @@ pub enum Instruction {
     Close,
     Cutoff,
     Roll { days: u32, rate: u32 },
+    Mark { issue: u32, mark: u32 },
 }
 
 /// A record that a call writes: a head and a lots word.
@@ -80,6 +82,7 @@ pub fn read(words: &[u32]) -> Result<(Instruction, usize), u32> {
         CLOSE => unused(head, 27, 0).map(|()| (Instruction::Close, 1)),
         CUTOFF => unused(head, 27, 0).map(|()| (Instruction::Cutoff, 1)),
         ROLL => read_roll(words, head),
+        MARK => read_mark(head),
         _ => Err(14),
     }
 }
@@ -133,6 +136,12 @@ fn read_roll(words: &[u32], head: u32) -> Result<(Instruction, usize), u32> {
     Ok((Instruction::Roll { days: field(head, 27, 24), rate: field(head, 23, 10) }, 1 + ISSUES))
 }
 
+/// A mark: the issue, and the mark in bit 0.
+fn read_mark(head: u32) -> Result<(Instruction, usize), u32> {
+    unused(head, 23, 1)?;
+    Ok((Instruction::Mark { issue: field(head, 27, 24), mark: field(head, 0, 0) }, 1))
+}
+
 /// The words of an instruction, each field put to question 15.
 fn instruction_words(instruction: &Instruction, prices: &[u32]) -> Result<Vec<u32>, u32> {
     match *instruction {
@@ -149,6 +158,9 @@ fn instruction_words(instruction: &Instruction, prices: &[u32]) -> Result<Vec<u3
         Instruction::Close => Ok(vec![CLOSE << 28]),
         Instruction::Cutoff => Ok(vec![CUTOFF << 28]),
         Instruction::Roll { days, rate } => roll_words(days, rate, prices),
+        Instruction::Mark { issue, mark } => {
+            Ok(vec![MARK << 28 | put(issue, 27, 24)? | put(mark, 0, 0)?])
+        }
     }
 }
 

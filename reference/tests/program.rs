@@ -78,6 +78,22 @@ fn the_settled_days_p5_to_p9() {
 }
 
 #[test]
+fn a_mark_is_printed_with_count_0() {
+    let tape = tape(&[
+        Instruction::Mark { issue: 3, mark: 1 },
+        Instruction::Trade { issue: 3, from: 4, to: 1, lots: 7 },
+        Instruction::Trade { issue: 3, from: 4, to: 1, lots: 8 },
+        Instruction::Mark { issue: 3, mark: 0 },
+        Instruction::Close,
+        Instruction::Cutoff,
+    ]);
+    let lines = "0 mark 0 0\n1 trade 19 0\n3 trade 0 0\n5 mark 20 0\n6 close 0 0\n7 cutoff 0 1\n\
+        F 3 4 1 8 0\n";
+    assert_eq!(run(&tape), lines);
+    assert_eq!(run(&bytes(&[0xd300_0003])), "0 tape 14 0\n");
+}
+
+#[test]
 fn the_count_of_pair_off_is_its_steps() {
     let tape = tape(&[
         Instruction::Trade { issue: 0, from: 1, to: 2, lots: 30 },

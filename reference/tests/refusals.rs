@@ -16,6 +16,13 @@ fn damaged(book: &Book) -> Book {
     book
 }
 
+/// The book with an issue marked, which stays sound.
+fn marked(mut book: Book, issue: usize) -> Book {
+    book.marks[issue] = 1;
+    assert!(book.sound());
+    book
+}
+
 /// Makes a call, which is refused by this number and changes neither book nor output.
 fn refused(book: &Book, words: usize, number: u32, call: impl Fn(&mut Book, &mut [u32]) -> Answer) {
     let mut after = book.clone();
@@ -28,8 +35,8 @@ fn refused(book: &Book, words: usize, number: u32, call: impl Fn(&mut Book, &mut
 }
 
 #[test]
-fn trade_asks_2_3_4_5_6_7_8() {
-    let taking = book_of_nets(Phase::Taking, &[(1, 20_000_000), (2, -20_000_000)]);
+fn trade_asks_2_3_4_5_6_7_19_8() {
+    let taking = marked(book_of_nets(Phase::Taking, &[(1, 20_000_000), (2, -20_000_000)]), 0);
     let settling = Book { phase: Phase::Settling, ..taking.clone() };
     let trade = |issue, from, to, lots| {
         move |book: &mut Book, _: &mut [u32]| calls::trade(book, issue, from, to, lots)
@@ -43,8 +50,14 @@ fn trade_asks_2_3_4_5_6_7_8() {
     refused(&taking, 0, 6, trade(15, 63, 63, 0));
     refused(&taking, 0, 7, trade(0, 2, 1, 0));
     refused(&taking, 0, 7, trade(0, 2, 1, u32::MAX));
-    refused(&taking, 0, 8, trade(0, 2, 3, 1));
-    refused(&taking, 0, 8, trade(0, 3, 1, 1));
+    refused(&taking, 0, 7, trade(0, 2, 1, 20_000_001));
+    refused(&taking, 0, 19, trade(0, 2, 1, 1));
+    refused(&taking, 0, 19, trade(0, 4, 5, 19_999_999));
+    refused(&taking, 0, 8, trade(0, 2, 3, 2));
+    refused(&taking, 0, 8, trade(0, 3, 1, 2));
+    let plain = Book { marks: [0; 16], ..taking };
+    refused(&plain, 0, 8, trade(0, 2, 3, 1));
+    refused(&plain, 0, 8, trade(0, 3, 1, 1));
 }
 
 #[test]
@@ -57,8 +70,8 @@ fn close_asks_2_3() {
 }
 
 #[test]
-fn deliver_asks_1_2_3_4_5_7_9() {
-    let taking = p5_book(0);
+fn deliver_asks_1_2_3_4_5_7_19_9() {
+    let taking = marked(p5_book(0), 0);
     let settling = Book { phase: Phase::Settling, ..taking.clone() };
     let deliver = |issue, account, lots| {
         move |book: &mut Book, out: &mut [u32]| calls::deliver(book, issue, account, lots, out)
@@ -70,9 +83,13 @@ fn deliver_asks_1_2_3_4_5_7_9() {
     refused(&settling, 4_096, 5, deliver(15, 64, 0));
     refused(&settling, 4_096, 7, deliver(15, 63, 0));
     refused(&settling, 4_096, 7, deliver(0, 4, 20_000_001));
-    refused(&settling, 4_096, 9, deliver(0, 4, 230_001));
-    refused(&settling, 4_096, 9, deliver(0, 1, 1));
+    refused(&settling, 4_096, 19, deliver(0, 4, 230_001));
+    refused(&settling, 4_096, 19, deliver(0, 1, 1));
+    refused(&settling, 4_096, 9, deliver(0, 4, 230_002));
+    refused(&settling, 4_096, 9, deliver(0, 1, 2));
     refused(&settling, 4_096, 9, deliver(15, 63, 1));
+    let plain = Book { marks: [0; 16], ..settling };
+    refused(&plain, 4_096, 9, deliver(0, 4, 230_001));
 }
 
 #[test]
@@ -142,7 +159,7 @@ fn cutoff_asks_1_2_3_10() {
 }
 
 #[test]
-fn resolve_asks_1_2_4_5_7_9() {
+fn resolve_asks_1_2_4_5_7_19_9() {
     let book =
         book_of_ledger(&[entry(0, 1, 2, 10, 0), entry(0, 1, 3, 10, 0), entry(1, 1, 2, 5, 0)]);
     let resolve = |issue, account, lots| {
@@ -155,6 +172,12 @@ fn resolve_asks_1_2_4_5_7_9() {
     refused(&book, 4_096, 7, resolve(15, 63, 0));
     refused(&book, 4_096, 9, resolve(0, 1, 21));
     refused(&book, 4_096, 9, resolve(0, 2, 1));
+    let book = marked(book, 0);
+    refused(&book, 4_096, 7, resolve(0, 1, 20_000_001));
+    refused(&book, 4_096, 19, resolve(0, 1, 21));
+    refused(&book, 4_096, 19, resolve(0, 2, 1));
+    refused(&book, 4_096, 9, resolve(0, 1, 22));
+    refused(&book, 4_096, 9, resolve(1, 1, 7));
 }
 
 #[test]
@@ -190,6 +213,24 @@ fn roll_asks_2_3_11_12() {
     refused(&cut, 0, 11, roll(1, 0, with(0, 0)));
     refused(&cut, 0, 11, roll(1, 0, with(15, 200_001)));
     refused(&cut, 0, 12, roll(12, 10_000, with(15, 200_000)));
+}
+
+#[test]
+fn mark_asks_2_4_20() {
+    let with_net = book_of_nets(Phase::Settling, &[(62, 1), (63, -1)]);
+    let with_entries = book_of_ledger(&[entry(7, 1, 2, 1, 0), entry(15, 3, 4, 1, 0)]);
+    for number in [0, 1, 2, u32::MAX] {
+        let mark = |issue| move |book: &mut Book, _: &mut [u32]| calls::mark(book, issue, number);
+        refused(&damaged(&with_net), 0, 2, mark(16));
+        refused(&with_net, 0, 4, mark(16));
+        refused(&with_net, 0, 4, mark(u32::MAX));
+        refused(&with_net, 0, 20, mark(0));
+        refused(&with_entries, 0, 20, mark(7));
+        refused(&with_entries, 0, 20, mark(15));
+        refused(&Book { marks: [1; 16], ..p7_book(0) }, 0, 20, mark(0));
+        assert_eq!(calls::mark(&mut with_entries.clone(), 8, number).number, 0);
+        assert_eq!(calls::mark_on_sound(&mut damaged(&with_entries), 8, number).number, 0);
+    }
 }
 
 #[test]

@@ -172,6 +172,7 @@ fn any_book_whatever_is_asked_without_fault() {
         let mut book = Book { day: u16::MAX, count: usize::MAX, ..Book::fresh() };
         book.nets.fill(net);
         book.delivered.fill(u32::MAX);
+        book.marks.fill(u8::MAX);
         book.charges.fill(yen);
         for lifts in &mut book.lifts {
             (lifts.number, lifts.count) = (u32::MAX, u32::MAX);
@@ -185,6 +186,75 @@ fn any_book_whatever_is_asked_without_fault() {
     }
 }
 
+/// A sound book with issue 3 marked and issue 4 not: even numbers in the one, odd ones in the other.
+fn marked_book() -> Book {
+    let mut book = Book { day: 1, phase: Phase::Settling, ..Book::fresh() };
+    book.marks[3] = 1;
+    for (issue, net, delivered) in [(3, 130_000, 40_002), (4, 130_001, 40_001)] {
+        book.nets[place(issue, 1)] = net;
+        book.nets[place(issue, 2)] = -net;
+        book.delivered[place(issue, 2)] = delivered;
+    }
+    book.set_ledger(&[entry(4, 1, 2, 7, 0), entry(3, 1, 2, 8, 0), entry(3, 5, 6, 2, 1)]);
+    assert_eq!(broken(&book), [""; 0]);
+    book
+}
+
+/// Damages the book with a marked issue; exactly these conditions are broken.
+fn breaks_marks(conditions: &[&str], damage: impl Fn(&mut Book)) {
+    let mut book = marked_book();
+    damage(&mut book);
+    assert_eq!(broken(&book), conditions);
+    assert_eq!(book.sound(), conditions.is_empty());
+}
+
+#[test]
+fn conditions_on_marked_issues() {
+    let odd_nets = |issue| {
+        move |book: &mut Book| {
+            book.nets[place(issue, 1)] += 1;
+            book.nets[place(issue, 2)] -= 1;
+        }
+    };
+    breaks_marks(&["marked_nets_even"], odd_nets(3));
+    breaks_marks(&["marked_nets_even"], |book| {
+        book.nets[place(3, 62)] = 1;
+        book.nets[place(3, 63)] = -1;
+    });
+    breaks_marks(&["marked_delivered_even"], |book| book.delivered[place(3, 2)] += 1);
+    breaks_marks(&["marked_delivered_even"], |book| book.delivered[place(3, 2)] = 1);
+    breaks_marks(&["marked_entries_even"], |book| book.lots[1] += 1);
+    breaks_marks(&["marked_entries_even"], |book| book.lots[2] = 1);
+    breaks_marks(&["marked_entries_even"], |book| book.issues[0] = 3);
+    let all = ["marked_nets_even", "marked_delivered_even", "marked_entries_even"];
+    breaks_marks(&all, |book| book.marks[4] = 1);
+    breaks_marks(&all, |book| book.marks[4] = 128);
+    breaks_marks(&[], odd_nets(4));
+    breaks_marks(&[], |book| book.delivered[place(4, 2)] += 1);
+    breaks_marks(&[], |book| book.lots[0] += 1);
+    breaks_marks(&[], |book| book.issues[1] = 4);
+}
+
+#[test]
+fn any_mark_but_0_is_asked_as_one() {
+    for mark in 0..=255 {
+        let odd = if mark == 0 { &[][..] } else { &["marked_entries_even"] };
+        breaks_marks(&[], |book| book.marks[3] = mark);
+        breaks_marks(&[], |book| book.marks[15] = mark);
+        breaks_marks(odd, |book| {
+            book.marks[3] = mark;
+            book.lots[1] += 1;
+        });
+    }
+    breaks_marks(&["entry_numbers_in_range"], |book| {
+        book.marks = [255; 16];
+        book.nets[place(4, 1)] += 1;
+        book.nets[place(4, 2)] -= 1;
+        book.delivered[place(4, 2)] += 1;
+        book.issues[0] = 16;
+    });
+}
+
 /// A random number below a limit (xorshift).
 fn below(state: &mut u64, limit: u32) -> u32 {
     *state ^= *state << 13;
@@ -196,12 +266,13 @@ fn below(state: &mut u64, limit: u32) -> u32 {
 /// Makes one random call on few issues and accounts; gives its refusal number.
 fn random_call(state: &mut u64, book: &mut Book, out: &mut [u32]) -> u32 {
     let (issue, from, to) = (below(state, 2), below(state, 6), below(state, 6));
-    let lots = [1, 50, 30_000, 100_000, 250_000, 20_000_000][below(state, 6) as usize];
+    let lots = [1, 50, 30_000, 30_001, 100_000, 250_000, 20_000_000][below(state, 7) as usize];
     match below(state, 50) {
         0 => calls::close(book).number,
         1 => calls::cutoff(book, out).number,
         2 => calls::roll(book, 1 + below(state, 12), below(state, 10_001), &[100_000; 16]).number,
-        3..=4 => calls::pair_off(book, issue, from).number,
+        3 => calls::pair_off(book, issue, from).number,
+        4 => calls::mark(book, below(state, 4), below(state, 2)).number,
         5..=7 => calls::resolve(book, issue, from, lots, out).number,
         8..=23 => calls::deliver(book, issue, from, lots, out).number,
         24..=33 => {
@@ -216,8 +287,10 @@ fn random_call(state: &mut u64, book: &mut Book, out: &mut [u32]) -> u32 {
 fn lists_of_calls_keep_the_book_sound() {
     let mut state = 0x9e37_79b9_7f4a_7c15;
     let mut book = p8_book(0);
+    assert_eq!(calls::mark(&mut book, 1, 1).number, 0);
     let mut out = output();
     let mut most_lifts = 0;
+    let mut met = [0; 21];
     for _ in 0..20_000 {
         let before = book.clone();
         let number = random_call(&mut state, &mut book, &mut out);
@@ -225,7 +298,9 @@ fn lists_of_calls_keep_the_book_sound() {
         assert!(number == 0 || book == before);
         assert_eq!(broken(&book), [""; 0]);
         most_lifts = most_lifts.max(book.lifts[0].number);
+        met[number as usize] += 1;
     }
     assert!(book.day > 20);
     assert_eq!(most_lifts, 8);
+    assert!(met[19] > 50 && met[20] > 50, "{met:?}");
 }

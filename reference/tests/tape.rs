@@ -19,6 +19,9 @@ fn examples() -> Vec<(Instruction, Vec<u32>)> {
         (Instruction::Close, vec![0x5000_0000]),
         (Instruction::Cutoff, vec![0x6000_0000]),
         (Instruction::Roll { days: 12, rate: 10_000 }, roll),
+        (Instruction::Mark { issue: 0, mark: 0 }, vec![0xd000_0000]),
+        (Instruction::Mark { issue: 5, mark: 1 }, vec![0xd500_0001]),
+        (Instruction::Mark { issue: 15, mark: 1 }, vec![0xdf00_0001]),
     ]
 }
 
@@ -44,7 +47,7 @@ fn the_reader_takes_the_instruction_and_counts_its_words() {
 
 #[test]
 fn a_head_of_another_kind_is_wrong() {
-    for kind in [0, 8, 9, 10, 11, 12, 13, 14, 15] {
+    for kind in [0, 8, 9, 10, 11, 12, 14, 15] {
         assert_eq!(read(&[kind << 28]), Err(14));
         assert_eq!(read(&[kind << 28, 0x8000_0001]), Err(14));
     }
@@ -57,6 +60,7 @@ fn each_unused_bit_of_a_head_is_asked() {
             Instruction::Trade { .. } => 0xffff_f000,
             Instruction::Close | Instruction::Cutoff => 0xf000_0000,
             Instruction::Roll { .. } => 0xffff_fc00,
+            Instruction::Mark { .. } => 0xff00_0001,
             _ => 0xfffc_0000,
         };
         for bit in (0..32).map(|place| 1_u32 << place).filter(|bit| used & bit == 0) {
@@ -129,4 +133,8 @@ fn the_writer_asks_1_and_15() {
     refused(15, Instruction::Roll { days: 0, rate: 0 }, &[262_144; 16], 17);
     refused(15, Instruction::Roll { days: 0, rate: 0 }, &[0; 15], 17);
     refused(15, Instruction::Roll { days: 0, rate: 0 }, &[0; 17], 17);
+    refused(1, Instruction::Mark { issue: 16, mark: 2 }, &[], 16);
+    refused(15, Instruction::Mark { issue: 16, mark: 1 }, &[], 17);
+    refused(15, Instruction::Mark { issue: 0, mark: 2 }, &[], 17);
+    refused(15, Instruction::Mark { issue: 0, mark: u32::MAX }, &[], 17);
 }

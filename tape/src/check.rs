@@ -101,6 +101,25 @@ mod tests {
     }
 
     #[test]
+    fn refusals_of_a_marked_issue_say_what_is_in_the_way() {
+        let found = checked(
+            "mark 3 1\ntrade 3 1 2 5\ntrade 3 1 2 6\ntrade 3 4 2 2\nmark 3 0\nclose\ndeliver 3 1 1\n\
+             cutoff\nresolve 3 1 3\nroll 1 0 1\nmark 3 1\nmark 4 1\n",
+        );
+        let odd = "refused by 19: lots are odd in a marked issue; issue 3 is in multiples of \
+                   100,000 yen face: give even lots";
+        let in_use = "mark: refused by 20: the issue has a net or an entry; issue 3 has";
+        let expected = [
+            format!("day.txt:2:1: trade: {odd}"),
+            format!("day.txt:5:1: {in_use} nets of 3 accounts and 0 entries in the ledger"),
+            format!("day.txt:7:1: deliver: {odd}"),
+            format!("day.txt:9:1: resolve: {odd}"),
+            format!("day.txt:11:1: {in_use} nets of 0 accounts and 2 entries in the ledger"),
+        ];
+        assert_eq!((found.refusals, found.instructions), (expected.to_vec(), 12));
+    }
+
+    #[test]
     fn a_good_day_has_nothing_to_tell() {
         let found = checked("trade 0 1 2 5\nclose\ncutoff\nroll 1 300 100000\n");
         assert_eq!(found, Checked { refusals: vec![], instructions: 4 });

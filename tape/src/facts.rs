@@ -1,5 +1,6 @@
 //! The facts of a tape: what each instruction did to the book, in the order in which it came.
 
+use crate::units::Case;
 use library::{Instruction, Refusal};
 
 /// One fact. Units of an issue are numbered from 0 in their order; those from `first` to `last` are
@@ -12,8 +13,12 @@ pub enum Fact {
     Instruction { word: usize, instruction: Instruction, refusal: Option<(Refusal, String)> },
     /// Units of an account, which is due this many lots in all.
     Units { issue: u32, first: u32, last: u32, account: u32, lots: u32, due: u32 },
-    /// Accounts with equal nets (full units) or equal small units: the lower number comes first.
-    Tie { issue: u32, full: bool, lots: u32, accounts: Vec<u32> },
+    /// Accounts with equal nets (both full) or equal small units (both small): the lower number comes
+    /// first.
+    Tie { issue: u32, case: Case, lots: u32, accounts: Vec<u32> },
+    /// A full unit, and behind it the small unit `next` of `follower`: the full one comes first,
+    /// whatever the nets.
+    SmallAfterFull { issue: u32, unit: u32, account: u32, next: u32, follower: u32 },
     /// What an account still owes today.
     Owes { issue: u32, account: u32, lots: u64 },
     /// Units handed over whole.
@@ -38,6 +43,8 @@ pub enum Fact {
     ReadingEnds { word: usize, refusal: Refusal },
     /// The book at the end.
     End { phase: &'static str, entries: usize, charged: usize },
+    /// An issue that is marked at the end: it takes even lots only.
+    Marked { issue: u32 },
     /// A fail entry of the ledger at the end.
     Entry { issue: u32, from: u32, to: u32, lots: u32, since: u16 },
     /// An account's charges at the end.
@@ -60,6 +67,7 @@ impl Fact {
             Fact::Instruction { instruction, .. } => issue_of(instruction),
             Fact::Units { issue, .. }
             | Fact::Tie { issue, .. }
+            | Fact::SmallAfterFull { issue, .. }
             | Fact::Owes { issue, .. }
             | Fact::Handed { issue, .. }
             | Fact::Waits { issue, .. }
@@ -68,6 +76,7 @@ impl Fact {
             | Fact::Resolved { issue, .. }
             | Fact::Paired { issue, .. }
             | Fact::Left { issue, .. }
+            | Fact::Marked { issue }
             | Fact::Entry { issue, .. }
             | Fact::Charge { terms: Terms { issue, .. }, .. } => Some(*issue),
             _ => None,
@@ -79,6 +88,7 @@ impl Fact {
         match self {
             Fact::Instruction { instruction, .. } => accounts_of(instruction),
             Fact::Tie { accounts, .. } => accounts.clone(),
+            Fact::SmallAfterFull { account, follower, .. } => vec![*account, *follower],
             Fact::Units { account, .. }
             | Fact::Owes { account, .. }
             | Fact::Handed { account, .. }
@@ -102,7 +112,8 @@ fn issue_of(instruction: &Instruction) -> Option<u32> {
         Instruction::Trade { issue, .. }
         | Instruction::Deliver { issue, .. }
         | Instruction::Resolve { issue, .. }
-        | Instruction::PairOff { issue, .. } => Some(issue),
+        | Instruction::PairOff { issue, .. }
+        | Instruction::Mark { issue, .. } => Some(issue),
         Instruction::Close | Instruction::Cutoff | Instruction::Roll { .. } => None,
     }
 }
@@ -114,6 +125,9 @@ fn accounts_of(instruction: &Instruction) -> Vec<u32> {
         Instruction::Deliver { account, .. }
         | Instruction::Resolve { account, .. }
         | Instruction::PairOff { account, .. } => vec![account],
-        Instruction::Close | Instruction::Cutoff | Instruction::Roll { .. } => Vec::new(),
+        Instruction::Close
+        | Instruction::Cutoff
+        | Instruction::Roll { .. }
+        | Instruction::Mark { .. } => Vec::new(),
     }
 }

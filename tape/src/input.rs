@@ -60,7 +60,9 @@ mod tests {
         for text in ["close\n", "# a note: 円\r\ntrade 0 1 2 3\r\n", "\u{feff}close"] {
             assert!(is_text(text.as_bytes()), "{text}");
         }
-        for line in ["trade 2 8 8 8", "deliver 2 2 9", "resolve 3 3 3", "pair-off 4 4", "close"] {
+        for line in
+            ["trade 2 8 8 8", "deliver 2 2 9", "resolve 3 3 3", "pair-off 4 4", "close", "mark 2 1"]
+        {
             let tape = text::to_tape(line).unwrap();
             assert!(!is_text(&tape), "{line}");
             assert_eq!(of_any("x", tape.clone()), Ok(Input { tape, lines: None }));

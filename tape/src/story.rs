@@ -6,7 +6,7 @@
 
 use crate::bytes::split;
 use crate::facts::{Fact, Terms};
-use crate::units::{runs, ties, Run, Walk};
+use crate::units::{close, runs, Case, Run, Walk};
 use crate::why::{owed_today, why};
 use library::calls::{self, Answer};
 use library::{desk, place, tape, Book, Entry, Instruction, Phase, ACCOUNTS, ISSUES, OUTPUT_WORDS};
@@ -105,7 +105,9 @@ impl Story<'_> {
             Instruction::Cutoff => self.cut(answer.count),
             Instruction::Resolve { .. } => self.resolved(answer.count),
             Instruction::PairOff { issue, account } => self.paired(&answer, issue, account),
-            Instruction::Trade { .. } | Instruction::Roll { .. } => Ok(()),
+            Instruction::Trade { .. } | Instruction::Roll { .. } | Instruction::Mark { .. } => {
+                Ok(())
+            }
         }
     }
 
@@ -114,7 +116,8 @@ impl Story<'_> {
         self.output.chunks_exact(2).take(count).map(|words| record(words[0], words[1])).collect()
     }
 
-    /// The issues' units in their order, their ties, and what each deliverer owes.
+    /// The issues' units in their order, which case decided where they are close, and what each
+    /// deliverer owes.
     fn closed(&mut self) -> io::Result<()> {
         self.handed = [(0, 0); ISSUES];
         for issue in 0..ISSUES as u32 {
@@ -123,11 +126,8 @@ impl Story<'_> {
                 let Run { first, account, lots, due, .. } = *run;
                 self.fact(&Fact::Units { issue, first, last: run.last(), account, lots, due })?;
             }
-            for tie in ties(&runs) {
-                let full = tie[0].full();
-                let lots = if full { tie[0].due } else { tie[0].lots };
-                let accounts = tie.iter().map(|run| run.account).collect();
-                self.fact(&Fact::Tie { issue, full, lots, accounts })?;
+            for group in close(&runs) {
+                self.fact(&decided(issue, group))?;
             }
             for account in 0..ACCOUNTS as u32 {
                 self.owes(issue, account, 1)?;
@@ -237,13 +237,18 @@ impl Story<'_> {
         self.fact(&Fact::Day { day: self.book.day })
     }
 
-    /// The phase, the ledger and the charges at the end.
+    /// The phase, the marked issues, the ledger and the charges at the end.
     fn end(&mut self) -> io::Result<()> {
         let phase = self.book.phase.name().unwrap_or("no phase");
         let entries: Vec<Entry> = self.book.ledger().collect();
         let charges: Vec<(u32, i64)> =
             (0..).zip(self.book.charges).filter(|(_, yen)| *yen != 0).collect();
         self.fact(&Fact::End { phase, entries: entries.len(), charged: charges.len() })?;
+        for issue in 0..ISSUES as u32 {
+            if self.book.is_marked(issue) {
+                self.fact(&Fact::Marked { issue })?;
+            }
+        }
         for Entry { issue, from, to, lots, day: since } in entries {
             let (issue, from, to) = (issue.into(), from.into(), to.into());
             self.fact(&Fact::Entry { issue, from, to, lots, since })?;
@@ -255,11 +260,32 @@ impl Story<'_> {
     }
 }
 
+/// Which case of the rule decided between close neighbours.
+fn decided(issue: u32, group: &[Run]) -> Fact {
+    let (one, next) = (&group[0], &group[1]);
+    let tie = |case, lots| {
+        let accounts = group.iter().map(|run| run.account).collect();
+        Fact::Tie { issue, case, lots, accounts }
+    };
+    match Case::of(one, next) {
+        case @ Case::BothFull => tie(case, one.due),
+        case @ Case::BothSmall => tie(case, one.lots),
+        Case::FullAndSmall | Case::SmallAndFull => {
+            let (unit, account) = (one.last(), one.account);
+            let (next, follower) = (next.first, next.account);
+            Fact::SmallAfterFull { issue, unit, account, next, follower }
+        }
+    }
+}
+
 /// Books a trade that nothing speaks against on a book that is sound; answers whether it did.
 pub(crate) fn traded(book: &mut Book, instruction: &Instruction) -> bool {
     let Instruction::Trade { issue, from, to, lots } = *instruction else { return false };
     let (Some(low), Some(high)) = (place(issue, from), place(issue, to)) else { return false };
     if book.phase != Phase::TAKING || low == high || lots == 0 || lots > MOST_LOTS {
+        return false;
+    }
+    if book.is_marked(issue) && lots % 2 != 0 {
         return false;
     }
     let (most, lots) = (MOST_LOTS as i32, lots as i32);
@@ -296,6 +322,10 @@ mod tests {
             (numbers >> 33) as u32 % limit
         };
         let (mut here, mut by_library) = (Book::fresh(), Book::fresh());
+        for issue in [0, 3, 4, 15] {
+            here.marks[issue] = [1, 2, 128, 255][issue % 4];
+        }
+        by_library.marks = here.marks;
         let (mut booked, mut put) = (0, 0);
         for step in 0..3_000 {
             let lots = [0, 1, 100_000, MOST_LOTS, MOST_LOTS + 1, next(MOST_LOTS)][next(6) as usize];

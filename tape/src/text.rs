@@ -10,7 +10,7 @@ use library::{tape, Instruction, Refusal, ISSUES, WRITER_WORDS};
 /// The instructions' forms, for errors.
 const FORMS: &str = "trade ISSUE FROM TO LOTS, close, deliver ISSUE ACCOUNT LOTS, cutoff, \
     resolve ISSUE ACCOUNT LOTS, pair-off ISSUE ACCOUNT, roll DAYS RATE PRICE (one price, or \
-    sixteen), word HEX, byte HEX";
+    sixteen), mark ISSUE MARK (1: even lots only, 0: any lots), word HEX, byte HEX";
 
 /// A field of an instruction: its name and the highest number that fits its bits.
 type Field = (&'static str, u32);
@@ -23,6 +23,7 @@ const LOTS: Field = ("lots", (1 << 28) - 1);
 const DAYS: Field = ("days", 15);
 const RATE: Field = ("rate", (1 << 14) - 1);
 const PRICE: Field = ("price", (1 << 18) - 1);
+const MARK: Field = ("mark", 1);
 
 /// What one line of a text puts on the tape.
 #[derive(Clone, Debug, PartialEq, Eq)]
@@ -115,6 +116,10 @@ fn instruction_of(name: &Word, words: &[Word]) -> Result<(Instruction, Vec<u32>)
         "pair-off" => {
             let numbers = take(&[ISSUE, ACCOUNT])?;
             Instruction::PairOff { issue: numbers[0], account: numbers[1] }
+        }
+        "mark" => {
+            let numbers = take(&[ISSUE, MARK])?;
+            Instruction::Mark { issue: numbers[0], mark: numbers[1] }
         }
         "close" => take(&[]).map(|_| Instruction::Close)?,
         "cutoff" => take(&[]).map(|_| Instruction::Cutoff)?,
@@ -239,6 +244,7 @@ pub fn line_of(instruction: &Instruction, prices: &[u32]) -> String {
             format!("resolve {issue} {account} {lots}")
         }
         Instruction::PairOff { issue, account } => format!("pair-off {issue} {account}"),
+        Instruction::Mark { issue, mark } => format!("mark {issue} {mark}"),
         Instruction::Close => "close".to_string(),
         Instruction::Cutoff => "cutoff".to_string(),
         Instruction::Roll { days, rate } => {
@@ -256,6 +262,15 @@ mod tests {
     use crate::bytes::{join, of_hex};
 
     #[test]
+    fn a_mark_is_one_word() {
+        let tape = to_tape("mark 3 1\nmark 15 0 # any lots\n").unwrap();
+        assert_eq!(tape, of_hex("d3000001 df000000").unwrap());
+        assert_eq!(of_tape(&tape), "mark 3 1\nmark 15 0\n");
+        let text = of_tape(&join(&[0xd300_0003]));
+        assert!(text.starts_with("# reading ends at word 0, number 14"), "{text}");
+    }
+
+    #[test]
     fn the_example_of_the_paper() {
         let tape = to_tape("trade 0 1 2 3\nclose\ncutoff # to Cut\n").unwrap();
         assert_eq!(tape, of_hex("10042000 80000003 50000000 60000000").unwrap());
@@ -265,7 +280,7 @@ mod tests {
     #[test]
     fn every_line_is_read_back() {
         let text = "trade 15 63 0 268435455\nclose\ndeliver 0 63 0\ncutoff\nresolve 15 0 1\n\
-            pair-off 7 9\nroll 15 16383 262143\nroll 1 2 1 2 3 4 5 6 7 8 9 10 11 12 13 14 15 16\n";
+            pair-off 7 9\nmark 15 1\nmark 0 0\nroll 15 16383 262143\nroll 1 2 1 2 3 4 5 6 7 8 9 10 11 12 13 14 15 16\n";
         assert_eq!(of_tape(&to_tape(text).unwrap()), text);
     }
 
@@ -301,6 +316,13 @@ mod tests {
             ("trade 0 1 2 99999999999", (1, 13), "lots \"99999999999\" does not fit"),
             ("roll 1 2", (1, 1), "roll takes days, rate and sixteen prices"),
             ("roll 16 2 3", (1, 6), "days \"16\" does not fit"),
+            ("mark 3", (1, 1), "mark takes issue, mark; here are 1 numbers"),
+            (
+                "mark 16 1",
+                (1, 6),
+                "issue \"16\" does not fit its bits: write a number from 0 to 15",
+            ),
+            ("mark 3 2", (1, 8), "mark \"2\" does not fit its bits: write a number from 0 to 1"),
             ("word 123456789", (1, 6), "one hexadecimal number of up to 8 digits"),
             ("word", (1, 1), "one hexadecimal number of up to 8 digits"),
             ("byte 100", (1, 6), "one hexadecimal number of up to 2 digits"),

@@ -29,8 +29,46 @@ impl Run {
 
     /// Is this run ranked equal to the next, so that the lower account came first?
     fn ties(&self, next: &Run) -> bool {
-        let equal = if self.full() { self.due == next.due } else { self.lots == next.lots };
-        self.full() == next.full() && equal
+        match Case::of(self, next) {
+            Case::BothFull => self.due == next.due,
+            Case::BothSmall => self.lots == next.lots,
+            Case::FullAndSmall | Case::SmallAndFull => false,
+        }
+    }
+}
+
+/// The cases of the rule by which two units are ranked.
+#[derive(Clone, Copy, Debug, PartialEq, Eq)]
+pub enum Case {
+    /// By the accounts' nets, the larger first.
+    BothFull,
+    /// The full one is first.
+    FullAndSmall,
+    /// The full one is first: never of neighbours in their order.
+    SmallAndFull,
+    /// By the units' own lots, the larger first.
+    BothSmall,
+}
+
+impl Case {
+    /// The case of two units.
+    pub fn of(one: &Run, next: &Run) -> Case {
+        match (one.full(), next.full()) {
+            (true, true) => Case::BothFull,
+            (true, false) => Case::FullAndSmall,
+            (false, true) => Case::SmallAndFull,
+            (false, false) => Case::BothSmall,
+        }
+    }
+
+    /// The case in words.
+    pub fn name(self) -> &'static str {
+        match self {
+            Case::BothFull => "both full",
+            Case::FullAndSmall => "full and small",
+            Case::SmallAndFull => "small and full",
+            Case::BothSmall => "both small",
+        }
     }
 }
 
@@ -48,9 +86,14 @@ pub fn runs(book: &Book, issue: u32) -> Vec<Run> {
     runs
 }
 
-/// The groups of runs that are ranked equal, two or more each.
-pub fn ties(runs: &[Run]) -> Vec<&[Run]> {
-    runs.chunk_by(Run::ties).filter(|group| group.len() > 1).collect()
+/// Where neighbours are close: the groups of runs that are ranked equal, two or more each, and a small
+/// run with the full one in front of it.
+pub fn close(runs: &[Run]) -> Vec<&[Run]> {
+    let ties = runs.chunk_by(Run::ties).filter(|group| group.len() > 1);
+    let follows = |pair: &&[Run]| Case::of(&pair[0], &pair[1]) == Case::FullAndSmall;
+    let mut close: Vec<&[Run]> = ties.chain(runs.windows(2).filter(follows)).collect();
+    close.sort_by_key(|group| group[1].first);
+    close
 }
 
 /// A walk along the units of an issue: the unit that is reached, and what it still lacks.
@@ -157,14 +200,28 @@ mod tests {
     }
 
     #[test]
-    fn ties_are_of_equal_nets_and_of_equal_small_units() {
-        let runs = runs(&book(&[(4, 250_000), (2, 250_000), (7, 50_000)]), 0);
-        let found: Vec<Vec<u32>> =
-            ties(&runs).iter().map(|tie| tie.iter().map(|run| run.account).collect()).collect();
-        assert_eq!(found, [vec![2, 4], vec![2, 4, 7]]);
+    fn close_are_equal_nets_equal_small_units_and_a_small_one_after_a_full_one() {
+        let told = |runs: &[Run]| -> Vec<(Case, Vec<u32>)> {
+            let accounts = |group: &[Run]| group.iter().map(|run| run.account).collect();
+            let case = |group: &[Run]| Case::of(&group[0], &group[1]);
+            close(runs).iter().map(|group| (case(group), accounts(group))).collect()
+        };
+        let found = told(&runs(&book(&[(4, 250_000), (2, 250_000), (7, 50_000)]), 0));
+        let expected = [
+            (Case::BothFull, vec![2, 4]),
+            (Case::FullAndSmall, vec![4, 2]),
+            (Case::BothSmall, vec![2, 4, 7]),
+        ];
+        assert_eq!(found, expected);
+        let expected = [(Case::FullAndSmall, vec![3, 2]), (Case::BothSmall, vec![2, 3])];
+        assert_eq!(told(&p5()), expected);
+    }
+
+    #[test]
+    fn neighbours_are_never_a_small_one_before_a_full_one() {
         let p5 = p5();
-        let found: Vec<u32> = ties(&p5).iter().map(|tie| tie[0].first).collect();
-        assert_eq!(found, [5]);
+        assert!(p5.windows(2).all(|pair| Case::of(&pair[0], &pair[1]) != Case::SmallAndFull));
+        assert_eq!(Case::of(&p5[3], &p5[2]), Case::SmallAndFull);
     }
 
     #[test]

@@ -1,7 +1,7 @@
 //! Why the book refuses an instruction: the question that it answers 'no', and the numbers behind it.
 
 use crate::measure::Lots;
-use library::{Book, Instruction, Refusal};
+use library::{Book, Instruction, Refusal, ACCOUNTS};
 
 /// The refusal with what the book says about it, in one sentence.
 pub fn why(book: &Book, instruction: &Instruction, refusal: Refusal) -> String {
@@ -30,6 +30,13 @@ fn behind(book: &Book, instruction: &Instruction, refusal: Refusal) -> Option<St
             let owed = Lots(owed_in_ledger(book, issue, account));
             Some(format!("account {account} owes {owed} of issue {issue} in the ledger"))
         }
+        (
+            Refusal::OddLots,
+            Instruction::Trade { issue, .. }
+            | Instruction::Deliver { issue, .. }
+            | Instruction::Resolve { issue, .. },
+        ) => Some(format!("issue {issue} is in multiples of 100,000 yen face: give even lots")),
+        (Refusal::InUse, Instruction::Mark { issue, .. }) => Some(in_use(book, issue)),
         (Refusal::Room, _) => Some(format!("it has {} entries before the cutoff", book.entries)),
         _ => None,
     }
@@ -41,8 +48,18 @@ fn phase_of(instruction: &Instruction) -> Option<&'static str> {
         Instruction::Trade { .. } | Instruction::Close => Some("Taking"),
         Instruction::Deliver { .. } | Instruction::Cutoff => Some("Settling"),
         Instruction::Roll { .. } => Some("Cut"),
-        Instruction::Resolve { .. } | Instruction::PairOff { .. } => None,
+        Instruction::Resolve { .. } | Instruction::PairOff { .. } | Instruction::Mark { .. } => {
+            None
+        }
     }
+}
+
+/// How many accounts have a net in an issue, and how many entries it has.
+fn in_use(book: &Book, issue: u32) -> String {
+    let nets = (0..ACCOUNTS as u32).filter(|&account| book.net(issue, account) != 0).count();
+    let entries = book.ledger().filter(|entry| u32::from(entry.issue) == issue).count();
+    let (s, ies) = (if nets == 1 { "" } else { "s" }, if entries == 1 { "y" } else { "ies" });
+    format!("issue {issue} has nets of {nets} account{s} and {entries} entr{ies} in the ledger")
 }
 
 /// What an account still owes today in an issue: −net less delivered, if the net is negative.

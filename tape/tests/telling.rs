@@ -23,6 +23,10 @@ const DAYS: &str = "trade 0 4 1 230000\ntrade 0 5 2 250000\ntrade 0 5 3 150000\n
     roll 1 300 100000\ntrade 3 2 3 20\ntrade 3 2 1 5\nclose\ncutoff\npair-off 3 2\nresolve 0 4 6000\n\
     word 50000001\n";
 
+/// Two days of an issue that is marked: odd lots and new marks refused, and the mark at the end.
+const MARKED: &str = "mark 3 1\nmark 5 1\nmark 5 0\ntrade 3 4 1 7\ntrade 3 4 1 130000\nmark 3 1\n\
+    close\ndeliver 3 4 110002\ncutoff\nroll 1 300 100000\nmark 3 0\nresolve 3 4 1\n";
+
 fn tape(text: &str) -> Vec<u8> {
     text::to_tape(text).expect("a text form")
 }
@@ -109,7 +113,8 @@ fn the_settled_days_are_told_as_stored() {
 fn text_says_why() {
     let text = told(Form::Text, Only::default(), DAYS);
     for line in [
-        "accounts 2 and 3 have small units of the same size, 50,000 lots: the lower number is first",
+        "accounts 2 and 3 have small units of the same size, 50,000 lots: the lower number is first (both small)",
+        "unit 4 of account 3 is full, unit 5 of account 2 is small: the full one is first (full and small)",
         "issue 0: units 0 to 1 are account 2's, 100,000 lots each, of 250,000 lots due",
         "account 4 still owes 30,000 lots of issue 0 today",
         "refused by 9: the account does not owe that many lots; account 4 still owes 30,000 lots",
@@ -124,6 +129,36 @@ fn text_says_why() {
     ] {
         assert!(text.contains(line), "{line}\n{text}");
     }
+}
+
+#[test]
+fn marks_are_told_in_plain_words() {
+    let text = told(Form::Text, Only::default(), MARKED);
+    for line in [
+        "word 0: mark: issue 3 in multiples of 100,000 yen face, even lots only\n",
+        "word 2: mark: issue 5 in multiples of 50,000 yen face, any lots\n",
+        "of issue 3: refused by 19: lots are odd in a marked issue; issue 3 is in multiples of",
+        "even lots only: refused by 20: the issue has a net or an entry; issue 3 has nets of 2 accounts",
+        "any lots: refused by 20: the issue has a net or an entry; issue 3 has nets of 0 accounts and 1 entry in",
+        "10,002 lots wait for unit 1 of account 1, 30,000 lots",
+        "charges\n      issue 3 is in multiples of 100,000 yen face, even lots only\n      issue 3: account 4",
+    ] {
+        assert!(text.contains(line), "{line}\n{text}");
+    }
+    let page = told(Form::Html, Only::default(), MARKED);
+    assert!(page.contains("<p>In multiples of 100,000 yen face, even lots only: issue 3</p>"));
+    assert!(!told(Form::Html, Only::default(), DAYS).contains("even lots only"));
+    let of_five = told(Form::Text, Only { issue: Some(5), ..Only::default() }, MARKED);
+    assert!(of_five.contains("mark: issue 5") && !of_five.contains("issue 3"), "{of_five}");
+}
+
+#[test]
+fn equal_nets_are_both_full() {
+    let text = told(Form::Text, Only::default(), "trade 0 1 4 200000\ntrade 0 1 2 200000\nclose\n");
+    let line =
+        "accounts 2 and 4 have the same net, 200,000 lots: the lower number is first (both full)";
+    assert!(text.contains(line), "{text}");
+    assert!(!text.contains("full and small") && !text.contains("both small"), "{text}");
 }
 
 #[test]
@@ -170,6 +205,12 @@ fn json_is_one_object_a_line_with_the_same_facts() {
         named(&objects, "instruction").iter().map(|one| number(one, "refusal")).collect();
     assert_eq!(refused.iter().filter(|&&number| number != 0).collect::<Vec<_>>(), [&6, &9]);
     assert_eq!(named(&objects, "tie")[0]["accounts"], Value::List(vec![2, 3]));
+    assert_eq!(named(&objects, "tie")[0]["case"], Value::Text("both small".to_string()));
+    let after = named(&objects, "small-after-full")[0];
+    assert_eq!(
+        ["unit", "account", "next", "follower"].map(|name| number(after, name)),
+        [4, 3, 5, 2]
+    );
     assert_eq!(number(named(&objects, "reading-ends")[0], "refusal"), 14);
     let yen: i64 = named(&objects, "charged").iter().map(|one| number(one, "yen")).sum();
     assert_eq!(yen, 0);
@@ -181,15 +222,14 @@ fn every_fact_of_json_is_in_the_documents() {
     let path = Path::new(env!("CARGO_MANIFEST_DIR")).join("../docs/TAPE.md");
     let documents = fs::read_to_string(path).expect("docs/TAPE.md");
     let mut seen = objects(Only::default());
-    seen.extend(
-        told(Form::Json, Only::default(), "close\ncutoff\n")
-            .lines()
-            .map(|line| parse(line).expect("an object")),
-    );
+    for day in ["close\ncutoff\n", MARKED] {
+        let told = told(Form::Json, Only::default(), day);
+        seen.extend(told.lines().map(|line| parse(line).expect("an object")));
+    }
     let mut names: Vec<&Value> = seen.iter().map(|object| &object["fact"]).collect();
     names.sort_by_key(|name| format!("{name:?}"));
     names.dedup();
-    assert_eq!(names.len(), 18, "{names:?}");
+    assert_eq!(names.len(), 19, "{names:?}");
     for object in &seen {
         let Value::Text(name) = &object["fact"] else { panic!("{object:?}") };
         let row = documents.lines().find(|line| line.starts_with(&format!("| `{name}` |")));

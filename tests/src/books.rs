@@ -1,7 +1,7 @@
 //! Random sound books, and random lots with many equals.
 
 use crate::rng::Rng;
-use reference::book::{place, Book, Entry, Lift, Phase, ENTRIES};
+use reference::book::{place, Book, Entry, Lift, Phase, ACCOUNTS, ENTRIES};
 use reference::measures::MOST_LOTS;
 use reference::soundness::MOST_CHARGE_A_DAY;
 use reference::units::{handed, units_of};
@@ -17,6 +17,8 @@ pub const MENU: [u32; 16] = [
 pub struct Shape {
     pub issues: Vec<u32>,
     pub accounts: Vec<u32>,
+    /// The issues that are marked, some of those that are filled.
+    pub marked: Vec<u32>,
     pub entries: usize,
     pub day: u16,
     /// The lots that are chosen mostly; with few of them many nets are equal.
@@ -27,13 +29,14 @@ impl Shape {
     /// Few issues and accounts, so that ties, chains and rings of fails occur.
     pub fn few(rng: &mut Rng) -> Shape {
         let issues = some_of(rng, 16, 1, 3);
+        let marked = issues.iter().copied().filter(|_| rng.chance(1, 3)).collect();
         let accounts = some_of(rng, 64, 2, 6);
         let entries = *rng.pick(&[0, 0, 3, 10, 40, 2_040, 2_046, 2_047, 2_048]);
         let day = *rng.pick(&[0, 1, 2, 300, 40_000, 65_500, 65_530, 65_534]);
         let day = if rng.chance(1, 40) { u16::MAX } else { day };
         let few = [*rng.pick(&MENU), *rng.pick(&MENU)];
         let menu = if rng.chance(1, 2) { few.to_vec() } else { MENU.to_vec() };
-        Shape { issues, accounts, entries, day, menu }
+        Shape { issues, accounts, marked, entries, day, menu }
     }
 }
 
@@ -76,10 +79,14 @@ pub fn two_of(rng: &mut Rng, accounts: &[u32]) -> (u32, u32) {
 pub fn random_book(rng: &mut Rng, shape: &Shape) -> Book {
     let phase = *rng.pick(&[Phase::Taking, Phase::Settling, Phase::Cut]);
     let mut book = Book { day: shape.day, phase, ..Book::fresh() };
+    for &issue in &shape.marked {
+        book.marks[issue as usize] = *rng.pick(&[1, 1, 1, 2, 128, 255]);
+    }
     for &issue in &shape.issues {
         for _ in 0..rng.range(0, 2 * shape.accounts.len() as u32) {
             let (from, to) = two_of(rng, &shape.accounts);
-            move_lots(&mut book, issue, from, to, random_lots(rng, &shape.menu));
+            let lots = suited(&book, issue, random_lots(rng, &shape.menu));
+            move_lots(&mut book, issue, from, to, lots);
         }
     }
     if phase != Phase::Taking {
@@ -87,10 +94,19 @@ pub fn random_book(rng: &mut Rng, shape: &Shape) -> Book {
         shape.issues.iter().for_each(|&issue| lift_some(rng, &mut book, issue as usize));
     }
     charge_some(rng, &mut book, &shape.accounts);
-    let entries = random_entries(rng, shape);
+    let entries = random_entries(rng, shape, &book);
     book.set_ledger(&entries);
     assert!(book.sound(), "a random book is not sound");
     book
+}
+
+/// Lots that the issue takes: in a marked one the next even number.
+pub fn suited(book: &Book, issue: u32, lots: u32) -> u32 {
+    if book.is_marked(issue as usize) {
+        lots.next_multiple_of(2)
+    } else {
+        lots
+    }
 }
 
 /// Moves lots between two nets, if both stay within ±20,000,000.
@@ -108,11 +124,12 @@ pub fn move_lots(book: &mut Book, issue: u32, from: u32, to: u32, lots: u32) {
 pub fn deliver_some(rng: &mut Rng, book: &mut Book) {
     for at in 0..book.nets.len() {
         let owed = (-book.nets[at]).max(0) as u32;
-        book.delivered[at] = match rng.range(0, 3) {
+        let lots = match rng.range(0, 3) {
             0 => 0,
             1 => owed,
             _ => rng.range(0, owed),
         };
+        book.delivered[at] = suited(book, (at / ACCOUNTS) as u32, lots);
     }
 }
 
@@ -166,8 +183,8 @@ fn charge_some(rng: &mut Rng, book: &mut Book, accounts: &[u32]) {
     }
 }
 
-/// Entries among few accounts, days never falling nor above today.
-fn random_entries(rng: &mut Rng, shape: &Shape) -> Vec<Entry> {
+/// Entries among few accounts, days never falling nor above today, even lots in marked issues.
+fn random_entries(rng: &mut Rng, shape: &Shape, book: &Book) -> Vec<Entry> {
     let mut day = rng.range(0, shape.day.into()) as u16;
     (0..shape.entries.min(ENTRIES))
         .map(|_| {
@@ -175,14 +192,9 @@ fn random_entries(rng: &mut Rng, shape: &Shape) -> Vec<Entry> {
                 day += 1;
             }
             let (from, to) = two_of(rng, &shape.accounts);
-            let issue = *rng.pick(&shape.issues) as u8;
-            Entry {
-                issue,
-                from: from as u8,
-                to: to as u8,
-                lots: random_lots(rng, &shape.menu),
-                day,
-            }
+            let issue = *rng.pick(&shape.issues);
+            let lots = suited(book, issue, random_lots(rng, &shape.menu));
+            Entry { issue: issue as u8, from: from as u8, to: to as u8, lots, day }
         })
         .collect()
 }
@@ -203,6 +215,13 @@ mod tests {
         assert!(books.iter().any(|book| book.count == ENTRIES));
         assert!(books.iter().any(|book| book.day == u16::MAX - 1));
         assert!(books.windows(2).any(|pair| pair[0] != pair[1]));
+        let odd = |b: &Book, i| b.entries().any(|e| usize::from(e.issue) == i && e.lots % 2 == 1);
+        let has = |b: &Book, i: usize| b.nets_of(i).iter().any(|&net| net != 0);
+        let some = |marked, found: &dyn Fn(&Book, usize) -> bool| {
+            let of = |b: &Book| (0..16).any(|i| b.is_marked(i) == marked && found(b, i));
+            books.iter().filter(|b| of(b)).count() > 20
+        };
+        assert!(some(true, &has) && some(false, &has) && some(false, &odd) && !some(true, &odd));
         let lifts = |number| books.iter().any(|b| b.lifts.iter().any(|l| l.number == number));
         assert!((0..=8).filter(|&number| lifts(number)).count() > 5);
     }

@@ -20,6 +20,7 @@ pub fn library_book(book: &book::Book) -> library::Book {
         day: book.day,
         phase: phase_of(book.phase),
         entries: book.count,
+        marks: book.marks,
         nets: book.nets,
         delivered: book.delivered,
         lifts: lift_words(&book.lifts),
@@ -72,6 +73,7 @@ pub fn reference_book(book: &library::Book) -> Option<book::Book> {
             library::Phase::CUT => book::Phase::Cut,
             _ => return None,
         },
+        marks: book.marks,
         nets: book.nets,
         delivered: book.delivered,
         lifts: lifts_of_words(&book.lifts),
@@ -90,6 +92,7 @@ pub fn same_numbers(one: &book::Book, other: &library::Book) -> bool {
     one.day == other.day
         && phase_of(one.phase) == other.phase
         && one.count == other.entries
+        && one.marks == other.marks
         && one.nets == other.nets
         && one.delivered == other.delivered
         && lift_words(&one.lifts) == other.lifts
@@ -117,6 +120,7 @@ pub fn library_instruction(instruction: &Instruction) -> library::Instruction {
         Instruction::Close => library::Instruction::Close,
         Instruction::Cutoff => library::Instruction::Cutoff,
         Instruction::Roll { days, rate } => library::Instruction::Roll { days, rate },
+        Instruction::Mark { issue, mark } => library::Instruction::Mark { issue, mark },
     }
 }
 
@@ -136,6 +140,7 @@ pub fn reference_instruction(instruction: &library::Instruction) -> Instruction 
         library::Instruction::Close => Instruction::Close,
         library::Instruction::Cutoff => Instruction::Cutoff,
         library::Instruction::Roll { days, rate } => Instruction::Roll { days, rate },
+        library::Instruction::Mark { issue, mark } => Instruction::Mark { issue, mark },
     }
 }
 
@@ -177,10 +182,12 @@ mod tests {
     #[test]
     fn a_difference_in_any_field_is_seen() {
         let fresh = book::Book::fresh();
-        let changes: [fn(&mut library::Book); 14] = [
+        let changes: [fn(&mut library::Book); 16] = [
             |book| book.day = 1,
             |book| book.phase = library::Phase(3),
             |book| book.entries = 1,
+            |book| book.marks[0] = 1,
+            |book| book.marks[15] = 255,
             |book| book.nets[1_023] = 1,
             |book| book.delivered[1_023] = 1,
             |book| book.lifts[0] = 1,

@@ -135,8 +135,10 @@ fn answer_text(answer: Answer) -> String {
 pub fn book_difference(one: &library::Book, other: &library::Book) -> [String; 2] {
     let both = |tell: &dyn Fn(&library::Book) -> String| [tell(one), tell(other)];
     let differs = |texts: &[String; 2]| texts[0] != texts[1];
-    let header =
-        both(&|book| format!("day {}, {:?}, {} entries", book.day, book.phase, book.entries));
+    let header = both(&|book| {
+        let (entries, marks) = (book.entries, book.marks);
+        format!("day {}, {:?}, {entries} entries, marks {marks:?}", book.day, book.phase)
+    });
     if differs(&header) {
         return header;
     }
@@ -194,6 +196,7 @@ pub fn by_reference(book: &mut Book, call: &Call, out: &mut [u32]) -> Answer {
             plain(answer.number, &[answer.steps.into(), answer.lots])
         }
         Call::Roll { days, rate, ref prices } => counted(calls::roll(book, days, rate, prices)),
+        Call::Mark { issue, mark } => counted(calls::mark(book, issue, mark)),
     }
 }
 
@@ -226,6 +229,7 @@ pub fn by_reference_on_sound(book: &mut Book, call: &Call, out: &mut [u32]) -> A
         Call::Roll { days, rate, ref prices } => {
             counted(calls::roll_on_sound(book, days, rate, prices))
         }
+        Call::Mark { issue, mark } => counted(calls::mark_on_sound(book, issue, mark)),
     }
 }
 
@@ -260,6 +264,7 @@ pub fn by_library(book: &mut library::Book, call: &Call, out: &mut [u32]) -> Ans
         }
         Call::PairOff { issue, account } => library::calls::pair_off(book, issue, account),
         Call::Roll { days, rate, ref prices } => library::calls::roll(book, days, rate, prices),
+        Call::Mark { issue, mark } => library::calls::mark(book, issue, mark),
     };
     plain(answer.refusal, &[answer.count as u64, answer.cancelled])
 }

@@ -1,10 +1,11 @@
 //! Random calls that suit a book, with arguments in range mostly.
 
-use crate::books::{random_lots, two_of, Shape};
+use crate::books::{random_lots, suited, two_of, Shape};
 use crate::rng::Rng;
 use crate::steps::Call;
 use reference::book::{place, Book, Phase, ACCOUNTS};
 use reference::measures::{MOST_DAYS, MOST_LOTS, MOST_PRICE, MOST_RATE};
+use reference::questions::issue_is_empty;
 use reference::units::{handed, units_of};
 
 /// A call that suits the phase mostly, with arguments in range mostly.
@@ -21,13 +22,14 @@ pub fn random_call(rng: &mut Rng, shape: &Shape, book: &Book) -> Call {
         (_, 13..=17) => {
             Call::PairOff { issue: *rng.pick(&shape.issues), account: *rng.pick(&shape.accounts) }
         }
-        (Phase::Taking, 18..=91) => random_trade(rng, shape, book),
+        (_, 18..=21) => random_mark(rng, shape, book),
+        (Phase::Taking, 22..=91) => random_trade(rng, shape, book),
         (Phase::Taking, _) => Call::Close,
-        (Phase::Settling, 18..=87) if !rng.chance(1, 6) || !deliverers(shape, book).is_empty() => {
+        (Phase::Settling, 22..=87) if !rng.chance(1, 6) || !deliverers(shape, book).is_empty() => {
             random_delivery(rng, shape, book)
         }
         (Phase::Settling, _) => Call::Cutoff { out: random_output(rng) },
-        (Phase::Cut, 18..=60) => random_roll(rng),
+        (Phase::Cut, 22..=60) => random_roll(rng),
         (Phase::Cut, 61..=80) => random_resolve(rng, shape, book),
         (Phase::Cut, _) => {
             Call::PairOff { issue: *rng.pick(&shape.issues), account: *rng.pick(&shape.accounts) }
@@ -59,7 +61,16 @@ fn random_trade(rng: &mut Rng, shape: &Shape, book: &Book) -> Call {
         9..=15 => to_equal(rng, shape, book, issue, to),
         _ => random_lots(rng, &shape.menu),
     };
-    Call::Trade { issue, from, to, lots }
+    Call::Trade { issue, from, to, lots: mostly_suited(rng, book, issue, lots) }
+}
+
+/// Lots that the issue takes; now and then odd ones in a marked issue too.
+fn mostly_suited(rng: &mut Rng, book: &Book, issue: u32, lots: u32) -> u32 {
+    if rng.chance(1, 8) {
+        lots
+    } else {
+        suited(book, issue, lots)
+    }
 }
 
 /// The lots that make an account's net, or its small unit, equal to that of another receiver.
@@ -84,6 +95,7 @@ fn random_delivery(rng: &mut Rng, shape: &Shape, book: &Book) -> Call {
         5..=7 => to_unit_end(book, issue as usize).min(owed),
         _ => random_lots(rng, &shape.menu).min(owed),
     };
+    let lots = mostly_suited(rng, book, issue, lots);
     Call::Deliver { issue, account, lots, out: random_output(rng) }
 }
 
@@ -119,7 +131,26 @@ fn random_resolve(rng: &mut Rng, shape: &Shape, book: &Book) -> Call {
         6 => owed.min(MOST_LOTS.into()) as u32 + 1,
         _ => random_lots(rng, &shape.menu).min(owed.min(MOST_LOTS.into()) as u32),
     };
+    let lots = mostly_suited(rng, book, issue, lots);
     Call::Resolve { issue, account, lots, out: random_output(rng) }
+}
+
+/// A mark, mostly of an issue that has neither net nor entry, if there is one, and mostly set.
+fn random_mark(rng: &mut Rng, shape: &Shape, book: &Book) -> Call {
+    let empty = |issue: &u32| issue_is_empty(book, *issue as usize).is_ok();
+    let empty: Vec<u32> = shape.issues.iter().copied().filter(empty).collect();
+    let any = *rng.pick(&shape.issues);
+    let issue = match rng.range(0, 9) {
+        0 => rng.range(0, 15),
+        1..=8 if !empty.is_empty() => *rng.pick(&empty),
+        _ => any,
+    };
+    let mark = match rng.range(0, 11) {
+        0..=7 => 1,
+        8..=10 => 0,
+        _ => *rng.pick(&[2, 255, 256, 1 << 31, u32::MAX]),
+    };
+    Call::Mark { issue, mark }
 }
 
 /// The unit question, mostly of a unit that there is.
@@ -216,6 +247,7 @@ fn out_of_range(rng: &mut Rng, call: Call) -> Call {
         }
         (Call::PairOff { account, .. }, 0) => Call::PairOff { issue: place, account },
         (Call::PairOff { issue, .. }, _) => Call::PairOff { issue, account: place },
+        (Call::Mark { mark, .. }, _) => Call::Mark { issue: place, mark },
         (Call::Roll { days, rate, prices }, _) => wrong_roll(rng, days, rate, prices),
         (call, _) => call,
     }

@@ -71,6 +71,7 @@ pub fn words_of(call: &Call) -> Option<Vec<u32>> {
             (Instruction::Resolve { issue, account, lots }, none)
         }
         Call::PairOff { issue, account } => (Instruction::PairOff { issue, account }, none),
+        Call::Mark { issue, mark } => (Instruction::Mark { issue, mark }, none),
         Call::Roll { days, rate, ref prices } => {
             (Instruction::Roll { days, rate }, prices.as_slice())
         }
@@ -113,9 +114,19 @@ mod tests {
         for case in 0..100 {
             text.push_str(&reference::run::run(&small_tape(&mut Rng::of_case(1, case))));
         }
-        for line in
-            ["deliver 0 2", "cutoff 0 3", "pair-off 0 1", "tape 13 0", "tape 14 0", "roll 0 0"]
-        {
+        for line in [
+            "deliver 0 2",
+            "cutoff 0 3",
+            "pair-off 0 1",
+            "tape 13 0",
+            "tape 14 0",
+            "roll 0 0",
+            "mark 0 0",
+            "mark 20 0",
+            "trade 19 0",
+            "deliver 19 0",
+            "resolve 19 0",
+        ] {
             assert!(text.contains(line), "{line}");
         }
     }

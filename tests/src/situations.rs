@@ -10,22 +10,23 @@ use std::cmp::Reverse;
 use std::collections::BTreeMap;
 
 /// The numbers that each call can answer, by the paper; 0 is done.
-pub const NUMBERS: [(&str, &[u32]); 11] = [
+pub const NUMBERS: [(&str, &[u32]); 12] = [
     ("unit", &[0, 2, 4]),
     ("status", &[0, 2, 3, 4, 16]),
-    ("trade", &[0, 2, 3, 4, 5, 6, 7, 8]),
+    ("trade", &[0, 2, 3, 4, 5, 6, 7, 19, 8]),
     ("close", &[0, 2, 3]),
-    ("deliver", &[0, 1, 2, 3, 4, 5, 7, 9]),
+    ("deliver", &[0, 1, 2, 3, 4, 5, 7, 19, 9]),
     ("ask", &[0, 2, 3, 4, 16]),
     ("commit", &[0, 1, 2, 3, 4, 16, 17, 18]),
     ("cutoff", &[0, 1, 2, 3, 10]),
-    ("resolve", &[0, 1, 2, 4, 5, 7, 9]),
+    ("resolve", &[0, 1, 2, 4, 5, 7, 19, 9]),
     ("pair-off", &[0, 2, 4, 5]),
     ("roll", &[0, 2, 3, 11, 12]),
+    ("mark", &[0, 2, 4, 20]),
 ];
 
 /// The situations that a run of random lists must meet.
-const SITUATIONS: [&str; 90] = [
+const SITUATIONS: [&str; 113] = [
     "trade: a net reaches 20,000,000",
     "trade: a net reaches -20,000,000",
     "trade: refused for from's net alone",
@@ -116,6 +117,29 @@ const SITUATIONS: [&str; 90] = [
     "roll: day becomes 65,535",
     "roll: lots were delivered",
     "roll: lifts and counts are cleared",
+    "roll: marks stay",
+    "mark: set",
+    "mark: set where it is set",
+    "mark: taken away",
+    "mark: in Taking",
+    "mark: in Settling",
+    "mark: in Cut",
+    "mark: beside nets and entries of other issues",
+    "mark: a number above 1 is stored as 1",
+    "mark: refused for a net alone",
+    "mark: refused for an entry alone",
+    "mark: taking it away is refused",
+    "trade: even lots in a marked issue",
+    "trade: odd lots where another issue is marked",
+    "trade: odd lots in a marked issue that a net would not take",
+    "deliver: even lots in a marked issue, inside a unit",
+    "deliver: odd lots in a marked issue, more than is owed",
+    "commit: hands over a unit of a marked issue",
+    "cutoff: a marked issue fails after stock goes to a unit",
+    "cutoff: marked and other issues fail, odd lots among them",
+    "resolve: part of an entry of a marked issue",
+    "resolve: odd lots in a marked issue, more than is owed",
+    "pair-off: steps in a marked issue",
 ];
 
 /// How often each number and situation was met.
@@ -150,7 +174,13 @@ impl Coverage {
             Call::Roll { days, rate, ref prices } => self.roll(made, days, rate, prices),
             Call::Ask { issue, unit } => self.ask(made, issue, unit),
             Call::Commit { ref ticket, .. } => self.commit(made, ticket),
+            Call::Mark { issue, mark } => self.mark(made, issue, mark),
             Call::Close | Call::Sound => {}
+        }
+        match made.answer.number {
+            0 => self.marked_issues(made),
+            19 => self.odd_lots(made),
+            _ => {}
         }
     }
 
@@ -492,6 +522,96 @@ impl Coverage {
         self.meet("roll: lots were delivered", made.before.delivered.iter().any(|&lots| lots > 0));
         let lifted = made.before.lifts.iter().any(|lifts| lifts.number > 0 && lifts.count > 0);
         self.meet("roll: lifts and counts are cleared", lifted);
+        self.meet("roll: marks stay", made.after.marks.iter().any(|&mark| mark != 0));
+    }
+
+    /// The situations of a mark.
+    fn mark(&mut self, made: &Made, issue: u32, mark: u32) {
+        let Some(at) = usize::try_from(issue).ok().filter(|&at| at < ISSUES) else { return };
+        let (before, was) = (made.before, made.before.is_marked(at));
+        if made.answer.number == 20 {
+            let net = before.nets_of(at).iter().any(|&net| net != 0);
+            let entry = before.entries().any(|entry| u32::from(entry.issue) == issue);
+            self.meet("mark: refused for a net alone", net && !entry);
+            self.meet("mark: refused for an entry alone", entry && !net);
+            self.meet("mark: taking it away is refused", was && mark == 0);
+        }
+        if made.answer.number == 0 {
+            self.meet("mark: set", !was && mark == 1);
+            self.meet("mark: set where it is set", was && mark == 1);
+            self.meet("mark: taken away", was && mark == 0);
+            self.meet(&format!("mark: in {:?}", before.phase), true);
+            let others = before.count > 0 && before.nets.iter().any(|&net| net != 0);
+            self.meet("mark: beside nets and entries of other issues", others);
+            self.meet("mark: a number above 1 is stored as 1", mark > 1);
+        }
+    }
+
+    /// The situations of odd lots that a marked issue refuses, where a later question says 'no' too.
+    fn odd_lots(&mut self, made: &Made) {
+        let before = made.before;
+        match *made.call {
+            Call::Trade { issue, from, to, lots } => {
+                let net = |account| before.nets[place(issue as usize, account as usize)];
+                let (most, lots) = (MOST_LOTS as i32, lots as i32);
+                let past = net(from) - lots < -most || net(to) + lots > most;
+                self.meet("trade: odd lots in a marked issue that a net would not take", past);
+            }
+            Call::Deliver { issue, account, lots, .. } => {
+                let owed = before.owed_today(issue as usize, account as usize);
+                let more = owed < u64::from(lots);
+                self.meet("deliver: odd lots in a marked issue, more than is owed", more);
+            }
+            Call::Resolve { issue, account, lots, .. } => {
+                let more = before.owed_in_ledger(issue, account) < u64::from(lots);
+                self.meet("resolve: odd lots in a marked issue, more than is owed", more);
+            }
+            _ => {}
+        }
+    }
+
+    /// The situations of calls that are done, in marked issues and beside them.
+    fn marked_issues(&mut self, made: &Made) {
+        let marked = |issue: u32| made.before.is_marked(issue as usize);
+        let count = made.answer.others[0];
+        match *made.call {
+            Call::Trade { issue, lots, .. } => {
+                let other = lots % 2 == 1 && made.before.marks.iter().any(|&mark| mark != 0);
+                self.meet("trade: odd lots where another issue is marked", other);
+                self.meet("trade: even lots in a marked issue", marked(issue));
+            }
+            Call::Deliver { issue, .. } => {
+                let inside = marked(issue) && count == 0;
+                self.meet("deliver: even lots in a marked issue, inside a unit", inside);
+            }
+            Call::Commit { ref ticket, .. } => {
+                let handed = marked(ticket.issue) && count == 1;
+                self.meet("commit: hands over a unit of a marked issue", handed);
+            }
+            Call::Cutoff { .. } => self.cut_marked(made),
+            Call::Resolve { issue, .. } => {
+                let part = marked(issue) && made.before.count == made.after.count;
+                self.meet("resolve: part of an entry of a marked issue", part);
+            }
+            Call::PairOff { issue, .. } => {
+                self.meet("pair-off: steps in a marked issue", marked(issue) && count > 0);
+            }
+            _ => {}
+        }
+    }
+
+    /// The situations of marked issues at a cutoff.
+    fn cut_marked(&mut self, made: &Made) {
+        let fails = &made.after.ledger()[made.before.count..];
+        let marked = |entry: &Entry| made.before.is_marked(entry.issue.into());
+        let stock = |entry: &Entry| {
+            let issue = usize::from(entry.issue);
+            handed(&units_of(made.before, issue), made.before.delivered_total(issue)).1 > 0
+        };
+        let after_stock = fails.iter().any(|entry| marked(entry) && stock(entry));
+        self.meet("cutoff: a marked issue fails after stock goes to a unit", after_stock);
+        let both = fails.iter().any(marked) && fails.iter().any(|fail| fail.lots % 2 == 1);
+        self.meet("cutoff: marked and other issues fail, odd lots among them", both);
     }
 }
 

@@ -1,4 +1,4 @@
--- A book is a small state (day, phase, number of entries) and its columns. A contract takes lent columns by name.
+-- A book is a small state (day, phase, number of entries, marks) and its columns. A contract takes lent columns by name.
 use mathlib.Core.Path.{_≡_}
 use mathlib.Core.Bool.{true}
 use mathlib.Core.List.{List}
@@ -16,22 +16,25 @@ use Rattle.book.specs.declared.State.{State}
 
 -- Setters: nobody else writes a state out field by field
 
-abbrev pub stateOf : ℕ → Phase → ℕ → State
-stateOf day phase n = record { day = day; phase = phase; entries = n }
+abbrev pub stateOf : ℕ → Phase → ℕ → List ℕ → State
+stateOf day phase n marks = record { day = day; phase = phase; entries = n; marks = marks }
 
 abbrev pub withPhase : State → Phase → State
-withPhase s p = stateOf (s .day) p (s .entries)
+withPhase s p = stateOf (s .day) p (s .entries) (s .marks)
 
 abbrev pub withEntries : State → ℕ → State
-withEntries s n = stateOf (s .day) (s .phase) n
+withEntries s n = stateOf (s .day) (s .phase) n (s .marks)
+
+abbrev pub withMarks : State → List ℕ → State
+withMarks s ms = stateOf (s .day) (s .phase) (s .entries) ms
 
 abbrev pub nextDay : State → State
-nextDay s = stateOf (s .day + 1) Taking (s .entries)
+nextDay s = stateOf (s .day + 1) Taking (s .entries) (s .marks)
 
 -- the book of a state and all columns
 abbrev pub bookIn : State → List ℤ → List ℕ → List ℕ → List ℤ → List ℕ → List ℕ → List ℕ → List ℕ → List ℕ → Book
 bookIn s nets delivered lifts charges issues froms tos lots days =
-    bookOf (s .day) (s .phase) nets delivered lifts charges (s .entries) issues froms tos lots days
+    bookOf (s .day) (s .phase) (s .marks) nets delivered lifts charges (s .entries) issues froms tos lots days
 
 -- columns of a book's lengths that are a sound book
 pub record SoundColumns (s : State) (nets : List ℤ) (delivered lifts : List ℕ) (charges : List ℤ) (issues froms tos lots days : List ℕ) : Type 0 where

@@ -9,9 +9,9 @@ ghost use Prim.Native.Nat.{_<_};
 ghost use lib.ListN.{length};
 ghost use Rattle.rules.specs.Measures.{mostLots, lastDay, sum, dueOf, owedOf};
 ghost use Rattle.rules.specs.Fails.{undelivered};
-ghost use Rattle.rules.specs.Book.{isTaking, isSettling, isCut, withinSize, fresh as freshOf};
+ghost use Rattle.rules.specs.Book.{isTaking, isSettling, isCut, withinSize, lotsEven, fresh as freshOf};
 ghost use Rattle.book.specs.Nets.{Small, Lowered, Raised};
-ghost use Rattle.book.specs.States.{stateOf, bookIn, withPhase, withEntries, nextDay};
+ghost use Rattle.book.specs.States.{stateOf, bookIn, withPhase, withEntries, withMarks, nextDay};
 ghost use Rattle.book.specs.Rows.{Owing};
 
 // The lots due to an account with this net, 0 where it is not positive.
@@ -49,6 +49,19 @@ pub fn within(n: i32) -> bool
     ensures { λ r. ⌜ r ≡ withinSize mostLots n ⌝ }
 {
     -20_000_000 <= n && n <= 20_000_000
+}
+
+// Are lots in this issue even, if it is marked? There is no mark of an issue above 15.
+pub fn lots_even(marks: [u8; 16], i: u32, x: u32) -> bool
+    ensures { λ r. ⌜ r ≡ lotsEven marks i x ⌝ }
+{
+    if 15 < i {
+        return true;
+    }
+    if marks[i as usize] == 0 {
+        return true;
+    }
+    x % 2 == 0
 }
 
 // The lots due to each account of an issue, from its nets.
@@ -124,22 +137,24 @@ pub fn cut(p: Phase) -> bool
     }
 }
 
-// What of a book stands beside its columns: day, phase, number of entries. It is written by the setters
-// below and nowhere else field by field.
+// What of a book stands beside its columns: day, phase, number of entries, marks. It is written by the
+// setters below and nowhere else field by field.
 pub struct State {
     pub day: u16,
     pub phase: Phase,
     pub entries: usize,
+    pub marks: [u8; 16],
 }
 
 // The state of these numbers.
-pub fn state_of(day: u16, phase: Phase, entries: usize) -> State
-    ensures { λ r. ⌜ r ≡ stateOf day phase entries ⌝ }
+pub fn state_of(day: u16, phase: Phase, entries: usize, marks: [u8; 16]) -> State
+    ensures { λ r. ⌜ r ≡ stateOf day phase entries marks ⌝ }
 {
     State {
         day,
         phase,
         entries,
+        marks,
     }
 }
 
@@ -159,9 +174,11 @@ pub fn book_in(
     ensures { λ r. ⌜ r ≡ bookIn s nets delivered lifts charges issues froms tos lots days ⌝ }
 {
     let phase = s.phase;
+    let marks = s.marks;
     Book {
         day: s.day,
         phase,
+        marks,
         nets,
         delivered,
         lifts,
@@ -179,10 +196,12 @@ pub fn book_in(
 pub fn with_phase(s: State, phase: Phase) -> State
     ensures { λ r. ⌜ r ≡ withPhase s phase ⌝ }
 {
+    let marks = s.marks;
     State {
         day: s.day,
         phase,
         entries: s.entries,
+        marks,
     }
 }
 
@@ -195,25 +214,37 @@ pub fn with_entries(s: State, entries: usize) -> State
     next
 }
 
+// The state with other marks.
+pub fn with_marks(s: State, marks: [u8; 16]) -> State
+    ensures { λ r. ⌜ r ≡ withMarks s marks ⌝ }
+{
+    let mut next = s;
+    next.marks = marks;
+    next
+}
+
 // The state of the next day, in Taking.
 pub fn next_day(s: State) -> State
     requires { ⌜ s .day < lastDay ⌝ }
     ensures { λ r. ⌜ r ≡ nextDay s ⌝ }
 {
+    let marks = s.marks;
     State {
         day: s.day + 1,
         phase: Phase::Taking,
         entries: s.entries,
+        marks,
     }
 }
 
-// Day 0, Taking, all zero, ledger empty.
+// Day 0, Taking, all zero, ledger empty, no issue marked.
 pub fn fresh() -> Book
     ensures { λ r. ⌜ r ≡ freshOf ⌝ }
 {
     Book {
         day: 0,
         phase: Phase::Taking,
+        marks: [0; 16],
         nets: [0; 1024],
         delivered: [0; 1024],
         lifts: [0; 288],

@@ -68,9 +68,10 @@ pub fn deliver_in(
     n
 }
 
-// Questions 3, 4, 5, 7 and 9 of a delivery: the number of the first 'no', 0 where there is none.
+// Questions 3, 4, 5, 7, 19 and 9 of a delivery: the number of the first 'no', 0 where there is none.
 pub fn deliver_asks<'a>(
     phase: Phase,
+    marks: [u8; 16],
     nets: &'a [i32],
     delivered: &'a [u32],
     i: u32,
@@ -78,7 +79,7 @@ pub fn deliver_asks<'a>(
     x: u32,
 ) -> u32
     requires { ⌜ OwedCells (now nets) (now delivered) ⌝ }
-    ensures { λ r. ⌜ r ≡ firstNo (deliverAsks phase (now (nets .entry)) (now (delivered .entry)) i a x) ⌝ }
+    ensures { λ r. ⌜ r ≡ firstNo (deliverAsks phase marks (now (nets .entry)) (now (delivered .entry)) i a x) ⌝ }
 {
     if !book::settling(phase) {
         return 3;
@@ -91,6 +92,9 @@ pub fn deliver_asks<'a>(
     }
     if !measures::lots_right(x) {
         return 7;
+    }
+    if !book::lots_even(marks, i, x) {
+        return 19;
     }
     let at = i as usize * 64 + a as usize;
     let n = nets[at];

@@ -12,7 +12,7 @@ use Rattle.rules.specs.declared.Instruction.the-variants as instruction
 use Rattle.rules.specs.Measures.{outputWords}
 use Rattle.rules.specs.Book.{sound}
 use Rattle.rules.specs.Questions.{Question, ask, firstNo}
-use Rattle.rules.specs.Calls.{Call, Trade, Close, Deliver, Ask, Commit, Cutoff, Resolve, PairOff, Roll, Effect, answer, lentTo, outputAsks, HasRoom, ownAsks, effect, called}
+use Rattle.rules.specs.Calls.{Call, Trade, Close, Deliver, Ask, Commit, Cutoff, Resolve, PairOff, Roll, Mark, Effect, answer, lentTo, outputAsks, HasRoom, ownAsks, effect, called}
 use Rattle.rules.specs.Run.{callOf}
 use Rattle.laws.proofs.Answers.{said-yes, said-no, yes}
 use Rattle.book.specs.declared.State.{State}
@@ -32,6 +32,7 @@ room-of (instruction.PairOff i a) prices out = refl
 room-of instruction.Close prices out = refl
 room-of instruction.Cutoff prices out = refl
 room-of (instruction.Roll days rate) prices out = refl
+room-of (instruction.Mark i m) prices out = refl
 
 -- a 'no' among the first questions is the first 'no' of all
 no-first : (ps qs : List Question) (n : ℕ) → firstNo ps ≡ suc n → firstNo (ps ++ qs) ≡ suc n
@@ -50,6 +51,7 @@ others (Cutoff out) qs h = said-yes 1 (leb outputWords (length out)) qs (yes 0 (
 others (Resolve i a x out) qs h = said-yes 1 (leb outputWords (length out)) qs (yes 0 (leb outputWords (length out)) [] h .first)
 others (PairOff i a) qs h = refl
 others (Roll days rate prices) qs h = refl
+others (Mark i m) qs h = refl
 
 -- Refusals
 
@@ -63,6 +65,7 @@ as-came (instruction.PairOff i a) prices out n b e = refl
 as-came instruction.Close prices out n b e = refl
 as-came instruction.Cutoff prices out n b e = refl
 as-came (instruction.Roll days rate) prices out n b e = refl
+as-came (instruction.Mark i m) prices out n b e = refl
 
 -- a refusal by its number
 pub unchanged : (b : Book) (x : Instruction) (prices out : List ℕ) (s : State) (k n : ℕ) → k ≡ suc n →

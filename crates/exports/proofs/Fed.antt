@@ -31,9 +31,9 @@ use Rattle.exports.proofs.Hosting.{of-kind}
 
 -- the numbers of a host's answer
 abbrev numbers : ℕ → ℕ → ℕ → Turn
-numbers n k x = record { refusal = n; count = k; cancelled = x; state = stateOf 0 Taking 0 }
+numbers n k x = record { refusal = n; count = k; cancelled = x; state = stateOf 0 Taking 0 [] }
 
--- a call of a kind of 1 to 7, in columns of a book's lengths and with one of its phases, and what that gave
+-- a call of a kind of 1 to 7 or 13, in columns of a book's lengths and with one of its phases, and what that gave
 pub data ByHost (b : Book) : Call → Answer → Type 0 where
   told : (kind : ℕ) (x : Instruction) (prices out : List ℕ) (h : Host) (n k lots : ℕ) (words : List ℕ) →
       isKind kind ≡ true → h .phase ≤ 2 → lengthsRight b ≡ true →

@@ -16,6 +16,7 @@ pub extern "C" fn day_sound<'a>(
     day: u16,
     phase: u32,
     entries: usize,
+    marks: &'a [u8; 16],
     nets: &'a [i32],
     delivered: &'a [u32],
     lifts: &'a [u32],
@@ -26,12 +27,12 @@ pub extern "C" fn day_sound<'a>(
     lots: &'a [u32],
     days: &'a [u16],
 ) -> u32
-    ensures { λ r. ⌜ r ≡ soundNumber phase (bookAt day phase entries (columns nets delivered lifts charges issues froms tos lots days)) ⌝ }
+    ensures { λ r. ⌜ r ≡ soundNumber phase (bookAt day phase entries (now (marks .entry)) (columns nets delivered lifts charges issues froms tos lots days)) ⌝ }
 {
     if 2 < phase {
         return 0;
     }
-    let s = state_of(day, phase, entries);
+    let s = state_of(day, phase, entries, *marks);
     if soundness::sound(
         s,
         nets,
@@ -75,6 +76,7 @@ pub extern "C" fn day_unit<'a>(
     day: u16,
     phase: u32,
     entries: usize,
+    marks: &'a [u8; 16],
     nets: &'a [i32],
     delivered: &'a [u32],
     lifts: &'a [u32],
@@ -88,12 +90,12 @@ pub extern "C" fn day_unit<'a>(
     k: u32,
     answer: &mut [u32; 3],
 ) -> u32
-    ensures { λ r. ⌜ UnitIs (dayUnit phase (bookAt day phase entries (columns nets delivered lifts charges issues froms tos lots days)) issue k) r (now (answer .exit)) ⌝ }
+    ensures { λ r. ⌜ UnitIs (dayUnit phase (bookAt day phase entries (now (marks .entry)) (columns nets delivered lifts charges issues froms tos lots days)) issue k) r (now (answer .exit)) ⌝ }
 {
     if 2 < phase {
         return told(Found::Refused(2), answer);
     }
-    let s = state_of(day, phase, entries);
+    let s = state_of(day, phase, entries, *marks);
     let found = inquiry::unit(
         s,
         nets,
@@ -123,6 +125,7 @@ pub extern "C" fn day_call(
     day: &mut u16,
     phase: &mut u32,
     entries: &mut usize,
+    marks: &mut [u8; 16],
     nets: &mut [i32],
     delivered: &mut [u32],
     lifts: &mut [u32],
@@ -136,7 +139,7 @@ pub extern "C" fn day_call(
     count: &mut usize,
     cancelled: &mut u64,
 ) -> u32
-    ensures { λ r. ⌜ DayCalled kind (instructionOf kind a b c d) prices out r count cancelled (host day phase entries (columns nets delivered lifts charges issues froms tos lots days)) ⌝ }
+    ensures { λ r. ⌜ DayCalled kind (instructionOf kind a b c d) prices out r count cancelled (host day phase entries marks (columns nets delivered lifts charges issues froms tos lots days)) ⌝ }
 {
     *count = 0;
     *cancelled = 0;
@@ -152,7 +155,7 @@ pub extern "C" fn day_call(
     if 2 < stage {
         return 2;
     }
-    let s = state_of(*day, stage, *entries);
+    let s = state_of(*day, stage, *entries, *marks);
     let r = dispatch::call(
         x,
         prices,
@@ -173,6 +176,8 @@ pub extern "C" fn day_call(
     let after = next.phase;
     *phase = number_of(after);
     *entries = next.entries;
+    let marked = next.marks;
+    *marks = marked;
     *count = r.count;
     *cancelled = r.cancelled;
     r.refusal

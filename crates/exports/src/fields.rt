@@ -28,21 +28,24 @@ pub fn number_of(p: Phase) -> u32
     }
 }
 
-// The state of a host's three numbers.
-pub fn state_of(day: u16, phase: u32, entries: usize) -> State
-    ensures { λ r. ⌜ r ≡ stateOf day (phaseOf phase) entries ⌝ }
+// The state of a host's three numbers and its marks.
+pub fn state_of(day: u16, phase: u32, entries: usize, marks: [u8; 16]) -> State
+    ensures { λ r. ⌜ r ≡ stateOf day (phaseOf phase) entries marks ⌝ }
 {
-    book::state_of(day, phase_of(phase), entries)
+    book::state_of(day, phase_of(phase), entries, marks)
 }
 
 // Is there an instruction of this kind?
 pub fn is_kind(kind: u32) -> bool
     ensures { λ r. ⌜ r ≡ isKind kind ⌝ }
 {
+    if kind == 13 {
+        return true;
+    }
     (1 <= kind) & (kind <= 7)
 }
 
-// The instruction of a kind of 1 to 7 and its fields.
+// The instruction of a kind of 1 to 7 or 13 and its fields.
 pub fn instruction_of(kind: u32, a: u32, b: u32, c: u32, d: u32) -> Instruction
     ensures { λ r. ⌜ r ≡ instructionOf kind a b c d ⌝ }
 {
@@ -53,7 +56,8 @@ pub fn instruction_of(kind: u32, a: u32, b: u32, c: u32, d: u32) -> Instruction
         4 => Instruction::PairOff(a, b),
         5 => Instruction::Close,
         6 => Instruction::Cutoff,
-        _ => Instruction::Roll(a, b),
+        7 => Instruction::Roll(a, b),
+        _ => Instruction::Mark(a, b),
     }
 }
 
@@ -69,5 +73,6 @@ pub fn fields(x: Instruction) -> [u32; 5]
         Instruction::Close => [5, 0, 0, 0, 0],
         Instruction::Cutoff => [6, 0, 0, 0, 0],
         Instruction::Roll(days, rate) => [7, days, rate, 0, 0],
+        Instruction::Mark(i, m) => [13, i, m, 0, 0],
     }
 }

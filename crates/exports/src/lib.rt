@@ -1,9 +1,10 @@
 // The settlement-day book for hosts: C functions over plain numbers and lent columns.
 //
-// A book goes in as three numbers and nine columns:
+// A book goes in as three numbers, sixteen marks and nine columns:
 //   day      uint16_t   0 to 65,535
 //   phase    uint32_t   0 Taking, 1 Settling, 2 Cut; any other number is a damaged book
 //   entries  size_t     the number of fail entries, at most 2,048
+//   marks    uint8_t[16]   of each issue 0, or another number where it is marked
 //   nets, delivered     1,024 each, int32_t and uint32_t; issue i and account a stand at i * 64 + a
 //   lifts               288, uint32_t; of issue i the words from i * 18 on: number of lifts, count, then eight
 //                       times an old and a new place
@@ -23,26 +24,27 @@
 //   5 close
 //   6 cutoff
 //   7 roll      days, rate (the sixteen prices stand beside it)
+//   13 mark     issue, mark (0 takes it away, any other number sets it; the tape has 0 and 1 only)
 //
-// uint32_t day_sound(uint16_t day, uint32_t phase, size_t entries,
+// uint32_t day_sound(uint16_t day, uint32_t phase, size_t entries, const uint8_t marks[16],
 //     const int32_t *nets, size_t, const uint32_t *delivered, size_t, const uint32_t *lifts, size_t,
 //     const int64_t *charges, size_t,
 //     const uint8_t *issues, size_t, const uint8_t *froms, size_t, const uint8_t *tos, size_t,
 //     const uint32_t *lots, size_t, const uint16_t *days, size_t);
 //   1 where the book is sound, else 0.
 //
-// uint32_t day_unit(uint16_t day, uint32_t phase, size_t entries, <the nine columns as above>,
+// uint32_t day_unit(uint16_t day, uint32_t phase, size_t entries, const uint8_t marks[16], <the nine columns as above>,
 //     uint32_t issue, uint32_t k, uint32_t answer[3]);
 //   The k-th unit of an issue, k from 0. Refused by 2 and 4. The answer is 1, account, lots; or 0, 0, 0
 //   where there is no such unit, and on a refusal.
 //
 // uint32_t day_call(uint32_t kind, uint32_t a, uint32_t b, uint32_t c, uint32_t d,
-//     const uint32_t *prices, size_t, uint16_t *day, uint32_t *phase, size_t *entries,
+//     const uint32_t *prices, size_t, uint16_t *day, uint32_t *phase, size_t *entries, uint8_t marks[16],
 //     int32_t *nets, size_t, uint32_t *delivered, size_t, uint32_t *lifts, size_t, int64_t *charges, size_t,
 //     uint8_t *issues, size_t, uint8_t *froms, size_t, uint8_t *tos, size_t,
 //     uint32_t *lots, size_t, uint16_t *days, size_t,
 //     uint32_t *out, size_t, size_t *count, uint64_t *cancelled);
-//   The call of an instruction, made in place on any book. A kind that is none of 1 to 7 is refused by 14;
+//   The call of an instruction, made in place on any book. A kind that is none of these is refused by 14;
 //   then the desk's questions are put in their order. Only deliver, cutoff and resolve use the output, and
 //   only roll the prices: for the others any slice will do, an empty one too. count is that of the records
 //   written (for pair-off, of the steps), cancelled pair-off's lots; both are 0 on a refusal.
@@ -58,7 +60,7 @@
 //     const uint32_t *prices, size_t, uint32_t *out, size_t, size_t *count);
 //   Writes an instruction, with the prices of a roll; count is that of the words written, 0 on a refusal.
 //   Refused by 1 (an output of fewer than 17 words) and 15, which is also the answer to a kind that is none
-//   of 1 to 7.
+//   of these.
 pub mod calls;
 pub mod fields;
 pub mod lifts;

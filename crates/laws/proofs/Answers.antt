@@ -14,7 +14,7 @@ use Rattle.rules.specs.declared.Instruction.the-variants as instruction
 use Rattle.rules.specs.Measures.{outputWords}
 use Rattle.rules.specs.Book.{sound}
 use Rattle.rules.specs.Questions.{Question, ask, firstNo, askOutput, askSound}
-use Rattle.rules.specs.Calls.{Call, Trade, Close, Deliver, Ask, Commit, Cutoff, Resolve, PairOff, Roll, Answer, Effect, answer, lentTo, HasRoom, ownAsks, asks, effect, called}
+use Rattle.rules.specs.Calls.{Call, Trade, Close, Deliver, Ask, Commit, Cutoff, Resolve, PairOff, Roll, Mark, Answer, Effect, answer, lentTo, HasRoom, ownAsks, asks, effect, called}
 use Rattle.rules.specs.Run.{callOf}
 
 -- The first 'no' of a list
@@ -90,6 +90,7 @@ numbered b (Cutoff out) = omega arith
 numbered b (Resolve i a x out) = omega arith
 numbered b (PairOff i a) = omega arith
 numbered b (Roll days rate prices) = omega arith
+numbered b (Mark i m) = omega arith
 
 -- a property of a call's answer: of what it does where all is answered 'yes', and of every refusal
 pub by-answer : (P : Answer → Type 0) (b : Book) (c : Call) → (AllYes (asks b c) → P (answer 0 b (lentTo c) (effect b c))) →
@@ -108,6 +109,7 @@ has-room (instruction.PairOff i a) prices out h = refl
 has-room instruction.Close prices out h = refl
 has-room instruction.Cutoff prices out h = said-yes 1 (leb outputWords (length out)) [] (le-leb outputWords (length out) h)
 has-room (instruction.Roll days rate) prices out h = refl
+has-room (instruction.Mark i m) prices out h = refl
 
 -- and a call that is lent one had room in it
 pub room-in : (out : List ℕ) → firstNo (askOutput outputWords out ∷ []) ≡ 0 → outputWords ≤ length out
@@ -123,6 +125,7 @@ room b (Cutoff out) h = said-yes 1 (leb outputWords (length out)) (askSound b �
 room b (Resolve i a x out) h = said-yes 1 (leb outputWords (length out)) (askSound b ∷ ownAsks b (Resolve i a x out)) (yes 0 (leb outputWords (length out)) [] h .first)
 room b (PairOff i a) h = refl
 room b (Roll days rate prices) h = refl
+room b (Mark i m) h = refl
 
 -- a sound book and enough room leave the call's own questions
 pub own-first : (b : Book) (c : Call) → HasRoom c → sound b ≡ true → firstNo (asks b c) ≡ firstNo (ownAsks b c)

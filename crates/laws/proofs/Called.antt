@@ -13,14 +13,14 @@ use Rattle.rules.specs.declared.Book.{Book}
 use Rattle.rules.specs.declared.Phase.the-variants.{Settling}
 use Rattle.rules.specs.Measures.{issueCount, mostLots, mostDays, mostRate, between}
 use Rattle.rules.specs.Handover.{covered}
-use Rattle.rules.specs.Book.{all, deliveredTotal, orderOf, ledgerOf, liftConditions, liftsSound, sound, conditions, withNets, withPhase, fresh}
-use Rattle.rules.specs.Questions.{priceRight}
-use Rattle.rules.specs.Calls.{Call, Trade, Close, Deliver, Ask, Commit, Cutoff, Resolve, PairOff, Roll, Answer, tradedNets, lentTo, asks, effect, called}
+use Rattle.rules.specs.Book.{all, deliveredTotal, orderOf, ledgerOf, liftConditions, liftsSound, cellsEven, sound, conditions, withNets, withPhase, fresh}
+use Rattle.rules.specs.Questions.{priceRight, noNet, noEntry}
+use Rattle.rules.specs.Calls.{Call, Trade, Close, Deliver, Ask, Commit, Cutoff, Resolve, PairOff, Roll, Mark, Answer, tradedNets, lentTo, asks, effect, called}
 use Rattle.laws.proofs.Basics.{and-left, and-right}
-use Rattle.laws.proofs.Sound.{SoundBook, sound-parts, parts-sound}
+use Rattle.laws.proofs.Sound.{SoundBook, lots-parts, sound-parts, parts-sound}
 use Rattle.laws.proofs.Answers.{AllYes, by-answer}
 use Rattle.laws.proofs.Charges.{charged-length, prices-most}
-use Rattle.laws.proofs.Kept.{trade-kept, close-kept, deliver-kept, commit-kept, cutoff-kept, resolve-kept, pair-off-kept, roll-kept}
+use Rattle.laws.proofs.Kept.{trade-kept, close-kept, deliver-kept, commit-kept, cutoff-kept, resolve-kept, pair-off-kept, roll-kept, mark-kept}
 
 -- as a book's fields are
 pub record Sizes (b : Book) : Type 0 where
@@ -58,13 +58,15 @@ keeps b (Trade i f c x) y s =
     (trade-kept b (s .sizes .nets) (s .parts) i f c x (omega (arith, leb-true i 15 (y .1 .1 .0)))
     (omega (arith, leb-true f 63 (and-left (leb f 63) (leb c 63) (y .1 .1 .1 .0))))
     (omega (arith, leb-true c 63 (and-right (leb f 63) (leb c 63) (y .1 .1 .1 .0))))
-    (eqb-false f c (not-true (eqb f c) (y .1 .1 .1 .1 .0))) (y .1 .0) (y .1 .1 .1 .1 .1 .1 .0))
+    (eqb-false f c (not-true (eqb f c) (y .1 .1 .1 .1 .0))) (y .1 .0)
+    (lots-parts (b .marks) i x (y .1 .1 .1 .1 .1 .1 .0)) (y .1 .1 .1 .1 .1 .1 .1 .0))
 keeps b Close y s = as-before b (withPhase b Settling) s (refl, refl, refl, refl) (close-kept b (s .parts))
 keeps b (Deliver i a x out) y s =
     as-before b (effect b (Deliver i a x out) .book) s (refl, simp length-set, simp length-set, refl)
     (deliver-kept b (s .sizes .delivered) (s .sizes .lifts) (s .parts) i a x (omega (arith, leb-true i 15 (y .1 .1 .1 .0)))
     (omega (arith, leb-true a 63 (y .1 .1 .1 .1 .0)))
-    (leb-true 1 x (and-left (leb 1 x) (leb x mostLots) (y .1 .1 .1 .1 .1 .0))) (y .1 .1 .0) (leb-true _ _ (y .1 .1 .1 .1 .1 .1 .0)))
+    (leb-true 1 x (and-left (leb 1 x) (leb x mostLots) (y .1 .1 .1 .1 .1 .0))) (y .1 .1 .0)
+    (lots-parts (b .marks) i x (y .1 .1 .1 .1 .1 .1 .0)) (leb-true _ _ (y .1 .1 .1 .1 .1 .1 .1 .0)))
 keeps b (Ask i k) y s = s
 keeps b (Commit t out) y s =
     let us = orderOf b (t .issue) in
@@ -79,7 +81,7 @@ keeps b (Cutoff out) y s =
     as-before b (effect b (Cutoff out) .book) s (refl, refl, refl, refl)
     (cutoff-kept b (s .sizes .nets) (s .sizes .delivered) (s .parts) (leb-true _ _ (y .1 .1 .1 .0)))
 keeps b (Resolve i a x out) y s =
-    as-before b (effect b (Resolve i a x out) .book) s (refl, refl, refl, refl) (resolve-kept b (s .parts) i a x)
+    as-before b (effect b (Resolve i a x out) .book) s (refl, refl, refl, refl) (resolve-kept b (s .parts) i a x (lots-parts (b .marks) i x (y .1 .1 .1 .1 .1 .0)))
 keeps b (PairOff i a) y s =
     as-before b (effect b (PairOff i a) .book) s (refl, refl, refl, refl)
     (pair-off-kept b (s .parts) i a (omega (arith, leb-true i 15 (y .1 .0))))
@@ -101,6 +103,12 @@ keeps b (Roll days rate prices) y s =
           (leb-true days mostDays (and-right (leb 1 days) (leb days mostDays) (and-left c₁ c₂ h₂)))
           (leb-true rate mostRate (and-right c₁ c₂ h₂)) (prices-most prices (and-right (c₁ && c₂ && c₃) c₄ (y .1 .1 .0)));
     }
+keeps b (Mark i m) y s =
+    let c₁ = noNet (b .nets) i in
+    let c₂ = noEntry (ledgerOf b) i in
+    as-before b (effect b (Mark i m) .book) s (refl, refl, refl, refl)
+    (mark-kept b (s .sizes .nets) (s .sizes .delivered) (s .parts) i m (omega (arith, leb-true i 15 (y .1 .0)))
+    (and-left c₁ c₂ (y .1 .1 .0)) (and-right c₁ c₂ (y .1 .1 .0)))
 
 pub stands : (b : Book) (c : Call) → Standing b → Standing (called b c .book)
 stands b c s = by-answer (λ r. Standing (r .book)) b c (λ y. keeps b c y s) (λ r. s)
@@ -114,7 +122,7 @@ pub called-sizes : (b : Book) (c : Call) → Sizes b → sound b ≡ true → Si
 called-sizes b c z h = stands b c (record { sizes = z; parts = sound-parts b h }) .sizes
 
 pub fresh-sound : sound fresh ≡ true
-unfolding sound conditions liftsSound liftConditions
+unfolding sound conditions liftsSound liftConditions cellsEven
 fresh-sound = refl
 
 -- A refused call

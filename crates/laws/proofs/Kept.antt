@@ -1,9 +1,9 @@
 -- Each accepted call keeps the book sound. What a call changes is shown sound anew; the rest is as it
 -- was, and the ledger's part goes by its columns alone.
-use mathlib.Core.Path.{_≡_, refl, ap, _∙_}
+use mathlib.Core.Path.{_≡_, refl, ap}
 use mathlib.Core.Bool.{true, _&&_, false≢true}
 use mathlib.Core.List.{List, [], _∷_, _++_, map}
-use Prim.Native.Nat.{ℕ, _+_, _-_, _*_, _≤_, _<_}
+use Prim.Native.Nat.{ℕ, _+_, _*_, _≤_, _<_}
 use native.Mathlib.Omega.{arith}
 use native.Mathlib.Nat.{le-trans}
 use lib.Dec.{eqb}
@@ -19,13 +19,16 @@ use Rattle.rules.specs.Measures.{mostLots, mostEntries, mostCharge, mostDays, m
 use Rattle.rules.specs.Handover.{covered}
 use Rattle.rules.specs.Fails.{Fail}
 use Rattle.rules.specs.Ledger.{isFrom, meet, pairing, charged}
-use Rattle.rules.specs.Book.{isTaking, isSettling, isZero, row, cell, netAt, deliveredAt, deliveredTotal, liftNumber, orderIn, orderOf, ledgerOf, withinSize, withPhase, withNets, withDelivered, withLifts, withLedger}
-use Rattle.rules.specs.Calls.{tradedNets, raisedDelivered, raisedCount, commitLift, withLift, failEntry, issueEntries, issueFails, newEntries, rolled}
+use Rattle.rules.specs.Book.{isTaking, isSettling, isZero, row, cell, netAt, deliveredAt, deliveredTotal, liftNumber, orderIn, orderOf, ledgerOf, withinSize, isMarked, withPhase, withMarks, withNets, withDelivered, withLifts, withLedger}
+use Rattle.rules.specs.Questions.{noNet, noEntry}
+use Rattle.rules.specs.Calls.{tradedNets, raisedDelivered, raisedCount, commitLift, withLift, failEntry, issueEntries, issueFails, newEntries, rolled, markedAs}
 use Rattle.laws.proofs.Basics.{byTest, and-left, and-right, all-replicate, Every, each-append, each-map, each-take, each-drop, each-replicate}
 use Rattle.laws.proofs.Signed.{rises, falls}
-use Rattle.laws.proofs.Cells.{row-same, row-other, getD-row, length-row, total-set, each-set, within-set, within-zeros}
-use Rattle.laws.proofs.Sound.{SoundEntry, SoundBook}
+use Rattle.laws.proofs.Cells.{length-row, total-set, each-set, within-set, within-zeros}
+use Rattle.laws.proofs.Sound.{SoundEntry, Even, EvenEntry, SoundBook}
 use Rattle.laws.proofs.LiftsKept.{lifts-taking, lifts-later, lifts-delivered, lifts-committed, lifts-none}
+use Rattle.laws.proofs.MarksKept.{traded-row, traded-other, even-traded, even-delivered, even-none, meet-even, pairing-even, new-even, even-marked, entries-marked}
+use Rattle.laws.proofs.Lowering.{issue-from}
 use Rattle.laws.proofs.Ledger.{length-ledger, with-ledger}
 use Rattle.laws.proofs.Meeting.{length-meet, sound-meet, days-meet, days-append, days-later}
 use Rattle.laws.proofs.Stepping.{pairing-sound}
@@ -58,19 +61,15 @@ trade-balance l f t x hf ht ne h =
     )
 
 pub trade-kept : (b : Book) → length (b .nets) ≡ 1024 → SoundBook b → (i f c x : ℕ) → i < 16 → f < 64 → c < 64 → (f ≡ c → ⊥) →
-    isTaking (b .phase) ≡ true →
+    isTaking (b .phase) ≡ true → (isMarked (b .marks) i ≡ true → Even x) →
     withinSize mostLots (netAt (b .nets) i f -ℤ pos x) && withinSize mostLots (netAt (b .nets) i c +ℤ pos x) ≡ true →
     SoundBook (withNets b (tradedNets (b .nets) i f c x))
-trade-kept b n g i f c x hi hf hc ne ph sm =
+trade-kept b n g i f c x hi hf hc ne ph hx sm =
     let ns = b .nets in
     let nf = netAt ns i f -ℤ pos x in
     let nc = netAt ns i c +ℤ pos x in
     let l = row i ns in
-    let q₁ = getD-row ns i f (pos 0) hf in
-    let q₂ = getD-row ns i c (pos 0) hc in
     let k = length-row ns i n hi in
-    let e : row i (tradedNets ns i f c x) ≡ set (set l f (getD l f (pos 0) -ℤ pos x)) c (getD l c (pos 0) +ℤ pos x) =
-    row-same (set ns (cell i f) nf) i c nc hc ∙ ap (λ z. set z c nc) (row-same ns i f nf hf) ∙ rw (q₁, q₂) refl in
     record {
       size = each-set (λ m. natAbs m ≤ mostLots) (set ns (cell i f) nf) (cell i c) nc
           (each-set (λ m. natAbs m ≤ mostLots) ns (cell i f) nf (g .size)
@@ -78,16 +77,16 @@ trade-kept b n g i f c x hi hf hc ne ph sm =
           (leb-true _ _ (and-right (withinSize mostLots nf) (withinSize mostLots nc) sm));
       rows = λ j hj.
           byTest (eqb j i)
-          (λ p. rw (eqb-true j i p, e) (trade-balance l f c x (omega arith) (omega arith) ne (g .rows i hi)))
-          (λ p.
-          let nj = eqb-false j i p in
-          rw (row-other (set ns (cell i f) nf) i c j nc hc nj, row-other ns i f j nf hf nj) (g .rows j hj));
+          (λ p. rw (eqb-true j i p, traded-row ns i f c x hf hc) (trade-balance l f c x (omega arith) (omega arith) ne (g .rows i hi)))
+          (λ p. rw (traded-other ns i f c x j hf hc (eqb-false j i p)) (g .rows j hj));
       owed = within-zeros (tradedNets ns i f c x) (b .delivered) (g .taking ph);
       taking = g .taking;
       ledger = g .ledger;
       balance = g .balance;
       bounded = g .bounded;
       lifts = λ j hj. lifts-taking (b .phase) (orderOf b j) (orderIn (tradedNets ns i f c x) (b .lifts) j) (deliveredTotal (b .delivered) j) (b .lifts) j ph (g .lifts j hj);
+      even = λ j hj. even-traded (b .marks) ns (b .delivered) i f c x hf hc hx j (g .even j hj);
+      evenEntries = g .evenEntries;
     }
 
 -- Close and deliver
@@ -102,6 +101,8 @@ close-kept b g = record {
   balance = g .balance;
   bounded = g .bounded;
   lifts = λ j hj. lifts-later (b .phase) Settling (orderOf b j) (deliveredTotal (b .delivered) j) (b .lifts) j false≢true (g .lifts j hj);
+  even = g .even;
+  evenEntries = g .evenEntries;
 }
 
 not-taking : (p : Phase) → isSettling p ≡ true → isTaking p ≡ true → ⊥
@@ -110,9 +111,9 @@ not-taking Settling h k = false≢true k
 not-taking Cut h k = false≢true h
 
 pub deliver-kept : (b : Book) → length (b .delivered) ≡ 1024 → length (b .lifts) ≡ 288 → SoundBook b → (i a x : ℕ) → i < 16 → a < 64 → 1 ≤ x →
-    isSettling (b .phase) ≡ true → deliveredAt (b .delivered) i a + x ≤ owedOf (netAt (b .nets) i a) →
+    isSettling (b .phase) ≡ true → (isMarked (b .marks) i ≡ true → Even x) → deliveredAt (b .delivered) i a + x ≤ owedOf (netAt (b .nets) i a) →
     SoundBook (withLifts (withDelivered b (raisedDelivered (b .delivered) i a x)) (raisedCount (b .lifts) i))
-deliver-kept b m n g i a x hi ha hx ph o = record {
+deliver-kept b m n g i a x hi ha hx ph hv o = record {
   size = g .size;
   rows = g .rows;
   owed = within-set (b .nets) (b .delivered) (cell i a) (deliveredAt (b .delivered) i a + x) (g .owed) o;
@@ -121,6 +122,8 @@ deliver-kept b m n g i a x hi ha hx ph o = record {
   balance = g .balance;
   bounded = g .bounded;
   lifts = λ j hj. lifts-delivered (b .phase) (b .nets) (b .delivered) (b .lifts) i a x m n hi ha hx j (g .lifts j hj);
+  even = λ j hj. even-delivered (b .marks) (b .nets) (b .delivered) i a x ha hv j (g .even j hj);
+  evenEntries = g .evenEntries;
 }
 
 -- Commit
@@ -139,21 +142,25 @@ commit-kept b n g t hi ph h l few = record {
   bounded = g .bounded;
   lifts = λ j hj.
       lifts-committed (b .phase) (b .nets) (b .delivered) (b .lifts) (t .issue) (t .unit) n hi few h l (not-taking (b .phase) ph) j (g .lifts j hj);
+  even = g .even;
+  evenEntries = g .evenEntries;
 }
 
 -- Resolve and pair-off
 
-pub resolve-kept : (b : Book) → SoundBook b → (i a x : ℕ) → SoundBook (withLedger b (meet (isFrom i a) x (ledgerOf b)))
-resolve-kept b g i a x =
+pub resolve-kept : (b : Book) → SoundBook b → (i a x : ℕ) → (isMarked (b .marks) i ≡ true → Even x) → SoundBook (withLedger b (meet (isFrom i a) x (ledgerOf b)))
+resolve-kept b g i a x hx =
     with-ledger b (meet (isFrom i a) x (ledgerOf b)) g
     (omega (arith, length-meet (isFrom i a) x (ledgerOf b), length-ledger b, g .ledger .count))
     (sound-meet (isFrom i a) x (ledgerOf b) (g .ledger .each)) (days-meet 0 (b .day) (isFrom i a) x (ledgerOf b) (g .ledger .days))
+    (meet-even (b .marks) (isFrom i a) i (issue-from i a) x (ledgerOf b) hx (g .evenEntries))
 
 pub pair-off-kept : (b : Book) → SoundBook b → (i a : ℕ) → i < 16 → SoundBook (withLedger b (pairing (b .day) i a (ledgerOf b) .ledger))
 pair-off-kept b g i a hi =
     let r = pairing-sound (b .day) i a (ledgerOf b) hi (g .ledger .each) (g .ledger .days) in
     with-ledger b (pairing (b .day) i a (ledgerOf b) .ledger) g
     (le-trans (r .few) (rw (length-ledger b) (g .ledger .count))) (r .each) (r .days)
+    (pairing-even (b .marks) (b .day) i a (ledgerOf b) (g .evenEntries))
 
 -- Cutoff
 
@@ -179,7 +186,8 @@ module _ (b : Book) (n : length (b .nets) ≡ 1024) (m : length (b .delivered) �
       let r = with-ledger b (ledgerOf b ++ new) g
       (rw (length-append (ledgerOf b) new, length-ledger b) few)
       (each-append SoundEntry (ledgerOf b) new (g .ledger .each) new-sound)
-      (days-append 0 (b .day) (ledgerOf b) new (g .ledger .days) new-today) in
+      (days-append 0 (b .day) (ledgerOf b) new (g .ledger .days) new-today)
+      (each-append (EvenEntry (b .marks)) (ledgerOf b) new (g .evenEntries) (new-even (b .marks) (b .day) (b .nets) (b .delivered) (b .lifts) (g .even))) in
       record {
         size = r .size;
         rows = r .rows;
@@ -189,6 +197,8 @@ module _ (b : Book) (n : length (b .nets) ≡ 1024) (m : length (b .delivered) �
         balance = r .balance;
         bounded = r .bounded;
         lifts = λ j hj. lifts-later (b .phase) Cut (orderOf b j) (deliveredTotal (b .delivered) j) (b .lifts) j false≢true (g .lifts j hj);
+        even = r .even;
+        evenEntries = r .evenEntries;
       }
 
 -- Roll
@@ -225,4 +235,23 @@ roll-kept b n g days rate prices hd hr hp =
           (charged days rate prices (ledgerOf b) (b .charges))
           (charged-most days rate prices (ledgerOf b) (b .charges) (mostCharge * b .day) hd hr hp (f .each) (g .bounded));
       lifts = λ j hj. lifts-none Taking (orderIn (replicate 1024 (pos 0)) (replicate 288 0) j) (deliveredTotal (replicate 1024 0) j) j 288;
+      even = λ j hj. even-none (b .marks) 1024 1024 j;
+      evenEntries = g .evenEntries;
     }
+
+-- Mark
+
+pub mark-kept : (b : Book) → length (b .nets) ≡ 1024 → length (b .delivered) ≡ 1024 → SoundBook b → (i m : ℕ) → i < 16 →
+    noNet (b .nets) i ≡ true → noEntry (ledgerOf b) i ≡ true → SoundBook (withMarks b (markedAs (b .marks) i m))
+mark-kept b n d g i m hi h k = record {
+  size = g .size;
+  rows = g .rows;
+  owed = g .owed;
+  taking = g .taking;
+  ledger = g .ledger;
+  balance = g .balance;
+  bounded = g .bounded;
+  lifts = g .lifts;
+  even = λ j hj. even-marked (b .marks) (b .nets) (b .delivered) i m hi n d (g .owed) h j (g .even j hj);
+  evenEntries = entries-marked (b .marks) i m (ledgerOf b) k (g .evenEntries);
+}

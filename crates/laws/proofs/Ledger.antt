@@ -3,7 +3,7 @@
 use mathlib.Core.Path.{_≡_, refl, sym, ap, _∙_}
 use mathlib.Core.Bool.{true}
 use mathlib.Core.List.{List, [], _∷_, _++_, map, tail}
-use Prim.Native.Nat.{ℕ, zero, suc, _+_, _-_, _≤_, _<_}
+use Prim.Native.Nat.{ℕ, zero, suc, _-_, _≤_, _<_}
 use native.Mathlib.Omega.{arith}
 use native.Mathlib.Nat.{sub-zero, zero-sub, suc-sub-suc}
 use lib.ListN.{length, getD, set, drop, replicate, length-map, length-append, length-replicate, List·getD-map, List·getD-append}
@@ -15,7 +15,7 @@ use Rattle.rules.specs.Measures.{mostEntries}
 use Rattle.rules.specs.Ledger.{entry}
 use Rattle.rules.specs.Book.{all, headOr0, entries, ledgerOf, isZero, daysSound, column, withLedger, LedgerLengths}
 use Rattle.laws.proofs.Basics.{and-left, and-right, all-replicate, Every, each-at}
-use Rattle.laws.proofs.Sound.{SoundEntry, SoundLedger, SoundBook}
+use Rattle.laws.proofs.Sound.{SoundEntry, SoundLedger, EvenEntry, SoundBook}
 
 abbrev pub noEntry : Entry
 noEntry = entry 0 0 0 0 0
@@ -196,8 +196,8 @@ ledger-sound today es n s d = record {
 
 -- a sound book with another ledger is sound
 pub with-ledger : (b : Book) (es : List Entry) → SoundBook b → length es ≤ mostEntries → Every SoundEntry es →
-    daysSound 0 (b .day) es ≡ true → SoundBook (withLedger b es)
-with-ledger b es g n s d = record {
+    daysSound 0 (b .day) es ≡ true → Every (EvenEntry (b .marks)) es → SoundBook (withLedger b es)
+with-ledger b es g n s d v = record {
   size = g .size;
   rows = g .rows;
   owed = g .owed;
@@ -206,4 +206,6 @@ with-ledger b es g n s d = record {
   balance = g .balance;
   bounded = g .bounded;
   lifts = g .lifts;
+  even = g .even;
+  evenEntries = rw (entries-written es) v;
 }

@@ -7,6 +7,7 @@ pub mod Fails
 pub mod Stretches
 pub mod Gather
 pub mod RunLifts
+pub mod Priority
 pub mod Ranking
 pub mod Cutoff
 pub mod Orders
@@ -17,6 +18,7 @@ pub mod Cells
 pub mod Sound
 pub mod LiftColumn
 pub mod Ledger
+pub mod Even
 pub mod SoundRows
 pub mod Meeting
 pub mod Lowering
@@ -28,6 +30,7 @@ pub mod Issue
 pub mod Answers
 pub mod Charges
 pub mod LiftsKept
+pub mod MarksKept
 pub mod Kept
 pub mod Called
 pub mod Scans

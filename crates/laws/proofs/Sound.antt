@@ -3,7 +3,7 @@
 use mathlib.Core.Path.{_≡_, refl, sym, ap, _∙_}
 use mathlib.Core.Bool.{Bool, true, false, cond, not, _&&_, false≢true}
 use mathlib.Core.List.{List, [], _∷_, _++_}
-use Prim.Native.Nat.{ℕ, zero, suc, _+_, _-_, _*_, _≤_, _<_}
+use Prim.Native.Nat.{ℕ, zero, suc, _+_, _*_, _%_, _≤_, _<_}
 use native.Mathlib.Omega.{arith}
 use lib.Dec.{leb, ltb, eqb}
 use lib.ListN.{length, getD, drop}
@@ -17,7 +17,7 @@ use Rattle.rules.specs.Units.{AccountLots}
 use Rattle.rules.specs.Handover.{covered}
 use Rattle.rules.specs.Lifts.{Lift}
 pub use Rattle.rules.specs.Lifts.{Among}
-use Rattle.rules.specs.Book.{isTaking, tabulate, all, row, entries, ledgerOf, balanced, withinSize, withinOwed, isZero, entrySound, daysSound, deliveredTotal, liftNumber, countAt, liftsAt, orderOf, placesSound, liftConditions, liftsSound, conditions, sound}
+use Rattle.rules.specs.Book.{isTaking, tabulate, all, row, entries, ledgerOf, balanced, withinSize, withinOwed, isZero, entrySound, daysSound, deliveredTotal, liftNumber, countAt, liftsAt, orderOf, placesSound, liftConditions, liftsSound, isMarked, isEven, lotsEven, cellsEven, entryEven, conditions, sound}
 use Rattle.laws.proofs.Basics.{byTest, and-left, and-right, and-both, total-map, Every, each-map}
 
 -- Tests of all elements
@@ -120,6 +120,19 @@ pub record SoundLifts (phase : Phase) (us : List AccountLots) (d : ℕ) (lifts :
   pub taking : isTaking phase ≡ true → liftNumber lifts i ≡ 0
   pub count : countAt lifts i ≤ d + liftNumber lifts i
 
+-- even numbers
+abbrev pub Even : ℕ → Type 0
+Even x = x % 2 ≡ 0
+
+-- a marked issue's nets and delivered lots
+pub record EvenCells (marks : List ℕ) (ns : List ℤ) (ds : List ℕ) (i : ℕ) : Type 0 where
+  pub nets : isMarked marks i ≡ true → Every (λ n. Even (natAbs n)) (row i ns)
+  pub delivered : isMarked marks i ≡ true → Every Even (row i ds)
+
+-- and an entry's lots, in a marked issue
+abbrev pub EvenEntry : List ℕ → Entry → Type 0
+EvenEntry marks e = isMarked marks (e .issue) ≡ true → Even (e .lots)
+
 -- what a sound book has
 pub record SoundBook (b : Book) : Type 0 where
   -- each net lies in −20,000,000..20,000,000
@@ -136,6 +149,9 @@ pub record SoundBook (b : Book) : Type 0 where
   pub bounded : Every (λ c. natAbs c ≤ mostCharge * b .day) (b .charges)
   -- each issue's lifts are sound
   pub lifts : (i : ℕ) → i < 16 → SoundLifts (b .phase) (orderOf b i) (deliveredTotal (b .delivered) i) (b .lifts) i
+  -- lots in a marked issue are even
+  pub even : (i : ℕ) → i < 16 → EvenCells (b .marks) (b .nets) (b .delivered) i
+  pub evenEntries : Every (EvenEntry (b .marks)) (ledgerOf b)
 
 -- in balance: by the test, and as an equation of sums
 pub balanced-parts : (ns : List ℤ) → balanced ns ≡ true → total dueOf ns ≡ total owedOf ns
@@ -174,6 +190,40 @@ parts-lifts phase us delivered lifts i s =
       (s .places, (taking-if (isTaking phase) (isZero (liftNumber lifts i)) (λ t. eq-eqb _ 0 (s .taking t)), (le-leb _ _ (s .count), tt))),
     )
 
+-- even lots: by the test, and by their parts
+pub cells-parts : (marks : List ℕ) (ns : List ℤ) (ds : List ℕ) (i : ℕ) → cellsEven marks ns ds i ≡ true → EvenCells marks ns ds i
+unfolding cellsEven
+cells-parts marks ns ds i h =
+    let c = all (λ n. isEven (natAbs n)) (row i ns) in
+    let d = all isEven (row i ds) in
+    let both = if-taking (isMarked marks i) (c && d) h in
+    record {
+      nets = λ m. each-map (λ n. isEven (natAbs n) ≡ true) (λ n. Even (natAbs n)) (λ n q. eqb-true _ 0 q) (row i ns)
+          (all-each (λ n. isEven (natAbs n)) (row i ns) (and-left c d (both m)));
+      delivered = λ m. each-map (λ x. isEven x ≡ true) Even (λ x q. eqb-true _ 0 q) (row i ds)
+          (all-each isEven (row i ds) (and-right c d (both m)));
+    }
+
+pub parts-cells : (marks : List ℕ) (ns : List ℤ) (ds : List ℕ) (i : ℕ) → EvenCells marks ns ds i → cellsEven marks ns ds i ≡ true
+unfolding cellsEven
+parts-cells marks ns ds i s =
+    let c = all (λ n. isEven (natAbs n)) (row i ns) in
+    let d = all isEven (row i ds) in
+    taking-if (isMarked marks i) (c && d) (λ m.
+    and-both c d
+    (each-all (λ n. isEven (natAbs n)) (row i ns)
+    (each-map (λ n. Even (natAbs n)) (λ n. isEven (natAbs n) ≡ true) (λ n q. eq-eqb _ 0 q) (row i ns) (s .nets m)))
+    (each-all isEven (row i ds) (each-map Even (λ x. isEven x ≡ true) (λ x q. eq-eqb _ 0 q) (row i ds) (s .delivered m))))
+
+pub lots-parts : (marks : List ℕ) (i x : ℕ) → lotsEven marks i x ≡ true → isMarked marks i ≡ true → Even x
+lots-parts marks i x h m = eqb-true _ 0 (if-taking (isMarked marks i) (isEven x) h m)
+
+pub even-parts : (marks : List ℕ) (e : Entry) → entryEven marks e ≡ true → EvenEntry marks e
+even-parts marks e h = lots-parts marks (e .issue) (e .lots) h
+
+pub parts-even : (marks : List ℕ) (e : Entry) → EvenEntry marks e → entryEven marks e ≡ true
+parts-even marks e h = taking-if (isMarked marks (e .issue)) (isEven (e .lots)) (λ m. eq-eqb _ 0 (h m))
+
 pub sound-parts : (b : Book) → sound b ≡ true → SoundBook b
 unfolding sound conditions
 sound-parts b h =
@@ -182,6 +232,7 @@ sound-parts b h =
     let e₅ = e₂ .1 .1 .1 in
     let e₈ = e₅ .1 .1 .1 in
     let e₁₁ = e₈ .1 .1 .1 in
+    let e₁₅ = e₁₁ .1 .1 .1 .1 in
     record {
       size = each-map (λ n. withinSize mostLots n ≡ true) (λ n. natAbs n ≤ mostLots) (λ n q. leb-true _ _ q) (b .nets)
           (all-each (withinSize mostLots) (b .nets) (e .0));
@@ -207,6 +258,11 @@ sound-parts b h =
       lifts = λ i l. lifts-parts (b .phase) (orderOf b) (b .delivered) (b .lifts) i
           (tab-each (λ j. liftsSound (b .phase) (orderOf b) (b .delivered) (b .lifts) j ≡ true) (λ j. j) 0 16 i
           (all-each (liftsSound (b .phase) (orderOf b) (b .delivered) (b .lifts)) (tabulate (λ j. j) 0 16) (e₁₁ .1 .1 .1 .0)) (omega arith) (omega arith));
+      even = λ i l. cells-parts (b .marks) (b .nets) (b .delivered) i
+          (tab-each (λ j. cellsEven (b .marks) (b .nets) (b .delivered) j ≡ true) (λ j. j) 0 16 i
+          (all-each (cellsEven (b .marks) (b .nets) (b .delivered)) (tabulate (λ j. j) 0 16) (e₁₅ .0)) (omega arith) (omega arith));
+      evenEntries = each-map (λ d. entryEven (b .marks) d ≡ true) (EvenEntry (b .marks)) (even-parts (b .marks)) (ledgerOf b)
+          (all-each (entryEven (b .marks)) (ledgerOf b) (e₁₅ .1 .0));
     }
 
 pub parts-sound : (b : Book) → SoundBook b → sound b ≡ true
@@ -249,7 +305,16 @@ parts-sound b g =
                                   each-all (liftsSound (b .phase) (orderOf b) (b .delivered) (b .lifts)) (tabulate (λ i. i) 0 16)
                                       (each-tab (λ i. liftsSound (b .phase) (orderOf b) (b .delivered) (b .lifts) i ≡ true) (λ i. i) 0 16
                                       (λ i h. parts-lifts (b .phase) (orderOf b) (b .delivered) (b .lifts) i (g .lifts i (omega arith)))),
-                                  tt,
+                                  (
+                                    each-all (cellsEven (b .marks) (b .nets) (b .delivered)) (tabulate (λ i. i) 0 16)
+                                        (each-tab (λ i. cellsEven (b .marks) (b .nets) (b .delivered) i ≡ true) (λ i. i) 0 16
+                                        (λ i h. parts-cells (b .marks) (b .nets) (b .delivered) i (g .even i (omega arith)))),
+                                    (
+                                      each-all (entryEven (b .marks)) (ledgerOf b)
+                                          (each-map (EvenEntry (b .marks)) (λ e. entryEven (b .marks) e ≡ true) (parts-even (b .marks)) (ledgerOf b) (g .evenEntries)),
+                                      tt,
+                                    ),
+                                  ),
                                 ),
                               ),
                             ),

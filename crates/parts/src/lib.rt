@@ -45,7 +45,8 @@ fn run_on(
     ensures { λ r. ⌜ Went (now (words .entry)) last stray index b (now (text .exit)) (r .used) (r .end) (r .over) (r .book) ⌝ }
 {
     let phase = b.phase;
-    let s = book::state_of(b.day, phase, b.count);
+    let marks = b.marks;
+    let s = book::state_of(b.day, phase, b.count, marks);
     let mut nets = b.nets;
     let mut delivered = b.delivered;
     let mut lifts = b.lifts;

@@ -70,6 +70,7 @@ fn name(text: &mut [u8], at: usize, n: Name) -> usize
         Name::Close => put(text, at, b"close"),
         Name::Cutoff => put(text, at, b"cutoff"),
         Name::Roll => put(text, at, b"roll"),
+        Name::Mark => put(text, at, b"mark"),
         Name::Tape => put(text, at, b"tape"),
     }
 }

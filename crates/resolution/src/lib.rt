@@ -114,6 +114,7 @@ pub fn resolve_in(
 // The number of the first of resolve's questions answered 'no', from the issue on; 0 where there is
 // none.
 pub fn resolve_asks<'a>(
+    marks: [u8; 16],
     count: usize,
     issues: &'a [u8],
     froms: &'a [u8],
@@ -123,7 +124,7 @@ pub fn resolve_asks<'a>(
     x: u32,
 ) -> u32
     requires { ⌜ (count ≤ 2048) × (length (now issues) ≡ 2048) × (length (now froms) ≡ 2048) × (length (now lots) ≡ 2048) ⌝ }
-    ensures { λ r. ⌜ ((ts ds : List ℕ) → r ≡ firstNo (resolveAsks (entries count (now (issues .entry)) (now (froms .entry)) ts (now (lots .entry)) ds) i a x)) ⌝ }
+    ensures { λ r. ⌜ ((ts ds : List ℕ) → r ≡ firstNo (resolveAsks marks (entries count (now (issues .entry)) (now (froms .entry)) ts (now (lots .entry)) ds) i a x)) ⌝ }
 {
     if 15 < i {
         return 4;
@@ -136,6 +137,9 @@ pub fn resolve_asks<'a>(
     }
     if 20_000_000 < x {
         return 7;
+    }
+    if !book::lots_even(marks, i, x) {
+        return 19;
     }
     let owed = ledger::owed_lots(count, issues, froms, lots, i, a);
     if owed < x as u64 {

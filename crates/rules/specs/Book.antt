@@ -2,7 +2,7 @@
 use mathlib.Core.Path.{_≡_}
 use mathlib.Core.Bool.{Bool, true, false, cond, not, _&&_}
 use mathlib.Core.List.{List, [], _∷_, _++_, map, tail}
-use Prim.Native.Nat.{ℕ, zero, suc, _+_, _-_, _*_}
+use Prim.Native.Nat.{ℕ, zero, suc, _+_, _-_, _*_, _%_}
 use lib.Dec.{leb, ltb, eqb}
 use lib.ListN.{length, getD, take, drop, replicate}
 use lib.IntN.{ℤ, pos, natAbs}
@@ -167,6 +167,26 @@ liftConditions phase us d lifts i =
 unfoldable pub liftsSound : Phase → Orders → List ℕ → List ℕ → ℕ → Bool
 liftsSound phase us delivered lifts i = all (λ c. c) (liftConditions phase (us i) (deliveredTotal delivered i) lifts i)
 
+-- an issue in lots of 100,000 yen: is it marked?
+abbrev pub isMarked : List ℕ → ℕ → Bool
+isMarked marks i = ltb 0 (getD marks i 0)
+
+abbrev pub isEven : ℕ → Bool
+isEven x = isZero (x % 2)
+
+-- a marked issue has even lots only
+abbrev pub lotsEven : List ℕ → ℕ → ℕ → Bool
+lotsEven marks i x = cond (isMarked marks i) (isEven x) true
+
+-- in its nets and delivered lots
+unfoldable pub cellsEven : List ℕ → List ℤ → List ℕ → ℕ → Bool
+cellsEven marks nets delivered i =
+    cond (isMarked marks i) (all (λ n. isEven (natAbs n)) (row i nets) && all isEven (row i delivered)) true
+
+-- and in its entries
+abbrev pub entryEven : List ℕ → Entry → Bool
+entryEven marks e = lotsEven marks (e .issue) (e .lots)
+
 -- what a sound book has
 unfoldable pub conditions : Book → List Bool
 conditions b =
@@ -194,6 +214,10 @@ conditions b =
     ∷ all (withinSize (mostCharge * b .day)) (b .charges)
     -- each issue's lifts are sound
     ∷ all (liftsSound (b .phase) (orderOf b) (b .delivered) (b .lifts)) (tabulate (λ i. i) 0 issueCount)
+    -- nets and delivered lots of a marked issue are even
+    ∷ all (cellsEven (b .marks) (b .nets) (b .delivered)) (tabulate (λ i. i) 0 issueCount)
+    -- and so are its entries' lots
+    ∷ all (entryEven (b .marks)) (ledgerOf b)
     ∷ []
 
 -- a book is sound when all of them hold
@@ -205,11 +229,12 @@ sound b = all (λ c. c) (conditions b)
 
 -- a book of all its columns
 abbrev pub bookOf :
-    ℕ → Phase → List ℤ → List ℕ → List ℕ → List ℤ → ℕ → List ℕ → List ℕ → List ℕ → List ℕ → List ℕ → Book
-bookOf day phase nets delivered lifts charges count issues froms tos lots days =
+    ℕ → Phase → List ℕ → List ℤ → List ℕ → List ℕ → List ℤ → ℕ → List ℕ → List ℕ → List ℕ → List ℕ → List ℕ → Book
+bookOf day phase marks nets delivered lifts charges count issues froms tos lots days =
     record {
       day = day;
       phase = phase;
+      marks = marks;
       nets = nets;
       delivered = delivered;
       lifts = lifts;
@@ -224,26 +249,30 @@ bookOf day phase nets delivered lifts charges count issues froms tos lots days =
 
 abbrev pub withDay : Book → ℕ → Phase → Book
 withDay b d p =
-    bookOf d p (b .nets) (b .delivered) (b .lifts) (b .charges) (b .count) (b .issues) (b .froms) (b .tos) (b .lots) (b .days)
+    bookOf d p (b .marks) (b .nets) (b .delivered) (b .lifts) (b .charges) (b .count) (b .issues) (b .froms) (b .tos) (b .lots) (b .days)
 
 abbrev pub withPhase : Book → Phase → Book
 withPhase b p = withDay b (b .day) p
 
+abbrev pub withMarks : Book → List ℕ → Book
+withMarks b ms =
+    bookOf (b .day) (b .phase) ms (b .nets) (b .delivered) (b .lifts) (b .charges) (b .count) (b .issues) (b .froms) (b .tos) (b .lots) (b .days)
+
 abbrev pub withNets : Book → List ℤ → Book
 withNets b ns =
-    bookOf (b .day) (b .phase) ns (b .delivered) (b .lifts) (b .charges) (b .count) (b .issues) (b .froms) (b .tos) (b .lots) (b .days)
+    bookOf (b .day) (b .phase) (b .marks) ns (b .delivered) (b .lifts) (b .charges) (b .count) (b .issues) (b .froms) (b .tos) (b .lots) (b .days)
 
 abbrev pub withDelivered : Book → List ℕ → Book
 withDelivered b ds =
-    bookOf (b .day) (b .phase) (b .nets) ds (b .lifts) (b .charges) (b .count) (b .issues) (b .froms) (b .tos) (b .lots) (b .days)
+    bookOf (b .day) (b .phase) (b .marks) (b .nets) ds (b .lifts) (b .charges) (b .count) (b .issues) (b .froms) (b .tos) (b .lots) (b .days)
 
 abbrev pub withLifts : Book → List ℕ → Book
 withLifts b ls =
-    bookOf (b .day) (b .phase) (b .nets) (b .delivered) ls (b .charges) (b .count) (b .issues) (b .froms) (b .tos) (b .lots) (b .days)
+    bookOf (b .day) (b .phase) (b .marks) (b .nets) (b .delivered) ls (b .charges) (b .count) (b .issues) (b .froms) (b .tos) (b .lots) (b .days)
 
 abbrev pub withCharges : Book → List ℤ → Book
 withCharges b cs =
-    bookOf (b .day) (b .phase) (b .nets) (b .delivered) (b .lifts) cs (b .count) (b .issues) (b .froms) (b .tos) (b .lots) (b .days)
+    bookOf (b .day) (b .phase) (b .marks) (b .nets) (b .delivered) (b .lifts) cs (b .count) (b .issues) (b .froms) (b .tos) (b .lots) (b .days)
 
 -- a column of a ledger, 0 where it is not used
 abbrev pub column : (Entry → ℕ) → List Entry → List ℕ
@@ -251,7 +280,7 @@ column f es = map f es ++ replicate (mostEntries - length es) 0
 
 abbrev pub withLedger : Book → List Entry → Book
 withLedger b es =
-    bookOf (b .day) (b .phase) (b .nets) (b .delivered) (b .lifts) (b .charges) (length es)
+    bookOf (b .day) (b .phase) (b .marks) (b .nets) (b .delivered) (b .lifts) (b .charges) (length es)
     (column (λ e. e .issue) es) (column (λ e. e .from) es) (column (λ e. e .to) es) (column (λ e. e .lots) es)
     (column (λ e. e .day) es)
 
@@ -274,8 +303,8 @@ pub record Lengths (ns : List ℤ) (ds ls : List ℕ) (cs : List ℤ) (is fs ts 
   pub charges : length cs ≡ accountCount
   pub ledger : LedgerLengths is fs ts xs es
 
--- a fresh book is day 0, Taking, all zero, ledger empty
+-- a fresh book is day 0, Taking, all zero, ledger empty, no issue marked
 abbrev pub fresh : Book
 fresh =
-    bookOf 0 Taking (replicate cellCount (pos 0)) (replicate cellCount 0) (replicate liftCells 0) (replicate accountCount (pos 0)) 0
+    bookOf 0 Taking (replicate issueCount 0) (replicate cellCount (pos 0)) (replicate cellCount 0) (replicate liftCells 0) (replicate accountCount (pos 0)) 0
     (replicate mostEntries 0) (replicate mostEntries 0) (replicate mostEntries 0) (replicate mostEntries 0) (replicate mostEntries 0)

@@ -2,7 +2,7 @@
 use mathlib.Core.Path.{_≡_}
 use mathlib.Core.Bool.{Bool, true, false}
 use mathlib.Core.List.{List, [], _∷_, _++_, map}
-use Prim.Native.Nat.{ℕ, zero, suc, _+_, _*_}
+use Prim.Native.Nat.{ℕ, zero, suc, _+_, _*_, min}
 use lib.ListN.{length, set, drop, replicate}
 use lib.IntN.{ℤ, pos, _+ℤ_, _-ℤ_}
 use Rattle.rules.specs.declared.Asked.{Asked}
@@ -22,9 +22,9 @@ use Rattle.rules.specs.Handover.{covered, firstUnit, handovers, partials
 use Rattle.rules.specs.Lifts.{Lift, liftOf, lift, handedFrom}
 use Rattle.rules.specs.Fails.{Fail, fails}
 use Rattle.rules.specs.Ledger.{entry, isFrom, meet, met, Pairing, pairing, charged}
-use Rattle.rules.specs.Book.{tabulate, row, cell, netAt, deliveredAt, obligationsOf, deliveredTotal, liftCell, liftNumber, countAt, Orders, orderOf, ledgerOf, withDay, withPhase, withNets, withDelivered, withLifts, withCharges, withLedger}
+use Rattle.rules.specs.Book.{tabulate, row, cell, netAt, deliveredAt, obligationsOf, deliveredTotal, liftCell, liftNumber, countAt, Orders, orderOf, ledgerOf, withDay, withPhase, withMarks, withNets, withDelivered, withLifts, withCharges, withLedger}
 use Rattle.rules.specs.Records.{Rec, handover, recordOf, words, over}
-use Rattle.rules.specs.Questions.{Question, firstNo, askOutput, askSound, askTaking, askSettling, askCut, askIssue, askAccount, askAccounts, askDiffer, askLots, askNets, askOwedToday, askOwedInLedger, askEntries, askRoll, askPrice, askTerm, askDay, askUnhanded, askTicket, askLifts}
+use Rattle.rules.specs.Questions.{Question, firstNo, askOutput, askSound, askTaking, askSettling, askCut, askIssue, askAccount, askAccounts, askDiffer, askLots, askNets, askOwedToday, askOwedInLedger, askEntries, askRoll, askPrice, askTerm, askDay, askUnhanded, askTicket, askLifts, askEven, askUnused}
 
 -- a call with its arguments and the output lent to it
 pub data Call : Type 0 where
@@ -37,6 +37,7 @@ pub data Call : Type 0 where
   Resolve : ℕ → ℕ → ℕ → List ℕ → Call
   PairOff : ℕ → ℕ → Call
   Roll : ℕ → ℕ → List ℕ → Call
+  Mark : ℕ → ℕ → Call
 
 -- what a call answers: number, count (for pair-off, steps), lots cancelled, book, output words
 pub record Answer : Type 0 where
@@ -67,9 +68,9 @@ answer zero b out e =
 answer (suc r) b out e = record { refusal = suc r; count = 0; cancelled = 0; book = b; out = out }
 
 -- trade issue, from, to, lots (Taking): from's net falls, to's rises
-abbrev pub tradeAsks : Phase → List ℤ → ℕ → ℕ → ℕ → ℕ → List Question
-tradeAsks phase nets i f t x =
-    askTaking phase ∷ askIssue i ∷ askAccounts f t ∷ askDiffer f t ∷ askLots x ∷ askNets nets i f t x ∷ []
+abbrev pub tradeAsks : Phase → List ℕ → List ℤ → ℕ → ℕ → ℕ → ℕ → List Question
+tradeAsks phase marks nets i f t x =
+    askTaking phase ∷ askIssue i ∷ askAccounts f t ∷ askDiffer f t ∷ askLots x ∷ askEven marks i x ∷ askNets nets i f t x ∷ []
 
 abbrev pub tradedNets : List ℤ → ℕ → ℕ → ℕ → ℕ → List ℤ
 tradedNets nets i f t x = set (set nets (cell i f) (netAt nets i f -ℤ pos x)) (cell i t) (netAt nets i t +ℤ pos x)
@@ -79,9 +80,9 @@ abbrev pub closeAsks : Phase → List Question
 closeAsks phase = askTaking phase ∷ []
 
 -- deliver issue, account, lots (Settling): delivered rises; one record a unit handed over
-abbrev pub deliverAsks : Phase → List ℤ → List ℕ → ℕ → ℕ → ℕ → List Question
-deliverAsks phase nets delivered i a x =
-    askSettling phase ∷ askIssue i ∷ askAccount a ∷ askLots x ∷ askOwedToday nets delivered i a x ∷ []
+abbrev pub deliverAsks : Phase → List ℕ → List ℤ → List ℕ → ℕ → ℕ → ℕ → List Question
+deliverAsks phase marks nets delivered i a x =
+    askSettling phase ∷ askIssue i ∷ askAccount a ∷ askLots x ∷ askEven marks i x ∷ askOwedToday nets delivered i a x ∷ []
 
 abbrev pub raisedDelivered : List ℕ → ℕ → ℕ → ℕ → List ℕ
 raisedDelivered delivered i a x = set delivered (cell i a) (deliveredAt delivered i a + x)
@@ -159,8 +160,8 @@ abbrev pub cutoffAsks : Phase → ℕ → ℕ → List Question
 cutoffAsks phase old new = askSettling phase ∷ askEntries old new ∷ []
 
 -- resolve issue, account, lots (any phase): entries from that account are met; one record an entry
-abbrev pub resolveAsks : List Entry → ℕ → ℕ → ℕ → List Question
-resolveAsks es i a x = askIssue i ∷ askAccount a ∷ askLots x ∷ askOwedInLedger es i a x ∷ []
+abbrev pub resolveAsks : List ℕ → List Entry → ℕ → ℕ → ℕ → List Question
+resolveAsks marks es i a x = askIssue i ∷ askAccount a ∷ askLots x ∷ askEven marks i x ∷ askOwedInLedger es i a x ∷ []
 
 abbrev pub resolveRecords : List Entry → ℕ → ℕ → ℕ → List Rec
 resolveRecords es i a x = map (recordOf 11) (met (isFrom i a) x es)
@@ -185,6 +186,13 @@ rolled b days rate prices =
     (b .day + 1)
     Taking
 
+-- mark issue, mark (any phase): sets the issue's mark, which stays over days
+abbrev pub markAsks : List ℤ → List Entry → ℕ → List Question
+markAsks nets es i = askIssue i ∷ askUnused nets es i ∷ []
+
+abbrev pub markedAs : List ℕ → ℕ → ℕ → List ℕ
+markedAs marks i m = set marks i (min m 1)
+
 -- The calls
 
 -- the output lent to a call
@@ -198,6 +206,7 @@ lentTo (Cutoff out) = out
 lentTo (Resolve i a x out) = out
 lentTo (PairOff i a) = []
 lentTo (Roll days rate prices) = []
+lentTo (Mark i m) = []
 
 -- question 1 is asked of deliver, commit, cutoff and resolve
 abbrev pub outputAsks : Call → List Question
@@ -210,6 +219,7 @@ outputAsks (Cutoff out) = askOutput outputWords out ∷ []
 outputAsks (Resolve i a x out) = askOutput outputWords out ∷ []
 outputAsks (PairOff i a) = []
 outputAsks (Roll days rate prices) = []
+outputAsks (Mark i m) = []
 
 -- and is answered 'yes'
 abbrev pub HasRoom : Call → Type 0
@@ -217,15 +227,16 @@ HasRoom c = firstNo (outputAsks c) ≡ 0
 
 -- the questions after soundness
 abbrev pub ownAsks : Book → Call → List Question
-ownAsks b (Trade i f t x) = tradeAsks (b .phase) (b .nets) i f t x
+ownAsks b (Trade i f t x) = tradeAsks (b .phase) (b .marks) (b .nets) i f t x
 ownAsks b Close = closeAsks (b .phase)
-ownAsks b (Deliver i a x out) = deliverAsks (b .phase) (b .nets) (b .delivered) i a x
+ownAsks b (Deliver i a x out) = deliverAsks (b .phase) (b .marks) (b .nets) (b .delivered) i a x
 ownAsks b (Ask i k) = liftAsks (b .phase) (orderOf b) (b .delivered) i k
 ownAsks b (Commit t out) = commitAsks (b .phase) (b .day) (orderOf b) (b .delivered) (b .lifts) t
 ownAsks b (Cutoff out) = cutoffAsks (b .phase) (b .count) (length (newEntries (b .day) (orderOf b) (b .nets) (b .delivered)))
-ownAsks b (Resolve i a x out) = resolveAsks (ledgerOf b) i a x
+ownAsks b (Resolve i a x out) = resolveAsks (b .marks) (ledgerOf b) i a x
 ownAsks b (PairOff i a) = pairOffAsks i a
 ownAsks b (Roll days rate prices) = rollAsks (b .phase) (b .day) days rate prices
+ownAsks b (Mark i m) = markAsks (b .nets) (ledgerOf b) i
 
 abbrev pub asks : Book → Call → List Question
 asks b c = outputAsks c ++ (askSound b ∷ ownAsks b c)
@@ -251,6 +262,7 @@ effect b (Cutoff out) =
 effect b (Resolve i a x out) = writes (withLedger b (meet (isFrom i a) x (ledgerOf b))) (resolveRecords (ledgerOf b) i a x)
 effect b (PairOff i a) = pairedOff b (pairing (b .day) i a (ledgerOf b))
 effect b (Roll days rate prices) = changes (rolled b days rate prices)
+effect b (Mark i m) = changes (withMarks b (markedAs (b .marks) i m))
 
 -- a call's answer, on any book and any output
 unfoldable pub called : Book → Call → Answer

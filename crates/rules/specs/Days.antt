@@ -1,7 +1,7 @@
 -- The settled days P1 to P11, and days of our own, as one list with one proof.
 use mathlib.Core.Path.{_≡_, refl}
-use mathlib.Core.Bool.{true, false}
-use mathlib.Core.List.{List, [], _∷_, _++_}
+use mathlib.Core.Bool.{Bool, true, false}
+use mathlib.Core.List.{List, [], _∷_, _++_, map}
 use Prim.Native.Nat.{ℕ, zero, suc, _+_, _-_}
 use lib.ListN.{replicate, take}
 use lib.IntN.{pos, negsuc}
@@ -11,12 +11,13 @@ use Rattle.rules.specs.declared.Name.the-variants as name
 use Rattle.rules.specs.declared.Ticket.{Ticket}
 use Rattle.rules.specs.Measures.{unitLots, valueOf, chargeOf}
 use Rattle.rules.specs.Units.{accountLots, units, unitsOfNets, sumLots}
+use Rattle.rules.specs.Ranking.{ranksBefore}
 use Rattle.rules.specs.Handover.{handovers, partials}
 use Rattle.rules.specs.Lifts.{liftOf, lift, handedFrom}
 use Rattle.rules.specs.Fails.{lacks, fails}
 use Rattle.rules.specs.Ledger.{entry, pairing}
-use Rattle.rules.specs.Book.{liftConditions, liftsSound, conditions, sound, liftsAt, countAt, orderIn, orderOf, stockOf, ledgerOf, withLedger, fresh}
-use Rattle.rules.specs.Calls.{Trade, Close, Deliver, Commit, Cutoff, Resolve, PairOff, Roll, Answer, ticketFor, someTicket, noTicket, oneUnit, noUnit, someYen, noYen, called, asked, unit, value, charge, issuePartials, issueFails}
+use Rattle.rules.specs.Book.{liftConditions, liftsSound, conditions, sound, liftsAt, countAt, orderIn, orderOf, stockOf, ledgerOf, cellsEven, withMarks, withLedger, fresh}
+use Rattle.rules.specs.Calls.{Trade, Close, Deliver, Commit, Cutoff, Resolve, PairOff, Roll, Mark, Answer, ticketFor, someTicket, noTicket, oneUnit, noUnit, someYen, noYen, called, asked, unit, value, charge, issuePartials, issueFails}
 use Rattle.rules.specs.Tape.{readOf, pricesOf}
 use Rattle.rules.specs.Run.{Ran, runOf, answerOf, failLines, chargeLines, line}
 use Rattle.rules.specs.Text.{decimal, lineText, failText, chargeText, ranOf, closingText, printedOf}
@@ -94,6 +95,25 @@ parted =
 
 unfoldable pub partedCut : Answer
 partedCut = called (parted .book) (Cutoff lent)
+
+-- issue 3 is marked; 1 sells 100,002 to 2: a unit of 100,000 and one of 2; 1 delivers 50,000; cutoff, roll
+abbrev pub marks3 : List ℕ
+marks3 = 0 ∷ 0 ∷ 0 ∷ 1 ∷ replicate 12 0
+
+unfoldable pub markedTrade : Answer
+markedTrade = called (called fresh (Mark 3 1) .book) (Trade 3 1 2 100002)
+
+unfoldable pub markedClose : Answer
+markedClose = called (markedTrade .book) Close
+
+unfoldable pub markedDelivery : Answer
+markedDelivery = called (markedClose .book) (Deliver 3 1 50000 lent)
+
+unfoldable pub markedCut : Answer
+markedCut = called (markedDelivery .book) (Cutoff lent)
+
+unfoldable pub markedRoll : Answer
+markedRoll = called (markedCut .book) (Roll 1 300 (replicate 16 100000))
 
 -- the example of 'The program'
 abbrev pub exampleTape : List ℕ
@@ -251,11 +271,95 @@ liftDays =
     ∷ case (called (partedCut .book) (Roll 1 300 (replicate 16 100000)) .book .lifts) (replicate 288 0)
     ∷ []
 
+-- days with a marked issue
+abbrev pub markDays : List Case
+markDays =
+    -- odd lots are refused, after 7 and before 8; another issue takes them; the mark is refused while the issue has a net
+    case
+    (called (markedTrade .book) (Trade 3 1 2 20000001) .refusal ∷ called (markedTrade .book) (Trade 3 1 2 19999999) .refusal
+    ∷ called (markedTrade .book) (Trade 4 1 2 3) .refusal ∷ called (markedTrade .book) (Mark 3 0) .refusal ∷ [])
+    (7 ∷ 19 ∷ 0 ∷ 20 ∷ [])
+    -- a delivery that ends inside a unit
+    ∷ case (orderOf (markedClose .book) 3) (accountLots 2 100000 ∷ accountLots 2 2 ∷ [])
+    ∷ case (numbers 1 markedDelivery) (0 ∷ 0 ∷ 7 ∷ [])
+    ∷ case (stockOf (markedDelivery .book) 3) 50000
+    -- before 9 too
+    ∷ case (called (markedDelivery .book) (Deliver 3 1 50003 lent) .refusal ∷ called (markedDelivery .book) (Deliver 3 1 50004 lent) .refusal ∷ []) (19 ∷ 9 ∷ [])
+    -- cutoff: the stock to 2, then what its full and its small unit lack
+    ∷ case (numbers 7 markedCut)
+    (0 ∷ 3 ∷ 0xa3002000 ∷ 0x8000c350 ∷ 0xc3042000 ∷ 0x8000c350 ∷ 0xc3042000 ∷ 0x80000002 ∷ 7 ∷ [])
+    -- resolve: the first entry falls
+    ∷ case (ledgerOf (called (markedCut .book) (Resolve 3 1 6000 lent) .book)) (entry 3 1 2 44000 0 ∷ entry 3 1 2 2 0 ∷ [])
+    ∷ case (called (markedCut .book) (Resolve 3 1 50003 lent) .refusal ∷ []) (19 ∷ [])
+    -- the mark stays over days; it is refused while the issue has an entry, whatever it is; one of no use is set and taken away
+    ∷ case (markedRoll .book .marks) marks3
+    ∷ case
+    (called (markedRoll .book) (Mark 3 1) .refusal ∷ called (markedRoll .book) (Mark 16 1) .refusal
+    ∷ called (markedRoll .book) (Mark 4 7) .book .marks)
+    (20 ∷ 4 ∷ 0 ∷ 0 ∷ 0 ∷ 1 ∷ 1 ∷ replicate 11 0)
+    ∷ case (called (withMarks fresh marks3) (Mark 3 0) .book .marks) (replicate 16 0)
+    -- an odd entry in a marked issue, and one in another
+    ∷ case (sound (withMarks (withLedger fresh (entry 3 1 2 3 0 ∷ [])) marks3) ∷ sound (withMarks (withLedger fresh (entry 4 1 2 3 0 ∷ [])) marks3) ∷ [])
+    (false ∷ true ∷ [])
+    -- the word of a mark: bits 23..1 are unused
+    ∷ case (runOf (0xd3000001 ∷ 0xd3000002 ∷ []) false .lines) (line 0 name.Mark 0 0 ∷ line 1 name.Tape 14 0 ∷ [])
+    ∷ []
+
+-- before which units of P5, in their order, a unit ranks
+abbrev pub duesP5 : List ℕ
+duesP5 = 0 ∷ 230000 ∷ 250000 ∷ 150000 ∷ []
+
+abbrev pub rankedBefore : ℕ → ℕ → List Bool
+rankedBefore a x = map (ranksBefore unitLots duesP5 (accountLots a x)) (units unitLots duesP5)
+
+-- the four cases
+abbrev pub rankingDays : List Case
+rankingDays =
+    -- full ones of P5: account 2 has the largest net, then 1, then 3; one of 1 ranks before 3's and before all small ones
+    case (rankedBefore 1 100000) (false ∷ false ∷ false ∷ false ∷ true ∷ true ∷ true ∷ true ∷ [])
+    -- small ones: 2 and 3 have 50,000 lots, and 2 is the lower account
+    ∷ case (rankedBefore 2 50000) (false ∷ false ∷ false ∷ false ∷ false ∷ false ∷ true ∷ true ∷ [])
+    ∷ case (rankedBefore 3 50000) (false ∷ false ∷ false ∷ false ∷ false ∷ false ∷ false ∷ true ∷ [])
+    -- full ones of equal nets: the lower account
+    ∷ case (ranksBefore unitLots (250000 ∷ 250000 ∷ []) (accountLots 0 100000) (accountLots 1 100000)) true
+    ∷ case (ranksBefore unitLots (250000 ∷ 250000 ∷ []) (accountLots 1 100000) (accountLots 0 100000)) false
+    ∷ []
+
+unfoldable pub baseDays : List Case
+baseDays = unitDays ++ bookDays ++ ledgerDays ++ programDays ++ ownDays
+
 unfoldable pub settledDays : List Case
-settledDays = unitDays ++ bookDays ++ ledgerDays ++ programDays ++ ownDays ++ liftDays
+unfolding baseDays
+settledDays = baseDays ++ (liftDays ++ (markDays ++ rankingDays))
 
 -- each by computing what the definitions give
+
+pub baseSettled : Holds baseDays
+unfolding baseDays units handovers partials lacks fails pairing valueOf chargeOf liftConditions liftsSound cellsEven conditions sound lift handedFrom orderIn issuePartials issueFails called asked unit value charge readOf pricesOf answerOf runOf decimal lineText failText chargeText ranOf closingText printedOf inIssue traded1 traded2 traded3 closed delivered1 delivered2 cut rolled1 pairedOff resolved committed7 eightLifts parted partedCut markedTrade markedClose markedDelivery markedCut markedRoll exampleRun tallied talliedCut
+baseSettled =
+    (refl, (refl, (refl, (refl, (refl, (refl, (refl, (refl, (refl, (refl, (refl, (refl, (refl, (refl, (refl, (refl, (refl, (refl, (refl, (refl, (refl, (refl, (refl, (refl, (refl, (refl, (refl, (refl, (refl, (refl, (refl, (refl, (refl, (refl, (refl, tt)))))))))))))))))))))))))))))))))))
+
+pub liftSettled : Holds liftDays
+unfolding units handovers partials lacks fails pairing valueOf chargeOf liftConditions liftsSound cellsEven conditions sound lift handedFrom orderIn issuePartials issueFails called asked unit value charge readOf pricesOf answerOf runOf decimal lineText failText chargeText ranOf closingText printedOf inIssue traded1 traded2 traded3 closed delivered1 delivered2 cut rolled1 pairedOff resolved committed7 eightLifts parted partedCut markedTrade markedClose markedDelivery markedCut markedRoll exampleRun tallied talliedCut
+liftSettled =
+    (refl, (refl, (refl, (refl, (refl, (refl, (refl, (refl, (refl, (refl, (refl, (refl, (refl, (refl, (refl, (refl, tt))))))))))))))))
+
+pub markSettled : Holds markDays
+unfolding units handovers partials lacks fails pairing valueOf chargeOf liftConditions liftsSound cellsEven conditions sound lift handedFrom orderIn issuePartials issueFails called asked unit value charge readOf pricesOf answerOf runOf decimal lineText failText chargeText ranOf closingText printedOf inIssue traded1 traded2 traded3 closed delivered1 delivered2 cut rolled1 pairedOff resolved committed7 eightLifts parted partedCut markedTrade markedClose markedDelivery markedCut markedRoll exampleRun tallied talliedCut
+markSettled =
+    (refl, (refl, (refl, (refl, (refl, (refl, (refl, (refl, (refl, (refl, (refl, (refl, (refl, tt)))))))))))))
+
+pub rankingSettled : Holds rankingDays
+unfolding units ranksBefore
+rankingSettled = (refl, (refl, (refl, (refl, (refl, tt)))))
+
+-- and so all of them
+abbrev bothHold : (cs ds : List Case) → Holds cs → Holds ds → Holds (cs ++ ds)
+bothHold [] ds hs ks = ks
+bothHold (case x y ∷ cs) ds hs ks = (hs .0, bothHold cs ds (hs .1) ks)
+
 pub settled : Holds settledDays
-unfolding settledDays units handovers partials lacks fails pairing valueOf chargeOf liftConditions liftsSound conditions sound lift handedFrom orderIn issuePartials issueFails called asked unit value charge readOf pricesOf answerOf runOf decimal lineText failText chargeText ranOf closingText printedOf inIssue traded1 traded2 traded3 closed delivered1 delivered2 cut rolled1 pairedOff resolved committed7 eightLifts parted partedCut exampleRun tallied talliedCut
+unfolding settledDays
 settled =
-    (refl, (refl, (refl, (refl, (refl, (refl, (refl, (refl, (refl, (refl, (refl, (refl, (refl, (refl, (refl, (refl, (refl, (refl, (refl, (refl, (refl, (refl, (refl, (refl, (refl, (refl, (refl, (refl, (refl, (refl, (refl, (refl, (refl, (refl, (refl, (refl, (refl, (refl, (refl, (refl, (refl, (refl, (refl, (refl, (refl, (refl, (refl, (refl, (refl, (refl, (refl, tt)))))))))))))))))))))))))))))))))))))))))))))))))))
+    bothHold baseDays (liftDays ++ (markDays ++ rankingDays)) baseSettled
+    (bothHold liftDays (markDays ++ rankingDays) liftSettled (bothHold markDays rankingDays markSettled rankingSettled))

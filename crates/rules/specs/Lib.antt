@@ -1,6 +1,7 @@
 -- Document 01 as definitions: each file cites only those before it.
 pub mod Measures
 pub mod Units
+pub mod Ranking
 pub mod Handover
 pub mod Lifts
 pub mod Fails

@@ -4,7 +4,7 @@ use mathlib.Core.List.{List, [], _∷_}
 use Prim.Native.Nat.{ℕ, _+_}
 use lib.Dec.{leb, ltb, eqb}
 use lib.ListN.{length}
-use lib.IntN.{ℤ, pos, _+ℤ_, _-ℤ_}
+use lib.IntN.{ℤ, pos, natAbs, _+ℤ_, _-ℤ_}
 use Rattle.rules.specs.declared.Book.{Book}
 use Rattle.rules.specs.declared.Entry.{Entry}
 use Rattle.rules.specs.declared.Phase.{Phase}
@@ -13,7 +13,7 @@ use Rattle.rules.specs.Measures.{issueCount, lastIssue, lastAccount, mos
 use Rattle.rules.specs.Units.{AccountLots}
 use Rattle.rules.specs.Handover.{covered}
 use Rattle.rules.specs.Ledger.{isFrom, lotsOf}
-use Rattle.rules.specs.Book.{isTaking, isSettling, isCut, all, withinSize, netAt, deliveredAt, sound}
+use Rattle.rules.specs.Book.{isTaking, isSettling, isCut, all, isZero, row, withinSize, netAt, deliveredAt, lotsEven, sound}
 
 pub data Question : Type 0 where
   ask : ℕ → Bool → Question
@@ -112,5 +112,19 @@ askTicket t u = ask 17 (sameTicket t u)
 -- 18. Do fewer than eight lifts stand?
 abbrev pub askLifts : ℕ → Question
 askLifts n = ask 18 (ltb n mostLifts)
+
+-- 19. Are lots in a marked issue even?
+abbrev pub askEven : List ℕ → ℕ → ℕ → Question
+askEven marks i x = ask 19 (lotsEven marks i x)
+
+-- 20. Has the issue no net and no entry?
+abbrev pub noNet : List ℤ → ℕ → Bool
+noNet nets i = all (λ n. isZero (natAbs n)) (row i nets)
+
+abbrev pub noEntry : List Entry → ℕ → Bool
+noEntry es i = all (λ e. not (eqb (e .issue) i)) es
+
+abbrev pub askUnused : List ℤ → List Entry → ℕ → Question
+askUnused nets es i = ask 20 (noNet nets i && noEntry es i)
 
 -- 13 and 14 are asked of a tape's words one by one, and 15 of the writer's fields: see Tape

@@ -38,6 +38,10 @@ daysBits = bits 24 4
 abbrev pub rateBits : Field
 rateBits = bits 10 14
 
+-- a mark's head has the mark in bit 0
+abbrev pub markBits : Field
+markBits = bits 0 1
+
 -- a kind 9 word has a price in 17..0
 abbrev pub priceBits : Field
 priceBits = bits 0 18

@@ -16,7 +16,7 @@ use Rattle.rules.specs.declared.Read.{Read}
 use Rattle.rules.specs.declared.Read.the-variants.{Instr, Refused}
 use Rattle.rules.specs.Measures.{outputWords}
 use Rattle.rules.specs.Book.{ledgerOf, fresh}
-use Rattle.rules.specs.Calls.{Call, Trade, Close, Deliver, Cutoff, Resolve, PairOff, Roll, Answer, called}
+use Rattle.rules.specs.Calls.{Call, Trade, Close, Deliver, Cutoff, Resolve, PairOff, Roll, Mark, Answer, called}
 use Rattle.rules.specs.Tape.{readOf, pricesOf}
 
 -- an instruction, with roll's prices and a lent output, as a call
@@ -28,6 +28,7 @@ callOf (instruction.PairOff i a) prices out = PairOff i a
 callOf instruction.Close prices out = Close
 callOf instruction.Cutoff prices out = Cutoff out
 callOf (instruction.Roll days rate) prices out = Roll days rate prices
+callOf (instruction.Mark i m) prices out = Mark i m
 
 abbrev pub nameOf : Instruction → Name
 nameOf (instruction.Trade i f t x) = name.Trade
@@ -37,6 +38,7 @@ nameOf (instruction.PairOff i a) = name.PairOff
 nameOf instruction.Close = name.Close
 nameOf instruction.Cutoff = name.Cutoff
 nameOf (instruction.Roll days rate) = name.Roll
+nameOf (instruction.Mark i m) = name.Mark
 
 -- index of the first word, name, refusal number (0 if done), count of records (for pair-off, steps)
 abbrev pub line : ℕ → Name → ℕ → ℕ → Line

@@ -14,7 +14,7 @@ use Rattle.rules.specs.Lifts.{Lift, liftOf, lifted}
 use Rattle.rules.specs.Ledger.{isFrom, isTo, lotsOf}
 use Rattle.rules.specs.Book.{tabulate, ledgerOf, fresh}
 use Rattle.rules.specs.Records.{Rec, recordsIn}
-use Rattle.rules.specs.Calls.{Call, Trade, Close, Deliver, Ask, Commit, Cutoff, Resolve, PairOff, Roll, Answer, called}
+use Rattle.rules.specs.Calls.{Call, Trade, Close, Deliver, Ask, Commit, Cutoff, Resolve, PairOff, Roll, Mark, Answer, called}
 
 -- the records of a kind in an issue: to whom, and how many lots
 abbrev pub recordsOf : ℕ → ℕ → List Rec → List AccountLots
@@ -113,6 +113,7 @@ counted (Resolve i a x out) rs t =
     record { today = t .today; inAll = countHanded 11 rs (countGiven i a x (t .inAll)); rows = t .rows; lifts = t .lifts }
 counted (PairOff i a) rs t = t
 counted (Roll days rate prices) rs t = record { today = noCounts; inAll = t .inAll; rows = λ i. []; lifts = λ i. [] }
+counted (Mark i m) rs t = t
 
 -- 'between close and cutoff': a close was accepted and no cutoff since
 abbrev pub settlingAfter : Call → Bool → Bool
@@ -125,6 +126,7 @@ settlingAfter (Cutoff out) s = false
 settlingAfter (Resolve i a x out) s = s
 settlingAfter (PairOff i a) s = s
 settlingAfter (Roll days rate prices) s = s
+settlingAfter (Mark i m) s = s
 
 -- whether a call was accepted, from its number
 abbrev pub accepted : ℕ → Bool

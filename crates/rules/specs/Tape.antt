@@ -5,14 +5,14 @@ use Prim.Native.Nat.{ℕ, zero, suc, _+_, _-_, _^_}
 use lib.Dec.{ltb, eqb}
 use lib.ListN.{length, getD, take, drop}
 use Rattle.rules.specs.declared.Instruction.{Instruction}
-use Rattle.rules.specs.declared.Instruction.the-variants.{Trade, Deliver, Resolve, PairOff, Close, Cutoff, Roll}
+use Rattle.rules.specs.declared.Instruction.the-variants.{Trade, Deliver, Resolve, PairOff, Close, Cutoff, Roll, Mark}
 use Rattle.rules.specs.declared.Read.{Read}
 use Rattle.rules.specs.declared.Read.the-variants.{Instr, Refused}
 use Rattle.rules.specs.declared.Word.{Word}
 use Rattle.rules.specs.declared.Word.the-variants.{Head, After, Wrong}
 use Rattle.rules.specs.Measures.{issueCount, tapeWords}
 use Rattle.rules.specs.Book.{all}
-use Rattle.rules.specs.Records.{Field, bits, kindBits, issueBits, fromBits, toBits, lotsBits, daysBits, rateBits, priceBits, inField, ofField, headWord, lotsWord, over}
+use Rattle.rules.specs.Records.{Field, bits, kindBits, issueBits, fromBits, toBits, lotsBits, daysBits, rateBits, markBits, priceBits, inField, ofField, headWord, lotsWord, over}
 use Rattle.rules.specs.Questions.{ask, firstNo, askOutput}
 
 abbrev pub kindOf : ℕ → ℕ
@@ -46,6 +46,8 @@ kinds =
     -- 8 lots in 27..0, 9 price in 17..0
     ∷ kind 8 (after (bits 0 0))
     ∷ kind 9 (after (bits 18 10))
+    -- 13 mark: one word, bits 23..1 unused
+    ∷ kind 13 (head (bits 1 23) 0 0 (λ w x. Mark (ofField issueBits w) (ofField markBits w)))
     ∷ []
 
 abbrev pub kindIn : List Line → ℕ → Kind
@@ -112,6 +114,9 @@ pricesOf ws = map (ofField priceBits) (take issueCount (drop 1 ws))
 abbrev pub rollWord : ℕ → ℕ → ℕ
 rollWord days rate = inField kindBits 7 + inField daysBits days + inField rateBits rate
 
+abbrev pub markWord : ℕ → ℕ → ℕ
+markWord i m = inField kindBits 13 + inField issueBits i + inField markBits m
+
 abbrev pub priceWord : ℕ → ℕ
 priceWord price = inField kindBits 9 + inField priceBits price
 
@@ -123,6 +128,7 @@ wordsOf (PairOff i a) prices = headWord 4 i a 0 ∷ []
 wordsOf Close prices = headWord 5 0 0 0 ∷ []
 wordsOf Cutoff prices = headWord 6 0 0 0 ∷ []
 wordsOf (Roll days rate) prices = rollWord days rate ∷ map priceWord prices
+wordsOf (Mark i m) prices = markWord i m ∷ []
 
 -- 15. Does each field fit its bits? A roll has sixteen prices (house)
 abbrev pub fits : Field → ℕ → Bool
@@ -141,6 +147,7 @@ fieldsFit Close prices = true
 fieldsFit Cutoff prices = true
 fieldsFit (Roll days rate) prices =
     fits daysBits days && fits rateBits rate && eqb (length prices) issueCount && all (fits priceBits) prices
+fieldsFit (Mark i m) prices = fits issueBits i && fits markBits m
 
 -- what the writer answers: number, count of words, output words
 pub record WriteAnswer : Type 0 where

@@ -22,10 +22,11 @@ pub enum Phase {
 // The book. Nets and delivered lots of issue i and account a stand at i * 64 + a. Of issue i the words
 // of lifts from i * 18 on are: the number of lifts, the count of the day's accepted deliveries and lifts,
 // and of each lift its old and its new place. The ledger's entries are the first `count` of five columns:
-// issue, from, to, lots, day.
+// issue, from, to, lots, day. An issue's mark is 0, or another number where it is marked.
 pub struct Book {
     pub day: u16,
     pub phase: Phase,
+    pub marks: [u8; 16],
     pub nets: [i32; 1024],
     pub delivered: [u32; 1024],
     pub lifts: [u32; 288],
@@ -46,6 +47,13 @@ pub struct Entry {
     pub to: u8,
     pub lots: u32,
     pub day: u16,
+}
+
+// What a unit's settlement priority goes by: of a full unit its account and that account's net, of a
+// small one its account and its own lots.
+pub enum Priority {
+    Full(u32, u32),
+    Small(u32, u32),
 }
 
 // What the unit question answers: account and lots, none, or the refusal's number.
@@ -86,6 +94,8 @@ pub enum Instruction {
     Cutoff,
     // days, rate
     Roll(u32, u32),
+    // issue, mark
+    Mark(u32, u32),
 }
 
 // What a word of the tape is taken as: the head of an instruction, with the kind of the words that
@@ -117,6 +127,7 @@ pub enum Name {
     Close,
     Cutoff,
     Roll,
+    Mark,
     Tape,
 }
 

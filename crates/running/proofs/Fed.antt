@@ -4,7 +4,7 @@ use mathlib.Core.List.{List, []}
 use Prim.Native.Nat.{ℕ}
 use Rattle.rules.specs.declared.Book.{Book}
 use Rattle.rules.specs.declared.Instruction.{Instruction}
-use Rattle.rules.specs.Calls.{Call, Trade, Close, Deliver, Ask, Commit, Cutoff, Resolve, PairOff, Roll, Answer, called}
+use Rattle.rules.specs.Calls.{Call, Trade, Close, Deliver, Ask, Commit, Cutoff, Resolve, PairOff, Roll, Mark, Answer, called}
 use Rattle.rules.specs.Run.{callOf}
 use Rattle.rules.specs.Tally.{State, Demand3}
 use Rattle.laws.proofs.Answers.{by-answer}
@@ -23,6 +23,7 @@ wordsLent (Cutoff lent) out = out
 wordsLent (Resolve i a x lent) out = out
 wordsLent (PairOff i a) out = []
 wordsLent (Roll days rate prices) out = []
+wordsLent (Mark i m) out = []
 
 -- a turn, the book and the words that it left, as an answer
 abbrev pub gave : Call → Turn → Book → List ℕ → Answer
@@ -40,6 +41,7 @@ words-lent b (Resolve i a x lent) r b′ out out′ g = g .words
 words-lent b (PairOff i a) r b′ out out′ g = by-answer (λ d. [] ≡ d .out) b (PairOff i a) (λ y. refl) (λ n. refl)
 words-lent b (Roll days rate prices) r b′ out out′ g =
     by-answer (λ d. [] ≡ d .out) b (Roll days rate prices) (λ y. refl) (λ n. refl)
+words-lent b (Mark i m) r b′ out out′ g = by-answer (λ d. [] ≡ d .out) b (Mark i m) (λ y. refl) (λ n. refl)
 
 -- what a turn gives is the call's answer
 pub gave-answer : (b : Book) (c : Call) (r : Turn) (b′ : Book) (out out′ : List ℕ) → Gives b c r b′ out out′ → gave c r b′ out′ ≡ called b c

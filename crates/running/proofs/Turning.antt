@@ -15,11 +15,11 @@ use Rattle.rules.specs.Ledger.{pairing, charged}
 use Rattle.rules.specs.Book.{entries, sound, LedgerLengths}
 use Rattle.rules.specs.Records.{words, over}
 use Rattle.rules.specs.Questions.{firstNo, askOutput}
-use Rattle.rules.specs.Calls.{Call, Trade, Close, Deliver, Cutoff, Resolve, PairOff, Roll, Effect, lentTo, HasRoom, ownAsks, effect, called, tradedNets}
+use Rattle.rules.specs.Calls.{Call, Trade, Close, Deliver, Cutoff, Resolve, PairOff, Roll, Mark, Effect, lentTo, HasRoom, ownAsks, effect, called, tradedNets, markedAs}
 use Rattle.laws.proofs.Answers.{said-yes, own-first, refused-as, accepted-as}
 use Rattle.ledger.specs.Columns.{Whole}
 use Rattle.book.specs.declared.State.{State}
-use Rattle.book.specs.States.{withPhase, withEntries, nextDay}
+use Rattle.book.specs.States.{withPhase, withEntries, withMarks, nextDay}
 use Rattle.delivery.specs.Deliver.{Delivered}
 use Rattle.cutoff.specs.declared.Counts.{Counts as CutCounts}
 use Rattle.cutoff.specs.Write.{lent}
@@ -29,7 +29,7 @@ use Rattle.pairing.specs.declared.Steps.{Steps}
 use Rattle.resolution.specs.Resolving.{Resolved}
 use Rattle.pairing.specs.Pairs.{WasPaired}
 use Rattle.running.specs.declared.Turn.{Turn}
-use Rattle.running.specs.Turns.{TurnIs, Gives, outAfter, inState, withinNets, withinCells, withinLedger, butCharges, butDays}
+use Rattle.running.specs.Turns.{TurnIs, Gives, outAfter, inState, withinNets, withinCells, withinLedger, withinUse, butCharges, butDays}
 
 abbrev pub turnOf : ℕ → ℕ → ℕ → State → Turn
 turnOf n k x s = record { refusal = n; count = k; cancelled = x; state = s }
@@ -124,6 +124,10 @@ pub rolled-on : (s s′ : State) (nets : List ℤ) (delivered lifts : List ℕ) 
     Does (effect (butDays s nets delivered lifts charges is fs ts xs b) (Roll days rate prices)) [] 0 0 (butDays s′ nets′ delivered′ lifts′ charges′ is fs ts xs b) []
 rolled-on s s′ nets delivered lifts charges is fs ts xs days rate prices nets′ delivered′ lifts′ charges′ b e c n d l =
     record { count = refl; cancelled = refl; book = rw (e, c, n, d, l); out = refl }
+
+pub marked-on : (s s′ : State) (nets : List ℤ) (is ms : List ℕ) (i m : ℕ) (b : Book) → s′ ≡ withMarks s ms → ms ≡ markedAs (s .marks) i m →
+    Does (effect (withinUse s nets is b) (Mark i m)) [] 0 0 (withinUse s′ nets is b) []
+marked-on s s′ nets is ms i m b e f = record { count = refl; cancelled = refl; book = rw (e, f); out = refl }
 
 -- the lengths of the ledger's columns, as others ask for them
 pub whole : (is fs ts xs ds : List ℕ) → LedgerLengths is fs ts xs ds → Whole is fs ts xs ds

@@ -11,7 +11,7 @@ use Rattle.rules.specs.declared.Book.{Book}
 use Rattle.rules.specs.declared.Instruction.{Instruction}
 use Rattle.rules.specs.Measures.{liftCells, outputWords}
 use Rattle.rules.specs.Book.{sound, CellLengths, LedgerLengths}
-use Rattle.rules.specs.Calls.{Call, Trade, Close, Deliver, Ask, Commit, Cutoff, Resolve, PairOff, Roll, Answer, called}
+use Rattle.rules.specs.Calls.{Call, Trade, Close, Deliver, Ask, Commit, Cutoff, Resolve, PairOff, Roll, Mark, Answer, called}
 use Rattle.rules.specs.Run.{callOf}
 use Rattle.book.specs.declared.State.{State}
 use Rattle.book.specs.States.{bookIn, Lent, Column, Columns}
@@ -38,6 +38,7 @@ outAfter (Cutoff lent) out d = d .out
 outAfter (Resolve i a x lent) out d = d .out
 outAfter (PairOff i a) out d = out
 outAfter (Roll days rate prices) out d = out
+outAfter (Mark i m) out d = out
 
 -- a call made on a book: number, count, lots cancelled, book and output are the call's
 pub record Gives (b : Book) (c : Call) (r : Turn) (b′ : Book) (out out′ : List ℕ) : Type 0 where
@@ -78,6 +79,9 @@ butCharges s nets delivered lifts issues froms tos lots days b = bookIn s nets d
 abbrev pub butDays : State → List ℤ → List ℕ → List ℕ → List ℤ → List ℕ → List ℕ → List ℕ → List ℕ → Book → Book
 butDays s nets delivered lifts charges issues froms tos lots b = bookIn s nets delivered lifts charges issues froms tos lots (b .days)
 
+abbrev pub withinUse : State → List ℤ → List ℕ → Book → Book
+withinUse s nets issues b = bookIn s nets (b .delivered) (b .lifts) (b .charges) issues (b .froms) (b .tos) (b .lots) (b .days)
+
 abbrev pub onState : Within
 onState = record { before = inState; after = inState }
 
@@ -112,6 +116,10 @@ onCharges nets delivered lifts charges issues froms tos lots =
       before = λ s. butDays s (now (nets .entry)) (now (delivered .entry)) (now (lifts .entry)) (now (charges .entry)) (now (issues .entry)) (now (froms .entry)) (now (tos .entry)) (now (lots .entry));
       after = λ s. butDays s (now (nets .exit)) (now (delivered .exit)) (now (lifts .exit)) (now (charges .exit)) (now (issues .entry)) (now (froms .entry)) (now (tos .entry)) (now (lots .entry));
     }
+
+abbrev pub onMarks : Column ℤ → Column ℕ → Within
+onMarks nets issues =
+    record { before = λ s. withinUse s (now (nets .entry)) (now (issues .entry)); after = λ s. withinUse s (now (nets .entry)) (now (issues .entry)) }
 
 -- the answer of a call, of every sound book with what is lent
 abbrev pub Turns : Within → State → Call → Turn → List ℕ → Type 0
@@ -157,3 +165,6 @@ abbrev pub rollReady : State → Lent ℤ → Lent ℕ → Lent ℕ → Lent ℤ
 rollReady s nets delivered lifts charges issues froms tos lots =
     RollLengths (now nets) (now delivered) (now lifts) (now charges) (now issues) (now froms) (now tos) (now lots)
     × SomeSound (butDays s (now nets) (now delivered) (now lifts) (now charges) (now issues) (now froms) (now tos) (now lots))
+
+abbrev pub markReady : State → Lent ℤ → Lent ℕ → Type 0
+markReady s nets issues = (length (now nets) ≡ 1024) × (length (now issues) ≡ 2048) × SomeSound (withinUse s (now nets) (now issues))

@@ -6,10 +6,10 @@ ghost use mathlib.Core.List.{[]};
 ghost use Prim.Native.Nat.{_≤_};
 ghost use lib.ListN.{length};
 ghost use Rattle.rules.specs.Measures.{outputWords};
-ghost use Rattle.rules.specs.Calls.{Trade, Close, Deliver, Cutoff, Resolve, PairOff, Roll, HasRoom};
+ghost use Rattle.rules.specs.Calls.{Trade, Close, Deliver, Cutoff, Resolve, PairOff, Roll, Mark, HasRoom};
 ghost use Rattle.rules.specs.Run.{callOf};
 ghost use Rattle.book.specs.States.{soundColumns, columns};
-ghost use Rattle.running.specs.Turns.{Turns, Answered, onState, onNets, onDelivered, onLedger, onFails, onCharges, tradeReady, deliverReady, ledgerReady, cutoffReady, rollReady};
+ghost use Rattle.running.specs.Turns.{Turns, Answered, onState, onNets, onDelivered, onLedger, onFails, onCharges, onMarks, tradeReady, deliverReady, ledgerReady, cutoffReady, rollReady, markReady};
 
 // What an instruction answers: the refusal's number (0: done), the count of records (for pair-off,
 // steps), pair-off's lots cancelled, and the state after it.
@@ -26,7 +26,8 @@ fn trade(s: State, nets: &mut [i32], i: u32, f: u32, t: u32, x: u32) -> Turn
     ensures { λ r. ⌜ Turns (onNets nets) s (Trade i f t x) r [] ⌝ }
 {
     let phase = s.phase;
-    let no = trading::trade_asks(phase, nets, i, f, t, x);
+    let marks = s.marks;
+    let no = trading::trade_asks(phase, marks, nets, i, f, t, x);
     if no != 0 {
         return Turn {
             refusal: no,
@@ -83,7 +84,8 @@ fn deliver(
     ensures { λ r. ⌜ Turns (onDelivered nets delivered lifts) s (Deliver i a x (now (out .entry))) r (now (out .exit)) ⌝ }
 {
     let phase = s.phase;
-    let no = delivery::deliver_asks(phase, nets, delivered, i, a, x);
+    let marks = s.marks;
+    let no = delivery::deliver_asks(phase, marks, nets, delivered, i, a, x);
     if no != 0 {
         return Turn {
             refusal: no,
@@ -169,7 +171,8 @@ fn resolve(
     ensures { λ r. ⌜ Turns (onLedger issues froms tos lots days) s (Resolve i a x (now (out .entry))) r (now (out .exit)) ⌝ }
 {
     let count = s.entries;
-    let no = resolution::resolve_asks(count, issues, froms, lots, i, a, x);
+    let marks = s.marks;
+    let no = resolution::resolve_asks(marks, count, issues, froms, lots, i, a, x);
     if no != 0 {
         return Turn {
             refusal: no,
@@ -276,6 +279,31 @@ fn roll<'a>(
     }
 }
 
+// mark: the issue's mark, unless it is refused.
+fn mark<'a>(s: State, nets: &'a [i32], issues: &'a [u8], i: u32, m: u32) -> Turn
+    requires { ⌜ markReady s nets issues ⌝ }
+    ensures { λ r. ⌜ Turns (onMarks nets issues) s (Mark i m) r [] ⌝ }
+{
+    let n = s.entries;
+    let no = settings::mark_asks(nets, n, issues, i);
+    if no != 0 {
+        return Turn {
+            refusal: no,
+            count: 0,
+            cancelled: 0,
+            state: s,
+        };
+    }
+    let marks = s.marks;
+    let next = book::with_marks(s, settings::mark_in(marks, i, m));
+    Turn {
+        refusal: 0,
+        count: 0,
+        cancelled: 0,
+        state: next,
+    }
+}
+
 // The answer to an instruction of a sound book in its columns: number, count, lots cancelled, book and
 // output are those of the call. Roll's prices stand beside it.
 pub fn answer(
@@ -328,5 +356,6 @@ pub fn answer(
             rate,
             prices,
         ),
+        Instruction::Mark(i, m) => mark(s, nets, issues, i, m),
     }
 }

@@ -1,4 +1,5 @@
 pub mod ScanLaws
 pub mod LiftLaws
+pub mod EvenLaws
 pub mod Halves
 pub mod Told

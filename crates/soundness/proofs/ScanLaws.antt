@@ -9,16 +9,18 @@ use lib.Dec.{leb, eqb}
 use lib.ListN.{length, take, drop, getD, drop-of-length-le, length-drop}
 use lib.Seq.{drop-cons, drop-drop, take-all}
 use lib.IntN.{ℤ, pos}
+use borrow.Author.Tests.{leb-true}
 use Rattle.rules.specs.Measures.{issueCount, mostLots, mostEntries, mostCharge, sum, dueOf, owedOf}
 use Rattle.rules.specs.declared.Book.{Book}
 use Rattle.rules.specs.declared.Entry.{Entry}
 use Rattle.rules.specs.Ledger.{entry}
-use Rattle.rules.specs.Book.{isTaking, tabulate, all, row, entries, ledgerOf, isZero, balanced, withinSize, withinOwed, entrySound, daysSound, liftsSound, orderOf, conditions, sound}
-use Rattle.laws.proofs.Basics.{and-left}
+use Rattle.rules.specs.Book.{isTaking, tabulate, all, row, entries, ledgerOf, isZero, balanced, withinSize, withinOwed, entrySound, daysSound, liftsSound, orderOf, cellsEven, entryEven, conditions, sound}
+use Rattle.laws.proofs.Basics.{and-left, and-right}
 use Rattle.laws.proofs.Ledger.{noEntry, length-entries, entry-at}
 use Rattle.laws.proofs.Scans.{and-false, and-true, and-assoc, and-swap, and-turn}
 use Rattle.soundness.specs.Scan.{rowSound, netsSound, deliveredSound, entriesSound, unusedZero, ledgerSound, chargesSound}
 use Rattle.soundness.specs.LiftScan.{allLifts}
+use Rattle.soundness.specs.EvenScan.{allCells}
 
 -- An issue's row
 
@@ -151,32 +153,40 @@ rest-all n xs h e = take-all (length xs - n) (drop n xs) (omega (arith, length-d
 
 -- All parts
 
-joined : (a b c d e f g h i j k l m n o : Bool) →
-    ((((a && (b && c)) && d) && (e && ((f && g) && (h && i && j && k && l)))) && (m && n)) && o
-    ≡ a && (b && (c && (d && (e && (f && (g && (h && (i && (j && (k && (l && (m && (n && (o && true))))))))))))))
-joined false b c d e f g h i j k l m n o = refl
-joined true false c d e f g h i j k l m n o = refl
-joined true true false d e f g h i j k l m n o = refl
-joined true true true false e f g h i j k l m n o = refl
-joined true true true true false f g h i j k l m n o = refl
-joined true true true true true false g h i j k l m n o = refl
-joined true true true true true true false h i j k l m n o = refl
-joined true true true true true true true false i j k l m n o = refl
-joined true true true true true true true true false j k l m n o = refl
-joined true true true true true true true true true false k l m n o = refl
-joined true true true true true true true true true true false l m n o = refl
-joined true true true true true true true true true true true false m n o = refl
-joined true true true true true true true true true true true true m n o = and-assoc m n o ∙ ap (λ t. m && (n && t)) (sym (and-true o))
+last-joined : (o p q : Bool) → (o && p) && q ≡ o && (p && (q && true))
+last-joined o p q = and-assoc o p q ∙ ap (λ t. o && (p && t)) (sym (and-true q))
 
--- the tests but those of lifts
+joined : (a b c d e f g h i j k l m n o p q : Bool) →
+    ((((a && (b && c)) && d) && (e && ((f && g) && (h && i && j && k && l)))) && (m && n)) && ((o && p) && q)
+    ≡ a && (b && (c && (d && (e && (f && (g && (h && (i && (j && (k && (l && (m && (n && (o && (p && (q && true))))))))))))))))
+joined false b c d e f g h i j k l m n o p q = refl
+joined true false c d e f g h i j k l m n o p q = refl
+joined true true false d e f g h i j k l m n o p q = refl
+joined true true true false e f g h i j k l m n o p q = refl
+joined true true true true false f g h i j k l m n o p q = refl
+joined true true true true true false g h i j k l m n o p q = refl
+joined true true true true true true false h i j k l m n o p q = refl
+joined true true true true true true true false i j k l m n o p q = refl
+joined true true true true true true true true false j k l m n o p q = refl
+joined true true true true true true true true true false k l m n o p q = refl
+joined true true true true true true true true true true false l m n o p q = refl
+joined true true true true true true true true true true true false m n o p q = refl
+joined true true true true true true true true true true true true m n o p q = and-assoc m n ((o && p) && q) ∙ ap (λ t. m && (n && t)) (last-joined o p q)
+
+-- the tests but those of lifts and marks
 abbrev pub others : Book → Bool
 others b =
     ((netsSound (b .nets) (b .delivered) && deliveredSound (b .phase) (b .delivered))
     && ledgerSound (b .day) (b .count) (b .issues) (b .froms) (b .tos) (b .lots) (b .days))
     && chargesSound (b .day) (b .charges)
 
-sound-joined : (b : Book) → others b && allLifts (b .phase) (b .nets) (b .delivered) (b .lifts) ≡ sound b
-unfolding netsSound deliveredSound ledgerSound entriesSound unusedZero chargesSound allLifts sound conditions
+-- those of lifts and marks
+abbrev pub last : Book → Bool
+last b =
+    (allLifts (b .phase) (b .nets) (b .delivered) (b .lifts) && allCells (b .marks) (b .nets) (b .delivered)) && all (entryEven (b .marks)) (ledgerOf b)
+
+sound-joined : (b : Book) → others b && last b ≡ sound b
+unfolding netsSound deliveredSound ledgerSound entriesSound unusedZero chargesSound allLifts allCells sound conditions
 sound-joined b =
     joined (all (withinSize mostLots) (b .nets)) (all (λ i. balanced (row i (b .nets))) (tabulate (λ i. i) 0 issueCount))
     (withinOwed (b .nets) (b .delivered)) (cond (isTaking (b .phase)) (all isZero (b .delivered)) true)
@@ -185,6 +195,7 @@ sound-joined b =
     (all isZero (drop (b .count) (b .tos))) (all isZero (drop (b .count) (b .lots)))
     (all isZero (drop (b .count) (b .days))) (balanced (b .charges)) (all (withinSize (mostCharge * b .day)) (b .charges))
     (all (liftsSound (b .phase) (orderOf b) (b .delivered) (b .lifts)) (tabulate (λ i. i) 0 issueCount))
+    (all (cellsEven (b .marks) (b .nets) (b .delivered)) (tabulate (λ i. i) 0 issueCount)) (all (entryEven (b .marks)) (ledgerOf b))
 
 module _ (b : Book) where
   pub others-as : (n d l c : Bool) → n ≡ netsSound (b .nets) (b .delivered) → d ≡ deliveredSound (b .phase) (b .delivered) →
@@ -193,10 +204,18 @@ module _ (b : Book) where
   others-as n d l c en ed el ec = rw (en, ed, el, ec)
 
   pub others-no : others b ≡ false → false ≡ sound b
-  others-no e = ap (λ t. t && allLifts (b .phase) (b .nets) (b .delivered) (b .lifts)) (sym e) ∙ sound-joined b
+  others-no e = ap (λ t. t && last b) (sym e) ∙ sound-joined b
 
-  pub others-yes : others b ≡ true → (r : Bool) → r ≡ allLifts (b .phase) (b .nets) (b .delivered) (b .lifts) → r ≡ sound b
-  others-yes e r f = f ∙ ap (λ t. t && allLifts (b .phase) (b .nets) (b .delivered) (b .lifts)) (sym e) ∙ sound-joined b
+  pub others-yes : others b ≡ true → (l c r : Bool) → l ≡ allLifts (b .phase) (b .nets) (b .delivered) (b .lifts) →
+      c ≡ allCells (b .marks) (b .nets) (b .delivered) → r ≡ all (entryEven (b .marks)) (ledgerOf b) → (l && c) && r ≡ sound b
+  others-yes e l c r el ec er = rw (el, ec, er) (ap (λ t. t && last b) (sym e) ∙ sound-joined b)
 
   pub nets-yes : others b ≡ true → netsSound (b .nets) (b .delivered) ≡ true
   nets-yes e = and-left _ _ (and-left _ _ (and-left _ _ e))
+
+  pub count-yes : others b ≡ true → b .count ≤ mostEntries
+  unfolding ledgerSound
+  count-yes e =
+      let n = netsSound (b .nets) (b .delivered) && deliveredSound (b .phase) (b .delivered) in
+      let l = ledgerSound (b .day) (b .count) (b .issues) (b .froms) (b .tos) (b .lots) (b .days) in
+      leb-true (b .count) mostEntries (and-left (leb (b .count) mostEntries) _ (and-right n l (and-left (n && l) _ e)))

@@ -1,3 +1,4 @@
 pub mod Sound
 pub mod Scan
 pub mod LiftScan
+pub mod EvenScan

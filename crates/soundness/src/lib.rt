@@ -1,4 +1,5 @@
 // Soundness of a book in columns of any length and content.
+pub mod evens;
 pub mod lifts;
 pub mod scan;
 
@@ -30,10 +31,12 @@ pub fn sound<'a>(
     }
     let day = s.day;
     let phase = s.phase;
+    let marks = s.marks;
     let count = s.entries;
     scan::sound_columns(
         day,
         phase,
+        marks,
         nets,
         delivered,
         lifts,

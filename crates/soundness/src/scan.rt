@@ -1,4 +1,6 @@
 // The scan of a book for soundness: one pass over each column. Any content is scanned, no sum wraps.
+use crate::evens::cells_even;
+use crate::evens::entries_even;
 use crate::lifts::lifts_sound;
 use book::due;
 use book::owed;
@@ -218,6 +220,7 @@ fn charges_sound(today: u16, charges: &[i64]) -> bool
 pub fn sound_columns<'a>(
     day: u16,
     phase: Phase,
+    marks: [u8; 16],
     nets: &'a [i32],
     delivered: &'a [u32],
     lifts: &'a [u32],
@@ -230,7 +233,7 @@ pub fn sound_columns<'a>(
     days: &'a [u16],
 ) -> bool
     requires { ⌜ Lengths (now nets) (now delivered) (now lifts) (now charges) (now issues) (now froms) (now tos) (now lots) (now days) ⌝ }
-    ensures { λ r. ⌜ r ≡ soundOf (columns nets delivered lifts charges issues froms tos lots days .before (stateOf day phase count)) ⌝ }
+    ensures { λ r. ⌜ r ≡ soundOf (columns nets delivered lifts charges issues froms tos lots days .before (stateOf day phase count marks)) ⌝ }
 {
     let cells = nets_sound(nets, delivered);
     let taken = delivered_sound(phase, delivered);
@@ -239,5 +242,8 @@ pub fn sound_columns<'a>(
     if !(cells & taken & ledger & yen) {
         return false;
     }
-    lifts_sound(phase, nets, delivered, lifts)
+    let lifted = lifts_sound(phase, nets, delivered, lifts);
+    let cells = cells_even(marks, nets, delivered);
+    let entries = entries_even(marks, count, issues, lots);
+    lifted & cells & entries
 }

@@ -15,7 +15,7 @@ use Rattle.rules.specs.Units.{AccountLots}
 use Rattle.rules.specs.Handover.{covered, stock, firstUnit}
 use Rattle.rules.specs.Book.{isTaking, isSettling, isCut, deliveredAt, deliveredTotal, orderOf, sound}
 use Rattle.rules.specs.Questions.{ask, firstNo}
-use Rattle.rules.specs.Calls.{Call, Trade, Close, Deliver, Ask, Commit, Cutoff, Resolve, PairOff, Roll, asks, effect, called, commitLift}
+use Rattle.rules.specs.Calls.{Call, Trade, Close, Deliver, Ask, Commit, Cutoff, Resolve, PairOff, Roll, Mark, asks, effect, called, commitLift}
 use Rattle.laws.proofs.Basics.{byTest}
 use Rattle.laws.proofs.Answers.{AllYes, by-answer}
 use Rattle.laws.proofs.Cells.{row-other, delivered-rises}
@@ -155,6 +155,7 @@ module _ (b : Book) (z : Sizes b) (i : ℕ) (p : isSettling (b .phase) ≡ true)
   does (Resolve j a x out) h y = record { phase = p; order = refl; total = sym (add-zero (deliveredTotal (b .delivered) i)) }
   does (PairOff j a) h y = record { phase = p; order = refl; total = sym (add-zero (deliveredTotal (b .delivered) i)) }
   does (Roll days rate prices) h y = absurd (false≢true (sym (settling-not-cut (b .phase) p) ∙ y .1 .0))
+  does (Mark j m) h y = record { phase = p; order = refl; total = sym (add-zero (deliveredTotal (b .delivered) i)) }
 
   brings : (c : Call) → noLift i c ≡ true → Brings b (called b c .book) i (ifAccepted (called b c .refusal) (lotsIn i c))
   brings c h =

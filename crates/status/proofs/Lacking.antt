@@ -15,7 +15,7 @@ use Rattle.rules.specs.Units.{AccountLots, accountLots, sumLots, ofAccount}
 use Rattle.rules.specs.Handover.{covered, handed, partials}
 use Rattle.rules.specs.Ledger.{isTo, lotsOf}
 use Rattle.rules.specs.Book.{isCut, row, deliveredTotal, orderOf, ledgerOf, sound}
-use Rattle.rules.specs.Calls.{Call, Trade, Close, Deliver, Ask, Commit, Cutoff, Resolve, PairOff, Roll, asks, effect, called, issueFails, newEntries}
+use Rattle.rules.specs.Calls.{Call, Trade, Close, Deliver, Ask, Commit, Cutoff, Resolve, PairOff, Roll, Mark, asks, effect, called, issueFails, newEntries}
 use Rattle.laws.proofs.Basics.{byTest, either, total-append}
 use Rattle.laws.proofs.Answers.{AllYes, by-answer}
 use Rattle.laws.proofs.Overlaps.{additive-zero}
@@ -140,6 +140,7 @@ module _ (b : Book) (p : isCut (b .phase) ≡ true) where
   does (Resolve j a x out) h y = record { phase = p; order = λ i. refl; total = λ i. refl }
   does (PairOff j a) h y = record { phase = p; order = λ i. refl; total = λ i. refl }
   does (Roll days rate prices) h y = absurd (false≢true h)
+  does (Mark j m) h y = record { phase = p; order = λ i. refl; total = λ i. refl }
 
   stays : (c : Call) → noRoll c ≡ true → Stays b (called b c .book)
   stays c h = by-answer (λ r. Stays b (r .book)) b c (does c h) (λ r. as-it-was)

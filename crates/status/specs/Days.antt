@@ -5,7 +5,7 @@ use Rattle.rules.specs.Units.{units}
 use Rattle.rules.specs.Handover.{handovers, partials}
 use Rattle.rules.specs.Lifts.{lift, handedFrom}
 use Rattle.rules.specs.Fails.{lacks, fails}
-use Rattle.rules.specs.Book.{liftConditions, liftsSound, conditions, sound, orderIn}
+use Rattle.rules.specs.Book.{liftConditions, liftsSound, cellsEven, conditions, sound, orderIn}
 use Rattle.rules.specs.Calls.{Answer, Cutoff, called, issuePartials, issueFails}
 use Rattle.rules.specs.Tally.{inIssue}
 use Rattle.rules.specs.Days.{lent, traded1, traded2, traded3, closed, delivered1, delivered2, cut, resolved, committed7, Case, case, Holds}
@@ -58,6 +58,6 @@ statusDays = settlingDays ++ cutDays ++ liftDays ++ refusedDays
 
 -- each by computing what the definitions give
 pub told : Holds statusDays
-unfolding statusDays units handovers partials lacks fails liftConditions liftsSound conditions sound lift handedFrom orderIn issuePartials issueFails called inIssue traded1 traded2 traded3 closed delivered1 delivered2 cut resolved committed7 liftedCut inSettling afterCutoff status lacking
+unfolding statusDays units handovers partials lacks fails liftConditions liftsSound cellsEven conditions sound lift handedFrom orderIn issuePartials issueFails called inIssue traded1 traded2 traded3 closed delivered1 delivered2 cut resolved committed7 liftedCut inSettling afterCutoff status lacking
 told =
     (refl, (refl, (refl, (refl, (refl, (refl, (refl, (refl, (refl, (refl, (refl, (refl, (refl, (refl, (refl, (refl, (refl, tt)))))))))))))))))

@@ -7,7 +7,7 @@ use lib.Dec.{eqb}
 use Rattle.rules.specs.declared.Book.{Book}
 use Rattle.rules.specs.Units.{AccountLots}
 use Rattle.rules.specs.Book.{orderOf}
-use Rattle.rules.specs.Calls.{Call, Trade, Close, Deliver, Ask, Commit, Cutoff, Resolve, PairOff, Roll, called}
+use Rattle.rules.specs.Calls.{Call, Trade, Close, Deliver, Ask, Commit, Cutoff, Resolve, PairOff, Roll, Mark, called}
 use Rattle.status.specs.Status.{StatusAnswer, isHanded, waitsFor, failsPartly, failsWholly, statusRefused, status}
 
 -- the book after a list of calls
@@ -31,6 +31,7 @@ noLift i (Cutoff out) = false
 noLift i (Resolve j a x out) = true
 noLift i (PairOff j a) = true
 noLift i (Roll days rate prices) = true
+noLift i (Mark j m) = true
 
 -- the lots that a call brings to the issue, where it is accepted
 abbrev pub lotsIn : ℕ → Call → ℕ
@@ -43,6 +44,7 @@ lotsIn i (Cutoff out) = 0
 lotsIn i (Resolve j a x out) = 0
 lotsIn i (PairOff j a) = 0
 lotsIn i (Roll days rate prices) = 0
+lotsIn i (Mark j m) = 0
 
 -- 0 where it is refused
 abbrev pub ifAccepted : ℕ → ℕ → ℕ
@@ -91,6 +93,7 @@ noRoll (Cutoff out) = true
 noRoll (Resolve j a x out) = true
 noRoll (PairOff j a) = true
 noRoll (Roll days rate prices) = false
+noRoll (Mark j m) = true
 
 -- the lots that are lacking of a unit, by what is told of it
 abbrev pub lackingOf : AccountLots → StatusAnswer → ℕ

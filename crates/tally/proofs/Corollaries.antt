@@ -7,20 +7,22 @@ use native.Mathlib.Omega.{arith}
 use lib.Dec.{leb, ltb}
 use lib.ListN.{length, getD}
 use borrow.Author.Tests.{leb-true, leb-false, ltb-true}
+use Rattle.rules.specs.declared.Book.{Book}
 use Rattle.rules.specs.declared.Phase.{Phase}
 use Rattle.rules.specs.declared.Phase.the-variants.{Taking, Settling, Cut}
 use Rattle.rules.specs.declared.Ticket.{Ticket}
 use Rattle.rules.specs.Measures.{unitLots, total, dueOf, owedOf}
 use Rattle.rules.specs.Units.{AccountLots, ofAccount}
 use Rattle.rules.specs.Handover.{covered, handed, partials}
-use Rattle.rules.specs.Book.{cell, netAt, deliveredTotal, orderOf, sound}
+use Rattle.rules.specs.Book.{cell, row, netAt, deliveredTotal, orderOf, stockOf, ledgerOf, isMarked, sound}
 use Rattle.rules.specs.Calls.{Call, Commit, Cutoff, called}
 use Rattle.rules.specs.Tally.{State, after, afterAll, start, noLots, unitsToday}
-use Rattle.laws.proofs.Basics.{byTest, and-left, and-right, total-append}
+use Rattle.laws.proofs.Basics.{byTest, and-left, and-right, total-append, Every, each-map}
 use Rattle.laws.proofs.Fails.{additive-account}
 use Rattle.laws.proofs.Cutoff.{settled}
 use Rattle.laws.proofs.Cells.{due-at}
-use Rattle.laws.proofs.Sound.{delivered-owed}
+use Rattle.laws.proofs.Sound.{Even, EvenEntry, delivered-owed}
+use Rattle.laws.proofs.Even.{EvenLots, EvenNet, total-even, order-even, stock-even}
 use Rattle.laws.proofs.SoundRows.{order-in}
 use Rattle.laws.proofs.Room.{commit-few}
 use Rattle.laws.proofs.Answers.{by-answer}
@@ -33,6 +35,30 @@ use Rattle.tally.proofs.Settles.{netToday, Settled, cutoff-settles}
 -- every book that a list of calls reaches is sound
 pub every-book-is-sound : (cs : List Call) → sound (afterAll start cs .book) ≡ true
 every-book-is-sound = reached-sound
+
+-- lots of an issue that are even
+pub record EvenIssue (b : Book) (i : ℕ) : Type 0 where
+  pub nets : Every EvenNet (row i (b .nets))
+  pub delivered : Every Even (row i (b .delivered))
+  pub units : Every EvenLots (orderOf b i)
+  pub stock : Even (stockOf b i)
+  pub fails : Every (λ e. e .issue ≡ i → Even (e .lots)) (ledgerOf b)
+
+-- of every book that a list of calls reaches, a marked issue has even lots only
+pub a-marked-issue-is-even : (cs : List Call) (i : ℕ) → i < 16 → isMarked (afterAll start cs .book .marks) i ≡ true → EvenIssue (afterAll start cs .book) i
+a-marked-issue-is-even cs i h m =
+    let b = afterAll start cs .book in
+    let g = reached-standing cs .parts in
+    let ns = g .even i h .nets m in
+    let ds = g .even i h .delivered m in
+    let us = order-even (b .nets) (b .lifts) i ns in
+    record {
+      nets = ns;
+      delivered = ds;
+      units = us;
+      stock = stock-even (orderOf b i) (deliveredTotal (b .delivered) i) us (total-even (λ x. x) (row i (b .delivered)) ds);
+      fails = each-map (EvenEntry (b .marks)) (λ e. e .issue ≡ i → Even (e .lots)) (λ e p q. p (rw q m)) (ledgerOf b) (g .evenEntries);
+    }
 
 module _ (cs : List Call) where
   abbrev s : State

@@ -117,6 +117,6 @@ keeps-deliver s v i a x out =
     let ha : a < 64 = omega (arith, leb-true a 63 (y .1 .1 .1 .1 .0)) in
     let g = sound-parts b (y .1 .0) in
     let p = y .1 .1 .0 in
-    let o = leb-true _ _ (y .1 .1 .1 .1 .1 .1 .0) in
+    let o = leb-true _ _ (y .1 .1 .1 .1 .1 .1 .1 .0) in
     rw (records-read rs out (all-fit s v i a x hi ha g p o)) (delivered-inv s v i a x hi ha g p o))
     (λ r. v)

@@ -9,6 +9,7 @@ pub mod Cutting
 pub mod Resolving
 pub mod PairingOff
 pub mod Rolling
+pub mod Marking
 pub mod Demand
 pub mod Made
 pub mod Reached

@@ -59,7 +59,7 @@ keeps-resolve s v i a x out =
     (λ y.
     let g = sound-parts b (y .1 .0) in
     let ms = met (isFrom i a) x (ledgerOf b) in
-    let o = leb-true _ _ (y .1 .1 .1 .1 .1 .0) in
+    let o = leb-true _ _ (y .1 .1 .1 .1 .1 .1 .0) in
     rw (records-read rs out
     (each-of-map Fits (recordOf 11) ms
     (each-map SoundEntry (λ e. Fits (recordOf 11 e)) (entry-fits 11 (lit< tt)) ms (sound-met (isFrom i a) x (ledgerOf b) (g .ledger .each)))))

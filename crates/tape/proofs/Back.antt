@@ -8,8 +8,8 @@ use lib.ListN.{getD, take}
 use Rattle.rules.specs.declared.Instruction.{Instruction}
 use Rattle.rules.specs.declared.Read.the-variants.{Instr}
 use Rattle.rules.specs.Measures.{issueCount}
-use Rattle.rules.specs.Records.{bits, issueBits, fromBits, toBits, lotsBits, daysBits, rateBits, priceBits, ofField, headWord, lotsWord}
-use Rattle.rules.specs.Tape.{kindOf, Kind, head, after, none, kindAt, isAfter, wordAs, wordsWrong, readOf, pricesOf, rollWord, priceWord, wordsOf}
+use Rattle.rules.specs.Records.{bits, issueBits, fromBits, toBits, lotsBits, daysBits, rateBits, markBits, priceBits, ofField, headWord, lotsWord}
+use Rattle.rules.specs.Tape.{kindOf, Kind, head, after, none, kindAt, isAfter, wordAs, wordsWrong, readOf, pricesOf, rollWord, markWord, priceWord, wordsOf}
 use Rattle.laws.proofs.Basics.{byTest}
 use Rattle.tape.proofs.Table.{by-kind, Clears, after-is}
 use Rattle.tape.proofs.Sized.{read-is}
@@ -53,6 +53,11 @@ module _ (w k : ℕ) (word : w < 2 ^ 32) (kind : kindOf w ≡ k) where
   terms e z =
       let above-rate : w / 1024 ≡ w / 16777216 * 16384 + w / 1024 % 16384 = omega arith in
       roll-sum w (w / 1024) (w / 16777216) k (ofField daysBits w) (ofField rateBits w) (omega arith) above-rate above-issue e
+
+  mark-back : k ≡ 13 → ofField (bits 1 23) w ≡ 0 → w ≡ markWord (ofField issueBits w) (ofField markBits w)
+  mark-back e z =
+      let s : w ≡ w / 16777216 * 16777216 + w / 2 % 8388608 * 2 + w % 2 = omega arith in
+      omega (arith, above-issue)
 
   lots-back : k ≡ 8 → w ≡ lotsWord (ofField lotsBits w)
   lots-back e = omega arith
@@ -112,7 +117,8 @@ module _ (w : ℕ) (rest : List ℕ) (b : Words (w ∷ rest)) where
       (λ e z r. joined (short w 3 (b 0) e z) (lots r))
       (λ e z r. joined (short w 4 (b 0) e z) refl)
       (λ e z r. joined (bare w 5 (b 0) e z) refl)
-      (λ e z r. joined (bare w 6 (b 0) e z) refl) roll-back k
+      (λ e z r. joined (bare w 6 (b 0) e z) refl) roll-back
+      (λ e z r. joined (mark-back w 13 (b 0) e refl z) refl) k
 
 -- the words that are read as an instruction are exactly those written for it
 pub read-is-written : (ws : List ℕ) (x : Instruction) (n : ℕ) → Words ws → readOf ws ≡ Instr x n →

@@ -9,7 +9,7 @@ use lib.ListN.{length}
 use Rattle.rules.specs.declared.Instruction.the-variants.{Roll}
 use Rattle.rules.specs.Measures.{issueCount}
 use Rattle.rules.specs.Book.{all}
-use Rattle.rules.specs.Records.{issueBits, fromBits, toBits, lotsBits, daysBits, rateBits, priceBits}
+use Rattle.rules.specs.Records.{issueBits, fromBits, toBits, lotsBits, daysBits, rateBits, markBits, priceBits}
 use Rattle.rules.specs.Tape.{fits, headFits, fieldsFit}
 use Rattle.laws.proofs.Basics.{and-left, and-right}
 use Rattle.words.specs.Fits.{HeadFits}
@@ -28,6 +28,17 @@ module _ (k i f t x : ℕ) (small : k < 2 ^ 4) (e : headFits i f t x ≡ true) w
 
   pub lots-fit : x < 2 ^ 28
   lots-fit = ltb-true x 268435456 (and-right (fits issueBits i && fits fromBits f && fits toBits t) (fits lotsBits x) e)
+
+pub record MarkFits (i m : ℕ) : Type 0 where
+  pub issue : i < 2 ^ 4
+  pub mark : m < 2 ^ 1
+
+pub mark-fits : (i m : ℕ) → fits issueBits i && fits markBits m ≡ true → MarkFits i m
+mark-fits i m e =
+    record {
+      issue = ltb-true i 16 (and-left (fits issueBits i) (fits markBits m) e);
+      mark = ltb-true m 2 (and-right (fits issueBits i) (fits markBits m) e);
+    }
 
 pub record RollFits (days rate : ℕ) (prices : List ℕ) : Type 0 where
   pub day : days < 2 ^ 4

@@ -21,7 +21,7 @@ Sixteen none = Unit {0}
 -- no other instruction is a roll
 sixteen : (k : ℕ) → Sixteen (kindAt k)
 sixteen k =
-    by-kind (λ k K. Sixteen K) (λ k. tt) (λ k u. tt) (λ w x d r e. cc) (λ w x d r e. cc) (λ w x d r e. cc) (λ w x d r e. cc) (λ w x d r e. cc) (λ w x d r e. cc) (λ w x d r e. refl) k
+    by-kind (λ k K. Sixteen K) (λ k. tt) (λ k u. tt) (λ w x d r e. cc) (λ w x d r e. cc) (λ w x d r e. cc) (λ w x d r e. cc) (λ w x d r e. cc) (λ w x d r e. cc) (λ w x d r e. refl) (λ w x d r e. cc) k
 
 pub roll-whole : (ws : List ℕ) (days rate n : ℕ) → readOf ws ≡ Instr (Roll days rate) n → tapeWords ≤ length ws
 unfolding readOf

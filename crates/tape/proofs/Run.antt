@@ -107,6 +107,7 @@ module _ (b : Book) (out lent : List ℕ) (room : outputWords ≤ length out) (a
   answer-any-output instruction.Close prices = same (called b (callOf instruction.Close prices out))
   answer-any-output instruction.Cutoff prices = any-asked (askSound b ∷ ownAsks b (Cutoff out)) (effect b (Cutoff out))
   answer-any-output (instruction.Roll days rate) prices = same (called b (callOf (instruction.Roll days rate) prices out))
+  answer-any-output (instruction.Mark i m) prices = same (called b (callOf (instruction.Mark i m) prices out))
 
 -- so any such output gives the line and the book of the run
 pub answer-lent : (b : Book) (out : List ℕ) → outputWords ≤ length out → (x : Instruction) (ws : List ℕ) →

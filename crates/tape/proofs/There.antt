@@ -9,16 +9,16 @@ use lib.Dec.{leb}
 use lib.ListN.{length, drop, length-map}
 use lib.Seq.{take-at}
 use Rattle.rules.specs.declared.Instruction.{Instruction}
-use Rattle.rules.specs.declared.Instruction.the-variants.{Trade, Deliver, Resolve, PairOff, Close, Cutoff, Roll}
+use Rattle.rules.specs.declared.Instruction.the-variants.{Trade, Deliver, Resolve, PairOff, Close, Cutoff, Roll, Mark}
 use Rattle.rules.specs.declared.Read.the-variants.{Instr}
 use Rattle.rules.specs.Measures.{issueCount, tapeWords}
 use Rattle.rules.specs.Book.{all}
-use Rattle.rules.specs.Records.{bits, daysBits, rateBits, priceBits, ofField, headWord, over}
-use Rattle.rules.specs.Tape.{kindOf, wordsWrong, readOf, pricesOf, rollWord, priceWord, wordsOf, fits, fieldsFit, writeOf}
+use Rattle.rules.specs.Records.{bits, issueBits, daysBits, rateBits, markBits, priceBits, ofField, headWord, over}
+use Rattle.rules.specs.Tape.{kindOf, wordsWrong, readOf, pricesOf, rollWord, markWord, priceWord, wordsOf, fits, fieldsFit, writeOf}
 use Rattle.laws.proofs.Basics.{byTest, and-left, and-right}
 use Rattle.words.proofs.Fields.{kind-read, issue-read, from-read, to-read, lots-read, lots-kind}
 use Rattle.tape.proofs.Reading.{mod-one}
-use Rattle.tape.proofs.Fitting.{RollFits, roll-fits, head-fits, lots-fit}
+use Rattle.tape.proofs.Fitting.{RollFits, roll-fits, MarkFits, mark-fits, head-fits, lots-fit}
 
 -- what is below a head's fields
 below-to : (k i f t : ℕ) → ofField (bits 0 12) (headWord k i f t) ≡ 0
@@ -26,6 +26,20 @@ below-to k i f t = omega arith
 
 below-from : (k i f : ℕ) → ofField (bits 0 18) (headWord k i f 0) ≡ 0
 below-from k i f = omega arith
+
+-- a mark's word
+module _ (i m : ℕ) (h : MarkFits i m) where
+  mark-kind : kindOf (markWord i m) ≡ 13
+  mark-kind = omega arith
+
+  mark-issue : ofField issueBits (markWord i m) ≡ i
+  mark-issue = omega arith
+
+  mark-bit : ofField markBits (markWord i m) ≡ m
+  mark-bit = omega arith
+
+  mark-clears : ofField (bits 1 23) (markWord i m) ≡ 0
+  mark-clears = omega arith
 
 -- price words are right, and give their prices
 module _ (p : ℕ) (h : p < 2 ^ 18) where
@@ -100,6 +114,9 @@ written-is-read (PairOff i a) prices rest fit =
 written-is-read Close prices rest fit = refl
 written-is-read Cutoff prices rest fit = refl
 written-is-read (Roll days rate) prices rest fit = roll-read days rate prices rest fit
+written-is-read (Mark i m) prices rest fit =
+    let h = mark-fits i m fit in
+    simp (mark-kind i m h, mark-issue i m h, mark-bit i m h, mark-clears i m h)
 
 -- the same of the writer's output, whatever stood in it
 module _ (x : Instruction) (prices out : List ℕ) (done : writeOf x prices out .refusal ≡ 0) where

@@ -14,8 +14,8 @@ ghost use Rattle.rules.specs.Measures.{tapeWords};
 ghost use Rattle.rules.specs.Book.{all};
 ghost use Rattle.rules.specs.Records.{lotsBits, priceBits, ofField};
 ghost use Rattle.rules.specs.declared.Word.the-variants.{Head, Wrong};
-ghost use Rattle.rules.specs.Tape.{wordAs, isAfter, wordsWrong, readOf, readAnswer, pricesOf, rollWord, priceWord, fits, headFits, fieldsFit, writeOf};
-ghost use Rattle.tape.specs.Answers.{WriteAnswerIs, headWords, rollWords, Room, PricesFit};
+ghost use Rattle.rules.specs.Tape.{wordAs, isAfter, wordsWrong, readOf, readAnswer, pricesOf, rollWord, markWord, priceWord, fits, headFits, fieldsFit, writeOf};
+ghost use Rattle.tape.specs.Answers.{WriteAnswerIs, headWords, markWords, rollWords, Room, PricesFit};
 
 // A word taken as x, or a wrong word where its unused bits, which hold `unused`, are not 0.
 fn clear(unused: u32, x: Word) -> Word
@@ -63,6 +63,7 @@ fn word_as(w: u32, lots: u32) -> Word
         ),
         8 => Word::After(8),
         9 => clear(w / 262144 % 1024, Word::After(9)),
+        13 => head(w / 2 % 8388608, Instruction::Mark(issue, w % 2), 0, 1),
         10..=15 => Word::Wrong,
         _ => Word::Wrong,
     }
@@ -192,6 +193,29 @@ fn put_head(
     }
 }
 
+// The word of a mark: kind 13, issue in bits 27..24, mark in bit 0, the rest 0.
+fn mark_word(issue: u32, mark: u32) -> u32
+    requires { ⌜ (issue < 2 ^ 4) × (mark < 2 ^ 1) ⌝ }
+    ensures { λ r. ⌜ r ≡ markWord issue mark ⌝ }
+{
+    3489660928 + issue * 16777216 + mark
+}
+
+// A mark's word at the front of the output, or refusal 15.
+fn put_mark(issue: u32, mark: u32, out: &mut [u32]) -> Written
+    requires { ⌜ tapeWords ≤ length (now out) ⌝ }
+    ensures { λ r. ⌜ WriteAnswerIs (markWords issue mark (now (out .entry))) r (now (out .exit)) ⌝ }
+{
+    if !((issue < 16) & (mark < 2)) {
+        return refused(15);
+    }
+    out[0] = mark_word(issue, mark);
+    Written {
+        refusal: 0,
+        count: 1,
+    }
+}
+
 // Does each price fit its bits?
 fn prices_fit(prices: &[u32]) -> bool
     ensures { λ r. ⌜ r ≡ all (fits priceBits) (now (prices .entry)) ⌝ }
@@ -273,5 +297,6 @@ pub fn write(x: Instruction, prices: &[u32], out: &mut [u32]) -> Written
         Instruction::Close => put_head(5, 0, 0, 0, 0, true, out),
         Instruction::Cutoff => put_head(6, 0, 0, 0, 0, true, out),
         Instruction::Roll(days, rate) => put_roll(days, rate, prices, out),
+        Instruction::Mark(issue, mark) => put_mark(issue, mark, out),
     }
 }

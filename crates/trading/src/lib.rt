@@ -6,9 +6,17 @@ ghost use Rattle.rules.specs.Calls.{tradeAsks, tradedNets, closeAsks};
 ghost use Rattle.trading.specs.Trading.{SmallNets, Tradable};
 
 // trade's questions but that of soundness: the number of the first 'no', 0 where there is none.
-pub fn trade_asks(phase: Phase, nets: &[i32], i: u32, f: u32, t: u32, x: u32) -> u32
+pub fn trade_asks(
+    phase: Phase,
+    marks: [u8; 16],
+    nets: &[i32],
+    i: u32,
+    f: u32,
+    t: u32,
+    x: u32,
+) -> u32
     requires { ⌜ SmallNets (now nets) ⌝ }
-    ensures { λ r. ⌜ r ≡ firstNo (tradeAsks phase (now (nets .entry)) i f t x) ⌝ }
+    ensures { λ r. ⌜ r ≡ firstNo (tradeAsks phase marks (now (nets .entry)) i f t x) ⌝ }
 {
     if !book::taking(phase) {
         return 3;
@@ -30,6 +38,9 @@ pub fn trade_asks(phase: Phase, nets: &[i32], i: u32, f: u32, t: u32, x: u32) ->
     }
     if 20_000_000 < x {
         return 7;
+    }
+    if !book::lots_even(marks, i, x) {
+        return 19;
     }
     let from = nets[(i * 64 + f) as usize];
     if !book::within(book::lowered(from, x)) {

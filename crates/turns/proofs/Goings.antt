@@ -46,6 +46,7 @@ pub priced : (ws lent prices : List ℕ) (x : Instruction) → Begins ws x → l
     Priced ws x prices
 priced ws lent prices (instruction.Roll d r) g h p =
     λ out. ap (λ (ps : List ℕ). callOf (instruction.Roll d r) ps out) (p refl ∙ roll-prices ws lent d r (g .count) (g .read) h)
+priced ws lent prices (instruction.Mark i m) g h p = λ out. refl
 priced ws lent prices (instruction.Trade i f t x) g h p = λ out. refl
 priced ws lent prices (instruction.Deliver i a x) g h p = λ out. refl
 priced ws lent prices (instruction.Resolve i a x) g h p = λ out. refl

@@ -32,6 +32,7 @@ rollsOf (instruction.PairOff i a) = false
 rollsOf instruction.Close = false
 rollsOf instruction.Cutoff = false
 rollsOf (instruction.Roll days rate) = true
+rollsOf (instruction.Mark i m) = false
 
 -- prices with which it is the call of the words
 abbrev pub Priced : List ℕ → Instruction → List ℕ → Type 0

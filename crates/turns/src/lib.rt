@@ -39,6 +39,7 @@ fn name_of(x: Instruction) -> Name
         Instruction::Close => Name::Close,
         Instruction::Cutoff => Name::Cutoff,
         Instruction::Roll(_, _) => Name::Roll,
+        Instruction::Mark(_, _) => Name::Mark,
     }
 }
 
@@ -54,6 +55,7 @@ fn rolls(x: Instruction) -> bool
         Instruction::Close => false,
         Instruction::Cutoff => false,
         Instruction::Roll(_, _) => true,
+        Instruction::Mark(_, _) => false,
     }
 }
 

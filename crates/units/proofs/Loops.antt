@@ -2,11 +2,12 @@
 use mathlib.Core.Path.{_≡_, refl, ap, _∙_}
 use mathlib.Core.Bool.{true}
 use mathlib.Core.List.{List, [], _∷_, _++_, map, map-append}
-use Prim.Native.Nat.{ℕ, suc, _+_, _-_, _*_, _/_, _%_, _≤_, _<_, min}
+use Prim.Native.Nat.{ℕ, zero, suc, _+_, _-_, _*_, _/_, _%_, _≤_, _<_, min}
 use native.Mathlib.Omega.{arith}
 use native.Mathlib.Numerals.{add-one}
 use lib.ListN.{length, take, drop, getD, set, length-map, List·getD-map, drop-of-length-le}
 use lib.Seq.{take-suc, take-suc-set, drop-cons, getD-take, length-take-le, take-append-add, take-append-le}
+use borrow.Author.Tests.{le-leb}
 use lib.IntN.{ℤ, pos, natAbs}
 use Rattle.rules.specs.Measures.{Every, unitLots, mostLots, dueOf}
 use Rattle.rules.specs.Units.{AccountLots, accountLots, byAccount, largestFirst}
@@ -17,7 +18,7 @@ use Rattle.laws.proofs.Units.{Small}
 use Rattle.laws.proofs.Cells.{length-dues}
 use Rattle.laws.proofs.Sound.{each-getD}
 use Rattle.laws.proofs.Signed.{size-of}
-use Rattle.units.specs.Runs.{partOf, runsIn, unitsOfRun, unitsOfRuns, unitsIn, fullOf, smallLots, runsOf, Plain, CanRank, CanRankNets, RankedNets}
+use Rattle.units.specs.Runs.{partOf, runsIn, unitsOfRun, unitsOfRuns, unitsIn, fullOf, smallLots, atLeast, runsOf, Plain, CanRank, CanRankNets, RankedNets}
 use Rattle.units.proofs.Units.{units-runs, unit-past, unit-here, covered-run, stock-run, covered-over, stock-over, smalls-sorted}
 use Rattle.units.proofs.Cells.{row-sized}
 
@@ -96,15 +97,21 @@ behind r₁ r₂ n m k h g =
     ap (λ i. take i (take n r₁ ++ (r₂ ++ drop k (drop n r₁)))) e ∙ take-append-add (take n r₁) (r₂ ++ drop k (drop n r₁)) m
     ∙ ap (λ l. take n r₁ ++ l) (take-append-le m r₂ (drop k (drop n r₁)) g)
 
+at-least-one : (xs : List ℕ) → map (atLeast 1) xs ≡ xs
+at-least-one [] = refl
+at-least-one (zero ∷ xs) = ap (λ l. 0 ∷ l) (at-least-one xs)
+at-least-one (suc n ∷ xs) = rw (le-leb 1 (suc n) (omega arith)) (ap (λ l. suc n ∷ l) (at-least-one xs))
+
 pub ordered : (dues rests r₀ r₁ r₂ : List ℕ) (n m k : ℕ) → n ≤ length r₁ → m ≤ length r₂ →
-    map partOf (take n r₀) ≡ largestFirst (byAccount 0 dues) →
+    map partOf (take n r₀) ≡ largestFirst (byAccount 0 (map (atLeast unitLots) dues)) →
     map partOf (take n r₁) ≡ map fullOf (map partOf (take n r₀)) →
     rests ≡ map smallLots dues →
-    map partOf (take m r₂) ≡ largestFirst (byAccount 0 rests) →
+    map partOf (take m r₂) ≡ largestFirst (byAccount 0 (map (atLeast 1) rests)) →
     map partOf (take (n + m) (take n r₁ ++ (r₂ ++ drop k (drop n r₁)))) ≡ runsOf dues
 unfolding runsOf
 ordered dues rests r₀ r₁ r₂ n m k h g e f r s =
-    ap (map partOf) (behind r₁ r₂ n m k h g) ∙ map-append partOf (take n r₁) (take m r₂) ∙ rw (f, e, s, r)
+    ap (map partOf) (behind r₁ r₂ n m k h g) ∙ map-append partOf (take n r₁) (take m r₂)
+    ∙ rw (f, e, s, at-least-one rests, r)
 
 -- the dues of an issue can be ranked
 module _ (nets : List ℤ) (i : ℕ) (dues : List ℕ) (e : dues ≡ duesOf nets i) (s : all (withinSize mostLots) nets ≡ true) where
@@ -133,8 +140,9 @@ fulls-plain (u ∷ us) = ((λ g. omega arith), fulls-plain us)
 runs-plain : (dues : List ℕ) → Every Plain (runsOf dues)
 unfolding runsOf
 runs-plain dues =
+    let fs = largestFirst (byAccount 0 (map (atLeast unitLots) dues)) in
     let ss = largestFirst (byAccount 0 (map smallLots dues)) in
-    each-append Plain (map fullOf (largestFirst (byAccount 0 dues))) ss (fulls-plain (largestFirst (byAccount 0 dues)))
+    each-append Plain (map fullOf fs) ss (fulls-plain fs)
     (each-map (Small unitLots) Plain (λ v p h. absurd (omega (arith, p .1))) ss (smalls-sorted dues))
 
 pub ranked-nets : (nets : List ℤ) (i : ℕ) (dues runs : List ℕ) (n : ℕ) → dues ≡ duesOf nets i → n ≤ 128 → runsIn runs n ≡ runsOf dues →

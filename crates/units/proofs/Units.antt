@@ -1,21 +1,23 @@
 -- The runs of an issue stand for its units in order. Then the k-th unit, what a total covers, and the stock, run by
 -- run: either the total passes over a whole run, or it ends in it and a division says where.
 use mathlib.Core.Path.{_≡_, refl, sym, ap, _∙_}
+use mathlib.Core.Bool.{cond}
 use mathlib.Core.List.{List, [], _∷_, _++_, map, append-assoc, append-nil}
 use Prim.Native.Nat.{ℕ, zero, suc, _+_, _-_, _*_, _/_, _%_, _≤_, _<_, min}
 use native.Mathlib.Omega.{arith}
 use native.Mathlib.Nat.{zero-mod, sub-zero}
-use lib.Dec.{leb, lit<}
+use lib.Dec.{leb, ltb, lit<}
 use lib.ListN.{length, drop, replicate, length-append, length-replicate}
 use lib.Seq.{drop-append-add}
-use borrow.Author.Tests.{leb-true, leb-false, lt-leb}
+use borrow.Author.Tests.{ltb-true, ltb-false, leb-true, leb-false, le-leb, lt-leb}
 use Rattle.rules.specs.Measures.{unitLots}
-use Rattle.rules.specs.Units.{AccountLots, accountLots, prepend, byAccount, sumLots, largestFirst, fulls, smalls, units}
+use Rattle.rules.specs.Units.{AccountLots, accountLots, prepend, byAccount, sumLots, insert, largestFirst, fulls, smalls, units}
 use Rattle.rules.specs.Handover.{covered, stock, waiting, firstUnit}
-use Rattle.laws.proofs.Basics.{byTest, Every, each-sort, total-append, total-replicate, total-put, put-pos, length-put}
+use Rattle.laws.proofs.Basics.{byTest, Every, each-map, each-sort, total-append, total-replicate, total-put, put-pos, length-put}
 use Rattle.laws.proofs.Units.{Small, smalls-small}
+use Rattle.laws.proofs.Ranking.{Before, Ordered, rising-parts, ordered-sort}
 use Rattle.laws.proofs.Handover.{covered-past, stock-past}
-use Rattle.units.specs.Runs.{unitsOfRun, unitsOfRuns, fullOf, smallLots, runsOf}
+use Rattle.units.specs.Runs.{unitsOfRun, unitsOfRuns, fullOf, smallLots, atLeast, runsOf}
 
 pub units-append : (us vs : List AccountLots) → unitsOfRuns (us ++ vs) ≡ unitsOfRuns us ++ unitsOfRuns vs
 units-append [] vs = refl
@@ -49,14 +51,62 @@ smalls-sorted dues =
     rw (← smalls-parts unitLots 0 dues)
     (each-sort (Small unitLots) (smalls unitLots (byAccount 0 dues)) (smalls-small unitLots (lit< tt) (byAccount 0 dues)))
 
+-- the receivers with a full unit stand in front
+abbrev withFull : List AccountLots → List AccountLots
+withFull [] = []
+withFull (u ∷ us) = cond (leb 100000 (u .lots)) (u ∷ withFull us) []
+
+full-insert : (u : AccountLots) (us : List AccountLots) → 100000 ≤ u .lots → withFull (insert u us) ≡ insert u (withFull us)
+full-insert u [] h = rw (le-leb 100000 (u .lots) h)
+full-insert u (v ∷ vs) h =
+    byTest (ltb (u .lots) (v .lots))
+    (λ e. simp (e, le-leb 100000 (v .lots) (omega (arith, ltb-true (u .lots) (v .lots) e))) (ap (λ l. v ∷ l) (full-insert u vs h)))
+    (λ e. byTest (leb 100000 (v .lots)) (λ f. simp (e, f, le-leb 100000 (u .lots) h)) (λ f. simp (e, f, le-leb 100000 (u .lots) h)))
+
+small-insert : (u : AccountLots) (us : List AccountLots) → u .lots < 100000 → withFull (insert u us) ≡ withFull us
+small-insert u [] h = rw (lt-leb 100000 (u .lots) h)
+small-insert u (v ∷ vs) h =
+    byTest (ltb (u .lots) (v .lots))
+    (λ e. byTest (leb 100000 (v .lots)) (λ f. simp (e, f) (ap (λ l. v ∷ l) (small-insert u vs h))) (λ f. simp (e, f)))
+    (λ e. simp (e, lt-leb 100000 (u .lots) h, lt-leb 100000 (v .lots) (omega (arith, ltb-false (u .lots) (v .lots) e))))
+
+full-sorted : (k : ℕ) (dues : List ℕ) → largestFirst (byAccount k (map (atLeast 100000) dues)) ≡ withFull (largestFirst (byAccount k dues))
+full-sorted k [] = refl
+full-sorted k (zero ∷ xs) = full-sorted (suc k) xs
+full-sorted k (suc n ∷ xs) =
+    byTest (leb 100000 (suc n))
+    (λ e.
+    simp e (ap (insert (accountLots k (suc n))) (full-sorted (suc k) xs)
+    ∙ sym (full-insert (accountLots k (suc n)) (largestFirst (byAccount (suc k) xs)) (leb-true 100000 (suc n) e))))
+    (λ e.
+    simp e (full-sorted (suc k) xs
+    ∙ sym (small-insert (accountLots k (suc n)) (largestFirst (byAccount (suc k) xs)) (leb-false 100000 (suc n) e))))
+
+no-fulls : (us : List AccountLots) → Every (λ u. u .lots < 100000) us → fulls unitLots us ≡ []
+no-fulls [] hs = refl
+no-fulls (u ∷ us) hs = let q : u .lots / 100000 ≡ 0 = omega (arith, hs .0) in rw q (no-fulls us (hs .1))
+
+-- the others have no full units
+fulls-front : (us : List AccountLots) → Ordered us → fulls unitLots (withFull us) ≡ fulls unitLots us
+fulls-front [] os = refl
+fulls-front (u ∷ us) os =
+    byTest (leb 100000 (u .lots))
+    (λ e. simp e (ap (λ l. replicate (u .lots / 100000) (accountLots (u .account) 100000) ++ l) (fulls-front us (os .1))))
+    (λ e.
+    let h = leb-false 100000 (u .lots) e in
+    let q : u .lots / 100000 ≡ 0 = omega arith in
+    simp e (sym (rw q (no-fulls us (each-map (Before u) (λ v. v .lots < 100000) (λ v b. omega (arith, b .size)) us (os .0))))))
+
 -- the runs are the units' order
 pub units-runs : (dues : List ℕ) → unitsOfRuns (runsOf dues) ≡ units unitLots dues
 unfolding runsOf units
 units-runs dues =
-    let fs = largestFirst (byAccount 0 dues) in
+    let fs = largestFirst (byAccount 0 (map (atLeast unitLots) dues)) in
     let ss = largestFirst (byAccount 0 (map smallLots dues)) in
+    let f : fulls unitLots fs ≡ fulls unitLots (largestFirst (byAccount 0 dues)) =
+    ap (fulls unitLots) (full-sorted 0 dues) ∙ fulls-front (largestFirst (byAccount 0 dues)) (ordered-sort (byAccount 0 dues) (rising-parts 0 dues)) in
     rw (smalls-parts unitLots 0 dues)
-    (units-append (map fullOf fs) ss ∙ rw (units-fulls fs, units-small ss (smalls-sorted dues)))
+    (units-append (map fullOf fs) ss ∙ rw (units-fulls fs, units-small ss (smalls-sorted dues), f))
 
 -- how many units a run has, and its lots
 pub run-length : (u : AccountLots) → length (unitsOfRun u) ≡ (u .lots + 99999) / 100000

@@ -2,15 +2,17 @@
 use mathlib.Core.Path.{_≡_}
 use mathlib.Core.Bool.{true, cond}
 use mathlib.Core.List.{List, [], _∷_, _++_, map}
-use Prim.Native.Nat.{ℕ, suc, _+_, _*_, _/_, _%_, _≤_, _<_}
-use lib.Dec.{ltb}
+use Prim.Native.Nat.{ℕ, suc, _+_, _*_, _/_, _%_, _≤_, _<_, min}
+use lib.Dec.{leb, ltb}
 use lib.ListN.{length, take, drop, getD, replicate}
 use lib.IntN.{ℤ}
 use Rattle.rules.specs.Measures.{Every, unitLots, mostLots, total}
 use Rattle.rules.specs.Units.{AccountLots, accountLots, prepend, byAccount, largestFirst, ofAccount, unitsOfNets}
+use Rattle.rules.specs.Ranking.{priority, Pairwise}
 use Rattle.rules.specs.Handover.{covered, stock}
 use Rattle.rules.specs.Lifts.{Among}
 use Rattle.rules.specs.Book.{all, row, withinSize, liftNumber, liftsAt, orderIn}
+use Rattle.rules.specs.declared.Priority.{Priority}
 use Rattle.rules.specs.declared.Found.{Found}
 use Rattle.rules.specs.declared.Found.the-variants.{Unit, Nothing}
 use Rattle.units.specs.declared.Seat.{Seat}
@@ -21,6 +23,10 @@ use Rattle.units.specs.declared.Handed.{Handed}
 -- a part in one word: lots * 64 + account
 abbrev pub partOf : ℕ → AccountLots
 partOf k = accountLots (k % 64) (k / 64)
+
+-- the priority of the first unit of an account with so many lots in all
+abbrev pub firstPriority : AccountLots → Priority
+firstPriority u = priority unitLots (u .lots) (accountLots (u .account) (min (u .lots) unitLots))
 
 -- the first n of a list of such words
 abbrev pub runsIn : List ℕ → ℕ → List AccountLots
@@ -50,9 +56,21 @@ fullOf u = accountLots (u .account) (u .lots / unitLots * unitLots)
 abbrev pub smallLots : ℕ → ℕ
 smallLots x = x % unitLots
 
--- the runs of accounts with these dues: the full units, largest due first, then the small ones, largest first
+-- lots where they are at least so many
+abbrev pub atLeast : ℕ → ℕ → ℕ
+atLeast least x = cond (leb least x) x 0
+
+-- the runs of accounts with these dues: of those with a full unit the full units, largest due first; then the small ones,
+-- largest first
 unfoldable pub runsOf : List ℕ → List AccountLots
-runsOf dues = map fullOf (largestFirst (byAccount 0 dues)) ++ largestFirst (byAccount 0 (map smallLots dues))
+runsOf dues =
+    map fullOf (largestFirst (byAccount 0 (map (atLeast unitLots) dues))) ++ largestFirst (byAccount 0 (map smallLots dues))
+
+-- n keys that are ranked already, largest first, and a key of a lower account
+pub record CanInsert (keys : List ℕ) (n key : ℕ) : Type 0 where
+  pub room : n < length keys
+  pub above : Every (λ v. key % 64 < v .account) (runsIn keys n)
+  pub falling : Pairwise (λ u v. v .lots ≤ u .lots) (runsIn keys n)
 
 -- lots of 64 accounts that can be ranked into a lent array of so many words
 pub record CanRank (room : ℕ) (lots keys : List ℕ) : Type 0 where

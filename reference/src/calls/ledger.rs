@@ -4,11 +4,12 @@ use crate::book::{Book, Entry, Lifts, Phase, ACCOUNTS, ISSUES};
 use crate::measures::charge;
 use crate::questions::{
     account_in_range, book_is_sound, day_can_rise, days_in_range, issue_in_range, lots_in_range,
-    output_has, owes, phase_is, prices_in_range, rate_in_range, Soundness, CALL_OUTPUT,
+    lots_suit_the_mark, output_has, owes, phase_is, prices_in_range, rate_in_range, Soundness,
+    CALL_OUTPUT,
 };
 use crate::tape::{write_records, Record, RESOLVED};
 
-/// resolve: questions 1 2 4 5 7 9.
+/// resolve: questions 1 2 4 5 7 19 9.
 pub(super) fn resolve(
     book: &mut Book,
     issue: u32,
@@ -19,9 +20,10 @@ pub(super) fn resolve(
 ) -> Result<u32, u32> {
     output_has(output, CALL_OUTPUT)?;
     book_is_sound(book, soundness)?;
-    issue_in_range(issue)?;
+    let of_mark = issue_in_range(issue)?;
     account_in_range(account)?;
     lots_in_range(lots)?;
+    lots_suit_the_mark(book, of_mark, lots)?;
     owes(book.owed_in_ledger(issue, account), lots)?;
     let mut entries = book.ledger();
     let records = meet(&mut entries, issue, account, lots);

@@ -5,6 +5,7 @@
 
 mod ledger;
 mod lifting;
+mod settings;
 mod settling;
 mod status;
 mod taking;
@@ -237,6 +238,16 @@ pub fn roll(book: &mut Book, days: u32, rate: u32, prices: &[u32]) -> Answer {
 /// roll on a book known to be sound.
 pub fn roll_on_sound(book: &mut Book, days: u32, rate: u32, prices: &[u32]) -> Answer {
     ledger::roll(book, days, rate, prices, Soundness::Known).into()
+}
+
+/// mark: the issue takes even lots only, or any lots again where the mark is 0; in any phase.
+pub fn mark(book: &mut Book, issue: u32, mark: u32) -> Answer {
+    settings::mark(book, issue, mark, Soundness::Asked).into()
+}
+
+/// mark on a book known to be sound.
+pub fn mark_on_sound(book: &mut Book, issue: u32, mark: u32) -> Answer {
+    settings::mark(book, issue, mark, Soundness::Known).into()
 }
 
 /// The unit question: 2, 4.

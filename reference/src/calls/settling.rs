@@ -2,8 +2,8 @@
 
 use crate::book::{place, Book, Entry, Phase, ACCOUNTS, ISSUES};
 use crate::questions::{
-    account_in_range, book_is_sound, entries_have_room, issue_in_range, lots_in_range, output_has,
-    owes, phase_is, Soundness, CALL_OUTPUT,
+    account_in_range, book_is_sound, entries_have_room, issue_in_range, lots_in_range,
+    lots_suit_the_mark, output_has, owes, phase_is, Soundness, CALL_OUTPUT,
 };
 use crate::tape::{write_records, Record, FAIL, HANDOVER};
 use crate::units::{handed, units_of, Unit};
@@ -15,7 +15,7 @@ struct Stretch {
     end: u64,
 }
 
-/// deliver: questions 1 2 3 4 5 7 9.
+/// deliver: questions 1 2 3 4 5 7 19 9.
 pub(super) fn deliver(
     book: &mut Book,
     issue: u32,
@@ -30,6 +30,7 @@ pub(super) fn deliver(
     let issue = issue_in_range(issue)?;
     let account = account_in_range(account)?;
     lots_in_range(lots)?;
+    lots_suit_the_mark(book, issue, lots)?;
     owes(book.owed_today(issue, account), lots)?;
     let units = units_of(book, issue);
     let (already, _) = handed(&units, book.delivered_total(issue));

@@ -3,10 +3,10 @@
 use crate::book::{place, Book, Phase};
 use crate::questions::{
     account_in_range, accounts_differ, book_is_sound, issue_in_range, lots_in_range,
-    nets_stay_in_range, phase_is, Soundness,
+    lots_suit_the_mark, nets_stay_in_range, phase_is, Soundness,
 };
 
-/// trade: questions 2 3 4 5 6 7 8.
+/// trade: questions 2 3 4 5 6 7 19 8.
 pub(super) fn trade(
     book: &mut Book,
     issue: u32,
@@ -22,6 +22,7 @@ pub(super) fn trade(
     let to = account_in_range(to)?;
     accounts_differ(from, to)?;
     lots_in_range(lots)?;
+    lots_suit_the_mark(book, issue, lots)?;
     nets_stay_in_range(book, issue, from, to, lots)?;
     book.nets[place(issue, from)] -= lots as i32;
     book.nets[place(issue, to)] += lots as i32;

@@ -14,6 +14,7 @@ pub struct Page {
     refused: Vec<(u16, usize, String)>,
     charges: Vec<(u16, Fact)>,
     end: Option<(u16, &'static str)>,
+    marked: Vec<u32>,
     ledger: Vec<Fact>,
     charged: Vec<Fact>,
 }
@@ -67,6 +68,7 @@ impl Page {
             }
             Fact::Charge { .. } => self.charges.push((day, fact.clone())),
             Fact::End { phase, .. } => self.end = Some((day, phase)),
+            Fact::Marked { issue } => self.marked.push(*issue),
             Fact::Entry { .. } => self.ledger.push(fact.clone()),
             Fact::Charged { .. } => self.charged.push(fact.clone()),
             _ => {}
@@ -132,10 +134,18 @@ impl Page {
         writeln!(out, "</ul>")
     }
 
-    /// Ledger and charges at the end.
+    /// Marked issues, ledger and charges at the end.
     fn closing(&self, out: &mut impl Write) -> io::Result<()> {
         if let Some((day, phase)) = self.end {
             writeln!(out, "<h2>At the end: day {day}, {phase}</h2>")?;
+        }
+        if !self.marked.is_empty() {
+            let issues: Vec<String> = self.marked.iter().map(u32::to_string).collect();
+            let issues = issues.join(", ");
+            writeln!(
+                out,
+                "<p>In multiples of 100,000 yen face, even lots only: issue {issues}</p>"
+            )?;
         }
         let ledger = self.ledger.iter().map(|fact| {
             let Fact::Entry { issue, from, to, lots, since } = *fact else { return vec![] };

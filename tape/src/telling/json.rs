@@ -2,6 +2,7 @@
 
 use crate::facts::Fact;
 use crate::measure::write_number;
+use crate::units::Case;
 use library::{Instruction, Refusal};
 use std::io::{self, Write};
 
@@ -22,6 +23,7 @@ fn name(fact: &Fact) -> &'static str {
         Fact::Instruction { .. } => "instruction",
         Fact::Units { .. } => "units",
         Fact::Tie { .. } => "tie",
+        Fact::SmallAfterFull { .. } => "small-after-full",
         Fact::Owes { .. } => "owes",
         Fact::Handed { .. } => "handed",
         Fact::Waits { .. } => "waits",
@@ -34,6 +36,7 @@ fn name(fact: &Fact) -> &'static str {
         Fact::Charge { .. } => "charge",
         Fact::ReadingEnds { .. } => "reading-ends",
         Fact::End { .. } => "end",
+        Fact::Marked { .. } => "marked",
         Fact::Entry { .. } => "entry",
         Fact::Charged { .. } => "charged",
     }
@@ -71,9 +74,11 @@ fn refused(out: &mut impl Write, refusal: Refusal, why: &str) -> io::Result<()> 
 fn fields(out: &mut impl Write, fact: &Fact) -> io::Result<()> {
     match fact {
         Fact::Instruction { .. } | Fact::ReadingEnds { .. } => instruction(out, fact),
-        Fact::Units { .. } | Fact::Tie { .. } | Fact::Owes { .. } => order(out, fact),
+        Fact::Units { .. } | Fact::Owes { .. } => order(out, fact),
+        Fact::Tie { .. } | Fact::SmallAfterFull { .. } => decided(out, fact),
         Fact::Handed { .. } | Fact::Waits { .. } | Fact::Partly { .. } => handover(out, fact),
         Fact::Charge { .. } | Fact::Charged { .. } | Fact::End { .. } => charge(out, fact),
+        Fact::Marked { issue } => field(out, "issue", (*issue).into()),
         _ => fail(out, fact),
     }
 }
@@ -98,7 +103,7 @@ fn instruction(out: &mut impl Write, fact: &Fact) -> io::Result<()> {
     }
 }
 
-/// The units in their order, a tie, and what is owed.
+/// The units in their order, and what is owed.
 fn order(out: &mut impl Write, fact: &Fact) -> io::Result<()> {
     let wide = u64::from;
     match fact {
@@ -106,15 +111,30 @@ fn order(out: &mut impl Write, fact: &Fact) -> io::Result<()> {
             units(out, [*issue, *first, *last, *account, *lots])?;
             field(out, "due", wide(*due))
         }
-        Fact::Tie { issue, full, lots, accounts } => {
+        Fact::Owes { issue, account, lots } => {
+            numbers(out, &[("issue", wide(*issue)), ("account", wide(*account)), ("lots", *lots)])
+        }
+        _ => Ok(()),
+    }
+}
+
+/// Which case of the rule decided between close neighbours.
+fn decided(out: &mut impl Write, fact: &Fact) -> io::Result<()> {
+    let wide = u64::from;
+    match fact {
+        Fact::Tie { issue, case, lots, accounts } => {
             field(out, "issue", wide(*issue))?;
-            text(out, "of", if *full { "nets" } else { "small units" })?;
+            text(out, "case", case.name())?;
+            text(out, "of", if *case == Case::BothFull { "nets" } else { "small units" })?;
             field(out, "lots", wide(*lots))?;
             let accounts: Vec<String> = accounts.iter().map(u32::to_string).collect();
             write!(out, ",\"accounts\":[{}]", accounts.join(","))
         }
-        Fact::Owes { issue, account, lots } => {
-            numbers(out, &[("issue", wide(*issue)), ("account", wide(*account)), ("lots", *lots)])
+        Fact::SmallAfterFull { issue, unit, account, next, follower } => {
+            field(out, "issue", wide(*issue))?;
+            text(out, "case", Case::FullAndSmall.name())?;
+            numbers(out, &[("unit", wide(*unit)), ("account", wide(*account))])?;
+            numbers(out, &[("next", wide(*next)), ("follower", wide(*follower))])
         }
         _ => Ok(()),
     }
@@ -207,6 +227,9 @@ fn arguments(out: &mut impl Write, instruction: &Instruction) -> io::Result<()> 
         ),
         Instruction::PairOff { issue, account } => {
             numbers(out, &[("issue", wide(issue)), ("account", wide(account))])
+        }
+        Instruction::Mark { issue, mark } => {
+            numbers(out, &[("issue", wide(issue)), ("mark", wide(mark))])
         }
         Instruction::Roll { days, rate } => {
             numbers(out, &[("days", wide(days)), ("rate", wide(rate))])

@@ -2,6 +2,7 @@
 
 use crate::facts::Fact;
 use crate::measure::{Face, Grouped, Line, Lots, Price, Rate};
+use crate::units::Case;
 use library::Instruction;
 use std::io::{self, Write};
 
@@ -69,6 +70,12 @@ fn sentence(out: &mut impl Write, instruction: &Instruction) -> io::Result<()> {
         Instruction::PairOff { issue, account } => {
             write!(out, "pair-off: fails to and from account {account} in issue {issue}")
         }
+        Instruction::Mark { issue, mark: 0 } => {
+            write!(out, "mark: issue {issue} in multiples of 50,000 yen face, any lots")
+        }
+        Instruction::Mark { issue, .. } => {
+            write!(out, "mark: issue {issue} in multiples of 100,000 yen face, even lots only")
+        }
         Instruction::Close => write!(out, "close"),
         Instruction::Cutoff => write!(out, "cutoff"),
         Instruction::Roll { days, rate } => {
@@ -80,14 +87,18 @@ fn sentence(out: &mut impl Write, instruction: &Instruction) -> io::Result<()> {
 /// Something that an instruction did, or that stands in the book at the end.
 fn detail(out: &mut impl Write, fact: &Fact) -> io::Result<()> {
     match fact {
-        Fact::Units { .. } | Fact::Tie { .. } | Fact::Owes { .. } => order(out, fact),
+        Fact::Marked { issue } => {
+            write!(out, "issue {issue} is in multiples of 100,000 yen face, even lots only")
+        }
+        Fact::Units { .. } | Fact::Owes { .. } => order(out, fact),
+        Fact::Tie { .. } | Fact::SmallAfterFull { .. } => decided(out, fact),
         Fact::Handed { .. } | Fact::Waits { .. } | Fact::Partly { .. } => handover(out, fact),
         Fact::Charge { .. } | Fact::Charged { .. } => charge(out, fact),
         _ => fail(out, fact),
     }
 }
 
-/// The units in their order, a tie, and what is owed.
+/// The units in their order, and what is owed.
 fn order(out: &mut impl Write, fact: &Fact) -> io::Result<()> {
     match fact {
         Fact::Units { issue, first, last, account, lots, due } => {
@@ -97,17 +108,30 @@ fn order(out: &mut impl Write, fact: &Fact) -> io::Result<()> {
             write!(out, "issue {issue}: {units} {is} account {account}'s, {lots}{each}, ")?;
             write!(out, "of {due} due")
         }
-        Fact::Tie { issue, full, lots, accounts } => {
-            let what =
-                if *full { "have the same net" } else { "have small units of the same size" };
-            let (names, lots) = (listed(accounts), Lots((*lots).into()));
-            write!(out, "issue {issue}: accounts {names} {what}, {lots}: the lower number is first")
-        }
         Fact::Owes { issue, account, lots: 0 } => {
             write!(out, "account {account} owes nothing more of issue {issue} today")
         }
         Fact::Owes { issue, account, lots } => {
             write!(out, "account {account} still owes {} of issue {issue} today", Lots(*lots))
+        }
+        _ => Ok(()),
+    }
+}
+
+/// Which case of the rule decided between close neighbours.
+fn decided(out: &mut impl Write, fact: &Fact) -> io::Result<()> {
+    match fact {
+        Fact::Tie { issue, case, lots, accounts } => {
+            let full = *case == Case::BothFull;
+            let what = if full { "have the same net" } else { "have small units of the same size" };
+            let (names, lots) = (listed(accounts), Lots((*lots).into()));
+            write!(out, "issue {issue}: accounts {names} {what}, {lots}: ")?;
+            write!(out, "the lower number is first ({})", case.name())
+        }
+        Fact::SmallAfterFull { issue, unit, account, next, follower } => {
+            write!(out, "issue {issue}: unit {unit} of account {account} is full, ")?;
+            write!(out, "unit {next} of account {follower} is small: ")?;
+            write!(out, "the full one is first ({})", Case::FullAndSmall.name())
         }
         _ => Ok(()),
     }

@@ -41,9 +41,11 @@ output-asks-spec =
     (λ c. search needs)
     (λ c. search needs)
     (λ c. search needs)
+    (λ c. search needs)
     returns-3
     returns-4
     (λ c. search needs)
     (λ c. search needs)
     returns-7
+    (λ c. search needs)
     (λ c. search needs))

@@ -19,7 +19,7 @@ lengths s =
     }
 
 abbrev begin : tie.After-state-of → tie.Start
-begin c = c .before .before .before .before
+begin c = c .before .before .before .before .before
 
 -- the state and the columns are the book
 same : (c : tie.After-state-of) → let b = begin c .args .b in
@@ -27,6 +27,12 @@ same : (c : tie.After-state-of) → let b = begin c .args .b in
 same c =
     let b = begin c .args .b in
     ap (λ (s : State). bookIn s (b .nets) (b .delivered) (b .lifts) (b .charges) (b .issues) (b .froms) (b .tos) (b .lots) (b .days)) (c .state-of .ensures)
+
+slice-aggregate-run-4 : tie.Need-slice-aggregate-run-4
+slice-aggregate-run-4 c = let l = lengths (begin (c .before .before .before .before .before .before .before .before .before .before .before .before .before)) .charges in search (needs, l)
+
+slice-aggregate-run-5 : tie.Need-slice-aggregate-run-5
+slice-aggregate-run-5 c = let l = lengths (begin (c .before .before .before .before .before .before .before .before .before .before .before .before .before .before)) .ledger .issues in search (needs, l)
 
 slice-aggregate-run-6 : tie.Need-slice-aggregate-run-6
 slice-aggregate-run-6 c = let l = lengths (begin (c .before .before .before .before .before .before .before .before .before .before .before .before .before .before .before)) .ledger .froms in search (needs, l)
@@ -55,6 +61,6 @@ pub run-on-spec : {M : Type 1} → statement M
 run-on-spec =
     tie.close
     (tie.spec
-    (λ c κs. search needs) (λ c. search needs) (λ c. search needs) (λ c. search needs) (λ c. search needs) (λ c. search needs)
+    (λ c κs. search needs) (λ c. search needs) (λ c. search needs) (λ c. search needs) slice-aggregate-run-4 slice-aggregate-run-5
     slice-aggregate-run-6 slice-aggregate-run-7 slice-aggregate-run-8 slice-aggregate-run-9 run-requires
     (λ c κs. search needs) (λ c. search needs) (λ c. search needs) returns)

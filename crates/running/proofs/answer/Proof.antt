@@ -66,6 +66,11 @@ roll-requires c κs =
       record { rest = book s; sound = s .pre .0 .sound },
     )
 
+mark-requires : tie.Need-mark-requires
+mark-requires c κs =
+    let s = begin (c .before .before .before .before .before) in
+    (s .pre .0 .lengths .cells .nets, s .pre .0 .lengths .ledger .issues, record { rest = book s; sound = s .pre .0 .sound })
+
 returns : tie.Need-returns
 returns c =
     let s = begin (c .before .before .before .before .before .before) in
@@ -104,6 +109,11 @@ returns-7 c =
     let s = begin (c .before .before .before .before .before .before .before .before .before .before .before .before .before .before .before .before .before .before) in
     rw (c .before .before .before .before .before .before .before .before .before .before .before .before .before .before .before .before .x5 .given .1) (gives refl (c .before .before .before .before .before .before .roll .ensures (book s) (s .pre .0 .sound)))
 
+returns-8 : tie.Need-returns-8
+returns-8 c =
+    let s = begin (c .before .before .before .before .before .before) in
+    rw (c .before .before .before .before .x6 .given .1) (gives refl (c .mark .ensures (book s) (s .pre .0 .sound)))
+
 pub answer-spec : {M : Type 1} → statement M
 answer-spec =
     tie.close
@@ -122,6 +132,8 @@ answer-spec =
     cutoff-requires
     (λ c. search needs)
     roll-requires
+    (λ c. search needs)
+    mark-requires
     (λ c. search needs)
     returns
     (λ c. search needs)
@@ -161,4 +173,7 @@ answer-spec =
     (λ c. search needs)
     (λ c. search needs)
     (λ c. search needs)
-    returns-7)
+    returns-7
+    (λ c. search needs)
+    (λ c. search needs)
+    returns-8)

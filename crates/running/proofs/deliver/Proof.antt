@@ -19,7 +19,7 @@ within s b = withinCells (s .args .s) (now (s .args .nets)) (now (s .args .deliv
 
 -- where the questions were asked
 abbrev start : tie.After-deliver-asks → tie.Start
-start c = c .before .before .before .before .before
+start c = c .before .before .before .before .before .before
 
 cells : (s : tie.Start) → SoundCells (now (s .args .nets)) (now (s .args .delivered)) (now (s .args .lifts))
 cells s =
@@ -27,7 +27,7 @@ cells s =
     sound-cells b (sound-parts b (s .pre .2 .sound)) (s .pre .0 .nets) (s .pre .0 .delivered) (s .pre .1)
 
 deliver-asks-requires : tie.Need-deliver-asks-requires
-deliver-asks-requires c κs = owed-cells _ _ _ (cells (c .before .before .before .before))
+deliver-asks-requires c κs = owed-cells _ _ _ (cells (c .before .before .before .before .before))
 
 returns : tie.Need-returns
 returns c b q =
@@ -41,7 +41,7 @@ deliver-in-requires c κs =
     let k = c .before .before .before in
     let s = start (k .before) in
     let a = s .args in
-    can-deliver (a .s .phase) (now (a .nets)) (now (a .delivered)) (now (a .lifts)) (a .i) (a .a) (a .x) (now (a .out)) (cells s)
+    can-deliver (a .s .phase) (a .s .marks) (now (a .nets)) (now (a .delivered)) (now (a .lifts)) (a .i) (a .a) (a .x) (now (a .out)) (cells s)
     (sym (k .before .deliver-asks .ensures) ∙ k .if1 .left) (s .pre .3)
 
 returns-2 : tie.Need-returns-2

@@ -18,11 +18,11 @@ within s b =
 
 -- where the questions were asked
 abbrev start : tie.After-resolve-asks → tie.Start
-start c = c .before .before .before .before .before .before .before .before .before .before
+start c = c .before .before .before .before .before .before .before .before .before .before .before
 
 resolve-asks-requires : tie.Need-resolve-asks-requires
 resolve-asks-requires c κs =
-    let s = c .before .before .before .before .before .before .before .before .before in
+    let s = c .before .before .before .before .before .before .before .before .before .before in
     let l = s .pre .0 .0 in
     (sound-parts (within s (s .pre .0 .1 .rest)) (s .pre .0 .1 .sound) .ledger .count, l .issues, l .froms, l .lots)
 

@@ -11,26 +11,27 @@ use Rattle.running.proofs.trade.Tie as tie
 
 trade-asks-requires : tie.Need-trade-asks-requires
 trade-asks-requires c κs =
-    small-nets (withinNets (c .before .args .s) (now (c .before .args .nets)) (c .before .pre .1 .rest)) (c .before .pre .1 .sound) (c .before .pre .0)
+    let s = c .before .before in
+    small-nets (withinNets (s .args .s) (now (s .args .nets)) (s .pre .1 .rest)) (s .pre .1 .sound) (s .pre .0)
 
 returns : tie.Need-returns
 returns c b q =
-    let a = c .before .before .before .args in
+    let a = c .before .before .before .before .args in
     turn-no (withinNets (a .s) (now (a .nets)) b) (Trade (a .i) (a .f) (a .t) (a .x)) refl q (a .s) (c .before .trade-asks .result)
     (c .before .trade-asks .ensures) (c .if1 .taken)
 
 trade-in-requires : tie.Need-trade-in-requires
 trade-in-requires c κs =
-    let s = c .before .before .before .before in
+    let s = c .before .before .before .before .before in
     let a = s .args in
-    tradable (a .s .phase) (now (a .nets)) (a .i) (a .f) (a .t) (a .x)
+    tradable (a .s .phase) (a .s .marks) (now (a .nets)) (a .i) (a .f) (a .t) (a .x)
     (small-nets (withinNets (a .s) (now (a .nets)) (s .pre .1 .rest)) (s .pre .1 .sound) (s .pre .0))
     (sym (c .before .before .trade-asks .ensures) ∙ c .before .if1 .left)
 
 returns-2 : tie.Need-returns-2
 returns-2 c b q =
     let k = c .before .before .before in
-    let a = k .before .before .before .args in
+    let a = k .before .before .before .before .args in
     turn-yes (withinNets (a .s) (now (a .nets)) b) (Trade (a .i) (a .f) (a .t) (a .x)) refl q (a .s) (k .before .trade-asks .result) 0 0 _ _
     (k .before .trade-asks .ensures) (k .if1 .left) (traded (a .s) (now (a .nets)) _ (a .i) (a .f) (a .t) (a .x) b (c .before .trade-in .ensures))
 

@@ -20,13 +20,13 @@ returns c =
 
 sound-columns-requires : tie.Need-sound-columns-requires
 sound-columns-requires c κs =
-    let b = book (c .before .before .before .before .before .before .before .before) in
-    lengths-right b (sym (tested b) ∙ not-false (tests b) (c .if1 .left))
+    let b = book (c .before .before .before .before .before .before .before .before .before) in
+    lengths-right b (sym (tested b) ∙ not-false (tests b) (c .before .if1 .left))
 
 returns-2 : tie.Need-returns-2
 returns-2 c =
-    let b = book (c .before .before .before .before .before .before .before .before .before) in
-    right-lengths b (c .sound-columns .result) (sym (tested b) ∙ not-false (tests b) (c .before .if1 .left)) (c .sound-columns .ensures)
+    let b = book (c .before .before .before .before .before .before .before .before .before .before) in
+    right-lengths b (c .sound-columns .result) (sym (tested b) ∙ not-false (tests b) (c .before .before .if1 .left)) (c .sound-columns .ensures)
 
 pub sound-spec : {M : Type 1} → statement M
 sound-spec = tie.close (tie.spec returns sound-columns-requires returns-2)

@@ -13,7 +13,7 @@ kind : (a : tie.After-from-of) (k : ℕ) → a .before .before .kind-of .result 
 kind a k e = sym (a .before .before .kind-of .ensures) ∙ e
 
 -- or none of the table's
-above : (a : tie.After-from-of) → NoneBelow (a .before .before .kind-of .result) 10 →
+above : (a : tie.After-from-of) → NoneBelow (a .before .before .kind-of .result) 10 × (a .before .before .kind-of .result ≡ 13 → ⊥) →
     let s = a .before .before .before .args in Wrong ≡ wordAs (s .w) (s .lots)
 above a h = kind-above _ _ (a .before .before .kind-of .result) (a .before .before .kind-of .ensures) h
 
@@ -58,9 +58,14 @@ returns-9 c = simp (kind (c .before) 8 (c .match .keys9), mod-one)
 returns-10 : tie.Need-returns-10
 returns-10 c = simp (c .clear .ensures, kind (c .before .before) 9 (c .before .match .keys10))
 
+returns-11 : tie.Need-returns-11
+returns-11 c =
+    let a = c .before .before in
+    simp (c .head8 .ensures, a .before .issue-of .ensures, kind a 13 (c .before .match .keys11), div-one)
+
 pub word-as-spec : {M : Type 1} → statement M
 word-as-spec =
     tie.close
     (tie.spec (λ c κs. search needs) (λ c κs. search needs) (λ c κs. search needs) (λ c κs. search needs) (λ c κs. search needs) (λ c κs. search needs) (λ c κs. search needs)
-    (λ c κs. search needs) (λ c κs. search needs) (λ c κs. search needs) (λ c κs. search needs) (λ c κs. search needs) (λ c κs. search needs) (λ c κs. search needs)
-    returns returns-2 returns-3 returns-4 returns-5 returns-6 returns-7 returns-8 returns-9 returns-10 (λ c. above (c .before .before) (c .before .match .rest)) (λ c. above (c .before .before) (c .before .match .rest)))
+    (λ c κs. search needs) (λ c κs. search needs) (λ c κs. search needs) (λ c κs. search needs) (λ c κs. search needs) (λ c κs. search needs) (λ c κs. search needs) (λ c κs. search needs)
+    returns returns-2 returns-3 returns-4 returns-5 returns-6 returns-7 returns-8 returns-9 returns-10 returns-11 (λ c. above (c .before .before) (c .before .match .rest)) (λ c. above (c .before .before) (c .before .match .rest)))

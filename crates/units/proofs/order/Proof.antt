@@ -18,12 +18,14 @@ rank-requires-2 c κs =
     let r = b .before .before .before .before .before .before .before .before .rank in
     let s = b .before .before .before .before .before .before .before .before .before .before .before .before in
     let rs = b .rests .last .1 .0 in
-    let n : 64 ≤ length (f .last .0) - r .result = omega (arith, f .kept .0, r .kept .1 .0, r .ensures .few, s .pre) in
-    record {
-      accounts = omega (arith, b .rests .kept .1 .0, s .pre, ap length (b .rests .ensures), length-map (now (s .args .dues)) smallLots);
-      held = simp (length-take, length-drop) (omega arith);
-      small = rest-small (now (s .args .dues)) rs (b .rests .ensures);
-    }
+    let n : 64 ≤ length (f .last .0) - r .result = omega (arith, f .kept .0, r .kept .1 .0, r .ensures .few, s .pre) in (
+      record {
+        accounts = omega (arith, b .rests .kept .1 .0, s .pre, ap length (b .rests .ensures), length-map (now (s .args .dues)) smallLots);
+        held = simp (length-take, length-drop) (omega arith);
+        small = rest-small (now (s .args .dues)) rs (b .rests .ensures);
+      },
+      omega arith,
+    )
 
 returns : tie.Need-returns
 returns c =

@@ -45,6 +45,7 @@ fn measured_calls() -> Vec<(Phase, Call)> {
         (Phase::Settling, Call::Resolve { issue, account: 0, lots: 1_000, out }),
         (Phase::Settling, Call::PairOff { issue, account: 0 }),
         (Phase::Cut, Call::Roll { days: 3, rate: 300, prices: vec![99_999; 16] }),
+        (Phase::Taking, Call::Mark { issue, mark: 1 }),
     ]
 }
 

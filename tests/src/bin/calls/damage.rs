@@ -4,14 +4,14 @@
 //! change nothing. Just inside an edge the book is sound and nothing is refused by 2.
 
 use crate::Failure;
-use reference::book::{place, Book, Entry, Lift, Phase};
+use reference::book::{place, Book, Entry, Lift, Phase, ACCOUNTS};
 use reference::calls::Ticket;
 use reference::soundness::MOST_CHARGE_A_DAY;
 use tests::books::{random_book, Shape};
 use tests::case::Case;
 use tests::report::Mismatch;
 use tests::rng::Rng;
-use tests::steps::{lift_word, set_entry, Call, Edit, Step};
+use tests::steps::{entry_at, lift_word, set_entry, Call, Edit, Step};
 
 /// A change of a book, and whether the book is sound after it.
 type Change = (bool, fn(&mut Book));
@@ -205,10 +205,89 @@ const LIFT_CHANGES: &[Change] = &[
     }),
 ];
 
+/// The changes of the book of `marked`, one condition on marked issues each, inside and outside.
+const MARK_CHANGES: &[Change] = &[
+    (true, |_| {}),
+    // any number but 0 is a mark
+    (true, |book| book.marks[3] = 0),
+    (true, |book| book.marks[3] = 2),
+    (true, |book| book.marks[3] = 255),
+    (true, |book| book.marks[14] = 128),
+    (false, |book| book.marks[15] = 128),
+    (false, |book| book.marks[4] = 1),
+    (false, |book| book.marks[4] = 2),
+    (false, |book| book.marks[4] = 128),
+    (false, |book| book.marks[4] = 254),
+    // the nets of a marked issue are even
+    (false, |book| odd_nets(book, 3, 1, 2)),
+    (false, |book| odd_nets(book, 3, 62, 63)),
+    (false, |book| odd_nets(book, 3, 63, 0)),
+    (true, |book| odd_nets(book, 4, 1, 2)),
+    (true, |book| odd_nets(book, 2, 62, 63)),
+    (true, |book| {
+        odd_nets(book, 3, 1, 2);
+        odd_nets(book, 3, 1, 2);
+    }),
+    (false, |book| {
+        odd_nets(book, 3, 62, 63);
+        book.marks[3] = 64;
+    }),
+    (true, |book| {
+        odd_nets(book, 3, 62, 63);
+        book.marks[3] = 0;
+    }),
+    // its delivered lots are even
+    (false, |book| book.delivered[place(3, 2)] = 1),
+    (false, |book| book.delivered[place(3, 2)] = 40_001),
+    (false, |book| book.delivered[place(3, 2)] = 129_999),
+    (true, |book| book.delivered[place(3, 2)] = 129_998),
+    (true, |book| book.delivered[place(3, 2)] = 130_000),
+    (true, |book| book.delivered[place(4, 2)] = 2),
+    (false, |book| {
+        book.marks[3] = 16;
+        book.delivered[place(3, 2)] = 3;
+    }),
+    // its entries' lots are even
+    (false, |book| book.lots[1] = 7),
+    (false, |book| book.lots[1] = 1),
+    (false, |book| book.lots[3] = 19_999_999),
+    (true, |book| book.lots[3] = 20_000_000),
+    (true, |book| book.lots[0] = 8),
+    (true, |book| book.lots[2] = 19_999_999),
+    (false, |book| book.issues[0] = 3),
+    (true, |book| book.issues[1] = 4),
+    (false, |book| {
+        book.marks[3] = 32;
+        book.lots[1] = 9;
+    }),
+    (true, |book| {
+        book.marks[3] = 0;
+        book.lots[1] = 9;
+    }),
+    // each of the three alone
+    (false, |book| alone(book, |book| odd_nets(book, 9, 5, 6))),
+    (false, |book| {
+        alone(book, |book| {
+            (book.nets[place(9, 5)], book.nets[place(9, 6)]) = (2, -2);
+            book.delivered[place(9, 6)] = 1;
+        });
+    }),
+    (false, |book| {
+        alone(book, |book| {
+            book.set_ledger(&[Entry { issue: 9, from: 5, to: 6, lots: 1, day: 0 }]);
+        });
+    }),
+    (true, |book| alone(book, |book| odd_nets(book, 8, 5, 6))),
+    // an entry of an issue above 15 is out of range, and has no mark
+    (false, |book| book.issues[2] = 16),
+    (false, |book| book.issues[2] = 19),
+];
+
 /// Runs all damage; gives the answers compared.
 pub fn run(seed: u64, cases: u64) -> Result<u64, Failure> {
     let mut compared = 0;
-    for (start, changes) in [(edges(), CHANGES), (lifted(), LIFT_CHANGES)] {
+    let books = [(edges(), CHANGES), (lifted(), LIFT_CHANGES), (marked(), MARK_CHANGES)];
+    for (start, changes) in books {
         for &(sound, change) in changes {
             let mut book = start.clone();
             change(&mut book);
@@ -216,6 +295,7 @@ pub fn run(seed: u64, cases: u64) -> Result<u64, Failure> {
         }
     }
     compared += every_word_of_lifts()?;
+    compared += every_place_of_marked_issues()?;
     compared += charge_sums()?;
     compared += every_place()?;
     for at in 0..4 * cases {
@@ -251,6 +331,33 @@ fn lifted() -> Book {
     book.delivered[place(7, 9)] = 75_000;
     places(&mut book, 3, &[(4, 0), (4, 1), (3, 2)]);
     book
+}
+
+/// A sound book in Settling with issue 3 marked, even numbers in it and odd ones in issue 4.
+fn marked() -> Book {
+    let mut book = Book { day: 300, phase: Phase::Settling, ..Book::fresh() };
+    book.marks[3] = 1;
+    for (issue, net, delivered) in [(3, 130_000, 40_002), (4, 130_001, 40_001)] {
+        book.nets[place(issue, 1)] = net;
+        book.nets[place(issue, 2)] = -net;
+        book.delivered[place(issue, 2)] = delivered;
+    }
+    let entry = |issue, lots| Entry { issue, from: 5, to: 6, lots, day: 7 };
+    book.set_ledger(&[entry(4, 7), entry(3, 8), entry(15, 1), entry(3, 2)]);
+    book
+}
+
+/// One lot more and one less in two nets of an issue.
+fn odd_nets(book: &mut Book, issue: usize, more: usize, less: usize) {
+    book.nets[place(issue, more)] += 1;
+    book.nets[place(issue, less)] -= 1;
+}
+
+/// In Settling, with issue 9 marked and this change alone.
+fn alone(book: &mut Book, change: fn(&mut Book)) {
+    *book = Book { phase: Phase::Settling, ..Book::fresh() };
+    book.marks[9] = 1;
+    change(book);
 }
 
 /// So many lifts in issue 7, the first of them these.
@@ -334,6 +441,7 @@ fn every_call() -> Vec<Call> {
         Call::Resolve { issue, account, lots, out },
         Call::PairOff { issue, account },
         Call::Roll { days: 1, rate: 300, prices: vec![100_000; 16] },
+        Call::Mark { issue: 9, mark: 1 },
     ]
 }
 
@@ -424,6 +532,49 @@ fn every_word_of_lifts() -> Result<u64, Mismatch> {
     Ok(compared)
 }
 
+/// In each issue, marked by each bit, one odd number at each place of nets, delivered lots and ledger.
+fn every_place_of_marked_issues() -> Result<u64, Mismatch> {
+    let mut compared = 0;
+    for (issue, account) in (0..16).flat_map(|i| (0..64).map(move |a| (i, a))) {
+        let mut book = Book { phase: Phase::Cut, ..Book::fresh() };
+        (book.nets[place(issue, account)], book.nets[place(issue, account ^ 1)]) = (-4, 4);
+        let mark = 1 << (account % 8);
+        compared += odd_in_marked(&book, issue, mark, |book| {
+            odd_nets(book, issue, account, account ^ 1);
+        })?;
+        compared += odd_in_marked(&book, issue, mark, |book| {
+            book.delivered[place(issue, account)] = 3;
+        })?;
+    }
+    let entry = |at: usize| Entry { issue: (at % 16) as u8, from: 1, to: 2, lots: 2, day: 0 };
+    let mut book = Book::fresh();
+    book.set_ledger(&(0..2_048).map(entry).collect::<Vec<_>>());
+    for at in 0..2_048 {
+        let mark = 1 << (at / 16 % 8);
+        compared += odd_in_marked(&book, at % 16, mark, |book| book.lots[at] += 1)?;
+    }
+    Ok(compared)
+}
+
+/// A book with an odd number in an issue: sound, with every other issue marked too, and not sound with
+/// the issue itself marked; without the odd number it is sound in any case.
+fn odd_in_marked(
+    book: &Book,
+    issue: usize,
+    mark: u8,
+    change: impl Fn(&mut Book),
+) -> Result<u64, Mismatch> {
+    let mut marked = book.clone();
+    marked.marks[issue] = mark;
+    Case::of(marked.clone()).expect(Call::Sound, 1)?;
+    change(&mut marked);
+    Case::of(marked.clone()).expect(Call::Sound, 0)?;
+    marked.marks = [255; 16];
+    marked.marks[issue] = 0;
+    Case::of(marked).expect(Call::Sound, 1)?;
+    Ok(3)
+}
+
 /// Entries that differ from a sound one in one number that is out of range.
 fn wrong_entries(good: Entry) -> [Entry; 7] {
     [
@@ -483,7 +634,7 @@ fn random_damage(rng: &mut Rng) -> Result<u64, Mismatch> {
 fn random_edit(rng: &mut Rng, book: &Book) -> Edit {
     let (issue, account) = (rng.range(0, 15) as usize, rng.range(0, 63) as usize);
     let at = rng.range(0, 2_047) as usize;
-    match rng.range(0, 9) {
+    match rng.range(0, 11) {
         0 => Edit::Day(rng.next_u32() as u16),
         1 => Edit::Phase(*rng.pick(&[Phase::Taking, Phase::Settling, Phase::Cut])),
         2 => Edit::Net { issue, account, lots: rng.next_u32() as i32 },
@@ -495,6 +646,8 @@ fn random_edit(rng: &mut Rng, book: &Book) -> Edit {
             _ => rng.next_u64() as usize,
         }),
         6..=7 => random_lift_edit(rng, book),
+        8 => Edit::Mark { issue, mark: *rng.pick(&[0, 1, 2, 255]) },
+        9 => random_odd_edit(rng, book),
         _ => Edit::Entries { first: at, end: at + 1, entry: random_entry(rng) },
     }
 }
@@ -513,6 +666,23 @@ fn random_lift_edit(rng: &mut Rng, book: &Book) -> Edit {
         _ => rng.next_u32() >> rng.range(0, 31),
     };
     Edit::Lifts { issue, word, number }
+}
+
+/// One lot less delivered or in an entry, mostly of an issue that is marked.
+fn random_odd_edit(rng: &mut Rng, book: &Book) -> Edit {
+    let places = (0..book.delivered.len()).filter(|&at| book.delivered[at] > 0);
+    let (marked, others): (Vec<usize>, Vec<usize>) =
+        places.partition(|at| book.is_marked(at / ACCOUNTS));
+    let places = if marked.is_empty() { others } else { marked };
+    if !places.is_empty() && rng.chance(1, 2) {
+        let at = *rng.pick(&places);
+        let (issue, account) = (at / ACCOUNTS, at % ACCOUNTS);
+        return Edit::Delivered { issue, account, lots: book.delivered[at] - 1 };
+    }
+    let first = rng.range(0, (book.count.clamp(1, 2_048) - 1) as u32) as usize;
+    let mut entry = entry_at(book, first);
+    entry.lots = entry.lots.saturating_sub(1);
+    Edit::Entries { first, end: first + 1, entry }
 }
 
 /// An entry of any numbers, mostly near their ranges.

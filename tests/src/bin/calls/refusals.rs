@@ -1,11 +1,13 @@
 //! Part refusals: every question of every call at its edge, and their order.
 //!
 //! For each call the ways of each question, 'yes' and 'no' at the edge, are put together in every
-//! combination; the number is that of the first 'no', whatever comes after it.
+//! combination; the number is that of the first 'no', whatever comes after it. Question 19 is put
+//! straight after 7.
 
 use crate::Failure;
 use reference::book::{place, Book, Entry, Lift, Phase};
 use reference::calls::Ticket;
+use tests::books::suited;
 use tests::case::Case;
 use tests::report::Mismatch;
 use tests::steps::Call;
@@ -23,7 +25,11 @@ struct Asked {
     rate: u32,
     prices: Vec<u32>,
     ticket: Ticket,
+    mark: u32,
 }
+
+/// The numbers of the questions in the order in which they are put.
+const ORDER: [u32; 20] = [1, 2, 3, 4, 5, 6, 7, 19, 8, 9, 10, 11, 12, 13, 14, 15, 16, 17, 18, 20];
 
 /// One way in which a question is answered: its number for 'no', or 0 for 'yes'.
 type Way = (u32, fn(&mut Asked));
@@ -41,6 +47,7 @@ const SOUND: &[Way] = &[
     (0, |_| {}),
     (2, |asked| asked.book.charges[63] = 1),
     (2, |asked| asked.book.days[2_047] = 1),
+    (2, |asked| odd_nets_in_marked(asked)),
 ];
 const TAKING: &[Way] = &[(0, taking), (3, settling), (3, cut)];
 const SETTLING: &[Way] = &[(3, taking), (0, settling), (3, cut)];
@@ -73,6 +80,13 @@ const LOTS: &[Way] = &[
     (7, |asked| asked.lots = 0),
     (7, |asked| asked.lots = 20_000_001),
     (7, |asked| asked.lots = u32::MAX),
+    (0, |asked| in_marked(asked, 2)),
+    (0, |asked| in_marked(asked, 20_000_000)),
+    (7, |asked| in_marked(asked, 0)),
+    (7, |asked| in_marked(asked, 20_000_001)),
+    (7, |asked| in_marked(asked, u32::MAX)),
+    (19, |asked| in_marked(asked, 1)),
+    (19, |asked| in_marked(asked, 19_999_999)),
 ];
 const NETS: &[Way] = &[
     (0, |asked| nets_before(asked, 0, 0)),
@@ -91,6 +105,14 @@ const OWED_TODAY: &[Way] = &[
     (9, |asked| owe_today(asked, 20_000_000, 1, 20_000_000)),
     (9, |asked| owe_today(asked, -1_000, 0, 1)),
     (9, |asked| owe_today(asked, 0, 0, 20_000_000)),
+    (7, |asked| in_marked(asked, 0)),
+    (7, |asked| in_marked(asked, 20_000_001)),
+    (0, |asked| owe_today_in_marked(asked, 1_000, 400, 600)),
+    (0, |asked| owe_today_in_marked(asked, 1_000, 400, 2)),
+    (19, |asked| owe_today_in_marked(asked, 1_000, 400, 1)),
+    (19, |asked| owe_today_in_marked(asked, 1_000, 400, 601)),
+    (9, |asked| owe_today_in_marked(asked, 1_000, 400, 602)),
+    (19, |asked| owe_today_in_marked(asked, 0, 0, 19_999_999)),
 ];
 const OWED_IN_LEDGER: &[Way] = &[
     (7, |asked| asked.lots = 0),
@@ -102,6 +124,35 @@ const OWED_IN_LEDGER: &[Way] = &[
     (9, |asked| owe_in_ledger(asked, &[7, 5], 13)),
     (9, |asked| owe_in_ledger(asked, &[19_999_999], 20_000_000)),
     (9, |asked| owe_in_ledger(asked, &[], 1)),
+    (7, |asked| in_marked(asked, 0)),
+    (7, |asked| in_marked(asked, 20_000_001)),
+    (0, |asked| owe_in_ledger_in_marked(asked, &[8, 6], 14)),
+    (0, |asked| owe_in_ledger_in_marked(asked, &[8, 6], 10)),
+    (19, |asked| owe_in_ledger_in_marked(asked, &[8, 6], 9)),
+    (19, |asked| owe_in_ledger_in_marked(asked, &[8, 6], 15)),
+    (9, |asked| owe_in_ledger_in_marked(asked, &[8, 6], 16)),
+    (19, |asked| owe_in_ledger_in_marked(asked, &[], 1)),
+];
+const MARK: &[Way] = &[
+    (0, |asked| asked.mark = 0),
+    (0, |asked| asked.mark = 1),
+    (0, |asked| asked.mark = 2),
+    (0, |asked| asked.mark = 256),
+    (0, |asked| asked.mark = u32::MAX),
+];
+const MARKED_BEFORE: &[Way] =
+    &[(0, |_| {}), (0, |asked| in_marked(asked, 2)), (0, |asked| asked.book.marks[9] = 255)];
+const IN_USE: &[Way] = &[
+    (0, |_| {}),
+    (0, |asked| others_in_use(asked)),
+    (20, |asked| net_before(asked, 0, 63)),
+    (20, |asked| net_before(asked, 63, 62)),
+    (20, |asked| entry_before(asked, &[8], &[])),
+    (20, |asked| entry_before(asked, &[7, 8], &[6; 2_045])),
+    (20, |asked| {
+        net_before(asked, 1, 2);
+        entry_before(asked, &[], &[9]);
+    }),
 ];
 const UNHANDED: &[Way] = &[
     (16, |asked| unit_asked(asked, 0)),
@@ -189,6 +240,7 @@ const PLANS: [Plan; 11] = [
     ("resolve", resolve, &[OUTPUT, ANY_PHASE, ISSUE, FROM, OWED_IN_LEDGER, SOUND]),
     ("pair-off", pair_off, &[ANY_PHASE, ISSUE, FROM, SOUND]),
     ("roll", roll, &[CUT, DAYS, RATE, PRICES, DAY, SOUND]),
+    ("mark", mark, &[ANY_PHASE, ISSUE, MARK, MARKED_BEFORE, IN_USE, SOUND]),
 ];
 
 /// Makes every combination of every call; gives the answers compared.
@@ -211,10 +263,14 @@ fn combine(plan: &Plan, asked: &Asked, at: usize, first_no: u32) -> Result<u64, 
     for &(number, set) in *ways {
         let mut asked = asked.clone();
         set(&mut asked);
-        let first_no = [first_no, number].into_iter().filter(|&no| no != 0).min().unwrap_or(0);
-        compared += combine(plan, &asked, at + 1, first_no)?;
+        compared += combine(plan, &asked, at + 1, earlier(first_no, number))?;
     }
     Ok(compared)
+}
+
+/// Of two numbers that of the question that is put first; 0 is none.
+fn earlier(one: u32, other: u32) -> u32 {
+    ORDER.into_iter().find(|&number| number == one || number == other).unwrap_or(0)
 }
 
 /// A fresh book and arguments in range.
@@ -230,6 +286,7 @@ fn start() -> Asked {
         rate: 300,
         prices: vec![100_000; 16],
         ticket: Ticket::default(),
+        mark: 1,
     }
 }
 
@@ -289,14 +346,38 @@ fn roll(asked: &Asked) -> Call {
     Call::Roll { days, rate, prices: prices.clone() }
 }
 
+/// The mark asked.
+fn mark(asked: &Asked) -> Call {
+    Call::Mark { issue: asked.issue, mark: asked.mark }
+}
+
+/// The issue is marked, and these lots are asked.
+fn in_marked(asked: &mut Asked, lots: u32) {
+    asked.lots = lots;
+    if let Some(mark) = asked.book.marks.get_mut(asked.issue as usize) {
+        *mark = 1 << (asked.issue % 8);
+    }
+}
+
+/// Issue 10 is marked and has odd nets.
+fn odd_nets_in_marked(asked: &mut Asked) {
+    asked.book.marks[10] = 1;
+    asked.book.nets[place(10, 50)] = 1;
+    asked.book.nets[place(10, 51)] = -1;
+}
+
 /// Where an issue and account stand, if both are in range.
 fn in_book(issue: u32, account: u32) -> Option<usize> {
     (issue < 16 && account < 64).then(|| place(issue as usize, account as usize))
 }
 
-/// Nets that the trade brings to the limits, or so many lots past them; account 40 holds the rest.
+/// Nets that the trade brings to the limits, or so many lots past them (in a marked issue twice as
+/// many, all nets being even); account 40 holds the rest.
 fn nets_before(asked: &mut Asked, from_past: i32, to_past: i32) {
-    let lots = asked.lots.clamp(1, 20_000_000) as i32;
+    let marked = asked.book.is_marked(asked.issue as usize);
+    let step = if marked { 2 } else { 1 };
+    let (from_past, to_past) = (step * from_past, step * to_past);
+    let lots = suited(&asked.book, asked.issue, asked.lots.clamp(1, 20_000_000)) as i32;
     let from = in_book(asked.issue, asked.from);
     let to = in_book(asked.issue, asked.to);
     if let (Some(from), Some(to), Some(rest)) = (from, to, in_book(asked.issue, 40)) {
@@ -318,6 +399,12 @@ fn owe_today(asked: &mut Asked, owed: i32, delivered: u32, lots: u32) {
             asked.book.delivered[at] = delivered;
         }
     }
+}
+
+/// The same in a marked issue.
+fn owe_today_in_marked(asked: &mut Asked, owed: i32, delivered: u32, lots: u32) {
+    owe_today(asked, owed, delivered, lots);
+    in_marked(asked, lots);
 }
 
 /// A unit of 1 1 2 (full), 1 (50,000) and 2 (30,000), of which two are handed and 20,000 lots are in
@@ -357,6 +444,42 @@ fn owe_in_ledger(asked: &mut Asked, entries: &[u32], lots: u32) {
         ledger.extend(entries.iter().map(|&lots| entry(issue, from, lots)));
         ledger.push(Entry { issue, from: 40, to: from, lots: 100, day: 0 });
         asked.book.set_ledger(&ledger);
+    }
+}
+
+/// The same in a marked issue; the entry of another issue has odd lots.
+fn owe_in_ledger_in_marked(asked: &mut Asked, entries: &[u32], lots: u32) {
+    owe_in_ledger(asked, entries, lots);
+    in_marked(asked, lots);
+    if asked.book.count > 1 {
+        asked.book.lots[1] = 101;
+    }
+}
+
+/// Other issues have nets and entries, the issue itself none.
+fn others_in_use(asked: &mut Asked) {
+    let mut ledger = Vec::new();
+    for issue in (0..16).filter(|&issue| issue != asked.issue && issue != 9) {
+        asked.book.nets[place(issue as usize, 1)] = 1;
+        asked.book.nets[place(issue as usize, 2)] = -1;
+        ledger.push(Entry { issue: issue as u8, from: 1, to: 2, lots: 1, day: 0 });
+    }
+    asked.book.set_ledger(&ledger);
+}
+
+/// The issue has a net in two accounts alone, of 2 lots.
+fn net_before(asked: &mut Asked, to: u32, from: u32) {
+    if let (Some(to), Some(from)) = (in_book(asked.issue, to), in_book(asked.issue, from)) {
+        (asked.book.nets[to], asked.book.nets[from]) = (2, -2);
+    }
+}
+
+/// The issue has an entry, of 2 lots, between entries of these other issues.
+fn entry_before(asked: &mut Asked, before: &[u8], after: &[u8]) {
+    if asked.issue < 16 {
+        let entry = |issue| Entry { issue, from: 1, to: 2, lots: 2, day: 0 };
+        let all = before.iter().copied().chain([asked.issue as u8]).chain(after.iter().copied());
+        asked.book.set_ledger(&all.map(entry).collect::<Vec<_>>());
     }
 }
 

@@ -20,6 +20,12 @@ const MOST_WORDS: usize = 20;
 /// The lengths of the writer's output.
 const OUTPUTS: [usize; 6] = [0, 1, 16, 17, 18, 40];
 
+/// The kinds of the instructions.
+const KINDS: [u32; 8] = [1, 2, 3, 4, 5, 6, 7, 13];
+/// Kinds that are none of an instruction; the low bits of some are those of one.
+const NO_KINDS: [u32; 17] =
+    [0, 8, 9, 10, 11, 12, 14, 15, 16, 17, 29, 256, 257, 269, 1 << 28, 1 << 31, u32::MAX];
+
 /// The numbers that reader and writer can answer, by the paper; 0 is done.
 const NUMBERS: [(&str, [u32; 3]); 2] = [("read", [0, 13, 14]), ("write", [0, 1, 15])];
 
@@ -127,7 +133,7 @@ impl Compared {
     /// Writes every instruction with each field at its limits and one past, to outputs of every
     /// length.
     fn write_edges(&mut self) -> Result<(), Mismatch> {
-        for kind in 1..=7 {
+        for kind in KINDS {
             for field in 1..5 {
                 for number in edge_numbers() {
                     let mut fields = used_fields(kind);
@@ -149,7 +155,7 @@ impl Compared {
 
     /// Writes kinds that are none, to outputs of every length.
     fn write_no_kind(&mut self) -> Result<(), Mismatch> {
-        for kind in [0, 8, 9, 10, 11, 12, 15, 16, 17, 256, 257, 1 << 28, 1 << 31, u32::MAX] {
+        for kind in NO_KINDS {
             for numbers in [0, 1] {
                 for out in OUTPUTS {
                     self.write(&[kind, numbers, numbers, numbers, numbers], &[7; 16], out)?;
@@ -215,7 +221,7 @@ fn by_reference(fields: &Fields, prices: &[u32], out: &mut [u32]) -> WriteAnswer
 
 /// Numbers at the limits of the fields' bits and one past, 0 and 1.
 fn edge_numbers() -> Vec<u32> {
-    let ends = [4, 6, 14, 18, 28, 32].map(|bits| (1_u64 << bits) as u32);
+    let ends = [1, 4, 6, 14, 18, 28, 32].map(|bits| (1_u64 << bits) as u32);
     let near = |end: u32| [end.wrapping_sub(1), end, end.wrapping_add(1)];
     ends.into_iter().flat_map(near).chain([0, 1, 1 << 31]).collect()
 }
@@ -223,10 +229,10 @@ fn edge_numbers() -> Vec<u32> {
 /// Every instruction with fields at both ends, as words, and two words after it.
 fn whole_instructions() -> Vec<Vec<u32>> {
     let mut all = Vec::new();
-    for [issue, account, to, lots, days, rate, price] in [
-        [0, 0, 0, 0, 0, 0, 0],
-        [15, 63, 63, (1 << 28) - 1, 15, (1 << 14) - 1, (1 << 18) - 1],
-        [5, 42, 21, 0xa5a_5a5a, 10, 0x2aaa, 0x15555],
+    for [issue, account, to, lots, days, rate, price, mark] in [
+        [0, 0, 0, 0, 0, 0, 0, 0],
+        [15, 63, 63, (1 << 28) - 1, 15, (1 << 14) - 1, (1 << 18) - 1, 1],
+        [5, 42, 21, 0xa5a_5a5a, 10, 0x2aaa, 0x15555, 1],
     ] {
         for instruction in [
             Instruction::Trade { issue, from: account, to, lots },
@@ -236,6 +242,7 @@ fn whole_instructions() -> Vec<Vec<u32>> {
             Instruction::Close,
             Instruction::Cutoff,
             Instruction::Roll { days, rate },
+            Instruction::Mark { issue, mark },
         ] {
             let mut words = vec![0; 17];
             let count = tape::write(&instruction, &[price; 16], &mut words).count as usize;
@@ -252,7 +259,7 @@ fn used_fields(kind: u32) -> Fields {
     let used = match kind {
         1 => 5,
         2 | 3 => 4,
-        4 | 7 => 3,
+        4 | 7 | 13 => 3,
         _ => 1,
     };
     let mut fields = [0; 5];
@@ -282,7 +289,7 @@ fn random_words(rng: &mut Rng) -> Vec<u32> {
     let mut words: Vec<u32> = (0..length)
         .map(|at| match at {
             _ if any => rng.next_u32(),
-            0 => rng.range(1, 7) << 28 | (rng.next_u32() >> 4 & (0x0fff_ffff << rng.range(0, 28))),
+            0 => random_head(rng),
             _ => next << 28 | rng.range(0, (1 << 18) - 1),
         })
         .collect();
@@ -292,13 +299,25 @@ fn random_words(rng: &mut Rng) -> Vec<u32> {
     words
 }
 
+/// A head of a kind that an instruction has, with more or fewer of its low bits 0; of a mark mostly all
+/// but the last.
+fn random_head(rng: &mut Rng) -> u32 {
+    let (kind, bits) = (*rng.pick(&KINDS), rng.next_u32() >> 4);
+    let used = match kind {
+        13 if rng.chance(3, 4) => 0x0f00_0001,
+        _ => 0x0fff_ffff << rng.range(0, 28),
+    };
+    kind << 28 | (bits & used)
+}
+
 /// Random fields of a kind that has them, mostly in range, and prices.
 fn random_fields(rng: &mut Rng) -> (Fields, Vec<u32>) {
-    let used = used_fields(rng.range(1, 7));
+    let used = used_fields(*rng.pick(&KINDS));
     let mut fields = used;
     for at in 1..5 {
         if used[at] != 0 {
-            fields[at] = rng.next_u32() >> rng.range(18, 31);
+            let bits = if used[0] == 13 { rng.range(27, 31) } else { rng.range(18, 31) };
+            fields[at] = rng.next_u32() >> bits;
         }
     }
     let length = if rng.chance(9, 10) { 16 } else { rng.range(0, 20) };

@@ -20,7 +20,7 @@ at s t =
     bookIn t (now (a .nets)) (now (a .delivered)) (now (a .lifts)) (now (a .charges)) (now (a .issues)) (now (a .froms)) (now (a .tos)) (now (a .lots)) (now (a .days))
 
 abbrev state : tie.Start → State
-state s = stateOf (now (s .args .day)) (phaseOf (now (s .args .phase))) (now (s .args .entries))
+state s = stateOf (now (s .args .day)) (phaseOf (now (s .args .phase))) (now (s .args .entries)) (now (s .args .marks))
 
 abbrev asked : tie.Start → Instruction
 asked s = instructionOf (s .args .kind) (s .args .a) (s .args .b) (s .args .c) (s .args .d)
@@ -70,14 +70,15 @@ stated c = c .before .before .before .before .before .before .before .before .be
 
 returns-4 : tie.Need-returns-4
 returns-4 c =
-    let k = made-call c in
+    let n = c .before in
+    let k = made-call n in
     let t = stated k in
-    let e = t .before .before .before in
+    let e = t .before .before .before .before in
     let i = e .before .before .before .before .before in
     let s = start (i .before .before) in
     let a = s .args in
-    as-turned _ (now (a .phase)) (c .number-of .result) (at s (state s)) _ _ _ _ _ _ _ _ _ (k .call .result) _ (e .if3 .left)
-    (c .number-of .ensures)
+    as-turned _ (now (a .phase)) (n .number-of .result) (at s (state s)) _ _ _ _ _ _ _ _ _ (k .call .result) _ (e .if3 .left)
+    (n .number-of .ensures)
     (made (a .kind) (now (a .phase)) (asked s) (i .instruction-of .result) (now (a .prices)) (now (a .out)) (kinded (i .before))
     (i .instruction-of .ensures) (at s) (state s) (t .state-of .result) (k .call .result) _ _ (e .if3 .left) (t .state-of .ensures)
     (k .call .ensures))

@@ -18,17 +18,17 @@ at s t =
     bookIn t (now (a .nets)) (now (a .delivered)) (now (a .lifts)) (now (a .charges)) (now (a .issues)) (now (a .froms)) (now (a .tos)) (now (a .lots)) (now (a .days))
 
 abbrev state : tie.Start → State
-state s = stateOf (s .args .day) (phaseOf (s .args .phase)) (s .args .entries)
+state s = stateOf (s .args .day) (phaseOf (s .args .phase)) (s .args .entries) (now (s .args .marks))
 
 abbrev start : tie.Else1 → tie.Start
 start c = c .before .before .before .before .before .before .before .before
 
 told : (c : tie.After-sound) →
-    let s = start (c .before .before) in
+    let s = start (c .before .before .before) in
     soundAt (s .args .phase) (at s (state s)) ≡ c .sound .result
 told c =
-    let s = start (c .before .before) in
-    sound-told (s .args .phase) (at s) (state s) (c .before .state-of .result) (c .sound .result) (c .before .before .if1 .left)
+    let s = start (c .before .before .before) in
+    sound-told (s .args .phase) (at s) (state s) (c .before .state-of .result) (c .sound .result) (c .before .before .before .if1 .left)
     (c .before .state-of .ensures) (c .sound .ensures)
 
 returns : tie.Need-returns

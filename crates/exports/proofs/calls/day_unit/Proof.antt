@@ -19,7 +19,7 @@ at s t =
     bookIn t (now (a .nets)) (now (a .delivered)) (now (a .lifts)) (now (a .charges)) (now (a .issues)) (now (a .froms)) (now (a .tos)) (now (a .lots)) (now (a .days))
 
 abbrev state : tie.Start → State
-state s = stateOf (s .args .day) (phaseOf (s .args .phase)) (s .args .entries)
+state s = stateOf (s .args .day) (phaseOf (s .args .phase)) (s .args .entries) (now (s .args .marks))
 
 returns : tie.Need-returns
 returns c =
@@ -31,10 +31,10 @@ returns c =
 returns-2 : tie.Need-returns-2
 returns-2 c =
     let u = c .before .before in
-    let s = c .before .before .before .before .before .before .before .before .before .before .before .before in
+    let s = c .before .before .before .before .before .before .before .before .before .before .before .before .before in
     let a = s .args in
     rw (← unit-told (a .phase) (at s) (state s) (u .before .state-of .result) (a .issue) (a .k) (foundAnswer (u .unit .result))
-    (u .before .before .if1 .left) (u .before .state-of .ensures) (u .unit .ensures))
+    (u .before .before .before .if1 .left) (u .before .state-of .ensures) (u .unit .ensures))
     (c .told2 .ensures)
 
 pub day-unit-spec : {M : Type 1} → statement M

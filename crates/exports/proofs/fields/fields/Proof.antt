@@ -18,10 +18,14 @@ returns-4 c = rw (c .before .x4 .given .1)
 returns-7 : tie.Need-returns-7
 returns-7 c = rw (c .before .x5 .given .1)
 
+returns-8 : tie.Need-returns-8
+returns-8 c = rw (c .before .x6 .given .1)
+
 pub fields-spec : {M : Type 1} → statement M
 fields-spec =
     tie.close
     (tie.spec
+    (λ c. search needs)
     (λ c. search needs)
     (λ c. search needs)
     (λ c. search needs)
@@ -35,4 +39,5 @@ fields-spec =
     returns-4
     (λ c. search needs)
     (λ c. search needs)
-    returns-7)
+    returns-7
+    returns-8)

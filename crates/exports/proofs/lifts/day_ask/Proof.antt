@@ -17,7 +17,7 @@ at s t =
     bookIn t (now (a .nets)) (now (a .delivered)) (now (a .lifts)) (now (a .charges)) (now (a .issues)) (now (a .froms)) (now (a .tos)) (now (a .lots)) (now (a .days))
 
 abbrev state : tie.Start → State
-state s = stateOf (s .args .day) (phaseOf (s .args .phase)) (s .args .entries)
+state s = stateOf (s .args .day) (phaseOf (s .args .phase)) (s .args .entries) (now (s .args .marks))
 
 returns : tie.Need-returns
 returns c =
@@ -28,10 +28,10 @@ returns c =
 returns-2 : tie.Need-returns-2
 returns-2 c =
     let u = c .before .before in
-    let s = c .before .before .before .before .before .before .before .before .before .before .before .before in
+    let s = c .before .before .before .before .before .before .before .before .before .before .before .before .before in
     let a = s .args in
     rw (← ask-told (a .phase) (at s) (state s) (u .before .state-of .result) (a .issue) (a .unit) (askedAnswer (u .ask .result))
-    (u .before .before .if1 .left) (u .before .state-of .ensures) (u .ask .ensures))
+    (u .before .before .before .if1 .left) (u .before .state-of .ensures) (u .ask .ensures))
     (c .ticket-out2 .ensures)
 
 pub day-ask-spec : {M : Type 1} → statement M

@@ -21,7 +21,7 @@ at s t =
     bookIn t (now (a .nets)) (now (a .delivered)) (now (a .lifts)) (now (a .charges)) (now (a .issues)) (now (a .froms)) (now (a .tos)) (now (a .lots)) (now (a .days))
 
 abbrev state : tie.Start → State
-state s = stateOf (s .args .day) (phaseOf (s .args .phase)) (s .args .entries)
+state s = stateOf (s .args .day) (phaseOf (s .args .phase)) (s .args .entries) (now (s .args .marks))
 
 returns : tie.Need-returns
 returns c =
@@ -38,11 +38,11 @@ returns-2 c =
 
 returns-3 : tie.Need-returns-3
 returns-3 c =
-    let s = c .before .before .before .before .before .before .before .before .before .before .before .before .before .before .before .before .before .before .before in
+    let s = c .before .before .before .before .before .before .before .before .before .before .before .before .before .before .before .before .before .before .before .before in
     let k = c .before .before .before .before in
     let e = k .before .before .before in
-    commit-told (s .args .phase) (at s) (state s) _ _ _ (now (s .args .out)) _ _ (k .commit .result) (e .before .if2 .left) (e .state-of .ensures)
-    (e .before .before .before .ticket-in .ensures) (k .commit .ensures)
+    commit-told (s .args .phase) (at s) (state s) _ _ _ (now (s .args .out)) _ _ (k .commit .result) (e .before .before .if2 .left) (e .state-of .ensures)
+    (e .before .before .before .before .ticket-in .ensures) (k .commit .ensures)
 
 pub day-commit-spec : {M : Type 1} → statement M
 day-commit-spec =

@@ -1,12 +1,14 @@
--- The parts together are the fifteen conditions; lifts are looked at where all else is sound.
+-- The parts together are the seventeen conditions; lifts and marks are looked at where all else is sound.
 use mathlib.Core.Path.{_≡_, sym, _∙_}
 use mathlib.Core.Bool.{_&&_}
+use native.Mathlib.Omega.{arith}
 use denote.Ref.{now}
 use borrow.Author.Needs.{needs}
 use borrow.Author.Tests.{not-true, not-false}
 use Rattle.rules.specs.declared.Book.{Book}
 use Rattle.rules.specs.Book.{bookOf}
-use Rattle.soundness.proofs.ScanLaws.{others, others-as, others-no, others-yes, nets-yes}
+use Rattle.soundness.proofs.ScanLaws.{others, others-as, others-no, others-yes, nets-yes, count-yes}
+use Rattle.soundness.proofs.EvenLaws.{lots-entries}
 use Rattle.soundness.proofs.scan.sound_columns.Statement.{statement}
 use Rattle.soundness.proofs.scan.sound_columns.Tie as tie
 
@@ -16,7 +18,7 @@ start c = c .before .before .before .before .before .before .before .before .bef
 abbrev book : tie.Start → Book
 book s =
     let a = s .args in
-    bookOf (a .day) (a .phase) (now (a .nets)) (now (a .delivered)) (now (a .lifts)) (now (a .charges)) (a .count) (now (a .issues))
+    bookOf (a .day) (a .phase) (a .marks) (now (a .nets)) (now (a .delivered)) (now (a .lifts)) (now (a .charges)) (a .count) (now (a .issues))
     (now (a .froms)) (now (a .tos)) (now (a .lots)) (now (a .days))
 
 -- what the four parts found
@@ -42,13 +44,24 @@ lifts-sound-requires c κs =
       sound = nets-yes (book s) (sym (told (c .before)) ∙ not-false _ (c .if1 .left));
     }
 
+entries-even-requires : tie.Need-entries-even-requires
+entries-even-requires c κs =
+    let e = c .before .before in
+    let s = start (e .before) in
+    let n = count-yes (book s) (sym (told (e .before)) ∙ not-false _ (e .if1 .left)) in
+    (omega (arith, s .pre .ledger .issues), omega (arith, s .pre .ledger .lots))
+
 returns-2 : tie.Need-returns-2
 returns-2 c =
-    let e = c .before in
+    let l = c .before .before in
+    let e = l .before in
     let b = book (start (e .before)) in
-    others-yes b (sym (told (e .before)) ∙ not-false _ (e .if1 .left)) (c .lifts-sound .result) (c .lifts-sound .ensures)
+    others-yes b (sym (told (e .before)) ∙ not-false _ (e .if1 .left)) (l .lifts-sound .result) (c .before .cells-even .result) (c .entries-even .result)
+    (l .lifts-sound .ensures) (c .before .cells-even .ensures)
+    (lots-entries (b .marks) (b .count) (b .issues) (b .froms) (b .tos) (b .lots) (b .days) (c .entries-even .result) (c .entries-even .ensures))
 
 pub sound-columns-spec : {M : Type 1} → statement M
 sound-columns-spec =
     tie.close
-    (tie.spec (λ c κs. search needs) (λ c κs. search needs) (λ c κs. search needs) (λ c κs. search needs) returns lifts-sound-requires returns-2)
+    (tie.spec (λ c κs. search needs) (λ c κs. search needs) (λ c κs. search needs) (λ c κs. search needs) returns lifts-sound-requires (λ c κs. search needs)
+    entries-even-requires returns-2)

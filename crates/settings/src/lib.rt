@@ -1,0 +1,82 @@
+// mark: its questions over nets and ledger, and its effect on the marks.
+ghost use mathlib.Core.Path.{_≡_};
+ghost use mathlib.Core.List.{List};
+ghost use Prim.Native.Nat.{ℕ, _≤_, _<_, min};
+ghost use lib.IntN.{natAbs};
+ghost use lib.ListN.{length};
+ghost use Rattle.rules.specs.Book.{all, isZero, entries};
+ghost use Rattle.rules.specs.Questions.{firstNo, noEntry};
+ghost use Rattle.rules.specs.Calls.{markAsks, markedAs};
+
+// Is a net 0?
+fn is_none(n: i32) -> bool
+    ensures { λ r. ⌜ r ≡ isZero (natAbs n) ⌝ }
+{
+    let d = book::due(n);
+    let o = book::owed(n);
+    (d == 0) & (o == 0)
+}
+
+// Are all nets of an issue 0?
+fn no_net(net: &[i32]) -> bool
+    ensures { λ r. ⌜ r ≡ all (λ n. isZero (natAbs n)) (now (net .entry)) ⌝ }
+{
+    let mut good = true;
+    let mut a: usize = 0;
+    while a < net.len() {
+        let n = net[a];
+        good = good & is_none(n);
+        a += 1;
+    }
+    good
+}
+
+// Is no entry of the ledger in this issue?
+fn no_entry(count: usize, issues: &[u8], i: u32) -> bool
+    requires { ⌜ count ≤ length (now issues) ⌝ }
+    ensures { λ r. ⌜ ((fs ts xs ds : List ℕ) → r ≡ noEntry (entries count (now (issues .entry)) fs ts xs ds) i) ⌝ }
+{
+    let mut good = true;
+    let mut k: usize = 0;
+    while k < count {
+        let j = issues[k];
+        good = good & (j as u32 != i);
+        k += 1;
+    }
+    good
+}
+
+// Questions 4 and 20 of a mark: the number of the first 'no', 0 where there is none.
+pub fn mark_asks<'a>(nets: &'a [i32], count: usize, issues: &'a [u8], i: u32) -> u32
+    requires { ⌜ (length (now nets) ≡ 1024) × (count ≤ 2048) × (length (now issues) ≡ 2048) ⌝ }
+    ensures { λ r. ⌜ ((fs ts xs ds : List ℕ) → r ≡ firstNo (markAsks (now (nets .entry)) (entries count (now (issues .entry)) fs ts xs ds) i)) ⌝ }
+{
+    if 15 < i {
+        return 4;
+    }
+    let s = i as usize * 64;
+    let e = s + 64;
+    let flat = no_net(&nets[s..e]);
+    let clear = no_entry(count, issues, i);
+    if !(flat & clear) {
+        return 20;
+    }
+    0
+}
+
+// 1, or 0 for no mark.
+fn bit(m: u32) -> u8
+    ensures { λ r. ⌜ r ≡ min m 1 ⌝ }
+{
+    if m == 0 { 0 } else { 1 }
+}
+
+// The marks with that of an issue set.
+pub fn mark_in(marks: [u8; 16], i: u32, m: u32) -> [u8; 16]
+    requires { ⌜ i < 16 ⌝ }
+    ensures { λ r. ⌜ r ≡ markedAs marks i m ⌝ }
+{
+    let mut next = marks;
+    next[i as usize] = bit(m);
+    next
+}

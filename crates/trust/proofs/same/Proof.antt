@@ -1,0 +1,13 @@
+-- The test is that of the definition.
+use borrow.Author.Tests.{eq-eqb, ne-eqb}
+use Rattle.trust.proofs.same.Statement.{statement}
+use Rattle.trust.proofs.same.Tie as tie
+
+returns : tie.Need-returns
+returns c = simp (eq-eqb _ _ (c .if1 .taken))
+
+returns-2 : tie.Need-returns-2
+returns-2 c = simp (ne-eqb _ _ (c .if1 .left))
+
+pub same-spec : {M : Type 1} → statement M
+same-spec = tie.close (tie.spec returns returns-2)
