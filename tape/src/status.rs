@@ -61,7 +61,7 @@ fn run(tape: &[u8], until: Option<usize>) -> Result<(Book, usize, bool), String>
             ));
         }
         if !traded(&mut book, &instruction) {
-            let prices = tape::prices(&words[at..]);
+            let prices = tape::quotes(&words[at..]);
             calls::call(&mut book, &instruction, &prices, &mut output);
         }
         at += count;
