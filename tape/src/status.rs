@@ -61,8 +61,8 @@ fn run(tape: &[u8], until: Option<usize>) -> Result<(Book, usize, bool), String>
             ));
         }
         if !traded(&mut book, &instruction) {
-            let prices = tape::quotes(&words[at..]);
-            calls::call(&mut book, &instruction, &prices, &mut output);
+            let quotes = tape::quotes(&words[at..]);
+            calls::call(&mut book, &instruction, &quotes, &mut output);
         }
         at += count;
     }

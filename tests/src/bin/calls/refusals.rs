@@ -235,7 +235,7 @@ const DAY: &[Way] = &[
 ];
 
 /// The calls with their questions.
-const PLANS: [Plan; 11] = [
+const PLANS: [Plan; 12] = [
     ("unit", |asked| Call::Unit { issue: asked.issue, k: 0 }, &[ANY_PHASE, ISSUE, SOUND]),
     ("status", status, &[NOT_TAKING, ISSUE, THERE, LIFTS_ASKED, SOUND]),
     ("trade", trade, &[TAKING, ISSUE, FROM, TO, LOTS, NETS, SOUND]),
