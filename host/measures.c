@@ -21,12 +21,13 @@ struct range {
 
 enum number { LOTS, PRICE, DAYS, RATE, ACCRUED, NUMBERS };
 
+/* In the order of `number`. */
 static const struct range ranges[NUMBERS] = {
-    [LOTS] = {"LOTS", 1, DAY_MOST_LOTS, DAY_REFUSED_LOTS},
-    [PRICE] = {"PRICE", 1, DAY_MOST_PRICE, DAY_REFUSED_TERMS},
-    [DAYS] = {"DAYS", 1, DAY_MOST_DAYS, DAY_REFUSED_TERMS},
-    [RATE] = {"RATE", 0, DAY_MOST_RATE, DAY_REFUSED_TERMS},
-    [ACCRUED] = {"ACCRUED", 0, DAY_MOST_ACCRUED, DAY_REFUSED_TERMS},
+    {"LOTS", 1, DAY_MOST_LOTS, DAY_REFUSED_LOTS},
+    {"PRICE", 1, DAY_MOST_PRICE, DAY_REFUSED_TERMS},
+    {"DAYS", 1, DAY_MOST_DAYS, DAY_REFUSED_TERMS},
+    {"RATE", 0, DAY_MOST_RATE, DAY_REFUSED_TERMS},
+    {"ACCRUED", 0, DAY_MOST_ACCRUED, DAY_REFUSED_TERMS},
 };
 
 /* What a command takes, in its order: how many numbers, and which. */

@@ -42,7 +42,7 @@ extern "C" {
 #define DAY_TAPE_WORDS 33u  /* the output of day_write has at least so many words */
 #define DAY_REPORTS 256u    /* the most trade reports, and the places of the output of day_trust */
 #define DAY_SUB_ACCOUNTS 32u /* sub-accounts 0 to 31 */
-#define DAY_STACK_BYTES 32768u /* the most stack that a call needs; measured: 20,496 */
+#define DAY_STACK_BYTES 32768u /* the most stack that a call needs; measured: 20,736 */
 
 /* The place of an issue and an account, both in range, in nets and delivered lots. */
 #define DAY_PLACE(issue, account) ((size_t)(issue) * DAY_ACCOUNTS + (size_t)(account))
