@@ -334,7 +334,9 @@ mod tests {
         assert_eq!((told(&book), book.entries), (cut, 0));
         assert_eq!(calls::status(&book, 3, 3).refused(), Some(Refusal::Unit));
         assert_eq!(calls::status(&book, 16, 0).refused(), Some(Refusal::Issue));
-        calls::roll(&mut book, 1, 300, &[100_000; 16]);
+        let mut quotes = [0; 32];
+        quotes[..16].fill(100_000);
+        assert_eq!(calls::roll(&mut book, 1, 300, &quotes).refusal, 0);
         assert_eq!(calls::status(&book, 3, 0).refused(), Some(Refusal::Phase));
     }
 }
