@@ -120,7 +120,7 @@ fn text_says_why() {
         "refused by 9: the account does not owe that many lots; account 4 still owes 30,000 lots",
         "refused by 6: from and to are the same account",
         "account 5 fails account 3: 25,000 lots (1,250,000,000 yen face), of unit 6",
-        "value 250,000,000 yen at 100.000, 1 day at 3.00 percent a year",
+        "value 250,000,000 yen at 100.000, accrued 0.000, 1 day at 3.00 percent a year",
         "2 steps, 25 lots cancelled",
         "in the ledger: issue 3: account 1 owes account 3 20 lots (1,000,000 yen face), since day 1",
         "account 4 hands to account 3: 1,000 lots (50,000,000 yen face)",
@@ -229,7 +229,7 @@ fn every_fact_of_json_is_in_the_documents() {
     let mut names: Vec<&Value> = seen.iter().map(|object| &object["fact"]).collect();
     names.sort_by_key(|name| format!("{name:?}"));
     names.dedup();
-    assert_eq!(names.len(), 19, "{names:?}");
+    assert_eq!(names.len(), 20, "{names:?}");
     for object in &seen {
         let Value::Text(name) = &object["fact"] else { panic!("{object:?}") };
         let row = documents.lines().find(|line| line.starts_with(&format!("| `{name}` |")));
