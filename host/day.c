@@ -1,7 +1,8 @@
 /* day: the settled day P5 to P9 run through the library, as a host in C runs its book. Prints the
- * units in their order, each delivery with what was handed over, a refused delivery, a lift of unit 7
- * on a copy of the book with the cutoff that follows from it, then the fails of the day's own cutoff
- * and the charges of the roll; last, in a book of its own, an issue in multiples of 100,000 yen. */
+ * units in their order, each delivery with what was handed over, a refused delivery, why units have
+ * not come, a lift of unit 7 on a copy of the book with the cutoff that follows from it, then the fails
+ * of the day's own cutoff and the charges of the roll; last, in a book of its own, an issue in
+ * multiples of 100,000 yen. */
 #include <inttypes.h>
 #include <stdio.h>
 
@@ -93,6 +94,23 @@ static int deliver_too_much(void)
 {
     struct day_answer answer = day_book_deliver(&book, ISSUE, 5, 55001, out);
     return refused("account 5 delivers 55001 lots", answer, DAY_REFUSED_OWED);
+}
+
+/* Why a unit has not come, as the desk tells it to a receiver. */
+static int tell(uint32_t k)
+{
+    struct day_status_answer told = day_book_status(&book, ISSUE, k);
+    printf("why unit %" PRIu32 " has not come: ", k);
+    switch (told.status) {
+    case DAY_HANDED: printf("it is handed\n"); break;
+    case DAY_WAITING: printf("it waits for %" PRIu32 " lots\n", told.lots); break;
+    case DAY_PARTLY_FAILED: printf("partly failed, %" PRIu32 " lots lacking\n", told.lots); break;
+    case DAY_WHOLLY_FAILED: printf("wholly failed\n"); break;
+    default:
+        printf("refused by %" PRIu32 "\n", told.refusal);
+        return told.refusal == DAY_REFUSED_UNIT && told.lots == 0;
+    }
+    return told.refusal == DAY_DONE;
 }
 
 /* P8: the cutoff, its partial handover and its fails. */
@@ -201,9 +219,9 @@ static int mark(uint32_t issue)
 int main(void)
 {
     day_book_fresh(&book);
-    int as_expected = take_trades() && show_units() && deliver(5, 345000) && deliver(4, 200000) &&
-                      deliver_too_much() && lift() && cut(&book) && roll(1, 300, 100000, 0) &&
-                      mark(1);
+    int as_expected = take_trades() && show_units() && deliver(5, 345000) && tell(2) && tell(3) &&
+                      deliver(4, 200000) && deliver_too_much() && lift() && cut(&book) && tell(5) &&
+                      tell(6) && tell(8) && roll(1, 300, 100000, 0) && mark(1);
     if (fflush(stdout) != 0 || ferror(stdout)) {
         perror("day: the lines could not be written");
         return NOT_WRITTEN;

@@ -6,6 +6,7 @@
  *                                     day_quotes day_write
  *     target/staticlib/libdesk.a      day_value day_charge
  *     target/staticlib/libentries.a   entry_meet
+ *     target/staticlib/libstatus.a    day_status
  *     target/staticlib/libtrust.a     day_trust
  *
  * Each is proved to answer as the rules say for every number and every book, damaged ones too.
@@ -41,7 +42,7 @@ extern "C" {
 #define DAY_TAPE_WORDS 33u  /* the output of day_write has at least so many words */
 #define DAY_REPORTS 256u    /* the most trade reports, and the places of the output of day_trust */
 #define DAY_SUB_ACCOUNTS 32u /* sub-accounts 0 to 31 */
-#define DAY_STACK_BYTES 32768u /* the most stack that a call needs; measured: 20,496 */
+#define DAY_STACK_BYTES 32768u /* the most stack that a call needs; measured: 20,736 */
 
 /* The place of an issue and an account, both in range, in nets and delivered lots. */
 #define DAY_PLACE(issue, account) ((size_t)(issue) * DAY_ACCOUNTS + (size_t)(account))
@@ -101,7 +102,7 @@ extern "C" {
 #define DAY_REFUSED_TAPE 13u    /* the tape ends before the instruction does */
 #define DAY_REFUSED_WORD 14u    /* a kind or unused bits are wrong; a kind that is none of 1..7, 13 */
 #define DAY_REFUSED_BITS 15u    /* a number does not fit its bits (writer) */
-#define DAY_REFUSED_UNIT 16u    /* there is no such unit, or it is handed already (ask, commit) */
+#define DAY_REFUSED_UNIT 16u    /* there is no such unit, or (ask, commit) it is handed already */
 #define DAY_REFUSED_TICKET 17u  /* account, lots, day or count is not what asking now gives */
 #define DAY_REFUSED_LIFTS 18u   /* eight lifts stand for the issue */
 #define DAY_REFUSED_ODD 19u     /* lots are odd in a marked issue (trade, deliver, resolve) */
@@ -109,6 +110,14 @@ extern "C" {
 #define DAY_REFUSED_DRAW 21u    /* the list is not each report number just once; a column's length */
 #define DAY_REFUSED_REPORTS 22u /* more than 256 reports, or a sub-account above 31 */
 #define DAY_REFUSED_ELIGIBLE 23u /* the fail is larger than the eligible lots */
+
+/* ---- why a unit has not come: the cases of day_status */
+
+#define DAY_STATUS_NONE 0u    /* it is refused */
+#define DAY_HANDED 1u         /* the unit is handed */
+#define DAY_WAITING 2u        /* with so many more lots, and no lift between, it is handed; Settling */
+#define DAY_PARTLY_FAILED 3u  /* it lacked so many lots at the cutoff; Cut */
+#define DAY_WHOLLY_FAILED 4u  /* it lacked all its lots at the cutoff; Cut */
 
 /* ---- the libraries' functions
  *
@@ -142,6 +151,20 @@ uint32_t day_unit(uint16_t day, uint32_t phase, size_t entries, const uint8_t ma
                   const uint32_t *lots, size_t lots_length,
                   const uint16_t *days, size_t days_length,
                   uint32_t issue, uint32_t k, uint32_t answer[3]);
+
+/* Why the k-th unit of an issue, k from 0, has not come, in Settling and in Cut: the case and its lots
+ * (0 where it is handed or wholly failed); twice 0 on a refusal (2, 3 in Taking, 4, 16). */
+uint32_t day_status(uint16_t day, uint32_t phase, size_t entries, const uint8_t marks[16],
+                    const int32_t *nets, size_t nets_length,
+                    const uint32_t *delivered, size_t delivered_length,
+                    const uint32_t *lifts, size_t lifts_length,
+                    const int64_t *charges, size_t charges_length,
+                    const uint8_t *issues, size_t issues_length,
+                    const uint8_t *froms, size_t froms_length,
+                    const uint8_t *tos, size_t tos_length,
+                    const uint32_t *lots, size_t lots_length,
+                    const uint16_t *days, size_t days_length,
+                    uint32_t issue, uint32_t k, uint32_t answer[2]);
 
 /* The call of an instruction, made in place on any book. Only deliver, cutoff and resolve use the
  * output, and only roll the quotes. count is that of the records written (for pair-off, of the
@@ -273,6 +296,13 @@ struct day_unit_answer {
     uint32_t lots;
 };
 
+/* Why a unit has not come: one of the cases, and the lots that it waits for or lacked. */
+struct day_status_answer {
+    uint32_t refusal;
+    uint32_t status;
+    uint32_t lots;
+};
+
 /* A ticket for a lift: issue and unit number, the unit's account and lots, the day, and the count of
  * that day's accepted deliveries and lifts in the issue. */
 struct day_ticket {
@@ -331,6 +361,23 @@ static inline struct day_unit_answer day_book_unit(const struct day_book *book, 
     unit.account = answer[1];
     unit.lots = answer[2];
     return unit;
+}
+
+/* Why the k-th unit of an issue, k from 0, has not come. */
+static inline struct day_status_answer day_book_status(const struct day_book *book, uint32_t issue,
+                                                       uint32_t k)
+{
+    struct day_status_answer told;
+    uint32_t answer[2] = {0, 0};
+    told.refusal = day_status(book->day, book->phase, book->entries, book->marks,
+                              book->nets, DAY_PLACES, book->delivered, DAY_PLACES,
+                              book->lifts, DAY_LIFT_PLACES,
+                              book->charges, DAY_ACCOUNTS, book->issues, DAY_ENTRIES,
+                              book->froms, DAY_ENTRIES, book->tos, DAY_ENTRIES,
+                              book->lots, DAY_ENTRIES, book->days, DAY_ENTRIES, issue, k, answer);
+    told.status = answer[0];
+    told.lots = answer[1];
+    return told;
 }
 
 /* The call of an instruction, with quotes and an output of these lengths. */

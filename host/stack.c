@@ -67,6 +67,7 @@ static void make_commits(void)
     }
 }
 
+static void make_status(void) { refusal |= day_book_status(&book, 15, 189).refusal; }
 static void make_unit_lifted(void) { refusal |= day_book_unit(&book, 15, 188).refusal; }
 static void make_lifted(void) { refusal |= day_book_deliver(&book, 15, 0, 450000, out).count != 4; }
 static void make_close(void) { refusal |= day_book_close(&book).refusal; }
@@ -127,8 +128,9 @@ static const struct measured measures[] = {
     {"sound", make_sound},        {"cutoff", make_cutoff},         {"resolve", make_resolve},
     {"roll", make_roll},          {"a day", make_next_trades},     {"ask", make_ask},
     {"commit", make_commits},
-    {"unit, lifted", make_unit_lifted},  {"deliver, lifted", make_lifted},
-    {"sound, lifted", make_sound},       {"cutoff, lifted", make_cutoff},
+    {"unit, lifted", make_unit_lifted},  {"status, lifted", make_status},
+    {"deliver, lifted", make_lifted},    {"sound, lifted", make_sound},
+    {"cutoff, lifted", make_cutoff},     {"status, cut", make_status},
     {"pair-off", make_pair_off},  {"write", make_write},           {"read", make_read},
     {"value and charge", make_charge},   {"trust", make_trust},
 };

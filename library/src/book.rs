@@ -185,7 +185,7 @@ impl Default for Book {
 #[cfg(test)]
 mod tests {
     use super::*;
-    use crate::{calls, Refusal, Ticket};
+    use crate::{calls, Refusal, Status, Ticket};
 
     /// A book of the largest numbers everywhere.
     fn damaged() -> Book {
@@ -227,6 +227,8 @@ mod tests {
         assert_eq!(calls::unit(&book, 0, 0).refusal, Refusal::Book.number());
         let asked = calls::ask(&book, 0, 0);
         assert_eq!((asked.refused(), asked.ticket), (Some(Refusal::Book), None));
+        let told = calls::status(&book, 0, 0);
+        assert_eq!((told.refused(), told.status), (Some(Refusal::Book), None));
         let answers = [
             calls::trade(&mut book, 0, 1, 2, 3),
             calls::close(&mut book),
@@ -307,5 +309,34 @@ mod tests {
         let short = calls::commit(&mut book, &ticket, &mut out[1..]);
         assert_eq!(short.refused(), Some(Refusal::Output));
         assert!(book == before && out == words);
+    }
+
+    /// What is told of units 0 to 2 of issue 3.
+    fn told(book: &Book) -> [Option<Status>; 3] {
+        [0, 1, 2].map(|k| calls::status(book, 3, k).status)
+    }
+
+    #[test]
+    fn the_status_of_each_unit_through_a_day() {
+        use Status::{Handed, PartlyFailed, Waiting, WhollyFailed};
+        let waiting = |lots| Some(Waiting { lots });
+        let (mut book, mut out) = ring();
+        assert_eq!(told(&book), [waiting(60_000), waiting(110_000), waiting(150_000)]);
+        let ticket = calls::ask(&book, 3, 2).ticket.unwrap_or_default();
+        calls::commit(&mut book, &ticket, &mut out);
+        assert_eq!(told(&book), [Some(Handed), waiting(100_000), waiting(150_000)]);
+        calls::deliver(&mut book, 3, 8, 99_999, &mut out);
+        assert_eq!(told(&book), [Some(Handed), waiting(1), waiting(50_001)]);
+        calls::cutoff(&mut book, &mut out);
+        let cut = [Some(Handed), Some(PartlyFailed { lots: 1 }), Some(WhollyFailed)];
+        assert_eq!(told(&book), cut);
+        assert_eq!(calls::resolve(&mut book, 3, 8, 50_001, &mut out).refusal, 0);
+        assert_eq!((told(&book), book.entries), (cut, 0));
+        assert_eq!(calls::status(&book, 3, 3).refused(), Some(Refusal::Unit));
+        assert_eq!(calls::status(&book, 16, 0).refused(), Some(Refusal::Issue));
+        let mut quotes = [0; 32];
+        quotes[..16].fill(100_000);
+        assert_eq!(calls::roll(&mut book, 1, 300, &quotes).refusal, 0);
+        assert_eq!(calls::status(&book, 3, 0).refused(), Some(Refusal::Phase));
     }
 }

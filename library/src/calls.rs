@@ -26,6 +26,33 @@ pub struct UnitAnswer {
     pub unit: Option<Unit>,
 }
 
+/// Why a unit has not come, or that it has.
+#[derive(Clone, Copy, Debug, PartialEq, Eq)]
+pub enum Status {
+    /// It is handed.
+    Handed,
+    /// It waits: with so many more lots delivered, and no lift between, it is handed.
+    Waiting { lots: u32 },
+    /// At the cutoff the stock went to it, and it lacked so many lots.
+    PartlyFailed { lots: u32 },
+    /// At the cutoff it lacked all its lots.
+    WhollyFailed,
+}
+
+/// What is told of a unit: the refusal's number, 0 where it is answered, and the status.
+#[derive(Clone, Copy, Debug, PartialEq, Eq)]
+pub struct StatusAnswer {
+    pub refusal: u32,
+    pub status: Option<Status>,
+}
+
+impl StatusAnswer {
+    /// The refusal, or none where there is a status.
+    pub fn refused(&self) -> Option<Refusal> {
+        Refusal::of(self.refusal)
+    }
+}
+
 /// A ticket for a lift: issue and unit number, the unit's account and lots, the day, and the count of
 /// that day's accepted deliveries and lifts in the issue.
 #[derive(Clone, Copy, Debug, Default, PartialEq, Eq)]
@@ -73,6 +100,20 @@ pub fn sound(book: &Book) -> bool {
 pub fn unit(book: &Book, issue: u32, k: u32) -> UnitAnswer {
     let raw::UnitAnswer { refusal, found, account, lots } = raw::unit(&book.columns(), issue, k);
     UnitAnswer { refusal, unit: (found == 1).then_some(Unit { account, lots }) }
+}
+
+/// Why the k-th unit of an issue, k from 0, has not come, in Settling and in Cut; the order is that as
+/// lifted. After the cutoff, what it lacked then is told, whatever was resolved since.
+pub fn status(book: &Book, issue: u32, k: u32) -> StatusAnswer {
+    let raw::StatusAnswer { refusal, case, lots } = raw::status(&book.columns(), issue, k);
+    let status = match case {
+        1 => Some(Status::Handed),
+        2 => Some(Status::Waiting { lots }),
+        3 => Some(Status::PartlyFailed { lots }),
+        4 => Some(Status::WhollyFailed),
+        _ => None,
+    };
+    StatusAnswer { refusal, status }
 }
 
 /// ask: the ticket for a lift of the issue's unit of this number, in Settling; changes nothing.

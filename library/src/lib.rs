@@ -1,5 +1,6 @@
-//! The proved library, called safely from Rust: a book and the calls on it, lifts of one unit, the
-//! tape's reader and writer, value and charge, entries met, a fail inside a trust account.
+//! The proved library, called safely from Rust: a book and the calls on it, lifts of one unit, why a
+//! unit has not come, the tape's reader and writer, value and charge, entries met, a fail inside a
+//! trust account.
 //!
 //! ```
 //! use library::{calls, Book, Instruction, OUTPUT_WORDS};
@@ -27,7 +28,7 @@ pub mod tape;
 pub mod trust;
 
 pub use book::{place, Book, Lift, Phase};
-pub use calls::Ticket;
+pub use calls::{Status, Ticket};
 pub use entries::Entry;
 pub use instruction::{Fields, Instruction};
 pub use refusal::Refusal;

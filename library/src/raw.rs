@@ -4,7 +4,7 @@
 //! is damaged: the library refuses it by 2. There are always sixteen marks.
 
 use crate::declarations::{
-    day_ask, day_call, day_commit, day_quotes, day_read, day_sound, day_unit, day_write,
+    day_ask, day_call, day_commit, day_quotes, day_read, day_sound, day_status, day_unit, day_write,
 };
 use crate::{Fields, ISSUES, QUOTES};
 
@@ -63,6 +63,15 @@ pub struct UnitAnswer {
     pub refusal: u32,
     pub found: u32,
     pub account: u32,
+    pub lots: u32,
+}
+
+/// What is told of a unit: the refusal's number, then 1 handed, 2 waiting, 3 partly failed or 4 wholly
+/// failed and the lots that it waits for or lacks (0 for 1 and 4), or two zeros.
+#[derive(Clone, Copy, Debug, PartialEq, Eq)]
+pub struct StatusAnswer {
+    pub refusal: u32,
+    pub case: u32,
     pub lots: u32,
 }
 
@@ -206,6 +215,44 @@ pub fn call(book: &mut ColumnsMut, fields: &Fields, quotes: &[u32], out: &mut [u
         )
     };
     Answer { refusal, count, cancelled }
+}
+
+/// What is told of the k-th unit of an issue, k from 0.
+pub fn status(book: &Columns, issue: u32, k: u32) -> StatusAnswer {
+    let mut answer = [u32::MAX; 2];
+    // SAFETY: there are sixteen marks, and each column is given with its length; they live through the
+    // call, which reads them alone; the answer has the two numbers that are written.
+    let refusal = unsafe {
+        day_status(
+            book.day,
+            book.phase,
+            book.entries,
+            book.marks,
+            book.nets.as_ptr(),
+            book.nets.len(),
+            book.delivered.as_ptr(),
+            book.delivered.len(),
+            book.lifts.as_ptr(),
+            book.lifts.len(),
+            book.charges.as_ptr(),
+            book.charges.len(),
+            book.issues.as_ptr(),
+            book.issues.len(),
+            book.froms.as_ptr(),
+            book.froms.len(),
+            book.tos.as_ptr(),
+            book.tos.len(),
+            book.lots.as_ptr(),
+            book.lots.len(),
+            book.days.as_ptr(),
+            book.days.len(),
+            issue,
+            k,
+            &mut answer,
+        )
+    };
+    let [case, lots] = answer;
+    StatusAnswer { refusal, case, lots }
 }
 
 /// The ticket for a lift of an issue's unit, by its number.

@@ -37,7 +37,7 @@ pub enum Refusal {
     Word = 14,
     /// 15: a number does not fit its bits.
     Bits = 15,
-    /// 16: the issue has no such unit, or it is handed already (ask, commit).
+    /// 16: the issue has no such unit (status), or it is handed already (ask, commit).
     Unit = 16,
     /// 17: the ticket's account, lots, day or count is not what asking now gives (commit).
     Ticket = 17,

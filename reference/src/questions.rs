@@ -41,6 +41,11 @@ pub fn phase_is(book: &Book, phase: Phase) -> Result<(), u32> {
     ask(3, book.phase == phase)
 }
 
+/// 3. Is this another phase than the one that is refused?
+pub fn phase_is_not(book: &Book, phase: Phase) -> Result<(), u32> {
+    ask(3, book.phase != phase)
+}
+
 /// 4. Is the issue at most 15? Gives the issue as a place in the columns.
 pub fn issue_in_range(issue: u32) -> Result<usize, u32> {
     usize::try_from(issue).ok().filter(|&issue| issue < ISSUES).ok_or(4)
@@ -135,6 +140,11 @@ pub fn unit_unhanded(units: &[Unit], delivered: u64, k: u32) -> Result<Unit, u32
     let k = usize::try_from(k).map_err(|_| 16_u32)?;
     ask(16, k >= count)?;
     units.get(k).copied().ok_or(16)
+}
+
+/// 16. Is there such a unit, handed or not? Gives its place in the order.
+pub fn unit_is_there(units: &[Unit], k: u32) -> Result<usize, u32> {
+    usize::try_from(k).ok().filter(|&k| k < units.len()).ok_or(16)
 }
 
 /// 17. Are the ticket's account, lots, day and count what asking now gives?

@@ -1,4 +1,5 @@
-//! Tapes for people: a text form of the words, what the book refuses, what a tape does day by day.
+//! Tapes for people: a text form of the words, what the book refuses, what a tape does day by day, and
+//! why a unit has not come.
 
 pub mod bytes;
 pub mod check;
@@ -7,6 +8,7 @@ pub mod fault;
 pub mod input;
 pub mod measure;
 pub mod run;
+pub mod status;
 pub mod story;
 pub mod telling;
 pub mod text;

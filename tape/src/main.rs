@@ -7,6 +7,7 @@ use std::str::FromStr;
 use std::{env, fs};
 use tape::input::{self, Input};
 use tape::run::Ran;
+use tape::status::{self, Question};
 use tape::telling::{self, Form, Only};
 use tape::text::Line;
 use tape::{bytes, check, run, text};
@@ -18,13 +19,16 @@ tape check [--hex] [DAY]             says what the book will refuse, line by lin
 tape run [--hex] [DAY [LINES]]       runs dayrun on a tape
 tape explain [--hex] [--json | --html] [--issue N] [--account N] [--day N] [DAY [TEXT]]
                                      runs a tape and tells what it does, day by day
+tape why [--hex] [--json] [--at WORD] DAY ISSUE UNIT
+                                     tells why a unit has not come
 tape --help, tape --version
 DAY is a tape in text form or as words. A file that is not named, or named `-`, is standard input or
 output. With --hex the words are hexadecimal numbers in text. --program PATH names dayrun for `run`,
 which is target/bin/dayrun otherwise. explain tells only what is of an issue, an account or a day,
-as text, as JSON (one object a line) or as one page of HTML. docs/TAPE.md explains the text form.
-Status: 0 done; 1 the book refuses something (check), or the tape was not read to its end or its
-lines not written (run); 2 the words of the command, a file or a text are wrong.";
+as text, as JSON (one object a line) or as one page of HTML. why asks at the end of the tape, or with
+--at before the instruction that begins at a word. docs/TAPE.md explains the text form.
+Status: 0 done; 1 the book refuses something (check, why), or the tape was not read to its end or
+its lines not written (run); 2 the words of the command, a file or a text are wrong.";
 
 /// What the command line asks for.
 #[derive(Debug, Default, PartialEq, Eq)]
@@ -34,6 +38,7 @@ struct Command {
     program: Option<String>,
     form: Form,
     only: Only,
+    asked: Question,
     input: String,
     output: String,
 }
@@ -88,11 +93,15 @@ fn command(words: Vec<String>) -> Result<Command, String> {
             "--issue" => command.only.issue = Some(number(&word, words.next())?),
             "--account" => command.only.account = Some(number(&word, words.next())?),
             "--day" => command.only.day = Some(number(&word, words.next())?),
+            "--at" => command.asked.at = Some(number(&word, words.next())?),
             option if option.starts_with('-') && option != "-" => {
                 return Err(format!("there is no option {option}; use\n{USAGE}"));
             }
             _ => names.push(word),
         }
+    }
+    if names.first().is_some_and(|name| name == "why") {
+        return why_command(command, names);
     }
     let most = if names.first().is_some_and(|name| name == "check") { 2 } else { 3 };
     if names.is_empty() || names.len() > most {
@@ -101,6 +110,15 @@ fn command(words: Vec<String>) -> Result<Command, String> {
     let file = |at: usize| names.get(at).cloned().unwrap_or_else(|| "-".to_string());
     (command.name, command.input, command.output) = (file(0), file(1), file(2));
     Ok(command)
+}
+
+/// The command that asks of a unit: the day, issue and unit.
+fn why_command(command: Command, names: Vec<String>) -> Result<Command, String> {
+    let [name, input, issue, unit] = <[String; 4]>::try_from(names)
+        .map_err(|_| format!("why needs a day, an issue and a unit:\n{USAGE}"))?;
+    let (issue, unit) = (number("ISSUE", Some(issue))?, number("UNIT", Some(unit))?);
+    let asked = Question { issue, unit, ..command.asked };
+    Ok(Command { name, input, output: "-".to_string(), asked, ..command })
 }
 
 /// The number of an option.
@@ -116,6 +134,7 @@ fn obey(command: &Command) -> Result<Ended, String> {
         "read" => put(&command.output, read(command)?.as_bytes())?,
         "explain" => explain(command)?,
         "check" => return check(command),
+        "why" => return why(command),
         "run" => return run(command),
         other => return Err(format!("there is no `tape {other}`; use\n{USAGE}")),
     }
@@ -180,6 +199,18 @@ fn explain(command: &Command) -> Result<(), String> {
     let tape = day_of(command)?.tape;
     let told = telling::explain(&tape, command.form, command.only, &mut output(command)?);
     told.map_err(|error| format!("cannot write {}: {error}", command.output))
+}
+
+/// Tells why a unit has not come.
+fn why(command: &Command) -> Result<Ended, String> {
+    let told = status::ask(&day_of(command)?.tape, command.asked)?;
+    let text = match command.form {
+        Form::Text => told.sentence(),
+        Form::Json => told.json(),
+        Form::Html => return Err("why tells a sentence, or JSON; it makes no page".to_string()),
+    };
+    put("-", text.as_bytes())?;
+    Ok(if told.refused() { Ended::Badly } else { Ended::Well })
 }
 
 /// The output that is named.

@@ -285,7 +285,7 @@ fn decided(issue: u32, group: &[Run]) -> Fact {
 }
 
 /// Books a trade that nothing speaks against on a book that is sound; answers whether it did.
-fn traded(book: &mut Book, instruction: &Instruction) -> bool {
+pub(crate) fn traded(book: &mut Book, instruction: &Instruction) -> bool {
     let Instruction::Trade { issue, from, to, lots } = *instruction else { return false };
     let (Some(low), Some(high)) = (place(issue, from), place(issue, to)) else { return false };
     if book.phase != Phase::TAKING || low == high || lots == 0 || lots > MOST_LOTS {

@@ -131,6 +131,32 @@ fn an_older_roll_is_told_what_to_do() {
 }
 
 #[test]
+fn why_tells_of_a_unit() {
+    let text = b"trade 0 1 2 150000\nclose\ndeliver 0 1 100000\ncutoff\n";
+    let told =
+        "at the end of the tape, day 0, Cut: unit 1 of issue 0, 50,000 lots (2,500,000,000 yen \
+                face) for account 2, wholly failed: at the cutoff nothing of it had come\n";
+    assert_eq!(ended(&["why", "-", "0", "1"], text), (0, told.into(), "".into()));
+    let (status, printed, _) = ended(&["why", "--at", "5", "--json", "-", "0", "1"], text);
+    assert!(
+        status == 0 && printed.ends_with("\"status\":\"waiting\",\"wants\":50000}\n"),
+        "{printed}"
+    );
+    let (status, printed, said) = ended(&["why", "-", "0", "2"], text);
+    assert_eq!((status, said.as_str()), (1, ""));
+    assert!(printed.ends_with("refused by 16: issue 0 has no unit 2, its units are 0 to 1\n"));
+    for (words, told) in [
+        (&["why", "-", "0"][..], "why needs a day, an issue and a unit"),
+        (&["why", "-", "0", "x"], "UNIT needs a number in range, not \"x\""),
+        (&["why", "--at", "1", "-", "0", "0"], "trade begins at word 0 and has 2"),
+        (&["why", "--html", "-", "0", "0"], "it makes no page"),
+    ] {
+        let (status, printed, said) = ended(words, text);
+        assert!(status == 2 && printed.is_empty() && said.contains(told), "{words:?}: {said}");
+    }
+}
+
+#[test]
 fn an_output_that_fails_is_told() {
     let full = std::fs::File::options().write(true).open("/dev/full").expect("/dev/full");
     let output = Command::new(env!("CARGO_BIN_EXE_tape")).arg("--help").stdout(full).output();

@@ -4,15 +4,15 @@ use crate::convert::{library_book, library_ticket, same_numbers};
 use crate::steps::{Call, Step};
 use library::{raw, LIFT_WORDS};
 use reference::book::{place, Book, ACCOUNTS, ENTRIES, ISSUES};
-use reference::calls::{self, Ticket};
+use reference::calls::{self, Status, Ticket};
 
 /// The words before and after a lent output, which no call may touch.
 const MARGIN: usize = 8;
 
 /// An answer in plain numbers: the refusal number and every other number, 0 where there is none.
 ///
-/// For `sound` the number is 1 or 0. For `unit` the others are found, account and lots; for `ask` the
-/// six of the ticket; for the calls the count (for pair-off, of steps) and the lots cancelled.
+/// For `sound` the number is 1 or 0. For `unit` the others are found, account and lots; for `status`
+/// the case and its lots; for `ask` the six of the ticket; for the calls the count (for pair-off, of steps) and the lots cancelled.
 #[derive(Clone, Copy, Debug, PartialEq, Eq)]
 pub struct Answer {
     pub number: u32,
@@ -179,6 +179,7 @@ pub fn by_reference(book: &mut Book, call: &Call, out: &mut [u32]) -> Answer {
             let unit = calls::unit(book, issue, k);
             plain(unit.number, &[u64::from(unit.found), unit.account.into(), unit.lots.into()])
         }
+        Call::Status { issue, k } => told(calls::status(book, issue, k)),
         Call::Trade { issue, from, to, lots } => counted(calls::trade(book, issue, from, to, lots)),
         Call::Close => counted(calls::close(book)),
         Call::Deliver { issue, account, lots, .. } => {
@@ -207,6 +208,7 @@ pub fn by_reference_on_sound(book: &mut Book, call: &Call, out: &mut [u32]) -> A
             let unit = calls::unit_on_sound(book, issue, k);
             plain(unit.number, &[u64::from(unit.found), unit.account.into(), unit.lots.into()])
         }
+        Call::Status { issue, k } => told(calls::status_on_sound(book, issue, k)),
         Call::Trade { issue, from, to, lots } => {
             counted(calls::trade_on_sound(book, issue, from, to, lots))
         }
@@ -240,6 +242,10 @@ pub fn by_library(book: &mut library::Book, call: &Call, out: &mut [u32]) -> Ans
             let others = [unit.found.into(), unit.account.into(), unit.lots.into()];
             return plain(unit.refusal, &others);
         }
+        Call::Status { issue, k } => {
+            let status = raw::status(&book.columns(), issue, k);
+            return plain(status.refusal, &[status.case.into(), status.lots.into()]);
+        }
         Call::Ask { issue, unit } => {
             let asked = raw::ask(&book.columns(), issue, unit);
             return plain(asked.refusal, &asked.ticket.map(u64::from));
@@ -268,6 +274,19 @@ fn plain(number: u32, first: &[u64]) -> Answer {
     let mut others = [0; 6];
     others[..first.len()].copy_from_slice(first);
     Answer { number, others }
+}
+
+/// The second engine's answer with the number of its case and the lots: 1 handed, 2 waiting, 3 partly
+/// failed, 4 wholly failed, 0 on a refusal.
+fn told(answer: calls::StatusAnswer) -> Answer {
+    let (case, lots) = match answer.status {
+        None => (0, 0),
+        Some(Status::Handed) => (1, 0),
+        Some(Status::Waiting(lots)) => (2, lots),
+        Some(Status::PartlyFailed(lots)) => (3, lots),
+        Some(Status::WhollyFailed) => (4, 0),
+    };
+    plain(answer.number, &[case, lots.into()])
 }
 
 /// The second engine's answer with its ticket.

@@ -16,7 +16,8 @@ pub fn random_call(rng: &mut Rng, shape: &Shape, book: &Book) -> Call {
         book.phase
     };
     let call = match (phase, rng.range(0, 99)) {
-        (_, 0..=5) => random_unit(rng, shape, book),
+        (_, 0..=3) => random_unit(rng, shape, book),
+        (_, 4..=5) => random_status(rng, shape, book),
         (_, 6..=12) => random_resolve(rng, shape, book),
         (_, 13..=17) => {
             Call::PairOff { issue: *rng.pick(&shape.issues), account: *rng.pick(&shape.accounts) }
@@ -165,6 +166,23 @@ fn random_unit(rng: &mut Rng, shape: &Shape, book: &Book) -> Call {
     Call::Unit { issue, k }
 }
 
+/// The status of a unit: any, the last handed, the next, one behind it, or one that there is not.
+fn random_status(rng: &mut Rng, shape: &Shape, book: &Book) -> Call {
+    let issue = *rng.pick(&shape.issues);
+    let units = units_of(book, issue as usize);
+    let (count, _) = handed(&units, book.delivered_total(issue as usize));
+    let (next, number) = (count as u32, units.len() as u32);
+    let k = match rng.range(0, 9) {
+        0 => number,
+        1 => rng.next_u32() >> rng.range(0, 31),
+        2..=3 => next.saturating_sub(1),
+        4..=6 => next,
+        7 => next + 1,
+        _ => rng.range(0, number.saturating_sub(1)),
+    };
+    Call::Status { issue, k }
+}
+
 /// A roll with prices and accrued amounts at their limits, or any.
 fn random_roll(rng: &mut Rng) -> Call {
     let highest = rng.chance(1, 4);
@@ -214,6 +232,7 @@ fn out_of_range(rng: &mut Rng, call: Call) -> Call {
     let which = rng.range(0, 2);
     match (call, which) {
         (Call::Unit { k, .. }, _) => Call::Unit { issue: place, k },
+        (Call::Status { k, .. }, _) => Call::Status { issue: place, k },
         (Call::Trade { from, to, lots, .. }, 0) => Call::Trade { issue: place, from, to, lots },
         (Call::Trade { issue, from, lots, .. }, 1) => {
             let to = *rng.pick(&[place, from]);

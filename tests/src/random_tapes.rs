@@ -55,7 +55,11 @@ pub fn day_tape(rng: &mut Rng, instructions: u32, few: bool) -> Vec<u8> {
 pub fn words_of(call: &Call) -> Option<Vec<u32>> {
     let none: &[u32] = &[];
     let (instruction, quotes) = match *call {
-        Call::Sound | Call::Unit { .. } | Call::Ask { .. } | Call::Commit { .. } => return None,
+        Call::Sound
+        | Call::Unit { .. }
+        | Call::Status { .. }
+        | Call::Ask { .. }
+        | Call::Commit { .. } => return None,
         Call::Trade { issue, from, to, lots } => {
             (Instruction::Trade { issue, from, to, lots }, none)
         }

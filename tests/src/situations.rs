@@ -10,8 +10,9 @@ use std::cmp::Reverse;
 use std::collections::BTreeMap;
 
 /// The numbers that each call can answer, by the paper; 0 is done.
-pub const NUMBERS: [(&str, &[u32]); 11] = [
+pub const NUMBERS: [(&str, &[u32]); 12] = [
     ("unit", &[0, 2, 4]),
+    ("status", &[0, 2, 3, 4, 16]),
     ("trade", &[0, 2, 3, 4, 5, 6, 7, 19, 8]),
     ("close", &[0, 2, 3]),
     ("deliver", &[0, 1, 2, 3, 4, 5, 7, 19, 9]),
@@ -25,7 +26,7 @@ pub const NUMBERS: [(&str, &[u32]); 11] = [
 ];
 
 /// The situations that a run of random lists must meet.
-const SITUATIONS: [&str; 105] = [
+const SITUATIONS: [&str; 115] = [
     "trade: a net reaches 20,000,000",
     "trade: a net reaches -20,000,000",
     "trade: refused for from's net alone",
@@ -39,6 +40,16 @@ const SITUATIONS: [&str; 105] = [
     "unit: equals among small units of unlike nets",
     "unit: a smaller net has the larger small unit",
     "unit: of a lifted order",
+    "status: handed",
+    "status: waiting, the next unit with stock",
+    "status: waiting, the next unit without stock",
+    "status: waiting behind other units",
+    "status: partly failed",
+    "status: wholly failed, the next unit without stock",
+    "status: wholly failed behind a partly failed unit",
+    "status: of a lifted order, waiting",
+    "status: of a lifted order, failed",
+    "status: failed, and nothing stands in the ledger to its account",
     "deliver: all that is owed",
     "deliver: ends inside a full unit",
     "deliver: ends inside a small unit",
@@ -157,6 +168,7 @@ impl Coverage {
         match *made.call {
             Call::Trade { issue, from, to, lots } => self.trade(made, [issue, from, to, lots]),
             Call::Unit { issue, k } => self.unit(made, issue, k),
+            Call::Status { issue, k } => self.status(made, issue, k),
             Call::Deliver { issue, account, .. } => self.deliver(made, issue, account),
             Call::Cutoff { .. } => self.cutoff(made),
             Call::Resolve { issue, account, .. } => self.resolve(made, issue, account),
@@ -236,6 +248,33 @@ impl Coverage {
             let turned = small().any(|other| other.lots < unit.lots && other.net > unit.net);
             self.meet("unit: a smaller net has the larger small unit", turned);
         }
+    }
+
+    /// The situations of the status of a unit.
+    fn status(&mut self, made: &Made, issue: u32, k: u32) {
+        if made.answer.number != 0 {
+            return;
+        }
+        let units = units_of(made.before, issue as usize);
+        let (count, stock) = handed(&units, made.before.delivered_total(issue as usize));
+        let (case, next) = (made.answer.others[0], k as usize == count);
+        let (waits, fails) = (case == 2, case == 3 || case == 4);
+        self.meet("status: handed", case == 1);
+        self.meet("status: waiting, the next unit with stock", waits && next && stock > 0);
+        self.meet("status: waiting, the next unit without stock", waits && next && stock == 0);
+        self.meet("status: waiting behind other units", waits && !next);
+        self.meet("status: partly failed", case == 3);
+        let wholly = "status: wholly failed, the next unit without stock";
+        self.meet(wholly, case == 4 && next);
+        let behind = "status: wholly failed behind a partly failed unit";
+        self.meet(behind, case == 4 && !next && stock > 0);
+        let lifted = is_lifted(made.before, issue);
+        self.meet("status: of a lifted order, waiting", lifted && waits);
+        self.meet("status: of a lifted order, failed", lifted && fails);
+        let account = units[k as usize].account;
+        let to = |e: &Entry| u32::from(e.issue) == issue && u32::from(e.to) == account;
+        let resolved = "status: failed, and nothing stands in the ledger to its account";
+        self.meet(resolved, fails && !made.before.entries().any(|entry| to(&entry)));
     }
 
     /// The situations of a delivery.

@@ -61,6 +61,7 @@ pub enum Edit {
 pub enum Call {
     Sound,
     Unit { issue: u32, k: u32 },
+    Status { issue: u32, k: u32 },
     Trade { issue: u32, from: u32, to: u32, lots: u32 },
     Close,
     Deliver { issue: u32, account: u32, lots: u32, out: usize },
@@ -170,6 +171,7 @@ impl Call {
         match self {
             Call::Sound => "sound",
             Call::Unit { .. } => "unit",
+            Call::Status { .. } => "status",
             Call::Trade { .. } => "trade",
             Call::Close => "close",
             Call::Deliver { .. } => "deliver",
@@ -219,7 +221,7 @@ impl fmt::Display for Call {
         text.write_str(self.name())?;
         match self {
             Call::Sound | Call::Close => Ok(()),
-            Call::Unit { issue, k } => write!(text, " {issue} {k}"),
+            Call::Unit { issue, k } | Call::Status { issue, k } => write!(text, " {issue} {k}"),
             Call::Trade { issue, from, to, lots } => write!(text, " {issue} {from} {to} {lots}"),
             Call::Deliver { issue, account, lots, out }
             | Call::Resolve { issue, account, lots, out } => {
@@ -306,6 +308,7 @@ fn call_of(name: &str, words: &mut Words) -> Result<Call, String> {
     Ok(match name {
         "sound" => Call::Sound,
         "unit" => Call::Unit { issue: words.number()?, k: words.number()? },
+        "status" => Call::Status { issue: words.number()?, k: words.number()? },
         "trade" => Call::Trade {
             issue: words.number()?,
             from: words.number()?,
@@ -415,7 +418,7 @@ mod tests {
         let text = "set day 65535; set phase cut; set net 15 63 -20000001; \
             set delivered 0 1 4294967295; set lifts 15 17 4294967295; set mark 15 255; set charge 63 -9223372036854775808; \
             set count 18446744073709551615; set entries 0 2048 255 255 255 4294967295 65535; \
-            sound; unit 16 4294967295; trade 0 1 2 3; close; deliver 0 5 345000 out 4096; \
+            sound; unit 16 4294967295; status 15 3; trade 0 1 2 3; close; deliver 0 5 345000 out 4096; \
             ask 0 7; commit 0 7 1 30000 0 2 out 4096; cutoff out 0; resolve 1 2 3 out 4095; pair-off 0 2; mark 16 4294967295; roll 1 300 1 2 3; roll 1 2";
         assert_eq!(text_of(&parse(text).unwrap()), text);
     }

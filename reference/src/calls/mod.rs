@@ -1,4 +1,4 @@
-//! The calls and the unit question, each open and for a book known to be sound.
+//! The calls, the unit question and the status of a unit, each open and for a book known to be sound.
 //!
 //! The open form puts every question of the call. The form `_on_sound` leaves out question 2
 //! alone; it is for a program whose book is sound by construction.
@@ -7,6 +7,7 @@ mod ledger;
 mod lifting;
 mod settings;
 mod settling;
+mod status;
 mod taking;
 
 use crate::book::Book;
@@ -58,6 +59,23 @@ pub struct AskAnswer {
     pub ticket: Ticket,
 }
 
+/// The reason a unit has not come: handed; waiting, with so many lots; partly failed, with the lots
+/// lacking; wholly failed.
+#[derive(Clone, Copy, Debug, PartialEq, Eq)]
+pub enum Status {
+    Handed,
+    Waiting(u32),
+    PartlyFailed(u32),
+    WhollyFailed,
+}
+
+/// What is told of a unit: refusal number, and the status where it is 0.
+#[derive(Clone, Copy, Debug, PartialEq, Eq)]
+pub struct StatusAnswer {
+    pub number: u32,
+    pub status: Option<Status>,
+}
+
 impl From<Result<u32, u32>> for Answer {
     /// The count, or the refusal number with 0 for the count.
     fn from(result: Result<u32, u32>) -> Answer {
@@ -88,6 +106,16 @@ impl From<Result<Ticket, u32>> for AskAnswer {
     }
 }
 
+impl From<Result<Status, u32>> for StatusAnswer {
+    /// The status, or the refusal number and none.
+    fn from(result: Result<Status, u32>) -> StatusAnswer {
+        match result {
+            Ok(status) => StatusAnswer { number: 0, status: Some(status) },
+            Err(number) => StatusAnswer { number, status: None },
+        }
+    }
+}
+
 /// The k-th unit of an issue, k from 0, in any phase.
 pub fn unit(book: &Book, issue: u32, k: u32) -> UnitAnswer {
     ask_unit(book, issue, k, Soundness::Asked)
@@ -96,6 +124,16 @@ pub fn unit(book: &Book, issue: u32, k: u32) -> UnitAnswer {
 /// The k-th unit of an issue, on a book known to be sound.
 pub fn unit_on_sound(book: &Book, issue: u32, k: u32) -> UnitAnswer {
     ask_unit(book, issue, k, Soundness::Known)
+}
+
+/// The reason the k-th unit of an issue, k from 0, has not come.
+pub fn status(book: &Book, issue: u32, k: u32) -> StatusAnswer {
+    status::status(book, issue, k, Soundness::Asked).into()
+}
+
+/// The reason a unit has not come, on a book known to be sound.
+pub fn status_on_sound(book: &Book, issue: u32, k: u32) -> StatusAnswer {
+    status::status(book, issue, k, Soundness::Known).into()
 }
 
 /// trade: from's net falls, to's rises.

@@ -426,12 +426,13 @@ fn ask_everything(book: &Book, sound: bool) -> Result<u64, Mismatch> {
     Ok(compared)
 }
 
-/// The unit question and every call, with arguments in range.
+/// The questions on units and every call, with arguments in range.
 fn every_call() -> Vec<Call> {
     let (issue, account, lots, out) = (3, 5, 1, 4_096);
     let ticket = Ticket { issue: 7, unit: 3, account: 1, lots: 100_000, day: 300, count: 0 };
     vec![
         Call::Unit { issue, k: 0 },
+        Call::Status { issue, k: 0 },
         Call::Trade { issue, from: account, to: 6, lots },
         Call::Close,
         Call::Deliver { issue, account, lots, out },

@@ -1,12 +1,12 @@
 //! Part lent: what no book of the second engine can hold, and what a call does not use.
 //!
-//! A phase above 2 and columns of other lengths are damage: `sound` says so, the unit question, `ask`
-//! and every call are refused by 2 (by 1 first, where the output is short) and every column and word
+//! A phase above 2 and columns of other lengths are damage: `sound` says so, the unit question,
+//! `status`, `ask` and every call are refused by 2 (by 1 first, where the output is short) and every column and word
 //! stays as it came. A kind that is none is refused by 14 before anything else. Quotes and outputs
 //! that a call does not use change nothing.
 
 use crate::Failure;
-use library::raw::{self, Answer, AskAnswer, Columns, ColumnsMut, UnitAnswer};
+use library::raw::{self, Answer, AskAnswer, Columns, ColumnsMut, StatusAnswer, UnitAnswer};
 use library::{Book, Fields, Phase};
 use reference::measures::same_quotes;
 use tests::books::{random_book, Shape};
@@ -195,7 +195,11 @@ fn refused_by_two(lent: &Lent) -> Result<u64, String> {
     for (issue, unit) in [(3, 0), (15, u32::MAX), (16, 0), (u32::MAX, 0)] {
         expect("ask", no_ticket, raw::ask(&lent.columns(), issue, unit))?;
     }
-    let mut compared = 9;
+    let no_status = StatusAnswer { refusal: 2, case: 0, lots: 0 };
+    for (issue, k) in [(3, 0), (15, u32::MAX), (16, 0), (u32::MAX, 0)] {
+        expect("status", no_status, raw::status(&lent.columns(), issue, k))?;
+    }
+    let mut compared = 13;
     for fields in instructions() {
         for out in OUTPUTS {
             let short = uses_output(fields[0]) && out < 4_096;

@@ -1,8 +1,8 @@
 //! `calls`: the library's calls beside those of the second engine, on the same cases.
 //!
 //! Every answer, the whole book and every word of the output are compared. Parts: lists, refusals,
-//! damage, lent, units, markets, lifts, marks and tape; `--part NAME` runs one of them. `--replay CASE`
-//! runs one case, as a mismatch prints it; CASE may also be a file that holds it.
+//! damage, lent, units, status, markets, lifts, marks and tape; `--part NAME` runs one of them.
+//! `--replay CASE` runs one case, as a mismatch prints it; CASE may also be a file that holds it.
 
 mod damage;
 mod lent;
@@ -11,6 +11,7 @@ mod lists;
 mod markets;
 mod marks;
 mod refusals;
+mod status;
 mod tape;
 mod units;
 
@@ -27,12 +28,13 @@ const DEFAULT_CASES: u64 = 1_500;
 /// A part: its name, and what runs it with seed and cases and gives the calls compared.
 type Part = (&'static str, fn(u64, u64) -> Result<u64, Failure>);
 /// All parts, in the order in which they run.
-const PARTS: [Part; 9] = [
+const PARTS: [Part; 10] = [
     ("refusals", refusals::run),
     ("damage", damage::run),
     ("lent", lent::run),
     ("tape", tape::run),
     ("units", units::run),
+    ("status", status::run),
     ("markets", markets::run),
     ("lifts", lifts::run),
     ("marks", marks::run),

@@ -163,6 +163,16 @@ const UNHANDED: &[Way] = &[
     (16, |asked| unit_asked(asked, 5)),
     (16, |asked| unit_asked(asked, u32::MAX)),
 ];
+const NOT_TAKING: &[Way] = &[(3, taking), (0, settling), (0, cut)];
+const THERE: &[Way] = &[
+    (0, |asked| unit_asked(asked, 0)),
+    (0, |asked| unit_asked(asked, 1)),
+    (0, |asked| unit_asked(asked, 2)),
+    (0, |asked| unit_asked(asked, 4)),
+    (16, |asked| unit_asked(asked, 5)),
+    (16, |asked| unit_asked(asked, 256)),
+    (16, |asked| unit_asked(asked, u32::MAX)),
+];
 const TICKET: &[Way] = &[
     (0, |_| {}),
     (17, |asked| asked.ticket.account ^= 1),
@@ -225,8 +235,9 @@ const DAY: &[Way] = &[
 ];
 
 /// The calls with their questions.
-const PLANS: [Plan; 11] = [
+const PLANS: [Plan; 12] = [
     ("unit", |asked| Call::Unit { issue: asked.issue, k: 0 }, &[ANY_PHASE, ISSUE, SOUND]),
+    ("status", status, &[NOT_TAKING, ISSUE, THERE, LIFTS_ASKED, SOUND]),
     ("trade", trade, &[TAKING, ISSUE, FROM, TO, LOTS, NETS, SOUND]),
     ("close", |_| Call::Close, &[TAKING, SOUND]),
     ("deliver", deliver, &[OUTPUT, SETTLING, ISSUE, FROM, OWED_TODAY, SOUND]),
@@ -308,6 +319,11 @@ fn trade(asked: &Asked) -> Call {
 fn deliver(asked: &Asked) -> Call {
     let Asked { issue, from: account, lots, out, .. } = *asked;
     Call::Deliver { issue, account, lots, out }
+}
+
+/// The unit of which the status is asked.
+fn status(asked: &Asked) -> Call {
+    Call::Status { issue: asked.issue, k: asked.ticket.unit }
 }
 
 /// The lift asked for.

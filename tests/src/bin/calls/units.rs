@@ -12,7 +12,7 @@ use tests::rng::Rng;
 use tests::steps::{steps_to, text_of, Call, Step};
 
 /// What is asked beyond the number of units.
-const BEYOND: [u32; 6] = [255, 256, 65_535, 65_536, 1 << 31, u32::MAX];
+pub const BEYOND: [u32; 6] = [255, 256, 65_535, 65_536, 1 << 31, u32::MAX];
 
 /// Asks every unit of random issues, and beyond; gives the answers compared.
 pub fn run(seed: u64, cases: u64) -> Result<u64, Failure> {
@@ -26,7 +26,7 @@ pub fn run(seed: u64, cases: u64) -> Result<u64, Failure> {
 }
 
 /// A book with random nets in an issue: few or many receivers, many of them equal.
-fn random_nets(rng: &mut Rng, issue: u32) -> Book {
+pub fn random_nets(rng: &mut Rng, issue: u32) -> Book {
     let phase = *rng.pick(&[Phase::Taking, Phase::Settling, Phase::Cut]);
     let mut book = Book { phase, ..Book::fresh() };
     let accounts: Vec<u32> = (0..rng.range(2, 64)).collect();

@@ -1,0 +1,221 @@
+-- In Settling, after any list of calls with no lift of the issue between and no cutoff, a unit that waits for n lots is
+-- handed exactly if n or more were delivered, and else waits for the rest.
+use mathlib.Core.Path.{_≡_, refl, sym, ap, _∙_}
+use mathlib.Core.Bool.{Bool, true, false, cond, not, false≢true}
+use mathlib.Core.List.{List, [], _∷_}
+use Prim.Native.Nat.{ℕ, _+_, _-_, _≤_, _<_}
+use native.Mathlib.Omega.{arith}
+use native.Mathlib.Nat.{add-zero}
+use lib.Dec.{leb, ltb, eqb}
+use lib.ListN.{length, drop}
+use borrow.Author.Tests.{leb-true, le-leb, ltb-true, lt-ltb, eqb-true, eqb-false, not-true}
+use Rattle.rules.specs.declared.Book.{Book}
+use Rattle.rules.specs.Measures.{sum}
+use Rattle.rules.specs.Units.{AccountLots}
+use Rattle.rules.specs.Handover.{covered, stock, firstUnit}
+use Rattle.rules.specs.Book.{isTaking, isSettling, isCut, deliveredAt, deliveredTotal, orderOf, sound}
+use Rattle.rules.specs.Questions.{ask, firstNo}
+use Rattle.rules.specs.Calls.{Call, Trade, Close, Deliver, Ask, Commit, Cutoff, Resolve, PairOff, Roll, Mark, asks, effect, called, commitLift}
+use Rattle.laws.proofs.Basics.{byTest}
+use Rattle.laws.proofs.Answers.{AllYes, by-answer}
+use Rattle.laws.proofs.Cells.{row-other, delivered-rises}
+use Rattle.laws.proofs.LiftColumn.{raised-order, lift-other, same-words}
+use Rattle.laws.proofs.Sound.{sound-parts, parts-sound}
+use Rattle.laws.proofs.Called.{Sizes, Standing, stands}
+use Rattle.status.specs.Status.{StatusAnswer, isHanded, waitsFor, failsPartly, failsWholly, statusRefused, covers, wanted, takesStock, inSettling, afterCutoff, statusAnswer, status}
+use Rattle.status.specs.Lists.{after, AllPass, noLift, lotsIn, ifAccepted, brought, HandedFor, Delivery, deliveries, AllAccepted, lotsTo}
+use Rattle.status.proofs.Phases.{settling-left, settling-not-taking, settling-not-cut}
+use Rattle.status.proofs.Telling.{exactly}
+
+-- What an answer says
+
+abbrev caseOf : StatusAnswer → ℕ
+caseOf isHanded = 1
+caseOf (waitsFor n) = 2
+caseOf (failsPartly x) = 3
+caseOf failsWholly = 4
+caseOf (statusRefused r) = 5
+
+abbrev lotsOf : StatusAnswer → ℕ
+lotsOf isHanded = 0
+lotsOf (waitsFor n) = n
+lotsOf (failsPartly x) = x
+lotsOf failsWholly = 0
+lotsOf (statusRefused r) = r
+
+-- no question is answered 'no' where a unit waits
+abbrev Asked : Bool → Bool → Bool → Bool → StatusAnswer → ℕ → Type 0
+Asked g₂ g₃ g₄ g₁₆ s n = (g₂ ≡ true) × (g₃ ≡ true) × (g₄ ≡ true) × (g₁₆ ≡ true) × (s ≡ waitsFor n)
+
+all-asked : (g₂ g₃ g₄ g₁₆ : Bool) (s : StatusAnswer) (n : ℕ) →
+    statusAnswer (firstNo (ask 2 g₂ ∷ ask 3 g₃ ∷ ask 4 g₄ ∷ ask 16 g₁₆ ∷ [])) s ≡ waitsFor n → Asked g₂ g₃ g₄ g₁₆ s n
+all-asked true true true true s n e = (refl, refl, refl, refl, e)
+all-asked true true true false s n e = absurd (let q = ap caseOf e in omega arith)
+all-asked true true false h s n e = absurd (let q = ap caseOf e in omega arith)
+all-asked true false g h s n e = absurd (let q = ap caseOf e in omega arith)
+all-asked false f g h s n e = absurd (let q = ap caseOf e in omega arith)
+
+-- in Cut no unit waits
+cut-none : (c t : Bool) (x n : ℕ) → cond c isHanded (cond t (failsPartly x) failsWholly) ≡ waitsFor n → ⊥
+cut-none true t x n e = let q = ap caseOf e in omega arith
+cut-none false true x n e = let q = ap caseOf e in omega arith
+cut-none false false x n e = let q = ap caseOf e in omega arith
+
+waits-uncovered : (c : Bool) (w n : ℕ) → cond c isHanded (waitsFor w) ≡ waitsFor n → w ≡ n
+waits-uncovered true w n e = absurd (let q = ap caseOf e in omega arith)
+waits-uncovered false w n e = ap lotsOf e
+
+module _ (us : List AccountLots) (d k n : ℕ) where
+  never-cut : afterCutoff us d k ≡ waitsFor n → ⊥
+  unfolding afterCutoff
+  never-cut = cut-none (covers us d k) (takesStock us d k) (firstUnit (drop k us) .lots - stock us d) n
+
+  settling-wants : inSettling us d k ≡ waitsFor n → wanted us d k ≡ n
+  unfolding inSettling
+  settling-wants = waits-uncovered (covers us d k) (wanted us d k) n
+
+handed-covered : (c : Bool) (w : ℕ) → cond c isHanded (waitsFor w) ≡ isHanded → c ≡ true
+handed-covered true w e = refl
+handed-covered false w e = absurd (let q = ap caseOf e in omega arith)
+
+-- a unit waits for n lots
+pub record Waits (b : Book) (i k n : ℕ) : Type 0 where
+  pub good : sound b ≡ true
+  pub phase : isSettling (b .phase) ≡ true
+  pub issue : i ≤ 15
+  pub there : k < length (orderOf b i)
+  pub wants : wanted (orderOf b i) (deliveredTotal (b .delivered) i) k ≡ n
+
+pub waits-of : (b : Book) (i k n : ℕ) → status b i k ≡ waitsFor n → Waits b i k n
+unfolding status
+waits-of b i k n e =
+    let us = orderOf b i in
+    let d = deliveredTotal (b .delivered) i in
+    let q = all-asked (sound b) (not (isTaking (b .phase))) (leb i 15) (ltb k (length us)) _ n e in
+    byTest (isCut (b .phase))
+    (λ c. absurd (never-cut us d k n (simp c at (q .4))))
+    (λ c. record {
+      good = q .0;
+      phase = settling-left (b .phase) (not-true _ (q .1)) c;
+      issue = leb-true i 15 (q .2);
+      there = ltb-true k (length us) (q .3);
+      wants = settling-wants us d k n (simp c at (q .4));
+    })
+
+-- what is told of a unit of a sound book in Settling
+pub in-settling : (b : Book) (i k : ℕ) → sound b ≡ true → isSettling (b .phase) ≡ true → i ≤ 15 → k < length (orderOf b i) →
+    status b i k ≡ inSettling (orderOf b i) (deliveredTotal (b .delivered) i) k
+unfolding status
+in-settling b i k g p h t =
+    simp (g, settling-not-taking (b .phase) p, settling-not-cut (b .phase) p, le-leb i 15 h, lt-ltb k (length (orderOf b i)) t)
+
+-- A call between
+
+-- the issue's order stays, and x lots more are delivered
+pub record Brings (b b′ : Book) (i x : ℕ) : Type 0 where
+  pub phase : isSettling (b′ .phase) ≡ true
+  pub order : orderOf b′ i ≡ orderOf b i
+  pub total : deliveredTotal (b′ .delivered) i ≡ deliveredTotal (b .delivered) i + x
+
+nothing : (b : Book) (i : ℕ) → isSettling (b .phase) ≡ true → Brings b b i 0
+nothing b i p = record { phase = p; order = refl; total = sym (add-zero (deliveredTotal (b .delivered) i)) }
+
+module _ (b : Book) (z : Sizes b) (i : ℕ) (p : isSettling (b .phase) ≡ true) where
+  delivers : (j a x : ℕ) (out : List ℕ) → j < 16 → a < 64 → Brings b (effect b (Deliver j a x out) .book) i (cond (eqb j i) x 0)
+  delivers j a x out hj ha =
+      record {
+        phase = p;
+        order = raised-order (b .lifts) j (b .nets) i;
+        total =
+            byTest (eqb j i)
+            (λ e. let q = eqb-true j i e in simp e (rw (sym q) (delivered-rises (b .delivered) j a x (z .delivered) hj ha)))
+            (λ e.
+            let ne = eqb-false j i e in
+            simp e
+            (ap sum (row-other (b .delivered) j a i (deliveredAt (b .delivered) j a + x) ha (λ q. ne (sym q)))
+            ∙ sym (add-zero (deliveredTotal (b .delivered) i))));
+      }
+
+  does : (c : Call) → noLift i c ≡ true → AllYes (asks b c) → Brings b (effect b c .book) i (lotsIn i c)
+  does (Trade j f t x) h y = absurd (false≢true (sym (settling-not-taking (b .phase) p) ∙ y .1 .0))
+  does Close h y = absurd (false≢true (sym (settling-not-taking (b .phase) p) ∙ y .1 .0))
+  does (Deliver j a x out) h y =
+      delivers j a x out (omega (arith, leb-true j 15 (y .1 .1 .1 .0))) (omega (arith, leb-true a 63 (y .1 .1 .1 .1 .0)))
+  does (Ask j k) h y = nothing b i p
+  does (Commit t out) h y =
+      record {
+        phase = p;
+        order =
+            same-words (b .lifts) _ i (b .nets)
+            (lift-other (b .lifts) (t .issue) (commitLift (orderOf b) (b .delivered) t) (ltb-true _ _ (y .1 .1 .1 .1 .1 .1 .0)) i
+            (λ q. eqb-false (t .issue) i (not-true (eqb (t .issue) i) h) (sym q)));
+        total = sym (add-zero (deliveredTotal (b .delivered) i));
+      }
+  does (Cutoff out) h y = absurd (false≢true h)
+  does (Resolve j a x out) h y = record { phase = p; order = refl; total = sym (add-zero (deliveredTotal (b .delivered) i)) }
+  does (PairOff j a) h y = record { phase = p; order = refl; total = sym (add-zero (deliveredTotal (b .delivered) i)) }
+  does (Roll days rate prices) h y = absurd (false≢true (sym (settling-not-cut (b .phase) p) ∙ y .1 .0))
+  does (Mark j m) h y = record { phase = p; order = refl; total = sym (add-zero (deliveredTotal (b .delivered) i)) }
+
+  brings : (c : Call) → noLift i c ≡ true → Brings b (called b c .book) i (ifAccepted (called b c .refusal) (lotsIn i c))
+  brings c h =
+      by-answer (λ r. Brings b (r .book) i (ifAccepted (r .refusal) (lotsIn i c))) b c (does c h) (λ r. nothing b i p)
+
+-- Lists
+
+then : (b b′ b″ : Book) (i x y : ℕ) → Brings b b′ i x → Brings b′ b″ i y → Brings b b″ i (x + y)
+then b b′ b″ i x y p q =
+    record { phase = q .phase; order = q .order ∙ p .order; total = omega (arith, p .total, q .total) }
+
+pub brings-all : (cs : List Call) (b : Book) (i : ℕ) → Standing b → isSettling (b .phase) ≡ true → AllPass (noLift i) cs →
+    Brings b (after b cs) i (brought i b cs) × Standing (after b cs)
+brings-all [] b i s p h = (nothing b i p, s)
+brings-all (c ∷ cs) b i s p h =
+    let b′ = called b c .book in
+    let q = brings b (s .sizes) i p c (h .0) in
+    let r = brings-all cs b′ i (stands b c s) (q .phase) (h .1) in
+    (then b b′ (after b′ cs) i _ (brought i b′ cs) q (r .0), r .1)
+
+-- a unit of which x lots more than d are delivered
+handed-for : (us : List AccountLots) (d x k n : ℕ) → k < length us → wanted us d k ≡ n → HandedFor n x (inSettling us (d + x) k)
+unfolding inSettling
+handed-for us d x k n t e =
+    let q = exactly us (d + x) k t in
+    record {
+      enough = λ h. simp (lt-ltb k (covered us (d + x)) (q .enough (omega arith)));
+      needed = λ h. omega (arith, q .needed (ltb-true k (covered us (d + x)) (handed-covered _ _ h)));
+      fewer = λ h.
+          byTest (ltb k (covered us (d + x)))
+          (λ c. absurd (omega (arith, q .needed (ltb-true k (covered us (d + x)) c))))
+          (λ c. simp c (ap waitsFor (omega arith)));
+    }
+
+-- with n more lots delivered and no lift between, the unit is handed; with fewer it is not
+pub handed-exactly : (b : Book) → Sizes b → (i k n : ℕ) → status b i k ≡ waitsFor n → (cs : List Call) → AllPass (noLift i) cs →
+    HandedFor n (brought i b cs) (status (after b cs) i k)
+handed-exactly b z i k n e cs h =
+    let w = waits-of b i k n e in
+    let us = orderOf b i in
+    let d = deliveredTotal (b .delivered) i in
+    let x = brought i b cs in
+    let r = brings-all cs b i (record { sizes = z; parts = sound-parts b (w .good) }) (w .phase) h in
+    let b′ = after b cs in
+    let t : k < length (orderOf b′ i) = rw (r .0 .order) (w .there) in
+    rw (in-settling b′ i k (parts-sound b′ (r .1 .parts)) (r .0 .phase) (w .issue) t, r .0 .order, r .0 .total)
+    (handed-for us d x k n (w .there) (w .wants))
+
+-- Accepted deliveries
+
+no-lifts : (i : ℕ) (ds : List Delivery) → AllPass (noLift i) (deliveries ds)
+no-lifts i [] = tt
+no-lifts i (d ∷ ds) = (refl, no-lifts i ds)
+
+all-brought : (i : ℕ) (ds : List Delivery) (b : Book) → AllAccepted b (deliveries ds) → brought i b (deliveries ds) ≡ lotsTo i ds
+all-brought i [] b h = refl
+all-brought i (d ∷ ds) b h = rw (h .0) (ap (λ x. cond (eqb (d .issue) i) (d .lots) 0 + x) (all-brought i ds _ (h .1)))
+
+-- after any list of accepted deliveries that bring x lots to the issue, the unit is handed exactly if n ≤ x
+pub handed-by-deliveries : (b : Book) → Sizes b → (i k n : ℕ) → status b i k ≡ waitsFor n → (ds : List Delivery) → AllAccepted b (deliveries ds) →
+    HandedFor n (lotsTo i ds) (status (after b (deliveries ds)) i k)
+handed-by-deliveries b z i k n e ds h =
+    rw (← all-brought i ds b h) (handed-exactly b z i k n e (deliveries ds) (no-lifts i ds))

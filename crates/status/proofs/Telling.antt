@@ -1,0 +1,114 @@
+-- When a unit is handed, and what is told of it where it is not.
+use mathlib.Core.Path.{_≡_, refl, sym, ap, _∙_}
+use mathlib.Core.Bool.{Bool, true, false, cond, _&&_}
+use mathlib.Core.List.{List, [], _∷_}
+use Prim.Native.Nat.{ℕ, zero, suc, _-_, _≤_, _<_}
+use native.Mathlib.Omega.{arith}
+use lib.Dec.{leb, ltb, eqb}
+use lib.ListN.{length, take, drop, length-drop}
+use lib.IntN.{ℤ}
+use borrow.Author.Tests.{leb-true, leb-false, le-leb, lt-leb, lt-ltb, le-ltb}
+use Rattle.rules.specs.declared.Book.{Book}
+use Rattle.rules.specs.declared.Phase.{Phase}
+use Rattle.rules.specs.Units.{AccountLots, accountLots, sumLots}
+use Rattle.rules.specs.Handover.{covered, stock, firstUnit}
+use Rattle.rules.specs.Book.{isTaking, isCut, deliveredTotal, orderIn}
+use Rattle.laws.proofs.Basics.{byTest, either}
+use Rattle.laws.proofs.Handover.{stock-below, waits-short}
+use Rattle.soundness.specs.Sound.{lengthsRight, soundIn}
+use Rattle.status.specs.Status.{isHanded, waitsFor, failsPartly, failsWholly, statusRefused, wanted, inSettling, afterCutoff, status}
+use Rattle.status.specs.Columns.{reasonAt, statusOf, statusWhere, statusIn}
+
+-- a unit is handed exactly if the units up to it, it included, have no more lots than are delivered
+pub record Exactly (us : List AccountLots) (d k : ℕ) : Type 0 where
+  pub enough : sumLots (take (suc k) us) ≤ d → k < covered us d
+  pub needed : k < covered us d → sumLots (take (suc k) us) ≤ d
+
+pub exactly : (us : List AccountLots) (d k : ℕ) → k < length us → Exactly us d k
+exactly [] d k h = absurd (omega arith)
+exactly (u ∷ us) d zero h =
+    byTest (leb (u .lots) d)
+    (λ e. let l = leb-true (u .lots) d e in record { enough = λ g. simp e (omega arith); needed = λ g. omega arith })
+    (λ e.
+    let l = leb-false (u .lots) d e in
+    record { enough = λ g. absurd (omega arith); needed = λ g. absurd (let q = simp e at g in omega arith) })
+exactly (u ∷ us) d (suc k) h =
+    byTest (leb (u .lots) d)
+    (λ e.
+    let l = leb-true (u .lots) d e in
+    let r = exactly us (d - u .lots) k (omega arith) in
+    record {
+      enough = λ g. simp e (omega (arith, r .enough (omega arith)));
+      needed = λ g. let q = simp e at g in omega (arith, r .needed (omega arith));
+    })
+    (λ e.
+    let l = leb-false (u .lots) d e in
+    record { enough = λ g. absurd (omega arith); needed = λ g. absurd (let q = simp e at g in omega arith) })
+
+module _ (us : List AccountLots) (d k : ℕ) (there : k < length us) (waits : covered us d ≤ k) where
+  -- of a unit that waits something is wanted
+  pub wanted-some : d < sumLots (take (suc k) us)
+  wanted-some =
+      byTest (leb (sumLots (take (suc k) us)) d)
+      (λ e. absurd (omega (arith, exactly us d k there .enough (leb-true (sumLots (take (suc k) us)) d e))))
+      (λ e. leb-false (sumLots (take (suc k) us)) d e)
+
+  -- the stock is less than the next unit
+  pub stock-less : k ≡ covered us d → stock us d < firstUnit (drop k us) .lots
+  stock-less e = rw e (stock-below us d (waits-short us d (omega arith)))
+
+module _ (phase : Phase) (us : List AccountLots) (d k : ℕ) where
+  pub is-missing : drop k us ≡ [] → statusRefused 16 ≡ reasonAt phase us d k
+  unfolding reasonAt
+  is-missing e = simp (le-ltb k (length us) (omega (arith, length-drop k us, ap length e)))
+
+  module _ (there : k < length us) where
+    pub is-handed : k < covered us d → isHanded ≡ reasonAt phase us d k
+    unfolding reasonAt afterCutoff inSettling
+    is-handed h = simp (lt-ltb k (length us) there, lt-ltb k (covered us d) h) (either (λ s. isHanded ≡ s) (isCut phase) refl refl)
+
+    pub is-waiting : isCut phase ≡ false → covered us d ≤ k → waitsFor (wanted us d k) ≡ reasonAt phase us d k
+    unfolding reasonAt inSettling
+    is-waiting e h = simp (e, lt-ltb k (length us) there, le-ltb k (covered us d) h)
+
+    -- in Cut, where so many are handed and so many lots are left
+    module _ (h t : ℕ) (e : h ≡ covered us d) (f : t ≡ stock us d) (cut : isCut phase ≡ true) (waits : h ≤ k) where
+      is-cut : cond (eqb k h && ltb 0 t) (failsPartly (firstUnit (drop k us) .lots - t)) failsWholly ≡ reasonAt phase us d k
+      unfolding reasonAt afterCutoff
+      is-cut = simp (cut, lt-ltb k (length us) there, le-ltb k (covered us d) (omega arith), e, f)
+
+      pub is-partly : (a x : ℕ) (vs : List AccountLots) → drop k us ≡ accountLots a x ∷ vs → eqb k h && ltb 0 t ≡ true → failsPartly (x - t) ≡ reasonAt phase us d k
+      is-partly a x vs g y = sym (simp (y, g)) ∙ is-cut
+
+      pub is-wholly : eqb k h && ltb 0 t ≡ false → failsWholly ≡ reasonAt phase us d k
+      is-wholly n = sym (simp n) ∙ is-cut
+
+-- Questions 3 and 4
+module _ (phase : Phase) (nets : List ℤ) (delivered lifts : List ℕ) (i k : ℕ) where
+  pub is-taking : isTaking phase ≡ true → statusRefused 3 ≡ statusOf phase nets delivered lifts i k
+  unfolding statusOf
+  is-taking e = simp e
+
+  pub no-issue : isTaking phase ≡ false → 15 < i → statusRefused 4 ≡ statusOf phase nets delivered lifts i k
+  unfolding statusOf
+  no-issue e l = simp (e, lt-leb i 15 l)
+
+  pub of-unit : (us : List AccountLots) (d : ℕ) → us ≡ orderIn nets lifts i → d ≡ deliveredTotal delivered i →
+      isTaking phase ≡ false → i ≤ 15 → reasonAt phase us d k ≡ statusOf phase nets delivered lifts i k
+  unfolding statusOf reasonAt
+  of-unit us d p q e l = rw (p, q, e, le-leb i 15 l)
+
+-- Question 2
+module _ (good : Bool) (b : Book) (i k : ℕ) where
+  pub unsound : good ≡ false → statusRefused 2 ≡ statusWhere good b i k
+  unfolding statusWhere
+  unsound e = rw e
+
+  pub told-sound : good ≡ true → statusOf (b .phase) (b .nets) (b .delivered) (b .lifts) i k ≡ statusWhere good b i k
+  unfolding statusWhere statusOf
+  told-sound e = rw e
+
+-- on columns of the right lengths it is what is told of the book in them
+pub status-in : (b : Book) (i k : ℕ) → lengthsRight b ≡ true → statusIn b i k ≡ status b i k
+unfolding statusWhere status soundIn
+status-in b i k h = rw h

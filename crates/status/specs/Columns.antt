@@ -1,0 +1,43 @@
+-- What is told of a unit, from the columns of a sound book and from columns of any length.
+use mathlib.Core.Bool.{Bool}
+use mathlib.Core.List.{List, [], _∷_}
+use Prim.Native.Nat.{ℕ, _≤_, _<_}
+use lib.ListN.{length}
+use lib.IntN.{ℤ}
+use Rattle.rules.specs.declared.Book.{Book}
+use Rattle.rules.specs.declared.Phase.{Phase}
+use Rattle.rules.specs.Units.{AccountLots, sumLots}
+use Rattle.rules.specs.Book.{deliveredTotal, orderIn, orderOf}
+use Rattle.rules.specs.Questions.{ask, firstNo}
+use Rattle.units.specs.Runs.{unitsIn, Held}
+use Rattle.soundness.specs.Sound.{soundIn}
+use Rattle.status.specs.Status.{StatusAnswer, reason, askUnit, statusAsks, statusAnswer}
+
+-- units in a lent array whose lots fit a word
+pub record CanSum (runs : List ℕ) (n : ℕ) : Type 0 where
+  pub there : n ≤ length runs
+  pub small : sumLots (unitsIn runs n) < 4294967296
+
+pub record CanTell (runs : List ℕ) (n : ℕ) : Type 0 where
+  pub held : Held runs n
+  pub small : sumLots (unitsIn runs n) < 4294967296
+
+-- question 16 of unit k, and the reason
+unfoldable pub reasonAt : Phase → List AccountLots → ℕ → ℕ → StatusAnswer
+reasonAt phase us d k = statusAnswer (firstNo (askUnit us k ∷ [])) (reason phase us d k)
+
+-- the questions after soundness, and the reason
+unfoldable pub statusOf : Phase → List ℤ → List ℕ → List ℕ → ℕ → ℕ → StatusAnswer
+statusOf phase nets delivered lifts i k =
+    statusAnswer (firstNo (statusAsks phase (orderIn nets lifts) i k))
+    (reason phase (orderIn nets lifts i) (deliveredTotal delivered i) k)
+
+-- where question 2 is answered so
+unfoldable pub statusWhere : Bool → Book → ℕ → ℕ → StatusAnswer
+statusWhere good b i k =
+    statusAnswer (firstNo (ask 2 good ∷ statusAsks (b .phase) (orderOf b) i k))
+    (reason (b .phase) (orderOf b i) (deliveredTotal (b .delivered) i) k)
+
+-- columns of another length are no sound book
+abbrev pub statusIn : Book → ℕ → ℕ → StatusAnswer
+statusIn b = statusWhere (soundIn b) b

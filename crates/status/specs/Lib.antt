@@ -1,0 +1,5 @@
+pub mod Status
+pub mod Columns
+pub mod Lists
+pub mod Host
+pub mod Days

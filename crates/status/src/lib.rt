@@ -1,0 +1,135 @@
+// The reason a unit has not come: for issue and unit number the book tells one of handed, waiting, partly
+// failed and wholly failed. The units are those of the order as lifted, in Settling and in Cut.
+use book::State;
+use rules::Phase;
+use units::NextUnit;
+ghost use mathlib.Core.Path.{_≡_};
+ghost use Prim.Native.Nat.{suc};
+ghost use lib.ListN.{take};
+ghost use Rattle.rules.specs.Units.{sumLots};
+ghost use Rattle.book.specs.Cells.{SoundCells};
+ghost use Rattle.book.specs.States.{columns};
+ghost use Rattle.units.specs.Runs.{unitsIn};
+ghost use Rattle.status.specs.Status.{toldAnswer};
+ghost use Rattle.status.specs.Columns.{CanTell, CanSum, reasonAt, statusOf, statusIn};
+
+pub mod host;
+
+// What is told of a unit: handed; waiting, with so many lots; partly failed, with the lots lacking; wholly
+// failed; or the refusal's number.
+pub enum Told {
+    Handed,
+    Waiting(u32),
+    PartlyFailed(u32),
+    WhollyFailed,
+    Refused(u32),
+}
+
+// The lots of all units up to unit k, it included.
+fn lots_up_to(runs: &[u32], n: usize, k: u32) -> u32
+    requires { ⌜ CanSum (now runs) n ⌝ }
+    ensures { λ r. ⌜ r ≡ sumLots (take (suc k) (unitsIn (now (runs .entry)) n)) ⌝ }
+{
+    let mut left = k;
+    let mut sum: u32 = 0;
+    let mut j = 0;
+    while j < n {
+        let lots = runs[j] / 64;
+        let c = (lots + 99999) / 100000;
+        if left < c {
+            let end = (left + 1) * 100000;
+            if lots < end {
+                return sum + lots;
+            }
+            return sum + end;
+        }
+        left -= c;
+        sum += lots;
+        j += 1;
+    }
+    sum
+}
+
+// Of the units in a lent array, with so many lots delivered: question 16 of unit k, and the reason.
+fn tell(phase: Phase, runs: &[u32], n: usize, d: u32, k: u32) -> Told
+    requires { ⌜ CanTell (now runs) n ⌝ }
+    ensures { λ r. ⌜ toldAnswer r ≡ reasonAt phase (unitsIn (now (runs .entry)) n) d k ⌝ }
+{
+    let s = units::seek(k);
+    let NextUnit::Unit(_, x, _) = units::next_unit(runs, n, s) else {
+        return Told::Refused(16);
+    };
+    let h = units::handover(runs, n, d);
+    if k < h.count {
+        return Told::Handed;
+    }
+    if !book::cut(phase) {
+        return Told::Waiting(lots_up_to(runs, n, k) - d);
+    }
+    if (k == h.count) & (0 < h.stock) {
+        return Told::PartlyFailed(x - h.stock);
+    }
+    Told::WhollyFailed
+}
+
+// Questions 3, 4 and 16 of a sound book, and the reason.
+pub fn status_in<'a>(
+    phase: Phase,
+    nets: &'a [i32],
+    delivered: &'a [u32],
+    lifts: &'a [u32],
+    i: u32,
+    k: u32,
+) -> Told
+    requires { ⌜ SoundCells (now nets) (now delivered) (now lifts) ⌝ }
+    ensures { λ r. ⌜ toldAnswer r ≡ statusOf phase (now (nets .entry)) (now (delivered .entry)) (now (lifts .entry)) i k ⌝ }
+{
+    if book::taking(phase) {
+        return Told::Refused(3);
+    }
+    if 15 < i {
+        return Told::Refused(4);
+    }
+    let s = i as usize * 64;
+    let e = s + 64;
+    let mut runs = [0u32; 144];
+    let n = units::prepare(nets, lifts, i as usize, &mut runs);
+    let d = book::total(&delivered[s..e]);
+    tell(phase, &runs, n, d, k)
+}
+
+// What is told of unit k of an issue, k from 0, on columns of any length and content. Refuses a book that is
+// not sound (2), Taking (3), an issue above 15 (4) and a missing unit (16).
+pub fn status<'a>(
+    s: State,
+    nets: &'a [i32],
+    delivered: &'a [u32],
+    lifts: &'a [u32],
+    charges: &'a [i64],
+    issues: &'a [u8],
+    froms: &'a [u8],
+    tos: &'a [u8],
+    lots: &'a [u32],
+    days: &'a [u16],
+    i: u32,
+    k: u32,
+) -> Told
+    ensures { λ r. ⌜ toldAnswer r ≡ statusIn (columns nets delivered lifts charges issues froms tos lots days .before s) i k ⌝ }
+{
+    if !soundness::sound(
+        s,
+        nets,
+        delivered,
+        lifts,
+        charges,
+        issues,
+        froms,
+        tos,
+        lots,
+        days,
+    ) {
+        return Told::Refused(2);
+    }
+    let phase = s.phase;
+    status_in(phase, nets, delivered, lifts, i, k)
+}
