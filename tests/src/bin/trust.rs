@@ -27,7 +27,7 @@ const AROUND: usize = 4;
 /// The numbers that the library marks off in one window.
 const WINDOW: u32 = 65_536;
 /// The reports of a long draw, and the most time that its answer may take: windows need some
-/// milliseconds, a search of the draw for each number five minutes.
+/// milliseconds, a search of the draw for each number some minutes.
 const LONG: u32 = 1_000_000;
 const MOST_TIME: Duration = Duration::from_secs(2);
 
