@@ -1,7 +1,7 @@
 -- Worked days of a fail inside a trust account, as one list with one proof.
 use mathlib.Core.Path.{refl}
 use mathlib.Core.List.{List, [], _∷_, _++_}
-use Prim.Native.Nat.{ℕ}
+use Prim.Native.Nat.{ℕ, suc}
 use lib.ListN.{replicate}
 use lib.IntN.{ℤ, pos, negsuc}
 use Rattle.rules.specs.Days.{Case, case, Holds}
@@ -36,9 +36,10 @@ refused n = answered n lent
 abbrev pub oneReport : ℕ → ℕ → ℤ → Reports
 oneReport sub party lots = reports (sub ∷ []) (party ∷ []) (lots ∷ []) (0 ∷ [])
 
--- and one with so many, of one lot each
-abbrev pub oneLotEach : ℕ → Reports
-oneLotEach n = reports (replicate n 0) (replicate n 4) (replicate n (pos 1)) (replicate n 0)
+-- and one with so many of one lot each, and then one more: all but the last with an earlier fail
+abbrev pub andOneMore : ℕ → Reports
+andOneMore n =
+    reports (replicate (suc n) 0) (replicate (suc n) 4) (replicate (suc n) (pos 1)) (replicate n 1 ++ (0 ∷ []))
 
 unfoldable pub workedDays : List Case
 workedDays =
@@ -74,13 +75,14 @@ workedDays =
     ∷ case (trust (oneReport 31 63 (negsuc 20000000)) (0 ∷ []) 20000000 63 lent) (refused 7)
     ∷ case (trust (oneReport 31 63 (negsuc 19999999)) (0 ∷ []) 20000000 63 lent) (refused 23)
     ∷ case (trust (oneReport 32 63 (pos 20000000)) (0 ∷ []) 20000000 63 lent) (refused 22)
-    -- 257 reports, each number once; and with one missing 21 comes first
-    ∷ case (trust (oneLotEach 257) (numbers 257) 1 4 lent) (refused 22)
-    ∷ case (trust (oneLotEach 257) (numbers 256) 1 4 lent) (refused 21)
+    -- 256 reports; 257, each number once; and with one missing 21 comes first
+    ∷ case (trust (andOneMore 255) (numbers 256) 1 4 lent) (answered 0 (replicate 255 0 ++ (1 ∷ [])))
+    ∷ case (trust (andOneMore 256) (numbers 257) 1 4 lent) (refused 22)
+    ∷ case (trust (andOneMore 256) (numbers 256) 1 4 lent) (refused 21)
     ∷ []
 
 -- each by computing what the definitions give
 pub worked : Holds workedDays
 unfolding workedDays numbers receipts deliveries eligible sizeOf eligibleLots times drawRight facing others sharesOf trust
 worked =
-    (refl, (refl, (refl, (refl, (refl, (refl, (refl, (refl, (refl, (refl, (refl, (refl, (refl, (refl, (refl, (refl, (refl, (refl, (refl, (refl, (refl, (refl, (refl, (refl, tt))))))))))))))))))))))))
+    (refl, (refl, (refl, (refl, (refl, (refl, (refl, (refl, (refl, (refl, (refl, (refl, (refl, (refl, (refl, (refl, (refl, (refl, (refl, (refl, (refl, (refl, (refl, (refl, (refl, tt)))))))))))))))))))))))))
