@@ -15,28 +15,23 @@ use Rattle.rules.specs.Book.{liftConditions, liftsSound, cellsEven, conditions,
 use Rattle.rules.specs.Questions.{quotesRight}
 use Rattle.rules.specs.Calls.{Call, Deliver, Commit, Cutoff, Resolve, PairOff, Roll, Mark, Answer, ticketFor, called, issuePartials, issueFails}
 use Rattle.rules.specs.Tally.{inIssue}
-use Rattle.rules.specs.Days.{lent, traded1, traded2, traded3, closed, delivered1, delivered2, cut, resolved, ticket7, committed7, tallied, Case, case, Holds}
+use Rattle.rules.specs.Days.{lent, traded1, traded2, traded3, closed, delivered1, delivered2, cut, ticket7, committed7, tallied, Case, case, Holds}
 use Rattle.status.specs.Status.{isHanded, waitsFor, failsPartly, failsWholly, statusRefused, inSettling, afterCutoff, status}
 use Rattle.reasons.specs.Lists.{after, noLiftBetween, brought, noRollSince, lacking}
 
--- P6: three units, stock 45,000; unit 3 waits for 55,000 lots, and unit 4 for 100,000 more
+-- P6: three units, stock 45,000; unit 3 waits for 55,000 lots
 abbrev pub settlingDays : List Case
 settlingDays =
     case (status (delivered1 .book) 0 2) isHanded
     ∷ case (status (delivered1 .book) 0 3) (waitsFor 55000)
-    ∷ case (status (delivered1 .book) 0 4) (waitsFor 155000)
     ∷ []
 
--- P8: unit 5 partly failed 5,000, units 6 and 7 wholly; of account 3 50,000 are lacking, as many as were failed to it
+-- P8: unit 5 partly failed 5,000, unit 6 wholly; of account 3 50,000 are lacking, as many as were failed to it
 abbrev pub cutDays : List Case
 cutDays =
-    case (status (cut .book) 0 4) isHanded
-    ∷ case (status (cut .book) 0 5) (failsPartly 5000)
+    case (status (cut .book) 0 5) (failsPartly 5000)
     ∷ case (status (cut .book) 0 6) failsWholly
-    ∷ case (status (cut .book) 0 7) failsWholly
     ∷ case (lacking (cut .book) 0 3) 50000
-    -- later resolves are not counted: 4 delivers 6,000, so that the fail to account 2 is met
-    ∷ case (status (resolved .book) 0 5) (failsPartly 5000)
     ∷ []
 
 -- after P7 unit 7 (account 1, 30,000 lots) is lifted and handed: the units behind it move back, and so does the stock of 15,000
@@ -63,7 +58,7 @@ betweenDays =
     ∷ case (brought 0 (delivered1 .book) (refusedThen 55000)) 55000
     ∷ case (status (after (delivered1 .book) (refusedThen 55000)) 0 3) isHanded
     ∷ case (status (after (delivered1 .book) (refusedThen 54999)) 0 3) (waitsFor 1)
-    -- an accepted commit is a lift, of its own issue; an accepted cutoff is one
+    -- an accepted commit is a lift of its own issue; an accepted cutoff may not stand between for any issue
     ∷ case (noLiftBetween 0 (delivered2 .book) (Commit ticket7 lent ∷ [])) false
     ∷ case (noLiftBetween 1 (delivered2 .book) (Commit ticket7 lent ∷ [])) true
     ∷ case (noLiftBetween 1 (delivered2 .book) (Cutoff lent ∷ [])) false
@@ -77,7 +72,8 @@ rowDays =
     ∷ case (status (tallied .book) 0 5) (waitsFor 5000)
     ∷ []
 
--- after P8 a delivery and a roll without prices are refused; 4 resolves 6,000 lots, 3 is paired off and issue 5 is marked
+-- after P8 a delivery and a roll without prices are refused; 4 resolves 6,000 lots, so that the fail to account 2 is met; 3 is paired off and
+-- issue 5 is marked: unit 5 lacked 5,000 at the cutoff
 abbrev pub later : List Call
 later = Deliver 0 4 1 lent ∷ Roll 1 300 [] ∷ Resolve 0 4 6000 lent ∷ PairOff 0 3 ∷ Mark 5 1 ∷ []
 
@@ -85,7 +81,6 @@ abbrev pub laterDays : List Case
 laterDays =
     case (noRollSince (cut .book) later) true
     ∷ case (status (after (cut .book) later) 0 5) (failsPartly 5000)
-    ∷ case (status (after (cut .book) later) 0 6) failsWholly
     ∷ []
 
 -- Taking is refused by phase, a missing unit by 16
@@ -101,6 +96,6 @@ reasonDays = settlingDays ++ cutDays ++ liftDays ++ betweenDays ++ rowDays ++ la
 
 -- each by computing what the definitions give
 pub reasonsTold : Holds reasonDays
-unfolding reasonDays units handovers partials lacks fails pairing quotesRight liftConditions liftsSound cellsEven conditions sound lift handedFrom orderIn issuePartials issueFails called inIssue traded1 traded2 traded3 closed delivered1 delivered2 cut resolved committed7 tallied liftedCut inSettling afterCutoff status lacking
+unfolding reasonDays units handovers partials lacks fails pairing quotesRight liftConditions liftsSound cellsEven conditions sound lift handedFrom orderIn issuePartials issueFails called inIssue traded1 traded2 traded3 closed delivered1 delivered2 cut committed7 tallied liftedCut inSettling afterCutoff status lacking
 reasonsTold =
-    (refl, (refl, (refl, (refl, (refl, (refl, (refl, (refl, (refl, (refl, (refl, (refl, (refl, (refl, (refl, (refl, (refl, (refl, (refl, (refl, (refl, (refl, (refl, (refl, (refl, (refl, (refl, (refl, (refl, (refl, tt))))))))))))))))))))))))))))))
+    (refl, (refl, (refl, (refl, (refl, (refl, (refl, (refl, (refl, (refl, (refl, (refl, (refl, (refl, (refl, (refl, (refl, (refl, (refl, (refl, (refl, (refl, (refl, (refl, (refl, tt)))))))))))))))))))))))))
