@@ -46,8 +46,13 @@ while IFS='|' read -r _ name time number sum _; do
     [[ $number =~ ^[1-9][0-9]*$ && $sum =~ ^[0-9]+$ ]] && an_edit[$name]=$(((sum + number - 1) / number))
 done <"${CHECK_TIMES:-docs/CHECK-TIMES.md}"
 
-to_prove() { echo "${seconds[$1]:-20}"; }           # NAME
-to_refuse() { echo "${an_edit[$1]:-$(to_prove "$1")}"; } # NAME
+to_prove() { # NAME
+    echo "${seconds[$1]:-20}"
+}
+
+to_refuse() { # NAME of the edit's crate
+    echo "${an_edit[$1]:-$(to_prove "$1")}"
+}
 
 # Has a crate been proved before? rt tests whether that still holds; with the edits, all begin anew.
 known() { # NAME
