@@ -15,7 +15,8 @@ use Rattle.rules.specs.Book.{liftConditions, liftsSound, cellsEven, conditions,
 use Rattle.rules.specs.Questions.{quotesRight}
 use Rattle.rules.specs.Calls.{Call, Deliver, Commit, Cutoff, Resolve, PairOff, Roll, Mark, Answer, ticketFor, called, issuePartials, issueFails}
 use Rattle.rules.specs.Tally.{inIssue}
-use Rattle.rules.specs.Days.{lent, traded1, traded2, traded3, closed, delivered1, delivered2, cut, ticket7, committed7, tallied, Case, case, Holds}
+use Rattle.rules.specs.Days.{Case, case, Holds}
+use Rattle.days.specs.Books.{lent, traded1, traded2, traded3, closed, delivered1, delivered2, cut, ticket7, committed7, tallied}
 use Rattle.status.specs.Status.{isHanded, waitsFor, failsPartly, failsWholly, statusRefused, inSettling, afterCutoff, status}
 use Rattle.reasons.specs.Lists.{after, noLiftBetween, brought, noRollSince, lacking}
 

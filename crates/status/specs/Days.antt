@@ -6,17 +6,11 @@ use lib.ListN.{replicate}
 use lib.IntN.{pos, negsuc}
 use Rattle.rules.specs.declared.Book.{Book}
 use Rattle.rules.specs.declared.Phase.the-variants.{Taking, Settling, Cut}
-use Rattle.rules.specs.Units.{AccountLots, accountLots, units}
+use Rattle.rules.specs.Units.{units}
 use Rattle.rules.specs.Book.{liftConditions, liftsSound, cellsEven, conditions, sound, orderIn, withPhase, withNets, withDelivered, withLedger, fresh}
 use Rattle.rules.specs.Questions.{firstNo}
-use Rattle.rules.specs.Days.{fail, Case, case, Holds}
+use Rattle.rules.specs.Days.{fail, unitsP5, Case, case, Holds}
 use Rattle.status.specs.Status.{isHanded, waitsFor, failsPartly, failsWholly, inSettling, afterCutoff, reason, statusAsks, status}
-
--- the units of P5: by account 2 2 1 1 3, then 2 (50,000), 3 (50,000), 1 (30,000)
-abbrev pub unitsP5 : List AccountLots
-unitsP5 =
-    accountLots 2 100000 ∷ accountLots 2 100000 ∷ accountLots 1 100000 ∷ accountLots 1 100000 ∷ accountLots 3 100000
-    ∷ accountLots 2 50000 ∷ accountLots 3 50000 ∷ accountLots 1 30000 ∷ []
 
 -- P6: of 345,000 lots 45,000 are stock: unit 3 waits for 55,000, and unit 4 for 100,000 more
 abbrev pub settlingCases : List Case
