@@ -221,10 +221,8 @@ pub played : (r : End) (index : ℕ) (rest : List ℕ) → r .sent .count ≤ 32
     (r .over ≡ false → r .failed ≡ false → r .sent .written ≡ true → r .reads ≡ mostReads) → (r .failed ≡ true → r .over ≡ false) →
     0 < r .reads → Sofar (r .over) (r .failed) (r .reads) index (r .book) rest (r .sent .count) → Played r
 played r index rest n o stops waits begun s =
-    let g : r .over ≡ true → Goes (ranOf (s .came)) (s .text) (stopped [] (r .book)) =
-    λ e. over-goes (r .over) index (r .book) _ (s .text) (wordsIn (rest ++ [])) (strayIn (rest ++ [])) e
-    (subst (λ (l : List ℕ). Goes (ranOf l) (s .text) (onward (r .over) index (r .book) (wordsIn (rest ++ [])) (strayIn (rest ++ []))))
-    (append-nil (s .came)) (s .run [] (λ z. refl))) in
+    let g : r .over ≡ true → (more : List ℕ) → (s .ended ≡ true → more ≡ []) → Goes (ranOf (s .came ++ more)) (s .text) (stopped [] (r .book)) =
+    λ e more f. over-goes (r .over) index (r .book) _ (s .text) (wordsIn (rest ++ more)) (strayIn (rest ++ more)) e (s .run more f) in
     record {
       few = n;
       count = sound-parts _ o .ledger .count;
@@ -239,27 +237,27 @@ played r index rest n o stops waits begun s =
       many = s .many;
       printed = record { part = λ more f. stands 0 [] (s .text) _ _ refl (s .run more f) };
       goes = s .goes;
-      lines = λ e. g e .printed ∙ append-nil (s .text);
-      book = λ e. g e .book;
+      lines = λ e more f. g e more f .printed ∙ append-nil (s .text);
+      book = λ e more f. g e more f .book;
     }
 
 -- the lines behind a run's end what is printed
 module _ (e : End) (text : List ℕ) (q : Played e) (o : e .over ≡ true) (t : text ≡ closingText (e .book)) where
-  printed-all : printedOf (q .came) ≡ linesText (ranOf (q .came) .lines) ++ text
+  printed-all : (more : List ℕ) → (q .ended ≡ true → more ≡ []) → printedOf (q .came ++ more) ≡ q .text ++ text
   unfolding printedOf
-  printed-all = ap (λ (l : List ℕ). linesText (ranOf (q .came) .lines) ++ l) (ap closingText (q .book o) ∙ sym t)
+  printed-all more f =
+      ap (λ (l : List ℕ). linesText (ranOf (q .came ++ more) .lines) ++ l) (ap closingText (q .book o more f) ∙ sym t)
+      ∙ ap (λ (l : List ℕ). l ++ text) (q .lines o more f)
 
   pub closing-shown : Shown (e .sent .count) text
   closing-shown =
-      let lines = linesText (ranOf (q .came) .lines) in
       record {
         came = q .came;
-        ended = true;
+        ended = q .ended;
         printed = record {
           part = λ more f.
-              ap (λ (l : List ℕ). take (length text) (drop (e .sent .count) (printedOf l))) (ap (λ (l : List ℕ). q .came ++ l) (f refl) ∙ append-nil (q .came))
-              ∙ ap (λ (n : ℕ). take (length text) (drop n (printedOf (q .came)))) (sym (ap length (q .lines o) ∙ q .many))
-              ∙ stands-in lines text [] (printedOf (q .came)) (printed-all ∙ ap (λ (l : List ℕ). lines ++ l) (sym (append-nil text)));
+              ap (λ (n : ℕ). take (length text) (drop n (printedOf (q .came ++ more)))) (sym (q .many))
+              ∙ stands-in (q .text) text [] (printedOf (q .came ++ more)) (printed-all more f ∙ ap (λ (l : List ℕ). q .text ++ l) (sym (append-nil text)));
         };
       }
 
@@ -267,11 +265,9 @@ module _ (e : End) (text : List ℕ) (q : Played e) (o : e .over ≡ true) (t : 
 pub whole : (e : End) (r : Sent) → Played e → Closed e r → Whole (record { run = e; closing = r })
 whole e r q k =
     let closing = closingText (e .book) in
-    let all : e .over ≡ true → q .text ++ closing ≡ printedOf (q .came) =
-    λ o. ap (λ (l : List ℕ). l ++ closing) (sym (q .lines o)) ∙ sym (printed-all e closing q o refl) in
     record {
       played = q;
       closed = k;
-      printed = λ o w. all o;
-      count = λ o w. omega (arith, k .closing o w, q .many, ap length (all o), length-append (q .text) closing);
+      count = λ o w. omega (arith, k .closing o w, q .many, length-append (q .text) closing);
+      printed = λ o more f. sym (printed-all e closing q o refl more f);
     }

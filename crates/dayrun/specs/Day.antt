@@ -1,7 +1,7 @@
 -- A day of the program: its buffers, where a run stands between two parts, what is written and what was at the end.
 use mathlib.Core.Path.{_≡_}
 use mathlib.Core.Bool.{Bool, true, false}
-use mathlib.Core.List.{List, _++_}
+use mathlib.Core.List.{List, [], _++_}
 use Prim.Native.Nat.{ℕ, _+_, _-_, _*_, _≤_, _<_}
 use lib.ListN.{length, take, drop}
 use Rattle.rules.specs.Book.{sound}
@@ -51,7 +51,7 @@ pub record Shown (sent : ℕ) (text : List ℕ) : Type 0 where
   pub printed : PrintedAt came ended sent text
 
 -- how a run ended. It made a read; one that is not over had a read that failed, a write that failed, or all its reads; where its last
--- read failed it is not over. Of the bytes that came, the text handed over is what is printed first, whatever may still come; where
+-- read failed it is not over. Of the bytes that came, and whatever may still come, the text handed over is what is printed first; where
 -- the run was over it is all its lines, and the book is the run's; else the tape had not ended. Each read but the last brought a byte,
 -- and so did the last where the run was not over and it did not fail
 pub record Played (r : End) : Type 0 where
@@ -68,8 +68,8 @@ pub record Played (r : End) : Type 0 where
   pub many : length text ≡ r .sent .count
   pub printed : PrintedAt came ended 0 text
   pub goes : r .over ≡ false → ended ≡ false
-  pub lines : r .over ≡ true → linesText (ranOf came .lines) ≡ text
-  pub book : r .over ≡ true → ranOf came .book ≡ r .book
+  pub lines : r .over ≡ true → (more : List ℕ) → (ended ≡ true → more ≡ []) → linesText (ranOf (came ++ more) .lines) ≡ text
+  pub book : r .over ≡ true → (more : List ℕ) → (ended ≡ true → more ≡ []) → ranOf (came ++ more) .book ≡ r .book
 
 -- nothing is handed over behind a run's lines, and it counts as not written
 pub record Nothing (e : End) (r : Sent) : Type 0 where
@@ -83,9 +83,10 @@ pub record Closed (e : End) (r : Sent) : Type 0 where
   pub unwritten : e .sent .written ≡ false → Nothing e r
 
 -- a whole day: where its run was over and the run's lines are written, the bytes handed over, from the first to the last, are all that
--- is printed for the bytes that came, and no more
+-- is printed for the bytes that came, and no more, whatever may still come
 pub record Whole (d : Outcome) : Type 0 where
   pub played : Played (d .run)
   pub closed : Closed (d .run) (d .closing)
-  pub printed : d .run .over ≡ true → d .run .sent .written ≡ true → played .text ++ closingText (d .run .book) ≡ printedOf (played .came)
-  pub count : d .run .over ≡ true → d .run .sent .written ≡ true → d .closing .count ≡ length (printedOf (played .came))
+  pub count : d .run .over ≡ true → d .run .sent .written ≡ true → d .closing .count ≡ length (played .text ++ closingText (d .run .book))
+  pub printed : d .run .over ≡ true → (more : List ℕ) → (played .ended ≡ true → more ≡ []) →
+      played .text ++ closingText (d .run .book) ≡ printedOf (played .came ++ more)

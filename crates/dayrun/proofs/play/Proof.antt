@@ -41,42 +41,43 @@ loop-holds c = (
 )
 
 -- a turn is made where all lines are written, the run goes on and a read is left
-record Going (w o f : Bool) (r : ℕ) : Type 0 where
+record Going (w o f : Bool) (r most : ℕ) : Type 0 where
   pub written : w ≡ true
   pub over : o ≡ false
   pub failed : f ≡ false
-  pub reads : r < mostReads
+  pub reads : r < most
 
-going : (written over failed : Bool) (reads : ℕ) → (((written && not over) && not failed) && ltb reads mostReads) ≡ true → Going written over failed reads
-going written over failed reads t =
-    let a = and-left ((written && not over) && not failed) (ltb reads mostReads) t in
+going : (written over failed : Bool) (reads most : ℕ) → (((written && not over) && not failed) && ltb reads most) ≡ true →
+    Going written over failed reads most
+going written over failed reads most t =
+    let a = and-left ((written && not over) && not failed) (ltb reads most) t in
     let b = and-left (written && not over) (not failed) a in
     record {
       written = and-left written (not over) b;
       over = not-true over (and-right written (not over) b);
       failed = not-true failed (and-right (written && not over) (not failed) a);
-      reads = ltb-true reads mostReads (and-right ((written && not over) && not failed) (ltb reads mostReads) t);
+      reads = ltb-true reads most (and-right ((written && not over) && not failed) (ltb reads most) t);
     }
 
 -- and none more where one of these is not so
-stops : (written over failed : Bool) (reads : ℕ) → (((written && not over) && not failed) && ltb reads mostReads) ≡ false → reads ≤ mostReads →
-    over ≡ false → failed ≡ false → written ≡ true → reads ≡ mostReads
-stops written over failed reads t m o f w =
-    let e = ap (λ (b : Bool). ((b && not over) && not failed) && ltb reads mostReads) w
-    ∙ ap (λ (b : Bool). ((true && not b) && not failed) && ltb reads mostReads) o
-    ∙ ap (λ (b : Bool). ((true && not false) && not b) && ltb reads mostReads) f in
-    omega (arith, ltb-false reads mostReads (sym e ∙ t), m)
+stops : (written over failed : Bool) (reads most : ℕ) → (((written && not over) && not failed) && ltb reads most) ≡ false →
+    over ≡ false → failed ≡ false → written ≡ true → most ≤ reads
+stops written over failed reads most t o f w =
+    let e = ap (λ (b : Bool). ((b && not over) && not failed) && ltb reads most) w
+    ∙ ap (λ (b : Bool). ((true && not b) && not failed) && ltb reads most) o
+    ∙ ap (λ (b : Bool). ((true && not false) && not b) && ltb reads most) f in
+    ltb-false reads most (sym e ∙ t)
 
 -- at least one is made
-begun : (written over failed : Bool) (reads : ℕ) → (((written && not over) && not failed) && ltb reads mostReads) ≡ false →
+begun : (written over failed : Bool) (reads most : ℕ) → (((written && not over) && not failed) && ltb reads most) ≡ false → 0 < most →
     (reads ≡ 0 → (written ≡ true) × (over ≡ false) × (failed ≡ false)) → 0 < reads
-begun written over failed zero t h = absurd (let e = stops written over failed 0 t (omega arith) (h refl .1) (h refl .2) (h refl .0) in omega (arith, e))
-begun written over failed (suc n) t h = omega arith
+begun written over failed zero most t m h = absurd (let e = stops written over failed 0 most t (h refl .1) (h refl .2) (h refl .0) in omega (arith, e, m))
+begun written over failed (suc n) most t m h = omega arith
 
 step-requires : tie.Need-step-requires Inv-loop μ-loop
 step-requires c κs =
     let l = c .before .before .before .before .before .before .before .before .loop in
-    let g = going (l .sent .written) (l .p .over) (l .p .failed) (l .reads) (c .before .before .before .before .if1 .taken) in
+    let g = going (l .sent .written) (l .p .over) (l .p .failed) (l .reads) _ (c .before .before .before .before .if1 .taken) in
     (l .inv .0, l .inv .1, g .over, g .failed, omega (arith, g .reads, l .inv .2))
 
 -- where a turn began, and its part of the run
@@ -86,8 +87,11 @@ turn c = c .before .before .before .before .before .before .before .before .befo
 abbrev part : tie.After-show Inv-loop μ-loop → tie.After-step Inv-loop μ-loop
 part c = c .before .before .before .before .before .before .before .before .before .before
 
-turned : (c : tie.After-step Inv-loop μ-loop) → let l = turn c .loop in Going (l .sent .written) (l .p .over) (l .p .failed) (l .reads)
-turned c = going _ _ _ _ (c .before .before .before .before .before .if1 .taken)
+turned : (c : tie.After-step Inv-loop μ-loop) → let l = turn c .loop in Going (l .sent .written) (l .p .over) (l .p .failed) (l .reads) mostReads
+turned c =
+    let l = turn c .loop in
+    let g = going (l .sent .written) (l .p .over) (l .p .failed) (l .reads) _ (c .before .before .before .before .before .if1 .taken) in
+    record { written = g .written; over = g .over; failed = g .failed; reads = omega (arith, g .reads) }
 
 -- its text has room
 few : (c : tie.After-step Inv-loop μ-loop) → (c .step .result .index ≤ turn c .loop .p .index + 4096) × (c .step .result .printed ≤ 327680)
@@ -142,8 +146,9 @@ returns : tie.Need-returns Inv-loop μ-loop
 returns c =
     let l = c .before .before .before .before .before .loop in
     let t = c .before .if1 .left in
+    let m = stops (l .sent .written) (l .p .over) (l .p .failed) (l .reads) _ t in
     let i = l .inv in (
-      played _ (l .p .index) _ (omega (arith, i .3, i .4)) (i .1 .sound) (stops _ _ _ _ t (i .4)) (i .1 .waits) (begun _ _ _ _ t (i .6)) (i .5),
+      played _ (l .p .index) _ (omega (arith, i .3, i .4)) (i .1 .sound) (λ o f w. omega (arith, m o f w, i .4)) (i .1 .waits) (begun _ _ _ _ _ t (omega arith) (i .6)) (i .5),
       i .0,
     )
 
