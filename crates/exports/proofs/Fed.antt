@@ -21,38 +21,32 @@ use Rattle.rules.specs.Tally.{State, Demand3}
 use Rattle.laws.proofs.Basics.{byTest, cond-true, and-left, and-right}
 use Rattle.laws.proofs.Answers.{Numbered, by-answer, said-no}
 use Rattle.tally.proofs.Made.{Made, Step, asCalled, leaves, demand3-of, made-reached}
-use Rattle.book.specs.States.{stateOf, Column, Columns}
+use Rattle.book.specs.States.{stateOf, Column}
 use Rattle.soundness.specs.Sound.{lengthsRight, soundIn}
 use Rattle.soundness.proofs.Told.{LengthsOf}
 use Rattle.running.specs.declared.Turn.{Turn}
 use Rattle.running.proofs.Fed.{gave, gave-answer}
 use Rattle.dispatch.specs.Dispatch.{asksWhere, calledWhere, beside}
 use Rattle.dispatch.specs.Lifts.{askedWhere, CommitIs}
-use Rattle.exports.specs.Fields.{numberOf, isKind, instructionOf}
-use Rattle.exports.specs.Host.{Place, bookAt, soundAt, Host, host, dayCalled, CallIs, DayCalled}
+use Rattle.exports.specs.Fields.{numberOf, isKind}
+use Rattle.exports.specs.Host.{Place, soundAt, Host, dayCalled, CallIs, DayCalled}
 use Rattle.exports.specs.Lifts.{ticketIn, dayAsked, AskIs, dayCommitted, committed, DayCommitted}
 use Rattle.exports.proofs.Hosting.{of-kind}
 
 -- the numbers of a host's answer
-abbrev numbers : ℕ → ℕ → ℕ → Turn
+abbrev pub numbers : ℕ → ℕ → ℕ → Turn
 numbers n k x = record { refusal = n; count = k; cancelled = x; state = stateOf 0 Taking 0 [] }
 
--- a call made through one of the three functions, in columns and with a phase's number that hold the book b, and what that
--- gave, as their contracts say it; a kind that is none is fed as a call that was refused
-pub data ByHost (b : Book) : Call → Answer → Type 0 where
-  told : (kind a₁ a₂ a₃ a₄ : ℕ) (quotes out : Column ℕ) (day phase entries : Place) (marks : Column ℕ) (c : Columns) (n : ℕ) (count cancelled : Place) →
-      host day phase entries marks c .before ≡ b →
-      DayCalled kind (instructionOf kind a₁ a₂ a₃ a₄) quotes out n count cancelled (host day phase entries marks c) →
-      ByHost b (callOf (instructionOf kind a₁ a₂ a₃ a₄) (now (quotes .entry)) (now (out .entry)))
-      (gave (callOf (instructionOf kind a₁ a₂ a₃ a₄) (now (quotes .entry)) (now (out .entry)))
-      (numbers n (now (count .exit)) (now (cancelled .exit))) (host day phase entries marks c .after) (now (out .exit)))
-  asks : (day phase entries : ℕ) (marks : List ℕ) (c : Columns) (issue unit n : ℕ) (ticket : List ℕ) →
-      bookAt day phase entries marks c ≡ b →
-      AskIs (dayAsked phase (bookAt day phase entries marks c) issue unit) n ticket →
+-- a call made through one of the three functions on the book in the lent columns, and what that gave, as its contract says;
+-- a kind that is none is fed as a call that was refused
+pub data ByHost : Book → Call → Answer → Type 0 where
+  told : (kind : ℕ) (x : Instruction) (quotes out : Column ℕ) (h : Host) (n : ℕ) (count cancelled : Place) →
+      DayCalled kind x quotes out n count cancelled h →
+      ByHost (h .before) (callOf x (now (quotes .entry)) (now (out .entry)))
+      (gave (callOf x (now (quotes .entry)) (now (out .entry))) (numbers n (now (count .exit)) (now (cancelled .exit))) (h .after) (now (out .exit)))
+  asks : (phase : ℕ) (b : Book) (issue unit n : ℕ) (ticket : List ℕ) → AskIs (dayAsked phase b issue unit) n ticket →
       ByHost b (Ask issue unit) (record { refusal = n; count = 0; cancelled = 0; book = b; out = [] })
-  commits : (day phase entries : ℕ) (marks : List ℕ) (c : Columns) (ticket : List ℕ) (out lifts : Column ℕ) (n : ℕ) (count : Place) →
-      bookAt day phase entries marks c ≡ b →
-      DayCommitted phase (bookAt day phase entries marks c) ticket out lifts n count →
+  commits : (phase : ℕ) (b : Book) (ticket : List ℕ) (out lifts : Column ℕ) (n : ℕ) (count : Place) → DayCommitted phase b ticket out lifts n count →
       ByHost b (Commit (ticketIn ticket) (now (out .entry)))
       (record { refusal = n; count = now (count .exit); cancelled = 0; book = withLifts b (now (lifts .exit)); out = now (out .exit) })
 
@@ -185,15 +179,11 @@ step-committed phase b t out n k lifts words u =
     answers c = λ j. record { refusal = c .refusal j; count = c .count j; cancelled = c .cancelled j; book = c .book j; out = c .out j }
 
 step : (b : Book) (c : Call) (r : Answer) → ByHost b c r → Step b c r
-step b _ _ (told kind a₁ a₂ a₃ a₄ quotes out day phase entries marks c n count cancelled e t) =
-    rw (← e)
-    (step-called kind (instructionOf kind a₁ a₂ a₃ a₄) (now (quotes .entry)) (now (out .entry)) (host day phase entries marks c) n
-    (now (count .exit)) (now (cancelled .exit)) (now (out .exit)) t)
-step b _ _ (asks day phase entries marks c issue unit n ticket e t) =
-    rw (← e) (step-asked phase (bookAt day phase entries marks c) issue unit n ticket t)
-step b _ _ (commits day phase entries marks c ticket out lifts n count e t) =
-    rw (← e)
-    (step-committed phase (bookAt day phase entries marks c) (ticketIn ticket) (now (out .entry)) n (now (count .exit)) (now (lifts .exit)) (now (out .exit)) t)
+step _ _ _ (told kind x quotes out h n count cancelled t) =
+    step-called kind x (now (quotes .entry)) (now (out .entry)) h n (now (count .exit)) (now (cancelled .exit)) (now (out .exit)) t
+step _ _ _ (asks phase b issue unit n ticket t) = step-asked phase b issue unit n ticket t
+step _ _ _ (commits phase b ticket out lifts n count t) =
+    step-committed phase b (ticketIn ticket) (now (out .entry)) n (now (count .exit)) (now (lifts .exit)) (now (out .exit)) t
 
 -- so demand 3 holds after every list of calls that a host makes
 pub demand3-of-hosts : {s : State} → Made ByHost s → Demand3 s
