@@ -47,7 +47,10 @@ fn behind(book: &Book, instruction: &Instruction, refusal: Refusal) -> Option<St
             | Instruction::Resolve { issue, .. },
         ) => Some(format!("issue {issue} is in multiples of 100,000 yen face: give even lots")),
         (Refusal::InUse, Instruction::Mark { issue, .. }) => Some(in_use(book, issue)),
-        (Refusal::Room, _) => Some(format!("it has {} entries before the cutoff", book.entries)),
+        (Refusal::Room, _) => {
+            let ies = if book.entries == 1 { "y" } else { "ies" };
+            Some(format!("it has {} entr{ies} before the cutoff", book.entries))
+        }
         _ => None,
     }
 }

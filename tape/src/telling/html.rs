@@ -1,8 +1,9 @@
 //! The facts as one page of HTML: for each day and issue its units in order as a bar, and the
 //! ledger and the charges as tables. The page holds all that it needs and no script.
 
-use crate::facts::Fact;
-use crate::measure::{Face, Grouped, Lots};
+use crate::facts::{Fact, Told};
+use crate::input::Stands;
+use crate::measure::{counted, Face, Grouped, Lots};
 use std::collections::BTreeMap;
 use std::io::{self, Write};
 
@@ -11,7 +12,8 @@ use std::io::{self, Write};
 pub struct Page {
     /// The units of each day and issue.
     bars: BTreeMap<(u16, u32), Vec<Units>>,
-    refused: Vec<(u16, usize, String)>,
+    /// Where an instruction was refused, and why.
+    refused: Vec<String>,
     charges: Vec<(u16, Fact)>,
     end: Option<(u16, &'static str)>,
     marked: Vec<u32>,
@@ -32,15 +34,21 @@ struct Units {
 }
 
 impl Units {
+    /// How many they are.
+    fn count(&self) -> usize {
+        (self.last - self.first + 1) as usize
+    }
+
     /// The lots of all of them.
     fn all(&self) -> u64 {
-        u64::from(self.last - self.first + 1) * u64::from(self.lots)
+        self.count() as u64 * u64::from(self.lots)
     }
 }
 
 impl Page {
-    /// Notes a fact.
-    pub fn note(&mut self, day: u16, fact: &Fact) {
+    /// Notes a fact of an instruction that stands there.
+    pub fn note(&mut self, told: &Told, stands: Stands) {
+        let Told { day, fact, .. } = *told;
         match fact {
             Fact::Units { issue, first, last, account, lots, .. } => {
                 let (first, last, account, lots) = (*first, *last, *account, *lots);
@@ -60,16 +68,13 @@ impl Page {
             Fact::Fails { issue, lots, first, .. } => {
                 self.at(day, *issue, *first, |units| units.failed += u64::from(*lots));
             }
-            Fact::Instruction { word, instruction, refusal: Some((_, why)) } => {
-                self.refused.push((day, *word, format!("{}: {why}", instruction.name())));
+            Fact::Instruction { instruction, refusal: Some((_, why)) } => {
+                let place = place(told, stands);
+                self.refused.push(format!("{place}: {}: {why}", instruction.name()));
             }
-            Fact::ReadingEnds { word, refusal, why } => {
-                let number = refusal.number();
-                self.refused.push((
-                    day,
-                    *word,
-                    format!("reading ends, refused by {number}: {why}"),
-                ));
+            Fact::ReadingEnds { refusal, why } => {
+                let (place, number) = (place(told, stands), refusal.number());
+                self.refused.push(format!("{place}: reading ends, refused by {number}: {why}"));
             }
             Fact::Charge { .. } => self.charges.push((day, fact.clone())),
             Fact::End { phase, .. } => self.end = Some((day, phase)),
@@ -83,7 +88,9 @@ impl Page {
     /// Changes the units of a day and issue that a unit is among.
     fn at(&mut self, day: u16, issue: u32, unit: u32, change: impl FnOnce(&mut Units)) {
         let bar = self.bars.get_mut(&(day, issue));
-        let found = bar.and_then(|bar| bar.iter_mut().find(|units| units.last >= unit));
+        let found = bar.and_then(|bar| {
+            bar.iter_mut().find(|units| (units.first..=units.last).contains(&unit))
+        });
         if let Some(units) = found {
             change(units);
         }
@@ -104,8 +111,8 @@ impl Page {
         for ((day, issue), bar) in &self.bars {
             let all: u64 = bar.iter().map(Units::all).sum();
             writeln!(out, "<h2>Day {day}, issue {issue}</h2>")?;
-            let (units, s) = (count(bar), if count(bar) == 1 { "" } else { "s" });
-            writeln!(out, "<p>{} due in {units} unit{s}</p>", Face(all))?;
+            let units: usize = bar.iter().map(Units::count).sum();
+            writeln!(out, "<p>{} due in {}</p>", Face(all), counted(units, "unit"))?;
             writeln!(out, "<div class=\"bar\">")?;
             bar.iter().try_for_each(|units| segment(out, units))?;
             writeln!(out, "</div>")?;
@@ -133,8 +140,8 @@ impl Page {
             return Ok(());
         }
         writeln!(out, "<h2>Refused</h2>\n<ul>")?;
-        for (day, word, why) in &self.refused {
-            writeln!(out, "<li>day {day}, word {word}: {}</li>", escaped(why))?;
+        for refused in &self.refused {
+            writeln!(out, "<li>{}</li>", escaped(refused))?;
         }
         writeln!(out, "</ul>")
     }
@@ -146,10 +153,10 @@ impl Page {
         }
         if !self.marked.is_empty() {
             let issues: Vec<String> = self.marked.iter().map(u32::to_string).collect();
-            let issues = issues.join(", ");
+            let (s, issues) = (if issues.len() == 1 { "" } else { "s" }, issues.join(", "));
             writeln!(
                 out,
-                "<p>In multiples of 100,000 yen face, even lots only: issue {issues}</p>"
+                "<p>In multiples of 100,000 yen face, even lots only: issue{s} {issues}</p>"
             )?;
         }
         let ledger = self.ledger.iter().map(|fact| {
@@ -166,9 +173,12 @@ impl Page {
     }
 }
 
-/// How many units a bar has.
-fn count(bar: &[Units]) -> u32 {
-    bar.last().map_or(0, |units| units.last + 1)
+/// Where an instruction stands, for people.
+fn place(told: &Told, stands: Stands) -> String {
+    let file = stands.file.map(|file| format!(", {file}")).unwrap_or_default();
+    let line = stands.line.map(|line| format!(", line {line}")).unwrap_or_default();
+    let word = told.word.map(|word| format!(", word {word}")).unwrap_or_default();
+    format!("day {}{file}{line}{word}", told.day)
 }
 
 /// The part of a bar that like units have: handed, lacking in a unit that was handed in part, failed
@@ -176,10 +186,16 @@ fn count(bar: &[Units]) -> u32 {
 fn segment(out: &mut impl Write, units: &Units) -> io::Result<()> {
     let Units { first, last, account, lots, handed, partly, failed } = *units;
     let open = units.all().saturating_sub(handed + failed);
-    let names = if first == last { format!("{first}") } else { format!("{first}–{last}") };
-    let (each, of) = (Lots(lots.into()), Lots(units.all()));
+    let of = Lots(units.all());
+    let names = match units.count() {
+        1 => format!("unit {first} of account {account}, {of}"),
+        _ => {
+            let each = Lots(lots.into());
+            format!("units {first}–{last} of account {account}, {each} each, {of} in all")
+        }
+    };
     write!(out, "<div class=\"units\" style=\"flex-grow:{}\" ", units.all())?;
-    write!(out, "title=\"units {names} of account {account}, {each} each, {of} in all: ")?;
+    write!(out, "title=\"{names}: ")?;
     write!(out, "{} handed, {} failed, {} open\">", Lots(handed), Lots(failed), Lots(open))?;
     let whole = failed.saturating_sub(partly);
     for (class, part) in [("handed", handed), ("partly", partly), ("failed", whole), ("open", open)]
