@@ -366,6 +366,9 @@ fn ones_are_told_in_the_singular() {
 fn a_page_counts_the_units_that_it_shows() {
     let of = |account| told(Form::Html, Only { account, ..Only::default() }, DAYS);
     assert!(of(None).contains("<p>630,000 lots (31,500,000,000 yen face) due in 8 units</p>"));
+    assert!(of(Some(1)).contains("<p><b>Only what is of account 1 is shown.</b></p>"));
+    assert!(!of(None).contains("Only what is"));
+    assert!(of(None).contains("<td>5,000</td><td>100.000</td><td>0.000</td><td>250,000,000</td>"));
     assert!(of(Some(1)).contains("<p>230,000 lots (11,500,000,000 yen face) due in 3 units</p>"));
     let day = "trade 0 9 1 230000\ntrade 0 9 8 7\nclose\n";
     let page = told(Form::Html, Only { account: Some(8), ..Only::default() }, day);

@@ -3,7 +3,8 @@
 
 use crate::facts::{Fact, Told};
 use crate::input::Stands;
-use crate::measure::{counted, Face, Grouped, Lots};
+use crate::measure::{counted, Face, Grouped, Lots, Price};
+use crate::telling::Only;
 use std::collections::BTreeMap;
 use std::io::{self, Write};
 
@@ -96,9 +97,12 @@ impl Page {
         }
     }
 
-    /// Writes the page.
-    pub fn write(&self, out: &mut impl Write) -> io::Result<()> {
+    /// Writes the page, and on it to what it is narrowed.
+    pub fn write(&self, only: Only, out: &mut impl Write) -> io::Result<()> {
         out.write_all(HEAD.as_bytes())?;
+        if let Some(only) = narrowed(only) {
+            writeln!(out, "<p><b>Only what is of {only} is shown.</b></p>")?;
+        }
         self.bars(out)?;
         self.charges(out)?;
         self.refusals(out)?;
@@ -124,13 +128,14 @@ impl Page {
     fn charges(&self, out: &mut impl Write) -> io::Result<()> {
         let rows = self.charges.iter().map(|(day, fact)| {
             let Fact::Charge { terms, from, to, lots, value, yen } = fact else { return vec![] };
-            let numbers = [u64::from(*day), terms.issue.into(), (*from).into(), (*to).into()];
-            let more = [u64::from(*lots), terms.price.into(), terms.accrued.into(), *value];
-            let last = [terms.days.into(), terms.rate.into(), *yen];
-            [&numbers[..], &more, &last].concat().into_iter().map(i128::from).collect()
+            let of = [u32::from(*day), terms.issue, *from, *to, *lots].map(number);
+            let price = [terms.price, terms.accrued].map(|price| Price(price).to_string());
+            let rate = format!("{}.{:02}", terms.rate / 100, terms.rate % 100);
+            let terms = [number(*value), number(terms.days), rate, number(*yen)];
+            [&of[..], &price, &terms].concat()
         });
-        let of = ["day", "issue", "from", "to", "lots"];
-        let terms = ["price", "accrued", "value", "days", "rate", "charge, yen"];
+        let of = ["day", "issue", "from account", "to account", "lots", "price", "accrued"];
+        let terms = ["value, yen", "days", "rate, percent a year", "charge, yen"];
         table(out, "Charges on fails", &[&of[..], &terms].concat(), &rows.collect::<Vec<_>>())
     }
 
@@ -161,13 +166,13 @@ impl Page {
         }
         let ledger = self.ledger.iter().map(|fact| {
             let Fact::Entry { issue, from, to, lots, since } = *fact else { return vec![] };
-            [issue, from, to, lots, since.into()].map(i128::from).to_vec()
+            [issue, from, to, lots, since.into()].map(number).to_vec()
         });
-        let heads = ["issue", "from", "to", "lots", "since day"];
+        let heads = ["issue", "from account", "to account", "lots", "since day"];
         table(out, "Ledger of fails", &heads, &ledger.collect::<Vec<_>>())?;
         let charged = self.charged.iter().map(|fact| {
             let Fact::Charged { account, yen } = *fact else { return vec![] };
-            vec![i128::from(account), i128::from(yen)]
+            vec![number(account), number(yen)]
         });
         table(out, "Charges", &["account", "yen"], &charged.collect::<Vec<_>>())
     }
@@ -207,8 +212,29 @@ fn segment(out: &mut impl Write, units: &Units) -> io::Result<()> {
     writeln!(out, "<b>{account}</b></div>")
 }
 
-/// A table of numbers, if it has rows.
-fn table(out: &mut impl Write, title: &str, heads: &[&str], rows: &[Vec<i128>]) -> io::Result<()> {
+/// A number of a table.
+fn number(number: impl Into<i128>) -> String {
+    Grouped(number.into()).to_string()
+}
+
+/// To what a page is narrowed, in words.
+fn narrowed(only: Only) -> Option<String> {
+    let parts = [
+        only.issue.map(|issue| format!("issue {issue}")),
+        only.account.map(|account| format!("account {account}")),
+        only.day.map(|day| format!("day {day}")),
+    ];
+    let parts: Vec<String> = parts.into_iter().flatten().collect();
+    (!parts.is_empty()).then(|| parts.join(" and "))
+}
+
+/// A table, if it has rows.
+fn table(
+    out: &mut impl Write,
+    title: &str,
+    heads: &[&str],
+    rows: &[Vec<String>],
+) -> io::Result<()> {
     if rows.is_empty() {
         return Ok(());
     }
@@ -217,7 +243,7 @@ fn table(out: &mut impl Write, title: &str, heads: &[&str], rows: &[Vec<i128>]) 
     writeln!(out, "</tr>")?;
     for row in rows {
         write!(out, "<tr>")?;
-        row.iter().try_for_each(|number| write!(out, "<td>{}</td>", Grouped(*number)))?;
+        row.iter().try_for_each(|cell| write!(out, "<td>{cell}</td>"))?;
         writeln!(out, "</tr>")?;
     }
     writeln!(out, "</table>")
@@ -237,7 +263,7 @@ const HEAD: &str = "<!DOCTYPE html>
 <style>
 body { font: 15px sans-serif; margin: 2em; color: #222; }
 .bar { display: flex; height: 3em; border: 1px solid #888; }
-.units { display: flex; position: relative; min-width: 4px; border-right: 1px solid #fff; }
+.units { display: flex; position: relative; min-width: 4px; border-right: 1px solid #fff; overflow: hidden; }
 .units b { position: absolute; left: 0; right: 0; top: 1em; text-align: center; font-weight: normal; }
 .units span { flex-basis: 0; }
 .handed { background: #8cc63f; }
@@ -250,6 +276,7 @@ th, td { padding: 2px 10px; border: 1px solid #bbb; text-align: right; }
 </head>
 <body>
 <h1>Settlement day</h1>
-<p>Units in their order; each part is an account's, as wide as its lots. Green: handed over. Orange:
-what a unit lacks that was handed in part, and failed. Red: failed whole. Grey: neither yet.</p>
+<p>Units in their order; each part is of one account, whose number it has, and as wide as its lots.
+Green: handed over. Orange: what a unit lacks that was handed in part, and failed. Red: failed whole.
+Grey: neither yet. Prices and accrued amounts are yen per 100 yen face.</p>
 ";

@@ -79,7 +79,7 @@ pub fn explain(day: &Day, form: Form, only: Only, output: &mut dyn Write) -> io:
                 Ok(())
             };
             let last = tell(&day.tape, only, &mut note)?;
-            page.write(out)?;
+            page.write(only, out)?;
             last
         }
     };
