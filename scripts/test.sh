@@ -18,6 +18,7 @@ proofs() {
 
 step 'tools' scripts/tools.sh rt make gcc g++ cargo rustc
 step 'what is shown of the proofs' scripts/test-progress.sh
+step 'make day and make run' scripts/test-day.sh
 mkdir -p build
 step 'proofs' proofs
 verdict=$(tail -n 1 build/proofs.log)
