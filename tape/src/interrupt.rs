@@ -10,8 +10,9 @@ use std::sync::Once;
 
 /// The signals by which a run is interrupted: a closed terminal, a key, and `kill`.
 const SIGNALS: [c_int; 3] = [1, 2, 15];
-/// What a signal does where no function is set for it.
+/// What a signal does where no function is set for it: the default, or nothing.
 const DEFAULT: usize = 0;
+const IGNORED: usize = 1;
 
 /// The name of the file that is being written, or null. A name is never freed: the signal may be
 /// reading it.
@@ -31,9 +32,11 @@ pub fn writing(file: &Path) {
     SET.call_once(|| {
         let action = interrupted as extern "C" fn(c_int);
         // SAFETY: the action is a function of this signature, and does only what is allowed in a
-        // signal.
+        // signal. A signal that is ignored, as under `nohup`, stays so.
         SIGNALS.iter().for_each(|&number| unsafe {
-            signal(number, action as usize);
+            if signal(number, action as usize) == IGNORED {
+                signal(number, IGNORED);
+            }
         });
     });
 }
