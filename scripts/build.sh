@@ -24,6 +24,9 @@ to_make() {
 }
 
 mkdir -p build
+# rt links the program only where it proves it: one that is missing, or not the one that was linked, is
+# proved again.
+scripts/proved.sh program || rm -f target/stamp/dayrun
 sources=$(scripts/proved.sh sources)
 read -ra first <<<"dayrun $(for name in "${libraries[@]}"; do uses "$name"; done)"
 rt check "${first[@]}" 2>&1 | PROGRESS_LATER=$(to_make) scripts/progress.sh build/dayrun.log "${first[@]}"

@@ -2,6 +2,7 @@
 # Is the program target/bin/dayrun the one that was proved from the sources as they are here? By their
 # content, not their dates. Usage:
 #   proved.sh               ends with 0 where it is
+#   proved.sh program       ends with 0 where the program is the one that was noted, of whatever sources
 #   proved.sh sources       prints what stands for the sources
 #   proved.sh mark SOURCES  notes that the program was proved from these sources
 set -euo pipefail
@@ -19,14 +20,13 @@ sources() {
 # What stands for the program.
 built() { sha256sum "$program" | cut -d ' ' -f 1; }
 
+[ "${1:-}" = sources ] || [ -x "$program" ] || exit 1
 case ${1:-} in
 sources) sources ;;
+program) [ -f "$note" ] && [ "$(cut -d ' ' -f 2 "$note")" = "$(built)" ] ;;
 mark)
     mkdir -p "$(dirname "$note")"
     printf '%s %s\n' "$2" "$(built)" >"$note"
     ;;
-*)
-    [ -x "$program" ] && [ -f "$note" ] || exit 1
-    [ "$(cat "$note")" = "$(sources) $(built)" ]
-    ;;
+*) [ -f "$note" ] && [ "$(cat "$note")" = "$(sources) $(built)" ] ;;
 esac

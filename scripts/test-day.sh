@@ -21,10 +21,15 @@ tool() { # NAME: its script is read from standard input
 tool rt <<'END'
 echo "rt $*" >>called
 case $1 in
-check) [ ! -e fails ] || exit 1
-    mkdir -p target/bin target/staticlib
+check) mkdir -p target/bin target/staticlib target/stamp
+    if cmp -s crates/dayrun/src/main.rt target/stamp/dayrun; then
+        echo 'rt: dayrun proved (unchanged since it was last proved)'
+        exit
+    fi
+    [ ! -e fails ] || exit 1
     { echo '#!/bin/sh' && date +%N; } >target/bin/dayrun
     chmod 755 target/bin/dayrun
+    cp crates/dayrun/src/main.rt target/stamp/dayrun
     echo "rt: dayrun proved (1 s)" ;;
 staticlib) : >"target/staticlib/lib$2.a" ;;
 try) [ ! -e "$TEST_HOME/slow" ] || sleep 20 ;;
@@ -94,9 +99,13 @@ before=$(calls)
 : >crates/dayrun/must-fail/one.edit
 day TAPE=plain.txt
 [ "$(calls)" -eq "$before" ] || wrong 'a wrong edit is no part of the program'
-echo x >>target/bin/dayrun
+echo 'echo another' >>target/bin/dayrun
 day TAPE=plain.txt
-[ "$(calls)" -gt "$before" ] || wrong 'another program is taken for the proved one'
+grep -q 'proved program' <<<"$said" && ! grep -q another target/bin/dayrun ||
+    wrong 'another program is taken for the proved one'
+rm target/bin/dayrun
+day TAPE=plain.txt
+[ "$status" -eq 0 ] && [ -x target/bin/dayrun ] || wrong 'a program that is missing is not made'
 
 # make run: the story at once, and 'proved' only behind the proof.
 rm -rf build target called
