@@ -100,7 +100,8 @@ show() { # LINE
     local line=$1 name
     case $line in
     [0-9]*' passed, '[0-9]*' failed') ;;
-    'library '*': modules '* | 'logic='* | 'logic /'* | 'fn '*': proved' | 'enum '*': proved' | 'axioms '*) ;;
+    'library '*': modules '* | 'logic='* | 'logic /'* | 'axioms '* | 'linked target='*) ;;
+    'fn '*': proved' | 'enum '*': proved' | 'struct '*': proved') ;;
     *': note: large solution'* | 'note: no function with a body'* | 'rt: ok, '* | 'rt: target/staticlib/'*) ;;
     'rt: must-fail '*': refused, as it must be'*)
         name=${line#rt: must-fail } name=${name%%:*}

@@ -54,6 +54,6 @@ shown=$(first_line 'running turns pairing units dispatch exports')
 expect '^To be proved: 0 crates, then 6 libraries; about [2-9] minutes on [12] cores*, by '
 shown=$(first_line 'desk')
 expect '^To be proved: 0 crates, then 1 library; about a minute on '
-shown=$(printf 'enum status::Told: proved\nfn a: proved\n' | scripts/progress.sh "$log" none_of_the_crates)
+shown=$(printf '%s: proved\n' 'enum status::Told' 'struct dayrun::Sent' 'fn a' | scripts/progress.sh "$log" none_of_the_crates)
 refuse ': proved'
 echo 'what is shown of the proofs: as it must be'
