@@ -83,8 +83,17 @@ some() { # COUNT THING: with an s where they are not one
     if [ "$1" -eq 1 ]; then echo "1 $2"; else echo "$1 $2s"; fi
 }
 
+# How many of the crates are to be proved.
+unproved() { # NAME..
+    local count=0 name
+    for name in $(needed "$@"); do known "$name" || count=$((count + 1)); done
+    echo "$count"
+}
+
 first=$SECONDS
 what=$(some "$crates" crate)
+few=$(unproved "$@")
+[ "$few" -eq "$crates" ] || what="$few of $what"
 [ "$edits" -eq 0 ] || what="$what, and $(some "$edits" 'wrong edit') to be refused"
 [ "$libraries" -eq 0 ] || what="$what, then $(some "$libraries" library | sed 's/librarys/libraries/')"
 [ "$left" -eq 0 ] || echo "To be proved: $what; $(minutes "$left") on $(some "$cores" core), by docs/CHECK-TIMES.md."
