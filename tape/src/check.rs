@@ -105,17 +105,23 @@ mod tests {
     }
 
     #[test]
+    fn a_net_is_told_in_threes() {
+        let found = checked("trade 0 1 2 20000000\ntrade 0 1 3 1\n");
+        assert!(found.refusals[0].ends_with("; account 1 stands at -20,000,000, account 3 at 0"));
+    }
+
+    #[test]
     fn refusals_of_a_roll_name_the_number() {
         let mut day = "close\ncutoff\n".to_string();
         let rolls = [
             ("roll 13 10001 0 accrued 0", "days are 13"),
-            ("roll 12 10001 0 accrued 0", "the rate is 10001"),
+            ("roll 12 10001 0 accrued 0", "the rate is 10,001"),
             ("roll 12 10000 0 accrued 5", "the price of issue 0 is 0"),
-            ("roll 12 10000 1 accrued 10001", "the accrued amount of issue 0 is 10001"),
+            ("roll 12 10000 1 accrued 10001", "the accrued amount of issue 0 is 10,001"),
             (
                 "roll 1 0 190000 accrued 0 0 0 0 0 0 0 0 0 0 0 0 0 0 0 10000\n\
                  close\ncutoff\nroll 1 0 190001 accrued 0 0 0 0 0 0 0 0 0 0 0 0 0 0 0 10000",
-                "price and accrued amount of issue 15 are together 200001",
+                "price and accrued amount of issue 15 are together 200,001",
             ),
         ];
         rolls.iter().for_each(|(roll, _)| day.push_str(&format!("{roll}\n")));

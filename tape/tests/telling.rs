@@ -348,6 +348,14 @@ fn several_days_are_one_tape_and_name_their_files() {
 }
 
 #[test]
+fn days_have_a_line_between_them() {
+    let all = told(Form::Text, Only::default(), DAYS);
+    assert!(all.starts_with("Day 0\n") && all.contains("\n\nDay 1\n"), "{all}");
+    let second = told(Form::Text, Only { day: Some(1), ..Only::default() }, DAYS);
+    assert!(second.starts_with("Day 1\n"), "{second}");
+}
+
+#[test]
 fn ones_are_told_in_the_singular() {
     let day = "trade 0 1 2 150001\nclose\ndeliver 0 1 100001\ncutoff\nroll 1 300 100000\n\
         trade 0 2 3 50000\nclose\ncutoff\npair-off 0 2\n";

@@ -70,7 +70,18 @@ pub fn explain(day: &Day, form: Form, only: Only, output: &mut dyn Write) -> io:
     let out = &mut output;
     let stands = |told: &Told| told.word.map_or(Stands::default(), |word| day.stands(word));
     let last = match form {
-        Form::Text => tell(&day.tape, only, &mut |told| text::tell(out, told, stands(told)))?,
+        Form::Text => {
+            let mut begun = false;
+            let mut tell_one = |told: &Told| {
+                // A line between two days.
+                if begun && matches!(told.fact, Fact::Day { .. }) {
+                    writeln!(out)?;
+                }
+                begun = true;
+                text::tell(out, told, stands(told))
+            };
+            tell(&day.tape, only, &mut tell_one)?
+        }
         Form::Json => tell(&day.tape, only, &mut |told| json::tell(out, told, stands(told)))?,
         Form::Html => {
             let mut page = html::Page::default();

@@ -11,8 +11,7 @@ use std::io::{self, Write};
 pub fn tell(out: &mut impl Write, told: &Told, stands: Stands) -> io::Result<()> {
     let Told { day, word, fact } = *told;
     match fact {
-        Fact::Day { day: 0 } => writeln!(out, "Day 0"),
-        Fact::Day { day } => writeln!(out, "\nDay {day}"),
+        Fact::Day { day } => writeln!(out, "Day {day}"),
         Fact::Instruction { instruction, refusal } => {
             let mut line = Line::new();
             head(out, &mut line, word, stands)?;
