@@ -3,14 +3,16 @@
 use super::{day_of, Ended, Verb};
 use crate::check::{check, Checked};
 use crate::measure::{counted, Grouped};
-use crate::options::{Given, FORCE, HEX, OUT, WORDS};
+use crate::options::{Given, HEX, WORDS};
 use crate::output::Output;
 use std::io::{BufWriter, Write};
 
 pub(super) const VERB: Verb = Verb {
     name: "check",
-    usage: "tape check [--hex | --words] [DAY..]   says what the book will refuse, line by line",
-    options: &[HEX, WORDS, OUT, FORCE],
+    usage: "\
+tape check [--hex | --words] [DAY..]
+        says what the book will refuse, line by line",
+    options: &[HEX, WORDS],
     act,
 };
 

@@ -1,7 +1,7 @@
 //! `tape explain`: what a tape does, day by day.
 
 use super::{day_of, Ended, Verb};
-use crate::options::{flag, valued, Given, Opt, FORCE, HEX, JSON, OUT, WORDS};
+use crate::options::{flag, valued, Given, Opt, HEX, JSON, WORDS};
 use crate::output::Output;
 use crate::telling::{explain, Form, Only};
 use library::{ACCOUNTS, ISSUES};
@@ -13,11 +13,11 @@ const DAY: Opt = valued("--day", "a number from 0 to 65535");
 
 pub(super) const VERB: Verb = Verb {
     name: "explain",
-    usage: "tape explain [--hex | --words] [--json | --html] [--issue N] [--account N] [--day N] [DAY..]
-                                     runs a tape and tells what it does, day by day, or only what is
-                                     of an issue, an account or a day: as text, as JSON (one object a
-                                     line) or as one page of HTML",
-    options: &[HEX, WORDS, JSON, HTML, ISSUE, ACCOUNT, DAY, OUT, FORCE],
+    usage: "\
+tape explain [--hex | --words] [--json | --html] [--issue N] [--account N] [--day N] [DAY..]
+        runs a tape and tells what it does, day by day, or only what is of an issue, an account or a
+        day: as text, as JSON (one object a line) or as one page of HTML",
+    options: &[HEX, WORDS, JSON, HTML, ISSUE, ACCOUNT, DAY],
     act,
 };
 

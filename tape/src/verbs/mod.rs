@@ -9,14 +9,15 @@ mod why;
 mod write;
 
 use crate::input::{Day, Taken};
-use crate::options::{Given, Opt, HEX, WORDS};
+use crate::options::{Given, Opt, FORCE, HEX, OUT, WORDS};
 use crate::output::Output;
 use std::ffi::{OsStr, OsString};
 use std::fs;
 use std::io::{self, Read, Write};
 use std::path::Path;
 
-/// A verb: its name, its lines of help, the options that it takes, and what it does.
+/// A verb: its name, its lines of help, the options that it takes beside those of the output, and what
+/// it does.
 struct Verb {
     name: &'static str,
     usage: &'static str,
@@ -25,8 +26,8 @@ struct Verb {
 }
 
 /// The verbs, in the order in which help tells them.
-const VERBS: [&Verb; 6] =
-    [&write::VERB, &read::VERB, &check::VERB, &run::VERB, &explain::VERB, &why::VERB];
+const VERBS: &[&Verb] =
+    &[&write::VERB, &read::VERB, &check::VERB, &run::VERB, &explain::VERB, &why::VERB];
 
 /// What help says of all verbs.
 const OF_ALL: &str = "\
@@ -58,11 +59,11 @@ pub fn obey(words: Vec<OsString>) -> Result<Ended, String> {
     let Some(name) = words.next() else {
         return Err(format!("say what to do:\n{}", help()));
     };
-    let Some(verb) = VERBS.into_iter().find(|verb| name == verb.name) else {
+    let Some(verb) = VERBS.iter().find(|verb| name == verb.name) else {
         let name = name.to_string_lossy();
         return Err(format!("there is no `tape {name}`; use\n{}", help()));
     };
-    let given = Given::read(verb.name, verb.options, words);
+    let given = Given::read(verb.name, &[verb.options, &[OUT, FORCE]].concat(), words);
     (verb.act)(&given.map_err(|error| format!("{error}\n{}", verb.usage))?)
 }
 
@@ -154,4 +155,22 @@ fn put(given: &Given, bytes: &[u8]) -> Result<Ended, String> {
     written.map_err(|error| writer.failed(&error))?;
     writer.keep()?;
     Ok(Ended::Well)
+}
+
+#[cfg(test)]
+mod tests {
+    use super::*;
+
+    #[test]
+    fn help_names_every_verb_and_its_options() {
+        for verb in VERBS {
+            assert!(verb.usage.starts_with(&format!("tape {} ", verb.name)), "{}", verb.usage);
+            for option in verb.options {
+                assert!(verb.usage.contains(option.name), "{}: {}", verb.name, option.name);
+            }
+            assert!(verb.usage.lines().all(|line| line.len() <= 100), "{}", verb.usage);
+        }
+        assert!(OF_ALL.contains(OUT.name) && OF_ALL.contains(FORCE.name));
+        assert!(help().lines().all(|line| line.len() <= 100));
+    }
 }

@@ -2,13 +2,15 @@
 
 use super::{get, name_of, one_file, put, taken, Ended, Verb};
 use crate::input::{self, Taken};
-use crate::options::{Given, FORCE, HEX, OUT, WORDS};
+use crate::options::{Given, HEX, WORDS};
 use crate::text;
 
 pub(super) const VERB: Verb = Verb {
     name: "read",
-    usage: "tape read [--hex | --words] [TAPE]   turns the words of a tape into the text form",
-    options: &[HEX, WORDS, OUT, FORCE],
+    usage: "\
+tape read [--hex | --words] [TAPE]
+        turns the words of a tape into the text form",
+    options: &[HEX, WORDS],
     act,
 };
 

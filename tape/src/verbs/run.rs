@@ -1,7 +1,7 @@
 //! `tape run`: the program on a tape.
 
 use super::{day_of, say, Ended, Verb};
-use crate::options::{valued, Given, Opt, FORCE, HEX, OUT, WORDS};
+use crate::options::{valued, Given, Opt, HEX, WORDS};
 use crate::output::Output;
 use crate::run::{self, Ran};
 use std::path::Path;
@@ -11,9 +11,10 @@ const PROGRAM: Opt = valued("--program", "a path");
 
 pub(super) const VERB: Verb = Verb {
     name: "run",
-    usage: "tape run [--hex | --words] [--program PATH] [DAY..]
-                                     runs dayrun on a tape: target/bin/dayrun, or PATH",
-    options: &[HEX, WORDS, PROGRAM, OUT, FORCE],
+    usage: "\
+tape run [--hex | --words] [--program PATH] [DAY..]
+        runs dayrun on a tape: target/bin/dayrun, or PATH; says where its lines are not whole",
+    options: &[HEX, WORDS, PROGRAM],
     act,
 };
 

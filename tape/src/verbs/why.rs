@@ -1,17 +1,18 @@
 //! `tape why`: why a unit has not come.
 
 use super::{day_of, put, Ended, Verb};
-use crate::options::{number, valued, Given, Opt, FORCE, HEX, JSON, OUT, WORDS};
+use crate::options::{number, valued, Given, Opt, HEX, JSON, WORDS};
 use crate::status::{ask, Question};
 
 const AT: Opt = valued("--at", "the number of a word");
 
 pub(super) const VERB: Verb = Verb {
     name: "why",
-    usage: "tape why [--hex | --words] [--json] [--at WORD] DAY.. ISSUE UNIT
-                                     tells why a unit has not come, at the end of the tape, or before
-                                     the instruction that begins at a word",
-    options: &[HEX, WORDS, JSON, AT, OUT, FORCE],
+    usage: "\
+tape why [--hex | --words] [--json] [--at WORD] DAY.. ISSUE UNIT
+        tells why a unit has not come, at the end of the tape, or before the instruction that begins
+        at a word",
+    options: &[HEX, WORDS, JSON, AT],
     act,
 };
 

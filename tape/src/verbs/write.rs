@@ -1,13 +1,15 @@
 //! `tape write`: the text form into the words of a tape.
 
 use super::{get, name_of, one_file, put, say, Ended, Verb};
-use crate::options::{Given, FORCE, HEX, OUT};
+use crate::options::{Given, HEX};
 use crate::{bytes, input};
 
 pub(super) const VERB: Verb = Verb {
     name: "write",
-    usage: "tape write [--hex] [TEXT]            turns the text form into the words of a tape",
-    options: &[HEX, OUT, FORCE],
+    usage: "\
+tape write [--hex] [TEXT]
+        turns the text form into the words of a tape",
+    options: &[HEX],
     act,
 };
 
