@@ -1,0 +1,4 @@
+-- What the contracts of a round cite.
+pub mod Runs
+pub mod Orders
+pub mod Turns
