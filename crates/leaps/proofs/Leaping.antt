@@ -1,6 +1,6 @@
 -- How many rounds can be leapt: the run that a round's units lie in.
 use mathlib.Core.Path.{_≡_, refl, sym, ap, subst, _∙_}
-use mathlib.Core.List.{List, [], _∷_, _++_}
+use mathlib.Core.List.{List, [], _∷_, _++_, append-nil}
 use Prim.Native.Nat.{ℕ, zero, suc, _+_, _-_, _*_, _/_, _%_, _≤_, _<_}
 use native.Mathlib.Omega.{arith}
 use native.Mathlib.Nat.{div-add-mod', div-mul-le-self, mul-le-mul-right, add-zero, zero-mul}
@@ -15,21 +15,8 @@ use Rattle.units.proofs.Loops.{runs-at, runs-length}
 use Rattle.rounds.specs.Runs.{unitsOfRun, unitsOfRuns}
 use Rattle.simulation.specs.Repeated.{Again, AgainFor}
 use Rattle.simulation.proofs.Leaps.{InRun, again-run, again-none}
+use Rattle.rounds.proofs.Sized.{units-append}
 use Rattle.rounds.proofs.Joins.{sum-run}
-
-append-assoc : (us vs ws : List AccountLots) → (us ++ vs) ++ ws ≡ us ++ (vs ++ ws)
-append-assoc [] vs ws = refl
-append-assoc (u ∷ us) vs ws = ap (λ l. u ∷ l) (append-assoc us vs ws)
-
-append-none : (us : List AccountLots) → us ++ [] ≡ us
-append-none [] = refl
-append-none (u ∷ us) = ap (λ l. u ∷ l) (append-none us)
-
-units-append : (size : ℕ) (rs ss : List AccountLots) → unitsOfRuns size (rs ++ ss) ≡ unitsOfRuns size rs ++ unitsOfRuns size ss
-units-append size [] ss = refl
-units-append size (r ∷ rs) ss =
-    ap (λ l. unitsOfRun size r ++ l) (units-append size rs ss)
-    ∙ sym (append-assoc (unitsOfRun size r) (unitsOfRuns size rs) (unitsOfRuns size ss))
 
 pub sum-runs : (size : ℕ) (rs : List AccountLots) → sumLots (unitsOfRuns size rs) ≡ sumLots rs
 sum-runs size [] = refl
@@ -46,7 +33,7 @@ in-run size rs j r d e here full lo hi =
     let behind = unitsOfRuns size (drop (suc j) rs) in
     let s = sum-runs size (take j rs) in
     let one : unitsOfRun size r ≡ fulls =
-        ap (λ l. fulls ++ l) (put-none (r .account) (r .lots % size) [] full) ∙ append-none fulls in
+        ap (λ l. fulls ++ l) (put-none (r .account) (r .lots % size) [] full) ∙ append-nil fulls in
     record {
       front = front;
       account = r .account;

@@ -43,7 +43,7 @@ total-requires-2 c κs =
     rw (row-part (now (s .args .xs)) (l .i)) (omega (arith, s .pre .smallEach (l .i) (omega arith)))
 
 cast-issue-rounds : tie.Need-cast-issue-rounds Inv-loop μ-loop
-cast-issue-rounds c = let s = c .before .before .before .before .before .before .before .before .before .before .before .before .before .before in let l = c .before .before .before .before .before .before .before .loop in omega (arith, s .pre .few (l .i) (omega arith))
+cast-issue-rounds c = let s = c .before .before .before .before .before .before .before .before .before .before .before .before .before .before in let l = c .before .before .before .before .before .before .before .loop in omega (arith, s .pre .ranked .orders (l .i) (omega arith) .few)
 
 issue-rounds-requires : tie.Need-issue-rounds-requires Inv-loop μ-loop
 issue-rounds-requires c κs =
@@ -53,7 +53,7 @@ issue-rounds-requires c κs =
     let x : c .before .before .total2 .result ≡ deliveredTotal (now (s .args .xs)) (l .i) =
         c .before .before .total2 .ensures ∙ ap sum (row-part (now (s .args .xs)) (l .i)) in
     record {
-      there = rw (part-block rs (l .i)) (omega (arith, length-block 128 rs (l .i) (omega (arith, s .pre .table)), s .pre .few (l .i) (omega arith)));
+      there = rw (part-block rs (l .i)) (omega (arith, length-block 128 rs (l .i) (omega (arith, s .pre .ranked .table)), s .pre .ranked .orders (l .i) (omega arith) .few));
       some = s .pre .some;
       small = omega (arith, x, s .pre .smallEach (l .i) (omega arith));
     }
@@ -72,7 +72,7 @@ loop-again c =
     let x : c .before .before .before .total2 .result ≡ deliveredTotal (now (a .xs)) (l .i) =
         c .before .before .before .total2 .ensures ∙ ap sum (row-part (now (a .xs)) (l .i)) in
     let us : unitsOfRuns (a .size) (runsIn (take (l .i * 128 + 128 - l .i * 128) (drop (l .i * 128) (now (a .runs)))) n) ≡ units (a .size) (duesOf (now (a .nets)) (l .i)) =
-        ap (λ w. unitsOfRuns (a .size) (runsIn w n)) (part-block (now (a .runs)) (l .i)) ∙ s .pre .orders (l .i) hi in
+        ap (λ w. unitsOfRuns (a .size) (runsIn w n)) (part-block (now (a .runs)) (l .i)) ∙ s .pre .ranked .orders (l .i) hi .units in
     (
       search needs,
       omega (arith, f .0, l .inv .1),
