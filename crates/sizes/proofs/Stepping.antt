@@ -15,7 +15,7 @@ use Rattle.simulation.specs.Desk.{Plan, plan, Desk, desk, Ended, ended, oneMore
 use Rattle.simulation.specs.Repeated.{left, ending, later}
 use Rattle.rounds.specs.Turns.{CanRound, Rounded}
 use Rattle.leaps.specs.Rooms.{LeapIs, CanLeapAll, CanAdvance}
-use Rattle.sizes.specs.Steps.{Stepped, Simulated}
+use Rattle.sizes.specs.Steps.{Stepped, EndIs}
 use Rattle.simulation.specs.Repeated.{plusTimes}
 use Rattle.leaps.proofs.Columns.{length-less}
 use Rattle.rounds.proofs.Rounding.{total-most, total-bounded, net-most, past-end}
@@ -47,10 +47,7 @@ module _ (nets : List ℤ) (settles runs counts : List ℕ) (size : ℕ) where
         settled = c .settled;
         stocks = f .stocks;
         some = c .some;
-        table = c .table;
-        numbers = c .numbers;
-        few = c .few;
-        orders = c .orders;
+        ranked = c .ranked;
         lots = f .lots;
       }
 
@@ -118,10 +115,7 @@ module _ (nets : List ℤ) (settles runs counts : List ℕ) (size : ℕ) where
         owes = record { cells = c .cells .cells; both = g .cells .both; each = lx };
         whole = lw;
         some = c .some;
-        table = c .table;
-        numbers = c .numbers;
-        few = c .few;
-        orders = c .orders;
+        ranked = c .ranked;
         smallBefore = λ i h. omega (arith, ap (λ l. deliveredTotal l i) e, total-most nets d i (c .cells) h);
         smallEach = λ i h.
             let t = total-bounded xs i lx h (λ k. omega (arith, ap (λ l. getD l k 0) x, getD-shorts d′ w k (g .cells .both ∙ sym lw), cell-owed nets d′ (g .cells) k)) in
@@ -171,8 +165,8 @@ module _ (nets : List ℤ) (settles runs counts : List ℕ) (size : ℕ) where
 
   pub loop-last : (d₀ v₀ : List ℕ) {d v d′ v′ : List ℕ} {made leapt : ℕ} (deliveries rounds : ℕ) →
       ending p (desk d₀ v₀ 0) ≡ later rounds (ending p (desk d v deliveries)) → Stepped nets settles runs counts size d d′ v v′ made leapt → made ≡ 0 →
-      Simulated nets settles size d₀ d′ v₀ v′ deliveries (rounds + 1)
-  loop-last d₀ v₀ deliveries rounds e g h = record { desk = e ∙ ap (later rounds) (g .last h deliveries) }
+      EndIs nets settles size d₀ d′ v₀ v′ deliveries (rounds + 1)
+  loop-last d₀ v₀ deliveries rounds e g h = record { desk = e ∙ ap (later rounds) (g .last h deliveries); cells = g .can .cells }
 
 pub times-more : (k r : ℕ) → 0 < r → k ≤ k * r
 times-more k r h = let q : k * 1 ≤ k * r = mul-le-mul-left k h in omega (arith, mul-one k)

@@ -8,8 +8,8 @@ use Rattle.simulation.specs.Desk.{plan, desk}
 use Rattle.simulation.specs.Repeated.{left, ending, later}
 use Rattle.rounds.specs.Turns.{CanRound}
 use Rattle.sizes.proofs.Stepping.{loop-begin, loop-more, loop-last, times-more}
-use Rattle.sizes.proofs.simulate.Statement.{statement}
-use Rattle.sizes.proofs.simulate.Tie as tie
+use Rattle.sizes.proofs.to_the_end.Statement.{statement}
+use Rattle.sizes.proofs.to_the_end.Tie as tie
 
 abbrev Inv-loop : tie.InvT-loop
 Inv-loop nets settles runs counts size delivered₀ inventories₀ deliveries₀ rounds₀ delivered inventories deliveries rounds =
@@ -25,7 +25,7 @@ loop-holds : tie.Need-loop-holds Inv-loop μ-loop
 loop-holds c =
     let s = c .before .before .before .before .before in
     let a = s .args in
-    (s .pre .0, omega arith, omega arith, loop-begin (now (a .nets)) (now (a .settles)) (now (a .runs)) (now (a .counts)) (a .size) (now (a .delivered)) (now (a .inventories)))
+    (s .pre .can, omega arith, omega arith, loop-begin (now (a .nets)) (now (a .settles)) (now (a .runs)) (now (a .counts)) (a .size) (now (a .delivered)) (now (a .inventories)))
 
 returns : tie.Need-returns Inv-loop μ-loop
 returns c =
@@ -53,8 +53,8 @@ loop-again c =
       loop-more (now (a .nets)) (now (a .settles)) (now (a .runs)) (now (a .counts)) (a .size) (now (a .delivered)) (now (a .inventories)) (l .deliveries) (l .rounds) _ _ (l .inv .3) (g .ensures) h (omega arith) (omega arith),
     )
 
-pub simulate-spec : {M : Type 1} → statement M
-simulate-spec =
+pub to-the-end-spec : {M : Type 1} → statement M
+to-the-end-spec =
     tie.close
     (tie.spec
     Inv-loop
