@@ -33,7 +33,7 @@ in-run size rs j r d e here full lo hi =
     let behind = unitsOfRuns size (drop (suc j) rs) in
     let s = sum-runs size (take j rs) in
     let one : unitsOfRun size r ≡ fulls =
-        ap (λ l. fulls ++ l) (put-none (r .account) (r .lots % size) [] full) ∙ append-nil fulls in
+    ap (λ l. fulls ++ l) (put-none (r .account) (r .lots % size) [] full) ∙ append-nil fulls in
     record {
       front = front;
       account = r .account;

@@ -67,8 +67,8 @@ between-both us vs b e h le =
     let vb = covered vs (b - n) in
     let ve = covered vs (e - n) in
     let both : between (us ++ vs) b e ≡ take (ce + ve - (cb + vb)) (drop (cb + vb) (us ++ vs)) =
-        ap (λ k. take (covered (us ++ vs) e - k) (drop k (us ++ vs))) (covered-both us vs b h)
-        ∙ ap (λ k. take (k - (cb + vb)) (drop (cb + vb) (us ++ vs))) (covered-both us vs e h) in
+    ap (λ k. take (covered (us ++ vs) e - k) (drop k (us ++ vs))) (covered-both us vs b h)
+    ∙ ap (λ k. take (k - (cb + vb)) (drop (cb + vb) (us ++ vs))) (covered-both us vs e h) in
     byTest (leb n b)
     (λ t.
     let nb = leb-true n b t in
@@ -87,18 +87,18 @@ between-both us vs b e h le =
     let cl = covered-le us b in
     let el = covered-le us e in
     let start : drop (cb + vb) (us ++ vs) ≡ drop cb us ++ vs =
-        ap (λ m. drop (cb + m) (us ++ vs)) vz ∙ ap (λ m. drop m (us ++ vs)) (add-zero cb) ∙ drop-append-le cb us vs cl in
+    ap (λ m. drop (cb + m) (us ++ vs)) vz ∙ ap (λ m. drop m (us ++ vs)) (add-zero cb) ∙ drop-append-le cb us vs cl in
     let second : between vs (b - n) (e - n) ≡ take ve vs =
-        ap (λ m. take (ve - m) (drop m vs)) vz ∙ ap (λ m. take m vs) (sub-zero ve) in
+    ap (λ m. take (ve - m) (drop m vs)) vz ∙ ap (λ m. take m vs) (sub-zero ve) in
     let m = ce + ve - (cb + vb) in
     let ld = length-drop cb us in
     let spread : between (us ++ vs) b e ≡ take m (drop cb us) ++ take (m - length (drop cb us)) vs =
-        both ∙ ap (take m) start ∙ take-both (drop cb us) vs m in
+    both ∙ ap (take m) start ∙ take-both (drop cb us) vs m in
     byTest (leb n e)
     (λ q.
     let we = covered-whole us e (leb-true n e q) in
     let f : take m (drop cb us) ≡ between us b e =
-        take-all m (drop cb us) (omega (arith, vz, we, ld)) ∙ sym (take-all (ce - cb) (drop cb us) (omega (arith, we, ld))) in
+    take-all m (drop cb us) (omega (arith, vz, we, ld)) ∙ sym (take-all (ce - cb) (drop cb us) (omega (arith, we, ld))) in
     let g : m - length (drop cb us) ≡ ve = omega (arith, vz, we, ld, cl) in
     spread ∙ ap (λ l. l ++ take (m - length (drop cb us)) vs) f ∙ ap (λ k. between us b e ++ take k vs) g
     ∙ sym (ap (λ l. between us b e ++ l) second))
@@ -177,9 +177,9 @@ handed-run size a lots d p =
     let le = leb-true (q * size) d e in
     let short : d - q * size < lots % size = omega arith in
     let c : covered us d ≡ q =
-        covered-past (replicate q x) s d (omega (arith, front))
-        ∙ ap (λ n. length (replicate q x) + n) (ap (λ n. covered s (d - n)) front ∙ put-short a (lots % size) (d - q * size) short)
-        ∙ add-zero (length (replicate q x)) ∙ length-replicate q x in
+    covered-past (replicate q x) s d (omega (arith, front))
+    ∙ ap (λ n. length (replicate q x) + n) (ap (λ n. covered s (d - n)) front ∙ put-short a (lots % size) (d - q * size) short)
+    ∙ add-zero (length (replicate q x)) ∙ length-replicate q x in
     let k : d / size ≡ q = div-eq-of-lt-le size le (omega (arith, suc-mul q size, mod-lt lots p)) in
     ap (λ n. sumLots (take n us)) c ∙ ap sumLots (take-same x s q q (omega arith)) ∙ front ∙ ap (λ n. n * size) (sym k))
     (λ e.

@@ -102,7 +102,7 @@ module _ (size : ℕ) (p : 0 < size) where
       (λ e.
       let h = leb-false size (u .lots) e in
       let none : fulls size (u ∷ us) ≡ [] =
-          no-fulls (u ∷ us) (h, each-map (Before u) (λ v. v .lots < size) (λ v b. omega (arith, b .size)) us (os .0)) in
+      no-fulls (u ∷ us) (h, each-map (Before u) (λ v. v .lots < size) (λ v b. omega (arith, b .size)) us (os .0)) in
       simp e (sym none))
 
   -- the runs are the units' order
@@ -112,7 +112,7 @@ module _ (size : ℕ) (p : 0 < size) where
       let fs = largestFirst (byAccount 0 (map (atLeast size) dues)) in
       let ss = largestFirst (byAccount 0 (map (smallAt size) dues)) in
       let f : fulls size fs ≡ fulls size (largestFirst (byAccount 0 dues)) =
-          ap (fulls size) (full-sorted 0 dues) ∙ fulls-front (largestFirst (byAccount 0 dues)) (ordered-sort (byAccount 0 dues) (rising-parts 0 dues)) in
+      ap (fulls size) (full-sorted 0 dues) ∙ fulls-front (largestFirst (byAccount 0 dues)) (ordered-sort (byAccount 0 dues) (rising-parts 0 dues)) in
       units-append size (map (fullAt size) fs) ss
       ∙ ap (λ l. l ++ unitsOfRuns size ss) (units-fulls fs ∙ f)
       ∙ ap (λ l. fulls size (largestFirst (byAccount 0 dues)) ++ l) (units-small ss (smalls-sorted dues) ∙ ap largestFirst (sym (smalls-parts size 0 dues)))

@@ -133,7 +133,14 @@ pub fn smaller(a: u32, b: u32) -> u32
 }
 
 // The smaller of the inventory of an account's settlement account and what it still owes of an issue.
-fn amount(nets: &[i32], settles: &[u32], delivered: &[u32], inventories: &[u32], a: usize, i: usize) -> u32
+fn amount(
+    nets: &[i32],
+    settles: &[u32],
+    delivered: &[u32],
+    inventories: &[u32],
+    a: usize,
+    i: usize,
+) -> u32
     requires { ⌜ CanAsk (now nets) (now settles) (now delivered) (now inventories) a i ⌝ }
     ensures { λ r. ⌜ r ≡ amountIn (now (nets .entry)) (now (settles .entry)) (now (delivered .entry)) (now (inventories .entry)) a i ⌝ }
 {
@@ -213,7 +220,17 @@ pub fn round(
         let s = i * 128;
         let e = s + 128;
         let n = counts[i] as usize;
-        made += turn(nets, settles, &runs[s..e], n, size, a, i, delivered, inventories);
+        made += turn(
+            nets,
+            settles,
+            &runs[s..e],
+            n,
+            size,
+            a,
+            i,
+            delivered,
+            inventories,
+        );
         t += 1;
     }
     made

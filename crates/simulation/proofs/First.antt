@@ -138,7 +138,7 @@ module _ (p : Plan) (st : (a : ℕ) → settlementOf p a < 16) (n : length (p .n
       let g = getD-row (d .delivered) i a 0 ha in
       let y = deliveredAt (d .delivered) i a + x in
       let z : row i (set (d .delivered) (cell i a) y) ≡ set r a (getD r a 0 + x) =
-          row-same (d .delivered) i a y ha ∙ ap (λ m. set r a (m + x)) (sym g) in
+      row-same (d .delivered) i a y ha ∙ ap (λ m. set r a (m + x)) (sym g) in
       let e = ap (λ ds. sharedBy s (p .settles) (undelivered os ds)) z in
       let k = i * 16 + settlementOf p a in
       let inv = d .inventories in
@@ -171,7 +171,7 @@ module _ (p : Plan) (st : (a : ℕ) → settlementOf p a < 16) (n : length (p .n
       let y = deliveredAt (d .delivered) j a + x in
       let low = set inv k (getD inv k 0 - x) in
       let b : block 16 i (joined p j us low) ≡ block 16 i inv =
-          other-joined p st j i us low ne ∙ block-other 16 inv j (settlementOf p a) i (getD inv k 0 - x) (st a) ne in
+      other-joined p st j i us low ne ∙ block-other 16 inv j (settlementOf p a) i (getD inv k 0 - x) (st a) ne in
       omega (
         arith,
         h s hs,
@@ -241,8 +241,8 @@ module _ (p : Plan) (st : (a : ℕ) → settlementOf p a < 16) (n : length (p .n
       let os = obligationsOf (p .nets) i in
       let ln : length os ≡ 64 = length-oweds (p .nets) i n hi in
       let ge : sum os ≤ deliveredTotal ds i =
-          sum-le os (row i ds) (ln ∙ sym (length-row ds i w hi))
-          (λ a q. let ha : a < 64 = omega (arith, ln) in omega (arith, first-delivers v lv i hi h a ha, owed-at (p .nets) i a ha, getD-row ds i a 0 ha)) in
+      sum-le os (row i ds) (ln ∙ sym (length-row ds i w hi))
+      (λ a q. let ha : a < 64 = omega (arith, ln) in omega (arith, first-delivers v lv i hi h a ha, owed-at (p .nets) i a ha, getD-row ds i a 0 ha)) in
       let all : sumLots us ≤ deliveredTotal ds i = omega (arith, ge, balance-sum (row i (p .nets)) b, units-sum (p .size) (duesOf (p .nets) i)) in
       ap (λ m. take m us) (covered-whole us (deliveredTotal ds i) all) ∙ take-all (length us) us (omega arith)
 

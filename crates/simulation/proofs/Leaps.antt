@@ -19,7 +19,6 @@ use Rattle.rules.specs.Book.{cell, row, netAt, deliveredAt, deliveredTotal, due
 use Rattle.laws.proofs.Basics.{byTest}
 use Rattle.laws.proofs.Handover.{handovers-handed, covered-past, stock-past}
 use Rattle.laws.proofs.Cells.{length-row, row-other, delivered-rises}
-
 use Rattle.simulation.specs.Desk.{Plan, Desk, desk, unitsAt, Ended, ended, oneMore, inventoryAt, withInventory, settlementOf, stillOwed, amount, joined, delivers, turn, turnsFrom, round, roundsOf}
 use Rattle.simulation.specs.Repeated.{left, later, Again, plusTimes}
 use Rattle.simulation.proofs.Stops.{amount-le, Whole, Goes, goes-turn, goes-turns, goes-round, turn-none, turn-some}
@@ -82,14 +81,14 @@ handovers-run us u d e y p r h =
     let rest = replicate n x ++ r .behind in
     let lt : w < n * u = omega (arith, r .ends, r .begins) in
     let c₀ : covered us d ≡ length f + z / u =
-        ap (λ l. covered l d) (r .whole) ∙ covered-past f rest d (r .begins) ∙ ap (λ k. length f + k) (covered-same n (r .account) u z (r .behind) p (omega (arith, lt, r .begins))) in
+    ap (λ l. covered l d) (r .whole) ∙ covered-past f rest d (r .begins) ∙ ap (λ k. length f + k) (covered-same n (r .account) u z (r .behind) p (omega (arith, lt, r .begins))) in
     let c₁ : covered us (d + y) ≡ length f + w / u =
-        ap (λ l. covered l (d + y)) (r .whole) ∙ covered-past f rest (d + y) (omega (arith, r .begins)) ∙ ap (λ k. length f + k) (covered-same n (r .account) u w (r .behind) p lt) in
+    ap (λ l. covered l (d + y)) (r .whole) ∙ covered-past f rest (d + y) (omega (arith, r .begins)) ∙ ap (λ k. length f + k) (covered-same n (r .account) u w (r .behind) p lt) in
     let m : covered us (d + y) - covered us d ≡ w / u - z / u = omega (arith, c₀, c₁) in
     let b : w / u < n = div-lt-iff-lt-mul p .1 lt in
     let a : z / u ≤ w / u = div-grows z w u p (omega (arith, r .begins)) in
     let t : waiting us d ≡ replicate (n - z / u) x ++ r .behind =
-        ap (λ k. drop k us) c₀ ∙ ap (λ l. drop (length f + z / u) l) (r .whole) ∙ drop-append-add f rest (z / u) ∙ drop-same x (r .behind) n (z / u) (omega arith) in
+    ap (λ k. drop k us) c₀ ∙ ap (λ l. drop (length f + z / u) l) (r .whole) ∙ drop-append-add f rest (z / u) ∙ drop-same x (r .behind) n (z / u) (omega arith) in
     ap (λ k. take k (waiting us d)) m ∙ ap (take (w / u - z / u)) t ∙ take-same x (r .behind) (n - z / u) (w / u - z / u) (omega arith)
 
 -- and j times so many lots later the same: those are whole units
@@ -110,7 +109,7 @@ again-run us u lo hi each j p m r d y l h =
     let s₁ : d + j * each + y - f ≡ d + y - f + j * (q * u) = omega (arith, je, r .begins) in
     let s₀ : d + j * each - f ≡ d - f + j * (q * u) = omega (arith, je, r .begins) in
     let k : (d + j * each + y - f) / u - (d + j * each - f) / u ≡ (d + y - f) / u - (d - f) / u =
-        omega (arith, ap (λ n. n / u) s₁ ∙ again-div (d + y - f) j q u p, ap (λ n. n / u) s₀ ∙ again-div (d - f) j q u p) in
+    omega (arith, ap (λ n. n / u) s₁ ∙ again-div (d + y - f) j q u p, ap (λ n. n / u) s₀ ∙ again-div (d - f) j q u p) in
     handovers-run us u (d + j * each) (hi + j * each) y p r₁ (omega arith)
     ∙ ap (λ n. replicate n (same (r .account) u)) k
     ∙ sym (handovers-run us u d (hi + j * each) y p r₀ (omega arith))
@@ -191,7 +190,7 @@ amount-again p a i j xs c s w ha hi e h =
     let d = deliveredAt (s .delivered) i a in
     let y = min v (o - d) in
     let q : o - deliveredAt (plusTimes j xs (s .delivered)) i a ≡ o - d - j * y =
-        ap (λ n. o - n) (getD-plus j xs (s .delivered) (cell i a) (omega arith) ∙ ap (λ n. d + j * n) e) ∙ sub-add-eq o d (j * y) in
+    ap (λ n. o - n) (getD-plus j xs (s .delivered) (cell i a) (omega arith) ∙ ap (λ n. d + j * n) e) ∙ sub-add-eq o d (j * y) in
     ap (λ n. min v n) q ∙ still-min v (o - d) y (j * y) refl h
 
 delivers-again : (p : Plan) (a i j : ℕ) (xs : List ℕ) (c : ℕ) (s : Desk) (y : ℕ) → Whole s → length xs ≡ 1024 → a < 64 → i < 16 →
@@ -291,8 +290,8 @@ turn-total-le p a i j s w ha hi =
     omega (arith, ap (deliveredTotal (s .delivered)) q, ap (deliveredTotal (turn p a i s .delivered)) q, r))
     (λ e.
     let r : deliveredTotal (turn p a i s .delivered) j ≡ deliveredTotal (s .delivered) j =
-        ap (λ l. deliveredTotal l j) (turn-column p a i s)
-        ∙ ap sum (row-other (s .delivered) i a j (deliveredAt (s .delivered) i a + amount p s a i) ha (eqb-false j i e)) in
+    ap (λ l. deliveredTotal l j) (turn-column p a i s)
+    ∙ ap sum (row-other (s .delivered) i a j (deliveredAt (s .delivered) i a + amount p s a i) ha (eqb-false j i e)) in
     omega (arith, r))
 
 turns-total-le : (p : Plan) (j t n : ℕ) (s : Desk) → Whole s → t + n ≤ 1024 →
@@ -347,11 +346,11 @@ turns-again p j xs c lo t (suc n) s w l h g =
     let own = turn-own p t s w (omega arith) in
     let je : j * getD xs (place t) 0 ≡ j * amountAt p t s = ap (λ m. j * m) e in
     let room : j * amountAt p t s + amountAt p t s ≤ stillOwed p s a i =
-        room-left (owedOf (netAt (p .nets) i a)) (deliveredAt (s .delivered) i a) (deliveredAt (turnsFrom p t (suc n) s .delivered) i a)
-        (amountAt p t s) (j * getD xs (place t) 0) (j * amountAt p t s) (g .room t (omega arith) (omega arith)) (q ∙ own) (amount-le p s a i) je in
+    room-left (owedOf (netAt (p .nets) i a)) (deliveredAt (s .delivered) i a) (deliveredAt (turnsFrom p t (suc n) s .delivered) i a)
+    (amountAt p t s) (j * getD xs (place t) 0) (j * amountAt p t s) (g .room t (omega arith) (omega arith)) (q ∙ own) (amount-le p s a i) je in
     let f = goes-turn p a i s w ha hi in
     let hi-le : deliveredTotal (s .delivered) i + amountAt p t s ≤ deliveredTotal (turnsFrom p t (suc n) s .delivered) i =
-        omega (arith, turn-total p a i s w ha hi, turns-total-le p i (suc t) n (turnAt p t s) (f .whole) (omega arith)) in
+    omega (arith, turn-total p a i s w ha hi, turns-total-le p i (suc t) n (turnAt p t s) (f .whole) (omega arith)) in
     ap (turnsFrom p (suc t) n)
     (turn-again p a i j xs c s w l ha hi e room (g .units i hi (deliveredTotal (s .delivered) i) (amountAt p t s) (g .from i hi) hi-le))
     ∙ turns-again p j xs c lo (suc t) n (turnAt p t s) (f .whole) l (omega arith) (again-rest p j xs lo t n s w h g)
@@ -389,20 +388,20 @@ round-again p k d w r j h =
     let xs = r .xs in
     let c = r .made in
     let g : Again-from p j xs (deliveredTotal (d .delivered)) 0 1024 d =
-        record {
-          each = λ t a b.
-              ap (λ e. getD (e .delivered) (place t) 0) (round-is p d)
-              ∙ ap (λ e. getD (e .delivered) (place t) 0) (r .after)
-              ∙ getD-plus 1 xs (d .delivered) (place t) (omega arith)
-              ∙ ap (λ m. getD (d .delivered) (place t) 0 + m) (one-mul (getD xs (place t) 0));
-          room = λ t a b.
-              subst (λ e. j * getD xs (place t) 0 ≤ stillOwed p e (t / 16) (t % 16)) (sym (round-is p d))
-              (let q = mul-le-mul-right (getD xs (place t) 0) h in let b = r .room t (omega arith) in omega (arith, q, b));
-          from = λ i hi. omega arith;
-          units = λ i hi.
-              subst (λ e. Again (unitsAt p i) (deliveredTotal (d .delivered) i) (deliveredTotal (e .delivered) i) (deliveredTotal xs i) j) (sym (round-is p d))
-              (r .units i j hi h);
-        } in
+    record {
+      each = λ t a b.
+          ap (λ e. getD (e .delivered) (place t) 0) (round-is p d)
+          ∙ ap (λ e. getD (e .delivered) (place t) 0) (r .after)
+          ∙ getD-plus 1 xs (d .delivered) (place t) (omega arith)
+          ∙ ap (λ m. getD (d .delivered) (place t) 0 + m) (one-mul (getD xs (place t) 0));
+      room = λ t a b.
+          subst (λ e. j * getD xs (place t) 0 ≤ stillOwed p e (t / 16) (t % 16)) (sym (round-is p d))
+          (let q = mul-le-mul-right (getD xs (place t) 0) h in let b = r .room t (omega arith) in omega (arith, q, b));
+      from = λ i hi. omega arith;
+      units = λ i hi.
+          subst (λ e. Again (unitsAt p i) (deliveredTotal (d .delivered) i) (deliveredTotal (e .delivered) i) (deliveredTotal xs i) j) (sym (round-is p d))
+          (r .units i j hi h);
+    } in
     round-is p (shift j xs c d) ∙ turns-again p j xs c (deliveredTotal (d .delivered)) 0 1024 d w (r .sized) (omega arith) g
     ∙ ap (shift j xs c) (sym (round-is p d) ∙ r .after) ∙ shift-shift j xs c d
 

@@ -107,9 +107,9 @@ still-first p t n d e s =
     record {
       same = ap (turnsFrom p (suc t) n) (turn-none p (t / 16) (t % 16) d e) ∙ s .same;
       none = λ k h l.
-        byTest (eqb k t)
-        (λ q. rw (eqb-true k t q) e)
-        (λ q. s .none k (let ne = eqb-false k t q in omega (arith, ne)) (omega arith));
+          byTest (eqb k t)
+          (λ q. rw (eqb-true k t q) e)
+          (λ q. s .none k (let ne = eqb-false k t q in omega (arith, ne)) (omega arith));
     }
 
 pub still-turns : (p : Plan) (t n : ℕ) (d : Desk) → Whole d → t + n ≤ 1024 → turnsFrom p t n d .made ≡ d .made → Still p t n d
@@ -135,12 +135,14 @@ Stuck p d = (a i : ℕ) → a < 64 → i < 16 → amount p d a i ≡ 0
 pub still-round : (p : Plan) (d : Desk) → Whole d → round p d .made ≡ d .made → (round p d ≡ d) × Stuck p d
 unfolding round
 still-round p d w e =
-    let s = still-turns p 0 1024 d w (omega arith) e in
-    (s .same, λ a i ha hi.
-    let k = a * 16 + i in
-    let q : k / 16 ≡ a = omega arith in
-    let r : k % 16 ≡ i = omega arith in
-    sym (ap (λ b. amount p d b (k % 16)) q ∙ ap (λ j. amount p d a j) r) ∙ s .none k (omega arith) (omega arith))
+    let s = still-turns p 0 1024 d w (omega arith) e in (
+      s .same,
+      λ a i ha hi.
+          let k = a * 16 + i in
+          let q : k / 16 ≡ a = omega arith in
+          let r : k % 16 ≡ i = omega arith in
+          sym (ap (λ b. amount p d b (k % 16)) q ∙ ap (λ j. amount p d a j) r) ∙ s .none k (omega arith) (omega arith),
+    )
 
 -- with more rounds than lots still owed: it has stopped, no account can deliver, another round would change nothing; and how
 -- many rounds and deliveries there were at most

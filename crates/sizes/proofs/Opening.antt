@@ -88,7 +88,7 @@ module _ (nets : List ℤ) (settles v : List ℕ) (size : ℕ) (owed : List ℕ)
   simulated-is w d′ v′ deliveries rounds out e g o =
       let p = plan nets settles size in
       let q : simulated p v ≡ ended (desk d′ v′ deliveries) rounds =
-          simulated-ending p v zeros ∙ ap (λ l. ending p (opening l)) (sym e) ∙ g .desk in
+      simulated-ending p v zeros ∙ ap (λ l. ending p (opening l)) (sym e) ∙ g .desk in
       record {
         made = sym (ap (λ r. r .desk .made) q);
         number = sym (ap (λ r. r .rounds) q);

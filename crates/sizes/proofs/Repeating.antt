@@ -72,9 +72,9 @@ repeats nets settles size d d′ v v′ xs m r k w g e x some o u =
     let w′ : length d′ ≡ 1024 = ap (λ f. length (f .delivered)) q ∙ goes-round p s w .whole in
     let lx : length xs ≡ 1024 = ap length x ∙ length-less d′ d (w′ ∙ sym w) ∙ w in
     let rise : plusTimes 1 xs d ≡ d′ =
-        ap (λ l. plusTimes 1 l d) x
-        ∙ plus-rise d d′ (w′ ∙ sym w)
-        (λ c h. let b = round-grows p s w c (omega arith) in omega (arith, b, ap (λ f. getD (f .delivered) c 0) q)) in
+    ap (λ l. plusTimes 1 l d) x
+    ∙ plus-rise d d′ (w′ ∙ sym w)
+    (λ c h. let b = round-grows p s w c (omega arith) in omega (arith, b, ap (λ f. getD (f .delivered) c 0) q)) in
     let after : round p s ≡ shift 1 xs r s = sym q ∙ desk-same (sym rise) (sym e) (ap (λ n. m + n) (sym (one-mul r))) in
     record {
       made = r;

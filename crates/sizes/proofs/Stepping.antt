@@ -84,9 +84,9 @@ module _ (nets : List ℤ) (settles runs counts : List ℕ) (size : ℕ) where
   unfolding left repeats
   stepped-leap d v d′ v′ xs r k c g e x h l =
       let again : (m : ℕ) → Repeats p k (desk d v m) =
-          λ m. repeats nets settles size d d′ v v′ xs m r k (c .cells .both) g e x h (l .owed) (l .units) in
+      λ m. repeats nets settles size d d′ v v′ xs m r k (c .cells .both) g e x h (l .owed) (l .units) in
       let at : (m : ℕ) → shift k xs r (round p (desk d v m)) ≡ desk (plusTimes k xs d′) v′ (m + r + k * r) =
-          λ m. ap (shift k xs r) (sym (g .desk m)) in
+      λ m. ap (shift k xs r) (sym (g .desk m)) in
       let t = leapt p (c .settled) k (desk d v 0) (fine d v 0 c) (again 0) in
       record {
         can = can d v (plusTimes k xs d′) v′ (0 + r + k * r) c (subst (Fine p (c .settled)) (at 0) (t .fine));

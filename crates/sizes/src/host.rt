@@ -133,7 +133,19 @@ pub extern "C" fn day_simulate<'a>(
     ensures { λ r. ⌜ tried r (now (deliveries .exit)) (now (rounds .exit)) (now (owed .exit)) ≡ daySimulation phase (bookAt day phase entries (now (marks .entry)) (columns nets delivered lifts charges issues froms tos lots days)) (now (settles .entry)) (now (inventories .entry)) size ⌝ }
 {
     let good = sound_at(
-        day, phase, entries, marks, nets, delivered, lifts, charges, issues, froms, tos, lots, days,
+        day,
+        phase,
+        entries,
+        marks,
+        nets,
+        delivered,
+        lifts,
+        charges,
+        issues,
+        froms,
+        tos,
+        lots,
+        days,
     );
     let no = refusal(good, settles, inventories, size);
     let mut left = [0u32; 16];

@@ -129,7 +129,15 @@ pub fn simulate(
     let mut delivered = [0u32; 1024];
     let mut held = [0u32; 256];
     copy(inventories, &mut held);
-    let t = to_the_end(nets, settles, &runs, &counts, size, &mut delivered, &mut held);
+    let t = to_the_end(
+        nets,
+        settles,
+        &runs,
+        &counts,
+        size,
+        &mut delivered,
+        &mut held,
+    );
     still_owed(nets, &delivered, owed);
     t
 }

@@ -30,14 +30,13 @@ add-delivered : tie.Need-add-delivered Inv-loop μ-loop
 add-delivered c = let l = c .before .before .before .loop in omega (arith, c .before .before .before .before .pre .fits (l .c), l .inv .3 (l .c) (omega arith))
 
 loop-again : tie.Need-loop-again Inv-loop μ-loop
-loop-again c = 
+loop-again c =
     let s = c .before .before .before .before in
     let l = c .before .before .before .loop in
     let ds = now (s .args .delivered) in
     let xs = now (s .args .xs) in
     let k = s .args .k in
-    let v = getD (l .delivered) (l .c) 0 + k * getD xs (l .c) 0 in
-    (
+    let v = getD (l .delivered) (l .c) 0 + k * getD xs (l .c) 0 in (
       search needs,
       simp length-set (l .inv .1),
       filled (l .delivered) (l .c) v (λ b. getD ds b 0 + k * getD xs b 0) (omega (arith, l .inv .1)) (l .inv .2)
@@ -46,7 +45,7 @@ loop-again c =
     )
 
 returns : tie.Need-returns Inv-loop μ-loop
-returns c = 
+returns c =
     let a = c .before .before .args in
     let l = c .before .loop in
     advanced (a .k) (now (a .xs)) (now (a .delivered)) (l .delivered) (l .c) (l .inv .1) (omega (arith, l .inv .1)) (l .inv .2)

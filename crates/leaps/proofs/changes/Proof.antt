@@ -24,10 +24,9 @@ loop-holds : tie.Need-loop-holds Inv-loop μ-loop
 loop-holds c = (search needs, c .before .before .before .pre .1, λ b h. absurd (omega arith))
 
 loop-again : tie.Need-loop-again Inv-loop μ-loop
-loop-again c = 
+loop-again c =
     let s = c .before .before .before .before .before .before .before .before in
-    let l = c .before .before .before .before .loop in
-    (
+    let l = c .before .before .before .before .loop in (
       search needs,
       simp length-set (l .inv .1),
       filled (l .xs) (l .c) (c .less .result) (λ b. getD (now (s .args .after)) b 0 - getD (now (s .args .before)) b 0) (omega (arith, l .inv .1)) (l .inv .2)
@@ -35,7 +34,7 @@ loop-again c =
     )
 
 returns : tie.Need-returns Inv-loop μ-loop
-returns c = 
+returns c =
     let s = c .before .before .before .before .before in
     let l = c .before .loop in
     changed (l .xs) (now (s .args .after)) (now (s .args .before)) (l .c) (s .pre .0) (l .inv .1) (omega arith) (l .inv .2)

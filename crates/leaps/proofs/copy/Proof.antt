@@ -22,8 +22,7 @@ loop-holds c = (search needs, c .pre, λ b h. absurd (omega arith))
 loop-again : tie.Need-loop-again Inv-loop μ-loop
 loop-again c =
     let xs = now (c .before .before .before .args .from) in
-    let l = c .before .before .loop in
-    (
+    let l = c .before .before .loop in (
       search needs,
       simp length-set (l .inv .1),
       filled (l .to) (l .c) (getD xs (l .c) 0) (λ b. getD xs b 0) (omega (arith, l .inv .1)) (l .inv .2) refl,

@@ -16,7 +16,7 @@ returns : tie.Need-returns
 returns c = let a = c .before .args in (omega arith, room-none (a .k) (a .x) (a .lots) (c .if1 .taken))
 
 returns-2 : tie.Need-returns-2
-returns-2 c = 
+returns-2 c =
     let a = c .before .before .args in
     let e = c .smaller .ensures in
     let ne = c .before .if1 .left in

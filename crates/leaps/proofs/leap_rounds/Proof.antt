@@ -51,7 +51,7 @@ issue-rounds-requires c κs =
     let l = c .before .before .before .before .before .before .before .loop in
     let rs = now (s .args .runs) in
     let x : c .before .before .total2 .result ≡ deliveredTotal (now (s .args .xs)) (l .i) =
-        c .before .before .total2 .ensures ∙ ap sum (row-part (now (s .args .xs)) (l .i)) in
+    c .before .before .total2 .ensures ∙ ap sum (row-part (now (s .args .xs)) (l .i)) in
     record {
       there = rw (part-block rs (l .i)) (omega (arith, length-block 128 rs (l .i) (omega (arith, s .pre .ranked .table)), s .pre .ranked .orders (l .i) (omega arith) .few));
       some = s .pre .some;
@@ -68,12 +68,11 @@ loop-again c =
     let hi : l .i < 16 = omega arith in
     let n = getD (now (a .counts)) (l .i) 0 in
     let d : c .before .before .before .before .before .total .result ≡ deliveredTotal (now (a .before)) (l .i) =
-        c .before .before .before .before .before .total .ensures ∙ ap sum (row-part (now (a .before)) (l .i)) in
+    c .before .before .before .before .before .total .ensures ∙ ap sum (row-part (now (a .before)) (l .i)) in
     let x : c .before .before .before .total2 .result ≡ deliveredTotal (now (a .xs)) (l .i) =
-        c .before .before .before .total2 .ensures ∙ ap sum (row-part (now (a .xs)) (l .i)) in
+    c .before .before .before .total2 .ensures ∙ ap sum (row-part (now (a .xs)) (l .i)) in
     let us : unitsOfRuns (a .size) (runsIn (take (l .i * 128 + 128 - l .i * 128) (drop (l .i * 128) (now (a .runs)))) n) ≡ units (a .size) (duesOf (now (a .nets)) (l .i)) =
-        ap (λ w. unitsOfRuns (a .size) (runsIn w n)) (part-block (now (a .runs)) (l .i)) ∙ s .pre .ranked .orders (l .i) hi .units in
-    (
+    ap (λ w. unitsOfRuns (a .size) (runsIn w n)) (part-block (now (a .runs)) (l .i)) ∙ s .pre .ranked .orders (l .i) hi .units in (
       search needs,
       omega (arith, f .0, l .inv .1),
       λ b h. room-fewer (l .k) r _ _ (f .0) (l .inv .2 b h),

@@ -23,16 +23,15 @@ loop-holds : tie.Need-loop-holds Inv-loop μ-loop
 loop-holds c = (search needs, search needs, λ b h. absurd (omega arith))
 
 loop-again : tie.Need-loop-again Inv-loop μ-loop
-loop-again c = 
+loop-again c =
     let s = c .before .before .before .before .before .before .before .before .before .before in
     let a = s .args in
     let l = c .before .before .before .before .before .before .before .loop in
     let f = c .fewer .ensures in
     let n = getD (now (a .nets)) (l .c) (pos 0) in
     let o : c .before .before .less .result ≡ owedOf n - getD (now (a .delivered)) (l .c) 0 =
-        c .before .before .less .ensures
-        ∙ ap (λ m. m - getD (now (a .delivered)) (l .c) 0) (c .before .before .before .before .owed .ensures ∙ ap owedOf (toZ-ofZ w32 n (search needs))) in
-    (
+    c .before .before .less .ensures
+    ∙ ap (λ m. m - getD (now (a .delivered)) (l .c) 0) (c .before .before .before .before .owed .ensures ∙ ap owedOf (toZ-ofZ w32 n (search needs))) in (
       search needs,
       omega (arith, f .0, l .inv .1),
       room-more (l .k) (c .fewer .result) (l .c) (λ b. getD (now (a .xs)) b 0) (λ b. owedOf (getD (now (a .nets)) b (pos 0)) - getD (now (a .delivered)) b 0)
@@ -40,7 +39,7 @@ loop-again c =
     )
 
 returns : tie.Need-returns Inv-loop μ-loop
-returns c = 
+returns c =
     let l = c .before .loop in
     (l .inv .1, λ b h. l .inv .2 b (omega arith))
 

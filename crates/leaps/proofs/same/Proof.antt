@@ -27,16 +27,15 @@ returns : tie.Need-returns Inv-loop μ-loop
 returns c = λ e. absurd (false≢true e)
 
 loop-again : tie.Need-loop-again Inv-loop μ-loop
-loop-again c = 
+loop-again c =
     let s = c .before .before .before .before .before in
-    let l = c .before .before .before .before .loop in
-    (
+    let l = c .before .before .before .before .loop in (
       search needs,
       one-more (λ i. getD (now (s .args .a)) i 0) (λ i. getD (now (s .args .b)) i 0) (l .c) (l .inv .1) (search needs),
     )
 
 returns-2 : tie.Need-returns-2 Inv-loop μ-loop
-returns-2 c = 
+returns-2 c =
     let s = c .before .before in
     let l = c .before .loop in
     λ e. all-same (now (s .args .a)) (now (s .args .b)) (l .c) (s .pre) (omega arith) (l .inv .1)

@@ -25,7 +25,7 @@ shared-slice-read-smaller : tie.Need-shared-slice-read-smaller
 shared-slice-read-smaller c = let s = c .before .before .before .before .before .before .before .before .before in omega (arith, s .pre .settled (s .args .a), s .pre .issue, s .pre .stocks)
 
 returns : tie.Need-returns
-returns c = 
+returns c =
     let a = c .before .before .before .before .before .before .before .before .before .before .args in
     let n = getD (now (a .nets)) (a .i * 64 + a .a) (pos 0) in
     c .smaller .ensures

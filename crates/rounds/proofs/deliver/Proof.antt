@@ -42,7 +42,7 @@ join-requires c κs =
     let v = now (a .inventories) in
     let k = a .i * 16 + getD (now (a .settles)) (a .a) 0 in
     let t : c .before .before .before .before .total .result ≡ deliveredTotal (now (a .delivered)) (a .i) =
-        c .before .before .before .before .total .ensures ∙ ap sum (row-part (now (a .delivered)) (a .i)) in
+    c .before .before .before .before .total .ensures ∙ ap sum (row-part (now (a .delivered)) (a .i)) in
     let h : k < length v = omega (arith, s .pre .settled (a .a), s .pre .issue, s .pre .stocks) in
     record {
       there = s .pre .there;
@@ -66,13 +66,13 @@ same-length-2 c =
     ∙ length-set v k (getD v k 0 - a .x)
 
 returns : tie.Need-returns
-returns c = 
+returns c =
     let s = c .before .before .before .before .before .before .before .before .before .before .before .before .before .before in
     let a = s .args in
     let k = a .i * 16 + getD (now (a .settles)) (a .a) 0 in
     let v = now (a .inventories) in
     let t : c .before .before .before .before .before .before .before .total .result ≡ deliveredTotal (now (a .delivered)) (a .i) =
-        c .before .before .before .before .before .before .before .total .ensures ∙ ap sum (row-part (now (a .delivered)) (a .i)) in
+    c .before .before .before .before .before .before .before .total .ensures ∙ ap sum (row-part (now (a .delivered)) (a .i)) in
     record {
       cells = refl;
       stocks = c .before .before .join .ensures

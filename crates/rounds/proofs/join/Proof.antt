@@ -78,8 +78,7 @@ loop-again c =
     let k = a .i * 16 + getD (now (a .settles)) (key % 64) 0 in
     let more = c .before .before .before .before .handed-lots in
     let had = c .before .before .before .handed-lots2 in
-    let h : k < length (l .inventories) = omega (arith, s .pre .settled (key % 64), s .pre .issue, l .inv .2) in
-    (
+    let h : k < length (l .inventories) = omega (arith, s .pre .settled (key % 64), s .pre .issue, l .inv .2) in (
       search needs,
       omega (arith, c .before .less .ensures, c .less2 .ensures, l .inv .1),
       simp length-set (l .inv .2),

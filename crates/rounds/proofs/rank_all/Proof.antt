@@ -36,14 +36,13 @@ loop-again c =
     let g = c .before .before .rank-issue in
     let hi : l .i < 16 = omega arith in
     let k : length (g .last .1 .1 .0) ≡ 128 =
-        omega (
-          arith,
-          g .kept .1 .1 .0,
-          length-take (l .i * 128 + 128 - l .i * 128) (drop (l .i * 128) (l .runs)),
-          length-drop (l .i * 128) (l .runs),
-          l .inv .1,
-        ) in
-    (
+    omega (
+      arith,
+      g .kept .1 .1 .0,
+      length-take (l .i * 128 + 128 - l .i * 128) (drop (l .i * 128) (l .runs)),
+      length-drop (l .i * 128) (l .runs),
+      l .inv .1,
+    ) in (
       search needs,
       length-put (l .runs) (g .last .1 .1 .0) (l .i) (l .inv .1) hi k,
       simp length-set (l .inv .2),

@@ -39,8 +39,7 @@ loop-again : tie.Need-loop-again Inv-loop μ-loop
 loop-again c =
     let a = c .before .before .before .before .before .before .before .before .before .before .before .before .before .before .before .before .args in
     let l = c .before .before .before .before .before .before .before .before .before .before .loop in
-    let g = c .before .before .before .before .turn .ensures in
-    (
+    let g = c .before .before .before .before .turn .ensures in (
       search needs,
       omega (arith, g .one, l .inv .1),
       can-again (now (a .nets)) (now (a .settles)) (now (a .runs)) (now (a .counts)) (a .size) (l .delivered) _ (l .inventories) _ (l .t / 16) (l .t % 16)

@@ -28,8 +28,7 @@ missing-requires c κs =
 loop-again : tie.Need-loop-again Inv-loop μ-loop
 loop-again c =
     let a = c .before .before .before .before .before .before .before .args in
-    let l = c .before .before .before .before .loop in
-    (
+    let l = c .before .before .before .before .loop in (
       search needs,
       simp length-set (l .inv .1),
       filled (l .owed) (l .i) (c .missing .result) (owedOfIssue (now (a .nets)) (now (a .delivered))) (omega (arith, l .inv .1)) (l .inv .2)

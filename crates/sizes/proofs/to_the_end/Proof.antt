@@ -45,8 +45,7 @@ loop-again c =
     let a = c .before .before .before .before .before .before .before .before .before .before .before .before .before .before .before .before .args in
     let l = c .before .before .before .before .before .before .before .before .before .before .loop in
     let g = c .before .before .before .before .before .before .before .round-and-leap in
-    let h : 0 < g .result .made = search needs in
-    (
+    let h : 0 < g .result .made = search needs in (
       g .ensures .can,
       omega (arith, g .ensures .falls, l .inv .1),
       omega (arith, l .inv .2, times-more (g .result .leapt) (g .result .made) h),
