@@ -12,10 +12,10 @@ use Rattle.rules.specs.Handover.{handovers}
 use Rattle.laws.proofs.Basics.{byTest, total-append, total-split, put-none}
 use Rattle.units.specs.Runs.{runsIn, partOf}
 use Rattle.units.proofs.Loops.{runs-at, runs-length}
-use Rattle.rounds.specs.Runs.{unitsOfRun, unitsOfRuns}
+use Rattle.ranking.specs.Runs.{unitsOfRun, unitsOfRuns}
 use Rattle.simulation.specs.Repeated.{Again, AgainFor}
 use Rattle.simulation.proofs.Leaps.{InRun, again-run, again-none}
-use Rattle.rounds.proofs.Sized.{units-append}
+use Rattle.ranking.proofs.Sized.{units-append}
 use Rattle.rounds.proofs.Joins.{sum-run}
 
 pub sum-runs : (size : ℕ) (rs : List AccountLots) → sumLots (unitsOfRuns size rs) ≡ sumLots rs

@@ -7,7 +7,7 @@ use lib.IntN.{ℤ}
 use Rattle.rules.specs.Units.{units}
 use Rattle.rules.specs.Book.{deliveredTotal, duesOf}
 use Rattle.simulation.specs.Repeated.{AgainFor, OwedFor}
-use Rattle.rounds.specs.Orders.{Table}
+use Rattle.ranking.specs.Orders.{Table}
 
 -- an issue's runs, and what a round delivered of it
 pub record CanIssue (runs : List ℕ) (n size x : ℕ) : Type 0 where

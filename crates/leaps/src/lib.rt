@@ -9,7 +9,7 @@ ghost use lib.ListN.{length};
 ghost use Rattle.rules.specs.Fails.{undelivered};
 ghost use Rattle.units.specs.Runs.{runsIn};
 ghost use Rattle.simulation.specs.Repeated.{plusTimes, AgainFor, OwedFor};
-ghost use Rattle.rounds.specs.Runs.{unitsOfRuns};
+ghost use Rattle.ranking.specs.Runs.{unitsOfRuns};
 ghost use Rattle.leaps.specs.Rooms.{CanIssue, CanLeap, CanOwe, CanAdvance, CanLeapAll, LeapIs};
 
 // For how many rounds more can an issue hand over what a round of x lots handed over, from d on? As many as

@@ -15,7 +15,8 @@ use Rattle.rules.specs.Handover.{covered, handed, waiting, handovers}
 use Rattle.laws.proofs.Basics.{byTest, total-append, total-replicate, total-put, each-append, each-replicate, each-put, each-take, each-drop}
 use Rattle.laws.proofs.Handover.{covered-past, covered-within, covered-le, covered-short, covered-grows, handed-extends}
 use Rattle.simulation.specs.Desk.{Plan, inventoryAt, withInventory, settlementOf, joined}
-use Rattle.rounds.specs.Runs.{unitsOfRun, unitsOfRuns, handedOf, addedAt, joinedRuns}
+use Rattle.ranking.specs.Runs.{unitsOfRun, unitsOfRuns}
+use Rattle.rounds.specs.Runs.{handedOf, addedAt, joinedRuns}
 use Rattle.simulation.proofs.Leaps.{covered-same, covered-whole, take-same, set-self}
 
 abbrev Some : AccountLots → Type 0

@@ -13,7 +13,8 @@ use Rattle.rules.specs.Handover.{handovers}
 use Rattle.rules.specs.Book.{deliveredTotal, duesOf}
 use Rattle.units.specs.Runs.{runsIn}
 use Rattle.simulation.specs.Desk.{Plan, plan, Desk, desk, amount, joined, delivers, turn}
-use Rattle.rounds.specs.Runs.{unitsOfRuns, joinedRuns}
+use Rattle.ranking.specs.Runs.{unitsOfRuns}
+use Rattle.rounds.specs.Runs.{joinedRuns}
 use Rattle.rounds.specs.Turns.{amountIn, CanTurn, Delivered, Turned}
 use Rattle.simulation.proofs.Stops.{turn-none, turn-some}
 use Rattle.simulation.proofs.Leaps.{desk-same}

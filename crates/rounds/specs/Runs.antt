@@ -1,20 +1,12 @@
--- Units of any size in runs, and what a delivery hands on, run by run.
+-- What a delivery hands on, run by run.
 use mathlib.Core.Path.{_≡_}
 use mathlib.Core.Bool.{cond}
-use mathlib.Core.List.{List, [], _∷_, _++_}
-use Prim.Native.Nat.{ℕ, _+_, _-_, _*_, _/_, _%_, _≤_, _<_}
+use mathlib.Core.List.{List, [], _∷_}
+use Prim.Native.Nat.{ℕ, _+_, _-_, _*_, _/_, _≤_, _<_}
 use lib.Dec.{leb}
-use lib.ListN.{length, getD, replicate}
-use Rattle.rules.specs.Units.{AccountLots, accountLots, prepend}
+use lib.ListN.{length, getD}
+use Rattle.rules.specs.Units.{AccountLots}
 use Rattle.simulation.specs.Desk.{inventoryAt, withInventory}
-
--- the units that a run stands for: full ones, and a small one of the rest if that is not 0
-abbrev pub unitsOfRun : ℕ → AccountLots → List AccountLots
-unitsOfRun size u = replicate (u .lots / size) (accountLots (u .account) size) ++ prepend (u .account) (u .lots % size) []
-
-abbrev pub unitsOfRuns : ℕ → List AccountLots → List AccountLots
-unitsOfRuns size [] = []
-unitsOfRuns size (u ∷ us) = unitsOfRun size u ++ unitsOfRuns size us
 
 -- the lots of a run that a total hands over
 unfoldable pub handedOf : ℕ → ℕ → ℕ → ℕ

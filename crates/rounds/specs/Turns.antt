@@ -11,8 +11,9 @@ use Rattle.rules.specs.Book.{block, cell, netAt, deliveredAt, deliveredTotal, d
 use Rattle.book.specs.Cells.{OwedCells}
 use Rattle.units.specs.Runs.{runsIn}
 use Rattle.simulation.specs.Desk.{plan, desk, inventoryAt, withInventory, turn, round}
-use Rattle.rounds.specs.Runs.{unitsOfRuns, joinedRuns}
-use Rattle.rounds.specs.Orders.{Table}
+use Rattle.ranking.specs.Runs.{unitsOfRuns}
+use Rattle.rounds.specs.Runs.{joinedRuns}
+use Rattle.ranking.specs.Orders.{Table}
 
 -- the smaller of the settlement account's inventory and what is still owed, from columns
 abbrev pub amountIn : List ℤ → List ℕ → List ℕ → List ℕ → ℕ → ℕ → ℕ

@@ -1,78 +1,10 @@
-// One full round of a simulated desk (document 02, F-7) at any size of units: the runs of every issue, an
-// account's turn, and the round by account and then issue. A delivery is handed over by runs, never unit by unit.
+// One full round of a simulated desk (document 02, F-7), by account and then issue. A delivery is handed over by
+// runs, never unit by unit.
 ghost use mathlib.Core.Path.{_≡_};
-ghost use mathlib.Core.List.{map};
-ghost use Prim.Native.Nat.{_+_, _-_, _≤_, _<_, min};
-ghost use lib.ListN.{length};
+ghost use Prim.Native.Nat.{_+_, _-_, _<_, min};
 ghost use Rattle.units.specs.Runs.{runsIn};
 ghost use Rattle.rounds.specs.Runs.{handedOf, joinedRuns, CanJoin};
-ghost use Rattle.rounds.specs.Orders.{fullAt, smallAt, runsAt, CanOrder, CanRankAt, RankedAt, CanRankAll, Table};
 ghost use Rattle.rounds.specs.Turns.{amountIn, CanAsk, CanDeliver, Delivered, CanTurn, Turned, CanRound, Rounded};
-
-// Of each account's lots, those of its small unit.
-fn rests(lots: &[u32], out: &mut [u32], size: u32)
-    requires { ⌜ (1 ≤ size) × (length (now out) ≡ length (now lots)) ⌝ }
-    ensures { λ _. ⌜ now (out .exit) ≡ map (smallAt size) (now (lots .entry)) ⌝ }
-{
-    let mut i = 0;
-    while i < lots.len() {
-        out[i] = lots[i] % size;
-        i += 1;
-    }
-}
-
-// Of each of the first n keys, the lots of its full units.
-fn fulls(keys: &mut [u32], n: usize, size: u32)
-    requires { ⌜ (1 ≤ size) × (n ≤ length (now keys)) ⌝ }
-    ensures { λ _. ⌜ runsIn (now (keys .exit)) n ≡ map (fullAt size) (runsIn (now (keys .entry)) n) ⌝ }
-{
-    let mut i = 0;
-    while i < n {
-        let k = keys[i];
-        keys[i] = k - k / 64 % size * 64;
-        i += 1;
-    }
-}
-
-// The runs of accounts with these dues, in unit order; answers their number.
-fn order(dues: &[u32], runs: &mut [u32], size: u32) -> usize
-    requires { ⌜ CanOrder size (now dues) (now runs) ⌝ }
-    ensures { λ r. ⌜ (r ≤ 128) × (runsIn (now (runs .exit)) r ≡ runsAt size (now (dues .entry))) ⌝ }
-{
-    let n = units::rank(dues, runs, size);
-    fulls(runs, n, size);
-    let mut small = [0u32; 64];
-    rests(dues, &mut small, size);
-    let m = units::rank(&small, &mut runs[n..], 1);
-    n + m
-}
-
-// The units of an issue in the order of document 001, into a lent array; answers how many words they take.
-fn rank_issue(nets: &[i32], i: usize, runs: &mut [u32], size: u32) -> usize
-    requires { ⌜ CanRankAt size (now nets) i (now runs) ⌝ }
-    ensures { λ r. ⌜ RankedAt size (now (nets .entry)) i (now (runs .exit)) r ⌝ }
-{
-    let s = i * 64;
-    let e = s + 64;
-    let mut dues = [0u32; 64];
-    book::dues_of(&nets[s..e], &mut dues);
-    order(&dues, runs, size)
-}
-
-// The runs of every issue: those of issue i from word i * 128 on, and their number.
-pub fn rank_all(nets: &[i32], runs: &mut [u32], counts: &mut [u32], size: u32)
-    requires { ⌜ CanRankAll size (now nets) (now runs) (now counts) ⌝ }
-    ensures { λ _. ⌜ Table size (now (nets .entry)) (now (runs .exit)) (now (counts .exit)) ⌝ }
-{
-    let mut i: usize = 0;
-    while i < 16 {
-        let s = i * 128;
-        let e = s + 128;
-        let n = rank_issue(nets, i, &mut runs[s..e], size);
-        counts[i] = n as u32;
-        i += 1;
-    }
-}
 
 // The lots of a run that a total hands over: all of them, or the units that go whole into it.
 fn handed_lots(lots: u32, d: u32, size: u32) -> u32
@@ -89,10 +21,7 @@ fn handed_lots(lots: u32, d: u32, size: u32) -> u32
 pub fn less(d: u32, lots: u32) -> u32
     ensures { λ r. ⌜ r ≡ d - lots ⌝ }
 {
-    if d < lots {
-        return 0;
-    }
-    d - lots
+    if d < lots { 0 } else { d - lots }
 }
 
 // What x more lots hand over joins the inventories of the issue, run by run.

@@ -26,7 +26,7 @@ use Rattle.simulation.specs.Desk.{Plan, plan, desk, Ended, ended, opening, owed
 use Rattle.simulation.specs.Repeated.{ending}
 use Rattle.simulation.proofs.Stops.{left-owed}
 use Rattle.simulation.proofs.Ending.{simulated-ending}
-use Rattle.rounds.specs.Orders.{Table}
+use Rattle.ranking.specs.Orders.{Table}
 use Rattle.sizes.specs.Steps.{CanEnd, EndIs, CanSum, CanSimulate, SimulatedIs}
 
 sum-each : (m : ℕ) (l : List ℕ) → Every (λ x. x ≤ m) l → sum l ≤ m * length l

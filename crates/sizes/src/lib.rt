@@ -5,7 +5,7 @@ use leaps::changes;
 use leaps::copy;
 use leaps::leap_rounds;
 use leaps::same;
-use rounds::rank_all;
+use ranking::rank_all;
 use rounds::round;
 ghost use mathlib.Core.Path.{_≡_};
 ghost use mathlib.Core.List.{map};

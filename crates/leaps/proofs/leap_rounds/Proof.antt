@@ -10,7 +10,7 @@ use Rattle.rules.specs.Book.{block, row, deliveredTotal, duesOf}
 use Rattle.laws.proofs.Cells.{length-block}
 use Rattle.units.specs.Runs.{runsIn}
 use Rattle.units.proofs.Cells.{row-part}
-use Rattle.rounds.specs.Runs.{unitsOfRuns}
+use Rattle.ranking.specs.Runs.{unitsOfRuns}
 use Rattle.simulation.specs.Repeated.{AgainFor, OwedFor}
 use Rattle.leaps.proofs.Leaping.{again-none-for, again-fewer, again-more, moved}
 use Rattle.rounds.proofs.Rounding.{part-block}

@@ -7,7 +7,7 @@ use borrow.Author.Needs.{needs}
 use lib.ListN.{length, getD, take}
 use Rattle.rules.specs.Units.{sumLots}
 use Rattle.units.specs.Runs.{runsIn}
-use Rattle.rounds.specs.Runs.{unitsOfRuns}
+use Rattle.ranking.specs.Runs.{unitsOfRuns}
 use Rattle.leaps.proofs.Leaping.{again-here, again-never, room-for, sum-next}
 use Rattle.leaps.proofs.run_rounds.Statement.{statement}
 use Rattle.leaps.proofs.run_rounds.Tie as tie

@@ -5,10 +5,10 @@ use native.Mathlib.Omega.{arith}
 use borrow.Author.Needs.{needs}
 use denote.Ref.{now}
 use lib.ListN.{length, length-take, length-drop, length-map}
-use Rattle.rounds.specs.Orders.{smallAt}
-use Rattle.rounds.proofs.Sized.{rest-small, ordered}
-use Rattle.rounds.proofs.order.Statement.{statement}
-use Rattle.rounds.proofs.order.Tie as tie
+use Rattle.ranking.specs.Orders.{smallAt}
+use Rattle.ranking.proofs.Sized.{rest-small, ordered}
+use Rattle.ranking.proofs.order.Statement.{statement}
+use Rattle.ranking.proofs.order.Tie as tie
 
 rank-requires-2 : tie.Need-rank-requires-2
 rank-requires-2 c κs =

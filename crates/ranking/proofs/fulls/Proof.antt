@@ -9,10 +9,10 @@ use lib.ListN.{length, take, getD, length-set}
 use lib.Seq.{getD-set-other}
 use Rattle.units.specs.Runs.{partOf}
 use Rattle.units.proofs.Loops.{turn-more}
-use Rattle.rounds.specs.Orders.{fullAt}
-use Rattle.rounds.proofs.Sized.{full-key, full-fits, full-keys}
-use Rattle.rounds.proofs.fulls.Statement.{statement}
-use Rattle.rounds.proofs.fulls.Tie as tie
+use Rattle.ranking.specs.Orders.{fullAt}
+use Rattle.ranking.proofs.Sized.{full-key, full-fits, full-keys}
+use Rattle.ranking.proofs.fulls.Statement.{statement}
+use Rattle.ranking.proofs.fulls.Tie as tie
 
 abbrev Inv-loop : tie.InvT-loop
 Inv-loop keys₀ n size i₀ keys i =

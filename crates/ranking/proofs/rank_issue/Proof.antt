@@ -5,9 +5,9 @@ use borrow.Author.Needs.{needs}
 use denote.Ref.{now}
 use Rattle.rules.specs.Measures.{dueOf}
 use Rattle.units.proofs.Cells.{row-part}
-use Rattle.rounds.proofs.Sized.{can-order, ranked-at}
-use Rattle.rounds.proofs.rank_issue.Statement.{statement}
-use Rattle.rounds.proofs.rank_issue.Tie as tie
+use Rattle.ranking.proofs.Sized.{can-order, ranked-at}
+use Rattle.ranking.proofs.rank_issue.Statement.{statement}
+use Rattle.ranking.proofs.rank_issue.Tie as tie
 
 order-requires : tie.Need-order-requires
 order-requires c κs =

@@ -8,9 +8,9 @@ use denote.Ref.{now}
 use lib.ListN.{length, take, length-set}
 use lib.Seq.{take-all}
 use Rattle.units.proofs.Loops.{fill-more}
-use Rattle.rounds.specs.Orders.{smallAt}
-use Rattle.rounds.proofs.rests.Statement.{statement}
-use Rattle.rounds.proofs.rests.Tie as tie
+use Rattle.ranking.specs.Orders.{smallAt}
+use Rattle.ranking.proofs.rests.Statement.{statement}
+use Rattle.ranking.proofs.rests.Tie as tie
 
 abbrev Inv-loop : tie.InvT-loop
 Inv-loop lots out₀ size i₀ out i = (i ≤ length lots) × (length out ≡ length out₀) × (take i out ≡ map (smallAt size) (take i lots))

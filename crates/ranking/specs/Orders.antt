@@ -9,7 +9,7 @@ use Rattle.rules.specs.Measures.{mostLots}
 use Rattle.rules.specs.Units.{AccountLots, accountLots, byAccount, largestFirst, units}
 use Rattle.rules.specs.Book.{all, block, withinSize, duesOf}
 use Rattle.units.specs.Runs.{runsIn, atLeast, CanRank}
-use Rattle.rounds.specs.Runs.{unitsOfRuns}
+use Rattle.ranking.specs.Runs.{unitsOfRuns}
 
 -- what is full of an account's lots, and what is small of them
 abbrev pub fullAt : ℕ → AccountLots → AccountLots

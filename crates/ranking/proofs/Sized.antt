@@ -20,8 +20,8 @@ use Rattle.laws.proofs.Cells.{length-block, getD-block, length-dues}
 use Rattle.units.specs.Runs.{partOf, runsIn, atLeast, CanRank}
 use Rattle.units.proofs.Units.{smalls-parts}
 use Rattle.units.proofs.Loops.{behind, dues-small}
-use Rattle.rounds.specs.Runs.{unitsOfRun, unitsOfRuns}
-use Rattle.rounds.specs.Orders.{fullAt, smallAt, runsAt, CanOrder, CanRankAt, RankedAt, CanRankAll, RankedIn}
+use Rattle.ranking.specs.Runs.{unitsOfRun, unitsOfRuns}
+use Rattle.ranking.specs.Orders.{fullAt, smallAt, runsAt, CanOrder, CanRankAt, RankedAt, CanRankAll, RankedIn}
 
 pub units-append : (size : ℕ) (us vs : List AccountLots) → unitsOfRuns size (us ++ vs) ≡ unitsOfRuns size us ++ unitsOfRuns size vs
 units-append size [] vs = refl

@@ -5,10 +5,10 @@ use native.Mathlib.Omega.{arith}
 use borrow.Author.Needs.{needs}
 use denote.Ref.{now}
 use lib.ListN.{length, drop, length-set, length-take, length-drop}
-use Rattle.rounds.specs.Orders.{RankedIn}
-use Rattle.rounds.proofs.Sized.{length-put, can-rank-part, rank-more}
-use Rattle.rounds.proofs.rank_all.Statement.{statement}
-use Rattle.rounds.proofs.rank_all.Tie as tie
+use Rattle.ranking.specs.Orders.{RankedIn}
+use Rattle.ranking.proofs.Sized.{length-put, can-rank-part, rank-more}
+use Rattle.ranking.proofs.rank_all.Statement.{statement}
+use Rattle.ranking.proofs.rank_all.Tie as tie
 
 abbrev Inv-loop : tie.InvT-loop
 Inv-loop nets runs₀ counts₀ size i₀ runs counts i =
