@@ -4,3 +4,4 @@ pub mod Keeps
 pub mod Leaps
 pub mod Ending
 pub mod First
+pub mod Shown

@@ -20,6 +20,7 @@ use Rattle.soundness.specs.Sound.{soundIn}
 use Rattle.soundness.proofs.Told.{sound-lengths, sound-book}
 use Rattle.units.proofs.Cells.{nets-sized}
 use Rattle.simulation.specs.Desk.{plan, simulated, owedOfEach}
+use Rattle.simulation.proofs.Shown.{accepted}
 use Rattle.simulation.specs.Simulation.{Tried, tried, outcome, refused, triedAnswer, simulationAsks, simulationWhere}
 use Rattle.sizes.specs.Steps.{CanSimulate, SimulatedIs}
 use Rattle.sizes.specs.Host.{phaseOf, soundAt}
@@ -74,32 +75,19 @@ module _ (ss vs : List ℕ) (size : ℕ) where
 
 -- Nothing is refused
 
-all-yes : (g l x : Bool) → firstNo (ask 2 g ∷ ask 5 l ∷ ask 7 x ∷ []) ≡ 0 → (g ≡ true) × (l ≡ true) × (x ≡ true)
-all-yes false l x e = absurd (omega arith)
-all-yes true false x e = absurd (omega arith)
-all-yes true true false e = absurd (omega arith)
-all-yes true true true e = (refl, refl, refl)
-
 pub can-simulate : (phase : ℕ) (b : Book) (ss vs : List ℕ) (size : ℕ) (owed : List ℕ) → 0 ≡ firstNo (simulationAsks (soundAt phase b) ss vs size) → length owed ≡ 16 →
     CanSimulate (b .nets) ss vs size owed
 can-simulate phase b ss vs size owed e room =
-    let l5 = eqb (length ss) 64 in
-    let a5 = all (λ s. leb s 15) ss in
-    let z7 = between 1 unitLots size in
-    let l7 = eqb (length vs) 256 in
-    let a7 = all (λ x. leb x mostLots) vs in
-    let y = all-yes (soundAt phase b) (l5 && a5) (z7 && l7 && a7) (sym e) in
-    let good = and-right (leb phase 2) (soundIn b) (y .0) in
-    let q = and-left (z7 && l7) a7 (y .2) in
-    let settled = each-map (λ s. leb s 15 ≡ true) (λ s. s < 16) (λ s h. omega (arith, leb-true s 15 h)) ss (all-each (λ s. leb s 15) ss (and-right l5 a5 (y .1))) in
+    let c = accepted (soundAt phase b) ss vs size (sym e) in
+    let good = and-right (leb phase 2) (soundIn b) (c .sound) in
     record {
       cells = sound-lengths b good .cells .nets;
       sized = nets-sized b (sound-book b good);
-      accounts = eqb-true (length ss) 64 (and-left l5 a5 (y .1));
-      settled = λ a. each-getD (λ s. s < 16) ss a 0 settled (omega arith);
-      stocks = eqb-true (length vs) 256 (and-right z7 l7 q);
-      held = each-map (λ x. leb x mostLots ≡ true) (λ x. x ≤ mostLots) (λ x h. leb-true x mostLots h) vs (all-each (λ x. leb x mostLots) vs (and-right (z7 && l7) a7 (y .2)));
-      some = leb-true 1 size (and-left (leb 1 size) (leb size unitLots) (and-left z7 l7 q));
+      accounts = c .accounts;
+      settled = c .settled;
+      stocks = c .stocks;
+      held = c .held;
+      some = c .some;
       room = room;
     }
 
