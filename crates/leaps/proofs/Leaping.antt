@@ -1,19 +1,19 @@
 -- How many rounds can be leapt: the run that a round's units lie in.
 use mathlib.Core.Path.{_≡_, refl, sym, ap, subst, _∙_}
 use mathlib.Core.List.{List, [], _∷_, _++_, append-nil}
-use Prim.Native.Nat.{ℕ, zero, suc, _+_, _-_, _*_, _/_, _%_, _≤_, _<_}
+use Prim.Native.Nat.{ℕ, suc, _+_, _-_, _*_, _/_, _%_, _≤_, _<_}
 use native.Mathlib.Omega.{arith}
 use native.Mathlib.Nat.{div-add-mod', div-mul-le-self, mul-le-mul-right, add-zero, zero-mul}
-use lib.Dec.{leb, eqb}
+use lib.Dec.{eqb}
 use borrow.Author.Tests.{eqb-true, eqb-false}
 use lib.ListN.{length, getD, take, drop, replicate, take-append-drop}
-use Rattle.rules.specs.Units.{AccountLots, accountLots, prepend, sumLots}
+use Rattle.rules.specs.Units.{AccountLots, accountLots, sumLots}
 use Rattle.rules.specs.Handover.{handovers}
 use Rattle.laws.proofs.Basics.{byTest, total-append, total-split, put-none}
 use Rattle.units.specs.Runs.{runsIn, partOf}
 use Rattle.units.proofs.Loops.{runs-at, runs-length}
 use Rattle.ranking.specs.Runs.{unitsOfRun, unitsOfRuns}
-use Rattle.simulation.specs.Repeated.{Again, AgainFor}
+use Rattle.simulation.specs.Repeated.{AgainFor}
 use Rattle.simulation.proofs.Leaps.{InRun, again-run, again-none}
 use Rattle.ranking.proofs.Sized.{units-append}
 use Rattle.rounds.proofs.Joins.{sum-run}

@@ -1,6 +1,6 @@
 -- Runs at any size of units: they stand for an issue's units in order.
 use mathlib.Core.Path.{_≡_, refl, sym, ap, subst, _∙_}
-use mathlib.Core.Bool.{true, cond}
+use mathlib.Core.Bool.{cond}
 use mathlib.Core.List.{List, [], _∷_, _++_, map, map-append, append-assoc, append-nil}
 use Prim.Native.Nat.{ℕ, zero, suc, _+_, _-_, _*_, _/_, _%_, _≤_, _<_}
 use native.Mathlib.Omega.{arith}
@@ -10,14 +10,14 @@ use lib.ListN.{length, getD, set, take, drop, replicate, length-take, length-dro
 use lib.Seq.{getD-set-same, getD-set-other, getD-take, length-take-le, take-at, drop-at, ext-getD}
 use lib.IntN.{ℤ}
 use borrow.Author.Tests.{leb-true, leb-false, ltb-true, ltb-false, le-leb, lt-leb, eqb-true, eqb-false}
-use Rattle.rules.specs.Measures.{unitLots, mostLots}
+use Rattle.rules.specs.Measures.{mostLots}
 use Rattle.rules.specs.Units.{AccountLots, accountLots, prepend, byAccount, insert, largestFirst, fulls, smalls, units}
-use Rattle.rules.specs.Book.{all, block, withinSize, duesOf}
+use Rattle.rules.specs.Book.{block, duesOf}
 use Rattle.laws.proofs.Basics.{byTest, Every, each-map, each-sort, put-pos, put-none}
 use Rattle.laws.proofs.Units.{Small, smalls-small}
 use Rattle.laws.proofs.Ranking.{Before, Ordered, rising-parts, ordered-sort}
 use Rattle.laws.proofs.Cells.{length-block, getD-block, length-dues}
-use Rattle.units.specs.Runs.{partOf, runsIn, atLeast, CanRank}
+use Rattle.units.specs.Runs.{partOf, runsIn, atLeast}
 use Rattle.units.proofs.Units.{smalls-parts}
 use Rattle.units.proofs.Loops.{behind, dues-small}
 use Rattle.ranking.specs.Runs.{unitsOfRun, unitsOfRuns}

@@ -1,20 +1,19 @@
 -- What a delivery hands on, unit by unit, is what it hands on run by run.
 use mathlib.Core.Path.{_≡_, refl, sym, ap, _∙_}
-use mathlib.Core.Bool.{Bool, true, false, cond}
 use mathlib.Core.List.{List, [], _∷_, _++_}
 use Prim.Native.Nat.{ℕ, zero, suc, _+_, _-_, _*_, _/_, _%_, _≤_, _<_}
 use native.Mathlib.Omega.{arith}
-use native.Mathlib.Nat.{zero-add, add-zero, suc-add, sub-zero, suc-mul, mod-lt, div-add-mod', div-eq-of-lt-le, div-lt-iff-lt-mul}
+use native.Mathlib.Nat.{add-zero, sub-zero, suc-mul, mod-lt, div-add-mod', div-eq-of-lt-le, div-lt-iff-lt-mul}
 use lib.Dec.{leb}
 use lib.ListN.{length, getD, set, take, drop, replicate, length-set, length-drop, length-replicate}
 use lib.Seq.{getD-set-same, take-all, drop-append-le, drop-append-add}
-use borrow.Author.Tests.{leb-true, leb-false, le-leb, lt-leb}
-use Rattle.rules.specs.Measures.{Every, total}
+use borrow.Author.Tests.{leb-true, leb-false, lt-leb}
+use Rattle.rules.specs.Measures.{Every}
 use Rattle.rules.specs.Units.{AccountLots, accountLots, prepend, sumLots}
-use Rattle.rules.specs.Handover.{covered, handed, waiting, handovers}
+use Rattle.rules.specs.Handover.{covered, handed, handovers}
 use Rattle.laws.proofs.Basics.{byTest, total-append, total-replicate, total-put, each-append, each-replicate, each-put, each-take, each-drop}
-use Rattle.laws.proofs.Handover.{covered-past, covered-within, covered-le, covered-short, covered-grows, handed-extends}
-use Rattle.simulation.specs.Desk.{Plan, inventoryAt, withInventory, settlementOf, joined}
+use Rattle.laws.proofs.Handover.{covered-past, covered-within, covered-le, handed-extends}
+use Rattle.simulation.specs.Desk.{Plan, settlementOf, joined}
 use Rattle.ranking.specs.Runs.{unitsOfRun, unitsOfRuns}
 use Rattle.rounds.specs.Runs.{handedOf, addedAt, joinedRuns}
 use Rattle.simulation.proofs.Leaps.{covered-same, covered-whole, take-same, set-self}

@@ -5,22 +5,21 @@ use mathlib.Core.List.{List, [], _∷_}
 use Prim.Native.Nat.{ℕ, zero, suc, _+_, _-_, _*_, _/_, _%_, _≤_, _<_}
 use native.Mathlib.Omega.{arith}
 use native.Mathlib.Nat.{add-zero}
-use lib.ListN.{length, getD, set, take, drop, length-set}
+use lib.ListN.{length, getD, set, take, drop}
 use lib.Dec.{ltb}
 use lib.IntN.{ℤ, pos, natAbs}
 use borrow.Author.Tests.{leb-true, ltb-true, ltb-false}
 use Rattle.rules.specs.Measures.{sum, owedOf, mostLots}
 use Rattle.rules.specs.Units.{units}
-use Rattle.rules.specs.Handover.{stock}
-use Rattle.rules.specs.Book.{block, row, cell, netAt, deliveredAt, deliveredTotal, withinOwed, withinSize, all, duesOf}
+use Rattle.rules.specs.Book.{block, row, cell, netAt, deliveredAt, deliveredTotal, withinOwed, withinSize, all}
 use Rattle.laws.proofs.Basics.{byTest, and-left, and-right}
 use Rattle.laws.proofs.Signed.{size-of}
 use Rattle.laws.proofs.Cells.{getD-row, length-row, getD-block, length-block, within-set}
 use Rattle.laws.proofs.Sound.{within-at}
 use Rattle.book.specs.Cells.{OwedCells}
 use Rattle.units.proofs.Cells.{cell-owed}
-use Rattle.simulation.specs.Desk.{Plan, plan, Desk, desk, stillOwed, amount, turn, turnsFrom, round}
-use Rattle.rounds.specs.Turns.{CanAsk, CanTurn, Turned, CanRound, Rounded}
+use Rattle.simulation.specs.Desk.{Plan, plan, Desk, desk, amount, turnsFrom, round}
+use Rattle.rounds.specs.Turns.{CanTurn, Turned, CanRound}
 use Rattle.simulation.proofs.Stops.{amount-le}
 use Rattle.simulation.proofs.Leaps.{turn-column}
 use Rattle.simulation.proofs.Keeps.{Kept, kept-turn}

@@ -1,8 +1,8 @@
 -- A turn, from its parts.
 use mathlib.Core.Path.{_≡_, refl, sym, ap, _∙_}
-use mathlib.Core.Bool.{true, false}
+use mathlib.Core.Bool.{false}
 use mathlib.Core.List.{List}
-use Prim.Native.Nat.{ℕ, suc, _+_, _-_, _*_, _≤_, _<_}
+use Prim.Native.Nat.{ℕ, suc, _+_, _-_, _*_, _<_}
 use native.Mathlib.Omega.{arith}
 use native.Mathlib.Nat.{add-zero}
 use lib.Dec.{eqb}
@@ -12,7 +12,7 @@ use Rattle.rules.specs.Units.{units}
 use Rattle.rules.specs.Handover.{handovers}
 use Rattle.rules.specs.Book.{deliveredTotal, duesOf}
 use Rattle.units.specs.Runs.{runsIn}
-use Rattle.simulation.specs.Desk.{Plan, plan, Desk, desk, amount, joined, delivers, turn}
+use Rattle.simulation.specs.Desk.{plan, desk, amount, joined, delivers}
 use Rattle.ranking.specs.Runs.{unitsOfRuns}
 use Rattle.rounds.specs.Runs.{joinedRuns}
 use Rattle.rounds.specs.Turns.{amountIn, CanTurn, Delivered, Turned}

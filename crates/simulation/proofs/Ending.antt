@@ -1,23 +1,21 @@
 -- The end of a desk, whatever the fuel; after a round, and after a leap.
 use mathlib.Core.Path.{_≡_, refl, sym, ap, subst, _∙_}
-use mathlib.Core.Bool.{true, false}
+use mathlib.Core.Bool.{true}
 use mathlib.Core.List.{List}
-use Prim.Native.Nat.{ℕ, zero, suc, _+_, _-_, _*_, _/_, _%_, _≤_, _<_}
+use Prim.Native.Nat.{ℕ, zero, suc, _+_, _-_, _/_, _%_, _≤_, _<_}
 use native.Mathlib.Omega.{arith}
-use native.Mathlib.Nat.{zero-add}
 use lib.Dec.{eqb}
 use lib.ListN.{length}
-use lib.IntN.{ℤ}
-use borrow.Author.Tests.{eqb-true, eqb-false, eq-eqb, ne-eqb}
-use Rattle.rules.specs.Book.{withinOwed, cell, deliveredAt, netAt}
+use borrow.Author.Tests.{eqb-false, eq-eqb}
+use Rattle.rules.specs.Book.{withinOwed, cell, deliveredAt}
 use Rattle.laws.proofs.Basics.{byTest}
 use Rattle.laws.proofs.Cells.{within-set}
 use Rattle.laws.proofs.Sound.{within-at}
 use Rattle.simulation.specs.Repeated.{left, ending, later}
-use Rattle.simulation.specs.Desk.{Plan, Desk, desk, Ended, ended, oneMore, settlementOf, amount, turn, turnsFrom, round, roundsOf, opening, owedLots, simulated}
-use Rattle.simulation.proofs.Stops.{Whole, Goes, goes-round, goes-turn, amount-le, left-owed}
+use Rattle.simulation.specs.Desk.{Plan, Desk, ended, oneMore, settlementOf, amount, turn, turnsFrom, round, roundsOf, opening, owedLots, simulated}
+use Rattle.simulation.proofs.Stops.{Whole, goes-round, amount-le, left-owed}
 use Rattle.simulation.proofs.Leaps.{shift, Repeats, round-again, leap, rounds-on, turn-column, shift-shift}
-use Rattle.simulation.proofs.Keeps.{Kept, kept-round, kept-turn, lotsOf}
+use Rattle.simulation.proofs.Keeps.{kept-turn, lotsOf}
 
 pub fuel : (n m : ℕ) (p : Plan) (d : Desk) → Whole d → left p d < n → left p d < m → roundsOf n p d ≡ roundsOf m p d
 fuel zero m p d w h k = absurd (omega arith)

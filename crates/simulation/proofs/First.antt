@@ -1,20 +1,20 @@
 -- Where every settlement account holds at least what its accounts owe of an issue, all of it is delivered and handed over in
 -- the first round; and where that is so of every issue, the second round is the one without a delivery.
 use mathlib.Core.Path.{_≡_, refl, sym, ap, subst, _∙_}
-use mathlib.Core.Bool.{Bool, true, false, cond}
+use mathlib.Core.Bool.{true}
 use mathlib.Core.List.{List, [], _∷_}
-use Prim.Native.Nat.{ℕ, zero, suc, _+_, _-_, _*_, _/_, _%_, _≤_, _<_, min}
+use Prim.Native.Nat.{ℕ, zero, suc, _+_, _-_, _*_, _/_, _%_, _≤_, _<_}
 use native.Mathlib.Omega.{arith}
 use native.Mathlib.Nat.{div-add-mod'}
 use lib.Dec.{eqb}
-use lib.ListN.{length, getD, set, take, length-set, replicate, length-replicate}
+use lib.ListN.{length, getD, set, take, replicate, length-replicate}
 use lib.Seq.{getD-set-same, getD-set-other, take-all}
 use borrow.Author.Tests.{eqb-true, eqb-false, eq-eqb}
-use Rattle.rules.specs.Measures.{sum, owedOf}
+use Rattle.rules.specs.Measures.{sum}
 use Rattle.rules.specs.Units.{AccountLots, accountLots, byAccount, sumLots, largestFirst, fulls, smalls, units}
-use Rattle.rules.specs.Handover.{covered, handed, handovers}
+use Rattle.rules.specs.Handover.{handed, handovers}
 use Rattle.rules.specs.Fails.{undelivered}
-use Rattle.rules.specs.Book.{balanced, block, row, cell, netAt, deliveredAt, deliveredTotal, duesOf, obligationsOf}
+use Rattle.rules.specs.Book.{balanced, block, row, cell, deliveredAt, deliveredTotal, duesOf, obligationsOf}
 use Rattle.laws.proofs.Basics.{byTest, total-append, total-replicate, total-put, total-sort, sum-parts}
 use Rattle.laws.proofs.Units.{smallPart, total-smalls}
 use Rattle.laws.proofs.Fails.{getD-shorts}
@@ -22,9 +22,9 @@ use Rattle.laws.proofs.Cutoff.{balance-sum}
 use Rattle.laws.proofs.Cells.{getD-block, block-other, getD-row, length-row, row-same, row-other, owed-at, length-oweds}
 use Rattle.simulation.specs.Desk.{Plan, Desk, unitsAt, inventoryAt, settlementOf, stillOwed, amount, joined, delivers, turn, turnsFrom, round, Ended, roundsOf, opening, owedLots, simulated}
 use Rattle.simulation.specs.Shared.{sharedBy, sharedOwed, Holds}
-use Rattle.simulation.proofs.Stops.{Whole, amount-le, goes-turn, goes-round, turn-none, turn-some}
-use Rattle.simulation.proofs.Keeps.{Kept, kept-turn, other-joined}
-use Rattle.simulation.proofs.Leaps.{covered-whole, turn-column, place, turnAt, turn-own, turns-past}
+use Rattle.simulation.proofs.Stops.{Whole, amount-le, goes-round, turn-none, turn-some}
+use Rattle.simulation.proofs.Keeps.{kept-turn, other-joined}
+use Rattle.simulation.proofs.Leaps.{covered-whole, turnAt, turn-own, turns-past}
 
 -- Numbers of the accounts of a settlement account
 

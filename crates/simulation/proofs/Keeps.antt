@@ -1,21 +1,20 @@
 -- Lots are neither made nor lost: an issue's inventories and the house's stock of it are together what they were.
 use mathlib.Core.Path.{_≡_, refl, sym, ap, subst, _∙_}
-use mathlib.Core.Bool.{true, false}
 use mathlib.Core.List.{List, [], _∷_}
-use Prim.Native.Nat.{ℕ, zero, suc, _+_, _-_, _*_, _/_, _%_, _≤_, _<_, min}
+use Prim.Native.Nat.{ℕ, zero, suc, _+_, _-_, _*_, _/_, _%_, _≤_, _<_}
 use native.Mathlib.Omega.{arith}
 use lib.Dec.{eqb}
-use lib.ListN.{length, getD, set, length-set, replicate, length-replicate}
+use lib.ListN.{length, getD, set, length-set, length-replicate}
 use borrow.Author.Tests.{eqb-true, eqb-false}
 use Rattle.rules.specs.Measures.{sum}
-use Rattle.rules.specs.Units.{AccountLots, units, sumLots}
+use Rattle.rules.specs.Units.{AccountLots, sumLots}
 use Rattle.rules.specs.Handover.{stock, handed, handovers}
-use Rattle.rules.specs.Book.{block, cell, deliveredAt, deliveredTotal, duesOf}
+use Rattle.rules.specs.Book.{block, cell, deliveredAt, deliveredTotal}
 use Rattle.laws.proofs.Basics.{byTest}
 use Rattle.laws.proofs.Handover.{handed-stock, handovers-sum}
 use Rattle.laws.proofs.Cells.{block-same, block-other, getD-block, length-block, total-set, delivered-rises, row-other, row-zeros}
-use Rattle.simulation.specs.Desk.{Plan, Desk, unitsAt, settlementOf, inventoryAt, withInventory, amount, joined, delivers, turn, turnsFrom, round, roundsOf, Ended, opening, owedLots, simulated}
-use Rattle.simulation.proofs.Stops.{Whole, goes-turn, goes-round, turn-none, turn-some}
+use Rattle.simulation.specs.Desk.{Plan, Desk, unitsAt, settlementOf, inventoryAt, amount, joined, delivers, turn, turnsFrom, round, roundsOf, opening, owedLots, simulated}
+use Rattle.simulation.proofs.Stops.{Whole, turn-none, turn-some}
 
 -- the inventories of an issue
 abbrev pub held : List ℕ → ℕ → ℕ

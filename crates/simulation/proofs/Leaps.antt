@@ -1,27 +1,25 @@
 -- Rounds that repeat: where a round leaves the inventories as they were, and its deliveries fit k times more into what is
 -- still owed and into the run of units that they hand over, k more rounds do the same again.
 use mathlib.Core.Path.{_≡_, refl, sym, ap, subst, _∙_}
-use mathlib.Core.Bool.{Bool, true, false, cond}
-use mathlib.Core.List.{List, [], _∷_, _++_, map}
+use mathlib.Core.Bool.{false}
+use mathlib.Core.List.{List, [], _∷_, _++_}
 use Prim.Native.Nat.{ℕ, zero, suc, _+_, _-_, _*_, _/_, _%_, _≤_, _<_, min}
 use native.Mathlib.Omega.{arith}
 use native.Mathlib.Nat.{zero-add, add-zero, mul-zero, one-mul, mul-le-mul-right, mul-assoc, mul-add, sub-add-eq, div-add-mod', suc-add, suc-mul, sub-zero, suc-sub-suc, div-eq-of-lt, div-eq-sub-div, div-lt-iff-lt-mul, le-div-iff-mul-le, div-mul-le-self, add-mul-div-right}
-use lib.Arith.{digits-div, digits-mod}
 use lib.Dec.{eqb, leb}
-use lib.ListN.{length, getD, set, take, drop, replicate, length-set}
+use lib.ListN.{length, getD, set, take, drop, replicate}
 use lib.Seq.{getD-set-same, getD-set-other, drop-append-add}
-use lib.IntN.{ℤ, pos}
 use borrow.Author.Tests.{eqb-true, eqb-false, ne-eqb, leb-true, leb-false, le-leb}
-use Rattle.rules.specs.Measures.{total, sum, owedOf}
+use Rattle.rules.specs.Measures.{sum, owedOf}
 use Rattle.rules.specs.Units.{AccountLots, accountLots, sumLots, units}
-use Rattle.rules.specs.Handover.{covered, stock, handed, waiting, handovers}
-use Rattle.rules.specs.Book.{cell, row, netAt, deliveredAt, deliveredTotal, duesOf}
+use Rattle.rules.specs.Handover.{covered, waiting, handovers}
+use Rattle.rules.specs.Book.{cell, row, netAt, deliveredAt, deliveredTotal}
 use Rattle.laws.proofs.Basics.{byTest}
-use Rattle.laws.proofs.Handover.{handovers-handed, covered-past, stock-past}
+use Rattle.laws.proofs.Handover.{covered-past}
 use Rattle.laws.proofs.Cells.{length-row, row-other, delivered-rises}
 use Rattle.simulation.specs.Desk.{Plan, Desk, desk, unitsAt, Ended, ended, oneMore, inventoryAt, withInventory, settlementOf, stillOwed, amount, joined, delivers, turn, turnsFrom, round, roundsOf}
-use Rattle.simulation.specs.Repeated.{left, later, Again, plusTimes}
-use Rattle.simulation.proofs.Stops.{amount-le, Whole, Goes, goes-turn, goes-turns, goes-round, turn-none, turn-some}
+use Rattle.simulation.specs.Repeated.{later, Again, plusTimes}
+use Rattle.simulation.proofs.Stops.{amount-le, Whole, goes-turn, turn-none, turn-some}
 
 -- Units of one size in a row
 

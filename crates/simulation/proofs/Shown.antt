@@ -1,6 +1,6 @@
 -- Of every call that is not refused: it has stopped, within so many rounds and deliveries, no account that still owes an
 -- issue has any of it, and no lots were made or lost.
-use mathlib.Core.Path.{_≡_, refl, sym, ap, _∙_}
+use mathlib.Core.Path.{_≡_, refl, ap}
 use mathlib.Core.Bool.{Bool, true, false, _&&_}
 use mathlib.Core.List.{List, [], _∷_}
 use Prim.Native.Nat.{ℕ, zero, suc, _≤_, _<_}
@@ -14,7 +14,7 @@ use Rattle.rules.specs.Book.{all}
 use Rattle.rules.specs.Questions.{ask, firstNo}
 use Rattle.laws.proofs.Basics.{and-left, and-right, each-map}
 use Rattle.laws.proofs.Sound.{all-each, each-getD}
-use Rattle.simulation.specs.Desk.{Plan, plan, Desk, Ended, inventoryAt, settlementOf, stillOwed, round, owedLots, simulated}
+use Rattle.simulation.specs.Desk.{Plan, plan, Ended, inventoryAt, settlementOf, stillOwed, round, owedLots, simulated}
 use Rattle.simulation.specs.Simulation.{Tried, outcome, triedAnswer, simulationAsks, simulationWhere}
 use Rattle.simulation.proofs.Stops.{none-left, simulated-stops, simulated-few}
 use Rattle.simulation.proofs.Keeps.{LotsKept, lots-kept}

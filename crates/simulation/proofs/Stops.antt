@@ -1,20 +1,20 @@
 -- The desk stops: what is still owed falls with each delivery, and a round without one leaves every account that owes an
 -- issue with none of it in its settlement account.
 use mathlib.Core.Path.{_≡_, refl, sym, ap, subst, _∙_}
-use mathlib.Core.Bool.{Bool, true, false, cond}
+use mathlib.Core.Bool.{false}
 use mathlib.Core.List.{List, [], _∷_, map}
-use Prim.Native.Nat.{ℕ, zero, suc, _+_, _-_, _*_, _/_, _%_, _≤_, _<_, min}
+use Prim.Native.Nat.{ℕ, zero, suc, _+_, _-_, _*_, _/_, _%_, _≤_, _<_}
 use native.Mathlib.Omega.{arith}
 use lib.Dec.{eqb}
-use lib.ListN.{length, getD, set, length-set, length-map, List·getD-map, replicate, length-replicate}
+use lib.ListN.{length, getD, set, length-set, List·getD-map, replicate, length-replicate}
 use lib.IntN.{ℤ, pos}
 use borrow.Author.Tests.{eqb-true, eqb-false}
 use Rattle.rules.specs.Measures.{total, sum, owedOf}
 use Rattle.rules.specs.Fails.{undelivered}
-use Rattle.rules.specs.Book.{cell, netAt, deliveredAt}
+use Rattle.rules.specs.Book.{cell, deliveredAt}
 use Rattle.laws.proofs.Basics.{byTest}
 use Rattle.simulation.specs.Repeated.{left}
-use Rattle.simulation.specs.Desk.{Plan, Desk, Ended, inventoryAt, settlementOf, stillOwed, amount, delivers, turn, turnsFrom, round, oneMore, roundsOf, opening, owedLots, simulated}
+use Rattle.simulation.specs.Desk.{Plan, Desk, Ended, inventoryAt, settlementOf, stillOwed, amount, delivers, turn, turnsFrom, round, roundsOf, opening, owedLots, simulated}
 
 -- a number set higher by x within its limit: what is left falls by x
 left-set : (os ds : List ℕ) (k x : ℕ) → k < length ds → getD ds k 0 + x ≤ getD os k 0 →

@@ -9,7 +9,7 @@ use Rattle.rules.specs.declared.Book.{Book}
 use Rattle.rules.specs.Measures.{issueCount, accountCount, unitLots, mostLots, between}
 use Rattle.rules.specs.Book.{all, sound}
 use Rattle.rules.specs.Questions.{Question, ask, firstNo}
-use Rattle.simulation.specs.Desk.{Plan, plan, Ended, settlementCount, lastSettlement, inventoryCount, simulated, owedOfEach}
+use Rattle.simulation.specs.Desk.{Plan, plan, Ended, lastSettlement, inventoryCount, simulated, owedOfEach}
 
 -- 5. Has each netting account a settlement account of at most 15?
 abbrev pub askSettlements : List ℕ → Question

@@ -1,25 +1,22 @@
 -- The questions, and the answer in plain numbers.
 use mathlib.Core.Path.{_≡_, refl, sym, ap, _∙_}
-use mathlib.Core.Bool.{Bool, true, false, _&&_}
-use mathlib.Core.List.{List, [], _∷_}
+use mathlib.Core.Bool.{Bool, true, false}
+use mathlib.Core.List.{List}
 use Prim.Native.Nat.{ℕ, zero, suc, _≤_, _<_}
-use native.Mathlib.Omega.{arith}
-use lib.Dec.{leb, eqb}
-use lib.ListN.{length, getD, replicate}
+use lib.Dec.{leb}
+use lib.ListN.{length, replicate}
 use lib.IntN.{ℤ}
-use borrow.Author.Tests.{leb-true, le-leb, lt-leb, eqb-true, eq-eqb, ne-eqb}
+use borrow.Author.Tests.{le-leb, lt-leb, eq-eqb, ne-eqb}
 use Rattle.rules.specs.declared.Book.{Book}
 use Rattle.rules.specs.declared.Phase.the-variants.{Cut}
-use Rattle.rules.specs.Measures.{Every, unitLots, mostLots, between}
-use Rattle.rules.specs.Book.{all, withinSize}
-use Rattle.rules.specs.Questions.{ask, firstNo}
+use Rattle.rules.specs.Book.{all}
+use Rattle.rules.specs.Questions.{firstNo}
 use Rattle.book.specs.declared.State.{State}
-use Rattle.laws.proofs.Basics.{byTest, and-left, and-right, each-map}
-use Rattle.laws.proofs.Sound.{all-each, each-getD}
+use Rattle.laws.proofs.Basics.{and-right}
 use Rattle.soundness.specs.Sound.{soundIn}
 use Rattle.soundness.proofs.Told.{sound-lengths, sound-book}
 use Rattle.units.proofs.Cells.{nets-sized}
-use Rattle.simulation.specs.Desk.{plan, simulated, owedOfEach}
+use Rattle.simulation.specs.Desk.{plan, simulated}
 use Rattle.simulation.proofs.Shown.{accepted}
 use Rattle.simulation.specs.Simulation.{Tried, tried, outcome, refused, triedAnswer, simulationAsks, simulationWhere}
 use Rattle.sizes.specs.Steps.{CanSimulate, SimulatedIs}

@@ -2,12 +2,12 @@
 use mathlib.Core.Path.{_≡_, refl, sym, ap, _∙_}
 use mathlib.Core.Bool.{true}
 use mathlib.Core.List.{List, [], _∷_, map}
-use Prim.Native.Nat.{ℕ, zero, suc, _+_, _-_, _*_, _≤_, _<_}
+use Prim.Native.Nat.{ℕ, _+_, _-_, _*_, _≤_, _<_}
 use native.Mathlib.Omega.{arith}
 use native.Mathlib.Nat.{zero-add}
 use lib.ListN.{length, getD, take, drop, replicate, length-replicate, length-map}
 use lib.Seq.{ext-getD}
-use lib.IntN.{ℤ, pos, natAbs}
+use lib.IntN.{ℤ, natAbs}
 use borrow.Author.Tests.{leb-true}
 use Rattle.rules.specs.Measures.{Every, mostLots, total, sum, owedOf}
 use Rattle.rules.specs.Units.{units}
@@ -22,7 +22,7 @@ use Rattle.laws.proofs.Cells.{length-block, length-row, row-zeros, within-row, 
 use Rattle.laws.proofs.Sound.{within-at}
 use Rattle.book.specs.Cells.{OwedCells}
 use Rattle.units.proofs.Cells.{row-part, owed-sized}
-use Rattle.simulation.specs.Desk.{Plan, plan, desk, Ended, ended, opening, owedLots, simulated, owedOfIssue, owedOfEach}
+use Rattle.simulation.specs.Desk.{plan, desk, ended, opening, owedLots, simulated, owedOfIssue, owedOfEach}
 use Rattle.simulation.specs.Repeated.{ending}
 use Rattle.simulation.proofs.Stops.{left-owed}
 use Rattle.simulation.proofs.Ending.{simulated-ending}

@@ -1,16 +1,15 @@
 -- A round that left the inventories as they were is made again: as often as what it delivered is still owed, and as every
 -- issue's units allow.
-use mathlib.Core.Path.{_≡_, refl, sym, ap, subst, _∙_}
-use mathlib.Core.List.{List, [], _∷_}
+use mathlib.Core.Path.{_≡_, sym, ap, subst, _∙_}
+use mathlib.Core.List.{List}
 use Prim.Native.Nat.{ℕ, zero, suc, _+_, _-_, _*_, _/_, _%_, _≤_, _<_}
 use native.Mathlib.Omega.{arith}
 use native.Mathlib.Nat.{one-mul}
 use lib.Dec.{eqb}
 use lib.ListN.{length, getD}
 use lib.Seq.{ext-getD}
-use lib.IntN.{ℤ, pos}
+use lib.IntN.{ℤ}
 use borrow.Author.Tests.{eqb-true, eqb-false}
-use Rattle.rules.specs.Measures.{owedOf}
 use Rattle.rules.specs.Units.{units}
 use Rattle.rules.specs.Fails.{undelivered}
 use Rattle.rules.specs.Book.{deliveredTotal, duesOf}
@@ -20,7 +19,7 @@ use Rattle.simulation.specs.Desk.{Plan, plan, Desk, desk, stillOwed, turnsFrom,
 use Rattle.simulation.specs.Repeated.{plusTimes, Again, AgainFor, OwedFor}
 use Rattle.rounds.specs.Turns.{Rounded}
 use Rattle.simulation.proofs.Stops.{Whole, goes-turn, goes-round}
-use Rattle.simulation.proofs.Leaps.{shift, Repeats, desk-same, place, turnAt, turn-own, turn-other, length-plus, getD-plus, total-plus, round-is}
+use Rattle.simulation.proofs.Leaps.{shift, Repeats, desk-same, place, turnAt, turn-own, turn-other, length-plus, getD-plus, total-plus}
 use Rattle.leaps.proofs.Columns.{length-less}
 
 -- delivered lots never fall

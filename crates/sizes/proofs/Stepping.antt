@@ -1,17 +1,15 @@
 -- A round and its leap, from their parts.
-use mathlib.Core.Path.{_≡_, refl, sym, ap, subst, _∙_}
-use mathlib.Core.Bool.{true}
+use mathlib.Core.Path.{_≡_, sym, ap, subst, _∙_}
 use mathlib.Core.List.{List}
-use Prim.Native.Nat.{ℕ, zero, suc, _+_, _-_, _*_, _/_, _%_, _≤_, _<_}
+use Prim.Native.Nat.{ℕ, suc, _+_, _-_, _*_, _≤_, _<_}
 use native.Mathlib.Omega.{arith}
 use native.Mathlib.Nat.{mul-le-mul-left, mul-one, suc-add, zero-add, zero-mul, mul-zero}
 use lib.ListN.{length, getD}
 use lib.IntN.{ℤ}
 use Rattle.rules.specs.Units.{units}
 use Rattle.rules.specs.Fails.{undelivered}
-use Rattle.rules.specs.Book.{deliveredTotal, withinOwed, duesOf}
-use Rattle.book.specs.Cells.{OwedCells}
-use Rattle.simulation.specs.Desk.{Plan, plan, Desk, desk, Ended, ended, oneMore, round}
+use Rattle.rules.specs.Book.{deliveredTotal}
+use Rattle.simulation.specs.Desk.{Plan, plan, desk, ended, oneMore, round}
 use Rattle.simulation.specs.Repeated.{left, ending, later}
 use Rattle.rounds.specs.Turns.{CanRound, Rounded}
 use Rattle.leaps.specs.Rooms.{LeapIs, CanLeapAll, CanAdvance}
@@ -24,10 +22,9 @@ use Rattle.laws.proofs.Fails.{getD-shorts}
 use Rattle.units.proofs.Cells.{cell-owed}
 use lib.Dec.{ltb}
 use borrow.Author.Tests.{ltb-true, ltb-false}
-use Rattle.simulation.proofs.Stops.{Whole, goes-round}
+use Rattle.simulation.proofs.Stops.{goes-round}
 use Rattle.simulation.proofs.Leaps.{shift, Repeats}
-use Rattle.simulation.proofs.Keeps.{lotsOf}
-use Rattle.simulation.proofs.Ending.{Fine, fine-round, Leapt, leapt, ending-last, ending-more, ending-leap}
+use Rattle.simulation.proofs.Ending.{Fine, fine-round, leapt, ending-last, ending-more, ending-leap}
 use Rattle.sizes.proofs.Repeating.{repeats}
 
 module _ (nets : List ℤ) (settles runs counts : List ℕ) (size : ℕ) where

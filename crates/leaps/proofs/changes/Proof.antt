@@ -1,15 +1,11 @@
-use mathlib.Core.Path.{_≡_, refl, sym, ap, _∙_}
-use mathlib.Core.Bool.{true}
-use Prim.Native.Nat.{ℕ, _+_, _-_, _*_, _/_, _≤_, _<_, min}
+-- The invariant: the places so far have what was delivered.
+use mathlib.Core.Path.{_≡_}
+use Prim.Native.Nat.{ℕ, _-_, _≤_, _<_}
 use native.Mathlib.Omega.{arith}
 use denote.Ref.{now}
 use borrow.Author.Needs.{needs}
 use lib.ListN.{length, getD, length-set}
-use lib.IntN.{pos}
-use mir.Syntax.{w32}
-use mir.ValLaws.{toZ-ofZ}
-use Rattle.rules.specs.Measures.{owedOf}
-use Rattle.leaps.proofs.Columns.{filled, behind, changed, advanced, all-same, room-least, room-less}
+use Rattle.leaps.proofs.Columns.{filled, changed}
 use Rattle.leaps.proofs.changes.Statement.{statement}
 use Rattle.leaps.proofs.changes.Tie as tie
 

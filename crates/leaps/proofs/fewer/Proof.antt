@@ -1,13 +1,6 @@
-use mathlib.Core.Path.{_≡_, refl, sym, ap, _∙_}
-use Prim.Native.Nat.{ℕ, _+_, _-_, _*_, _/_, _≤_, _<_, min}
+-- A cell that delivers nothing has room for any number of rounds.
 use native.Mathlib.Omega.{arith}
-use denote.Ref.{now}
-use lib.ListN.{length, getD}
-use lib.IntN.{pos}
-use mir.Syntax.{w32}
-use mir.ValLaws.{toZ-ofZ}
-use Rattle.rules.specs.Measures.{owedOf}
-use Rattle.leaps.proofs.Columns.{room-least, room-none, room-more}
+use Rattle.leaps.proofs.Columns.{room-least, room-none}
 use borrow.Author.Needs.{needs}
 use Rattle.leaps.proofs.fewer.Statement.{statement}
 use Rattle.leaps.proofs.fewer.Tie as tie

@@ -1,18 +1,9 @@
-use mathlib.Core.Path.{_≡_, refl, sym, ap, subst, _∙_}
-use mathlib.Core.List.{List}
-use Prim.Native.Nat.{ℕ, _+_, _-_, _*_, _/_, _≤_, _<_, min}
+-- An issue of which nothing was delivered has room for any number of rounds.
 use native.Mathlib.Omega.{arith}
 use denote.Ref.{now}
-use lib.ListN.{length, getD, take, drop}
-use Rattle.rules.specs.Measures.{sum}
-use Rattle.rules.specs.Units.{AccountLots, units}
-use Rattle.rules.specs.Book.{block, row, deliveredTotal, duesOf}
-use Rattle.laws.proofs.Cells.{length-block}
 use Rattle.units.specs.Runs.{runsIn}
-use Rattle.units.proofs.Cells.{row-part}
 use Rattle.ranking.specs.Runs.{unitsOfRuns}
-use Rattle.simulation.specs.Repeated.{AgainFor, OwedFor}
-use Rattle.leaps.proofs.Leaping.{again-none-for, again-fewer, again-more}
+use Rattle.leaps.proofs.Leaping.{again-none-for, again-fewer}
 use borrow.Author.Needs.{needs}
 use Rattle.leaps.proofs.issue_rounds.Statement.{statement}
 use Rattle.leaps.proofs.issue_rounds.Tie as tie

@@ -1,18 +1,18 @@
-use mathlib.Core.Path.{_≡_, refl, sym, ap, subst, _∙_}
-use mathlib.Core.List.{List}
-use Prim.Native.Nat.{ℕ, _+_, _-_, _*_, _/_, _≤_, _<_, min}
+-- The invariant: so many rounds more have room in every cell, and in the units of the issues so far.
+use mathlib.Core.Path.{_≡_, ap, _∙_}
+use Prim.Native.Nat.{ℕ, _+_, _-_, _*_, _≤_, _<_}
 use native.Mathlib.Omega.{arith}
 use denote.Ref.{now}
-use lib.ListN.{length, getD, take, drop}
+use lib.ListN.{getD, take, drop}
 use Rattle.rules.specs.Measures.{sum}
-use Rattle.rules.specs.Units.{AccountLots, units}
-use Rattle.rules.specs.Book.{block, row, deliveredTotal, duesOf}
+use Rattle.rules.specs.Units.{units}
+use Rattle.rules.specs.Book.{deliveredTotal, duesOf}
 use Rattle.laws.proofs.Cells.{length-block}
 use Rattle.units.specs.Runs.{runsIn}
 use Rattle.units.proofs.Cells.{row-part}
 use Rattle.ranking.specs.Runs.{unitsOfRuns}
 use Rattle.simulation.specs.Repeated.{AgainFor, OwedFor}
-use Rattle.leaps.proofs.Leaping.{again-none-for, again-fewer, again-more, moved}
+use Rattle.leaps.proofs.Leaping.{again-more, moved}
 use Rattle.rounds.proofs.Rounding.{part-block}
 use Rattle.leaps.proofs.Columns.{room-fewer}
 use borrow.Author.Needs.{needs}

@@ -1,13 +1,14 @@
-use mathlib.Core.Path.{_≡_, refl, sym, ap, _∙_}
-use Prim.Native.Nat.{ℕ, _+_, _-_, _*_, _/_, _≤_, _<_, min}
+-- The invariant: so many rounds more have room in the cells so far.
+use mathlib.Core.Path.{_≡_, sym, ap, _∙_}
+use Prim.Native.Nat.{ℕ, _-_, _*_, _≤_, _<_}
 use native.Mathlib.Omega.{arith}
 use denote.Ref.{now}
-use lib.ListN.{length, getD}
+use lib.ListN.{getD}
 use lib.IntN.{pos}
 use mir.Syntax.{w32}
 use mir.ValLaws.{toZ-ofZ}
 use Rattle.rules.specs.Measures.{owedOf}
-use Rattle.leaps.proofs.Columns.{room-least, room-none, room-more}
+use Rattle.leaps.proofs.Columns.{room-more}
 use borrow.Author.Needs.{needs}
 use Rattle.leaps.proofs.owed_rounds.Statement.{statement}
 use Rattle.leaps.proofs.owed_rounds.Tie as tie

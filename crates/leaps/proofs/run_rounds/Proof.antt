@@ -1,10 +1,10 @@
 -- The invariant: what the runs in front have, and what is left of the total, are the total.
-use mathlib.Core.Path.{_≡_, sym, _∙_}
-use Prim.Native.Nat.{ℕ, _+_, _-_, _*_, _/_, _%_, _≤_, _<_}
+use mathlib.Core.Path.{_≡_}
+use Prim.Native.Nat.{_+_, _-_, _/_, _%_, _≤_}
 use native.Mathlib.Omega.{arith}
 use denote.Ref.{now}
 use borrow.Author.Needs.{needs}
-use lib.ListN.{length, getD, take}
+use lib.ListN.{getD, take}
 use Rattle.rules.specs.Units.{sumLots}
 use Rattle.units.specs.Runs.{runsIn}
 use Rattle.ranking.specs.Runs.{unitsOfRuns}

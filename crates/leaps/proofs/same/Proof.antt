@@ -1,15 +1,12 @@
-use mathlib.Core.Path.{_≡_, refl, sym, ap, _∙_}
+-- The invariant: the places so far are equal.
+use mathlib.Core.Path.{_≡_}
 use mathlib.Core.Bool.{true, false≢true}
-use Prim.Native.Nat.{ℕ, _+_, _-_, _*_, _/_, _≤_, _<_, min}
+use Prim.Native.Nat.{ℕ, _-_, _≤_, _<_}
 use native.Mathlib.Omega.{arith}
 use denote.Ref.{now}
 use borrow.Author.Needs.{needs}
-use lib.ListN.{length, getD, length-set}
-use lib.IntN.{pos}
-use mir.Syntax.{w32}
-use mir.ValLaws.{toZ-ofZ}
-use Rattle.rules.specs.Measures.{owedOf}
-use Rattle.leaps.proofs.Columns.{filled, behind, changed, advanced, all-same, one-more, room-least, room-less}
+use lib.ListN.{length, getD}
+use Rattle.leaps.proofs.Columns.{all-same, one-more}
 use Rattle.leaps.proofs.same.Statement.{statement}
 use Rattle.leaps.proofs.same.Tie as tie
 

@@ -1,12 +1,12 @@
 -- The invariant: what the runs from here join is what all of them join.
-use mathlib.Core.Path.{_≡_, refl, sym, ap, _∙_}
+use mathlib.Core.Path.{_≡_, sym, _∙_}
 use Prim.Native.Nat.{ℕ, _+_, _-_, _*_, _/_, _%_, _≤_, _<_}
 use native.Mathlib.Omega.{arith}
 use borrow.Author.Needs.{needs}
 use denote.Ref.{now}
 use lib.ListN.{length, getD, drop, length-set}
 use Rattle.units.specs.Runs.{runsIn}
-use Rattle.rounds.specs.Runs.{handedOf, addedAt, joinedRuns}
+use Rattle.rounds.specs.Runs.{joinedRuns}
 use Rattle.rounds.proofs.Joining.{handed-grows, handed-rest, join-step, join-end, added-small}
 use Rattle.rounds.proofs.join.Statement.{statement}
 use Rattle.rounds.proofs.join.Tie as tie

@@ -1,10 +1,9 @@
 -- The invariant: the turns from here on make the round.
 use mathlib.Core.Path.{_≡_, sym, _∙_}
-use Prim.Native.Nat.{ℕ, _+_, _-_, _*_, _/_, _%_, _≤_}
+use Prim.Native.Nat.{ℕ, _+_, _-_, _/_, _%_, _≤_}
 use native.Mathlib.Omega.{arith}
 use denote.Ref.{now}
 use borrow.Author.Needs.{needs}
-use lib.ListN.{length}
 use Rattle.simulation.specs.Desk.{plan, desk, turnsFrom, round}
 use Rattle.rounds.specs.Turns.{CanRound}
 use Rattle.rounds.proofs.Rounding.{can-turn, can-again, round-begin, round-step, round-end}

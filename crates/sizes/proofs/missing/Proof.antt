@@ -1,6 +1,5 @@
 -- The sum of what each account is missing.
 use mathlib.Core.Path.{ap, _∙_}
-use native.Mathlib.Omega.{arith}
 use Rattle.rules.specs.Measures.{sum}
 use borrow.Author.Needs.{needs}
 use Rattle.sizes.proofs.missing.Statement.{statement}

@@ -1,11 +1,9 @@
 -- Each return by the answers that led there.
 use mathlib.Core.Path.{_≡_, sym, _∙_}
 use mathlib.Core.Bool.{true}
-use Prim.Native.Nat.{_≤_}
 use native.Mathlib.Omega.{arith}
 use denote.Ref.{now}
 use lib.Dec.{leb}
-use lib.ListN.{length}
 use borrow.Author.Tests.{not-true, not-false}
 use Rattle.rules.specs.Book.{all}
 use Rattle.sizes.proofs.Answers.{is-2, is-5-length, is-5, is-7-none, is-7-large, is-7-length, is-7, is-0}
