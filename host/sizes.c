@@ -13,7 +13,7 @@ static uint32_t inventories[DAY_INVENTORIES];
 static void try_size(uint32_t size)
 {
     struct day_simulated tried = day_book_simulate(&book, settles, inventories, size);
-    printf("units of %u lots:", (unsigned)size);
+    printf("unit size %u:", (unsigned)size);
     if (tried.refusal != DAY_DONE) {
         printf(" refused by %u: %s\n", (unsigned)tried.refusal, day_refusal_text(tried.refusal));
         return;
