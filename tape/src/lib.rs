@@ -1,11 +1,12 @@
-//! Tapes for people: a text form of the words, what the book refuses, what a tape does day by day, and
-//! why a unit has not come.
+//! Tapes for people: a text form of the words, what the book refuses, what a tape does day by day, why a
+//! unit has not come, and whether smaller units would loosen a jam.
 
 pub mod bytes;
 pub mod check;
 pub mod facts;
 pub mod fault;
 pub mod input;
+pub mod jam;
 pub mod measure;
 pub mod run;
 pub mod status;
