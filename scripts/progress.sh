@@ -3,7 +3,8 @@
 # whole in a file. The prover's notes and the line 'N passed, M failed' are not shown; every line
 # about an error is. A crate that was proved before is only counted. Usage: rt check NAME 2>&1 | progress.sh LOG [NAME..]
 # The names are the crates that are proved, with all that they depend on; none are all of them,
-# with their must-fail edits.
+# with their must-fail edits. PROGRESS_LATER names libraries whose archives are made after these: their
+# time is counted too.
 set -euo pipefail
 cd "$(dirname "$0")/.."
 
@@ -53,17 +54,49 @@ for name in $(needed "$@"); do
     crates=$((crates + 1)) edits=$((edits + of_crate))
     known "$name" || left=$((left + ${seconds[$name]:-20} * (1 + of_crate)))
 done
+libraries=0
+for name in ${PROGRESS_LATER:-}; do
+    libraries=$((libraries + 1)) left=$((left + ${seconds[$name]:-20}))
+done
+all=$left
 cores=$(nproc 2>/dev/null || echo 1)
 [ "$cores" -le 2 ] || cores=2
 
-minutes() { # SECONDS of one core
-    local whole=$((($1 / cores + 59) / 60))
+# The seconds since the start; a test names a file that has them.
+gone() {
+    if [ -n "${PROGRESS_CLOCK:-}" ]; then cat "$PROGRESS_CLOCK"; else echo $((SECONDS - first)); fi
+}
+
+# How long so many seconds of the table take by the clock. At the beginning that is the table divided
+# by the cores; the more is proved, the more the pace so far counts.
+by_the_clock() { # SECONDS
+    local weight=30 # seconds by the clock for which the table speaks
+    echo $(($1 * ($(gone) + weight) / (all - left + weight * cores)))
+}
+
+minutes() { # SECONDS of the table
+    local whole=$((($(by_the_clock "$1") + 59) / 60))
     if [ "$whole" -le 1 ]; then echo 'about a minute'; else echo "about $whole minutes"; fi
 }
 
-what="$crates crates"
-[ "$edits" -eq 0 ] || what="$what, and $edits wrong edits to be refused"
-[ "$left" -eq 0 ] || echo "To be proved: $what; $(minutes "$left") on $cores cores, by docs/CHECK-TIMES.md."
+some() { # COUNT THING: with an s where they are not one
+    if [ "$1" -eq 1 ]; then echo "1 $2"; else echo "$1 $2s"; fi
+}
+
+# How many of the crates are to be proved.
+unproved() { # NAME..
+    local count=0 name
+    for name in $(needed "$@"); do known "$name" || count=$((count + 1)); done
+    echo "$count"
+}
+
+first=$SECONDS
+what=$(some "$crates" crate)
+few=$(unproved "$@")
+[ "$few" -eq "$crates" ] || what="$few of $what"
+[ "$edits" -eq 0 ] || what="$what, and $(some "$edits" 'wrong edit') to be refused"
+[ "$libraries" -eq 0 ] || what="$what, then $(some "$libraries" library | sed 's/librarys/libraries/')"
+[ "$left" -eq 0 ] || echo "To be proved: $what; $(minutes "$left") on $(some "$cores" core), by docs/CHECK-TIMES.md."
 
 took() { # LINE: the seconds in it
     sed -n 's/.*[( ]\([0-9][0-9]*\) s).*/\1 s/p' <<<"$1"
@@ -71,12 +104,13 @@ took() { # LINE: the seconds in it
 
 to_come() { [ "$left" -le 0 ] || printf '; %s to come' "$(minutes "$left")"; }
 
-proved=0 refused=0 first=$SECONDS
+proved=0 refused=0
 show() { # LINE
     local line=$1 name
     case $line in
     [0-9]*' passed, '[0-9]*' failed') ;;
-    'library '*': modules '* | 'logic='* | 'logic /'* | 'fn '*': proved' | 'axioms '*) ;;
+    'library '*': modules '* | 'logic='* | 'logic /'* | 'axioms '* | 'linked target='*) ;;
+    'fn '*': proved' | 'enum '*': proved' | 'struct '*': proved') ;;
     *': note: large solution'* | 'note: no function with a body'* | 'rt: ok, '* | 'rt: target/staticlib/'*) ;;
     'rt: must-fail '*': refused, as it must be'*)
         name=${line#rt: must-fail } name=${name%%:*}
@@ -100,7 +134,7 @@ still() {
     local busy
     busy=$({ grep -L '^rt: ' target/log/*.out target/must-fail/*/*.out 2>/dev/null || true; } |
         sed 's,^target/log/,,; s,^target/must-fail/,,; s,\.out$,,' | tr '\n' ' ')
-    [ -z "$busy" ] || printf '   %d s: at work on %s\n' $((SECONDS - first)) "$busy"
+    [ -z "$busy" ] || printf '   %d s: at work on %s\n' "$(gone)" "$busy"
 }
 
 : >"$log"
