@@ -6,6 +6,7 @@
  *                                     day_quotes day_write
  *     target/staticlib/libdesk.a      day_value day_charge
  *     target/staticlib/libentries.a   entry_meet
+ *     target/staticlib/libsizes.a     day_simulate
  *     target/staticlib/libstatus.a    day_status
  *     target/staticlib/libtrust.a     day_trust
  *
@@ -42,7 +43,9 @@ extern "C" {
 #define DAY_TAPE_WORDS 33u  /* the output of day_write has at least so many words */
 #define DAY_REPORTS 256u    /* the most trade reports, and the places of the output of day_trust */
 #define DAY_SUB_ACCOUNTS 32u /* sub-accounts 0 to 31 */
-#define DAY_STACK_BYTES 32768u /* the most stack that a call needs; measured: 20,736 */
+#define DAY_SETTLEMENT_ACCOUNTS 16u /* of a simulated desk: settlement accounts 0 to 15 */
+#define DAY_INVENTORIES 256u /* issue i in settlement account s stands at i * 16 + s */
+#define DAY_STACK_BYTES 32768u /* the most stack that a call needs; measured: 26,232 */
 
 /* The place of an issue and an account, both in range, in nets and delivered lots. */
 #define DAY_PLACE(issue, account) ((size_t)(issue) * DAY_ACCOUNTS + (size_t)(account))
@@ -91,9 +94,10 @@ extern "C" {
 #define DAY_REFUSED_BOOK 2u     /* the book is not sound, or a column has another length */
 #define DAY_REFUSED_PHASE 3u    /* the call belongs to another phase */
 #define DAY_REFUSED_ISSUE 4u    /* the issue is above 15 */
-#define DAY_REFUSED_ACCOUNT 5u  /* an account is above 63 */
+#define DAY_REFUSED_ACCOUNT 5u  /* an account is above 63, a settlement account above 15 */
 #define DAY_REFUSED_SAME 6u     /* from and to are the same account */
-#define DAY_REFUSED_LOTS 7u     /* lots are not 1 to 20,000,000 (a report's: within ±20,000,000) */
+#define DAY_REFUSED_LOTS 7u     /* lots are not 1 to 20,000,000 (a report's: within ±20,000,000; a
+                                 * simulated desk's: unit size 1 to 100,000, inventories to 20,000,000) */
 #define DAY_REFUSED_NET 8u      /* a net would pass 20,000,000 lots to one side */
 #define DAY_REFUSED_OWED 9u     /* the account does not owe that many lots */
 #define DAY_REFUSED_ROOM 10u    /* the ledger would have more than 2,048 entries */
@@ -165,6 +169,28 @@ uint32_t day_status(uint16_t day, uint32_t phase, size_t entries, const uint8_t 
                     const uint32_t *lots, size_t lots_length,
                     const uint16_t *days, size_t days_length,
                     uint32_t issue, uint32_t k, uint32_t answer[2]);
+
+/* Tries a unit size on a simulated desk, in any phase: the book's nets alone count, and nothing of it
+ * changes. settles has the settlement account (0 to 15) of each netting account, inventories the lots
+ * of each issue in each settlement account (at most 20,000,000), size the lots of a unit (1 to
+ * 100,000). In turn, by account and then issue, each account delivers the smaller of that inventory
+ * and what it still owes; what an account is handed joins its settlement account at once. It ends with
+ * the first round without a delivery, which is counted. deliveries, rounds and the lots still owed of
+ * each issue are all 0 on a refusal (2; 5, also for other than 64 settlement accounts; 7, also for
+ * other than 256 inventories). */
+uint32_t day_simulate(uint16_t day, uint32_t phase, size_t entries, const uint8_t marks[16],
+                      const int32_t *nets, size_t nets_length,
+                      const uint32_t *delivered, size_t delivered_length,
+                      const uint32_t *lifts, size_t lifts_length,
+                      const int64_t *charges, size_t charges_length,
+                      const uint8_t *issues, size_t issues_length,
+                      const uint8_t *froms, size_t froms_length,
+                      const uint8_t *tos, size_t tos_length,
+                      const uint32_t *lots, size_t lots_length,
+                      const uint16_t *days, size_t days_length,
+                      const uint32_t *settles, size_t settles_length,
+                      const uint32_t *inventories, size_t inventories_length, uint32_t size,
+                      uint64_t *deliveries, uint64_t *rounds, uint32_t owed[16]);
 
 /* The call of an instruction, made in place on any book. A kind that is none of 1..7, 13 is refused by
  * 14 before anything else is asked, the output (1) and the book (2) too. Only deliver, cutoff and
@@ -304,6 +330,14 @@ struct day_status_answer {
     uint32_t lots;
 };
 
+/* What came of a simulated desk. */
+struct day_simulated {
+    uint32_t refusal;
+    uint64_t deliveries;
+    uint64_t rounds;              /* the last one, without a delivery, among them */
+    uint32_t owed[DAY_ISSUES];    /* of each issue, the lots still owed */
+};
+
 /* A ticket for a lift: issue and unit number, the unit's account and lots, the day, and the count of
  * that day's accepted deliveries and lifts in the issue. */
 struct day_ticket {
@@ -379,6 +413,24 @@ static inline struct day_status_answer day_book_status(const struct day_book *bo
     told.status = answer[0];
     told.lots = answer[1];
     return told;
+}
+
+/* Tries a unit size on a simulated desk; changes nothing. */
+static inline struct day_simulated
+day_book_simulate(const struct day_book *book, const uint32_t settles[DAY_ACCOUNTS],
+                  const uint32_t inventories[DAY_INVENTORIES], uint32_t size)
+{
+    struct day_simulated tried;
+    memset(&tried, 0, sizeof tried);
+    tried.refusal = day_simulate(book->day, book->phase, book->entries, book->marks,
+                                 book->nets, DAY_PLACES, book->delivered, DAY_PLACES,
+                                 book->lifts, DAY_LIFT_PLACES,
+                                 book->charges, DAY_ACCOUNTS, book->issues, DAY_ENTRIES,
+                                 book->froms, DAY_ENTRIES, book->tos, DAY_ENTRIES,
+                                 book->lots, DAY_ENTRIES, book->days, DAY_ENTRIES,
+                                 settles, DAY_ACCOUNTS, inventories, DAY_INVENTORIES, size,
+                                 &tried.deliveries, &tried.rounds, tried.owed);
+    return tried;
 }
 
 /* The call of an instruction, with quotes and an output of these lengths. */

@@ -114,6 +114,19 @@ static void make_trust(void)
                          DAY_REPORTS, draw, DAY_REPORTS, 256000, 4, out, DAY_OUT_WORDS);
 }
 
+/* A desk whose lots go round at units of 7 lots, from the nets of the lifted day. */
+static void make_simulation(void)
+{
+    static uint32_t settles[DAY_ACCOUNTS], inventories[DAY_INVENTORIES];
+    for (uint32_t account = 0; account < DAY_ACCOUNTS; account++) {
+        settles[account] = account % DAY_SETTLEMENT_ACCOUNTS;
+    }
+    for (uint32_t place = 0; place < DAY_INVENTORIES; place++) {
+        inventories[place] = 10 + place;
+    }
+    refusal |= day_book_simulate(&book, settles, inventories, 7).refusal;
+}
+
 static void make_nothing(void) {}
 
 struct measured {
@@ -133,6 +146,7 @@ static const struct measured measures[] = {
     {"cutoff, lifted", make_cutoff},     {"status, cut", make_status},
     {"pair-off", make_pair_off},  {"write", make_write},           {"read", make_read},
     {"value and charge", make_charge},   {"trust", make_trust},
+    {"simulated desk", make_simulation},
 };
 
 static void *run(void *make)

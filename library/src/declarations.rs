@@ -23,6 +23,42 @@ extern "C" {
     pub fn entry_meet(entries: *mut Entry, length: usize, at: usize, lots: u32) -> u32;
 }
 
+// libsizes.a
+extern "C" {
+    pub fn day_simulate(
+        day: u16,
+        phase: u32,
+        entries: usize,
+        marks: *const [u8; 16],
+        nets: *const i32,
+        nets_length: usize,
+        delivered: *const u32,
+        delivered_length: usize,
+        lifts: *const u32,
+        lifts_length: usize,
+        charges: *const i64,
+        charges_length: usize,
+        issues: *const u8,
+        issues_length: usize,
+        froms: *const u8,
+        froms_length: usize,
+        tos: *const u8,
+        tos_length: usize,
+        lots: *const u32,
+        lots_length: usize,
+        days: *const u16,
+        days_length: usize,
+        settles: *const u32,
+        settles_length: usize,
+        inventories: *const u32,
+        inventories_length: usize,
+        size: u32,
+        deliveries: *mut u64,
+        rounds: *mut u64,
+        owed: *mut [u32; 16],
+    ) -> u32;
+}
+
 // libstatus.a
 extern "C" {
     pub fn day_status(

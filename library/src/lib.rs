@@ -1,6 +1,6 @@
 //! The proved library, called safely from Rust: a book and the calls on it, lifts of one unit, why a
-//! unit has not come, the tape's reader and writer, value and charge, entries met, a fail inside a
-//! trust account.
+//! unit has not come, unit sizes tried on a simulated desk, the tape's reader and writer, value and
+//! charge, entries met, a fail inside a trust account.
 //!
 //! ```
 //! use library::{calls, Book, Instruction, OUTPUT_WORDS};
@@ -24,6 +24,7 @@ pub mod entries;
 mod instruction;
 pub mod raw;
 mod refusal;
+pub mod simulation;
 pub mod tape;
 pub mod trust;
 

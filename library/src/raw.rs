@@ -4,7 +4,8 @@
 //! is damaged: the library refuses it by 2. There are always sixteen marks.
 
 use crate::declarations::{
-    day_ask, day_call, day_commit, day_quotes, day_read, day_sound, day_status, day_unit, day_write,
+    day_ask, day_call, day_commit, day_quotes, day_read, day_simulate, day_sound, day_status,
+    day_unit, day_write,
 };
 use crate::{Fields, ISSUES, QUOTES};
 
@@ -75,6 +76,16 @@ pub struct StatusAnswer {
     pub lots: u32,
 }
 
+/// What came of a simulated desk: the refusal's number, deliveries made, rounds with the stopping one
+/// among them, and of each issue the lots still owed; on a refusal all but its number are 0.
+#[derive(Clone, Copy, Debug, PartialEq, Eq)]
+pub struct Simulated {
+    pub refusal: u32,
+    pub deliveries: u64,
+    pub rounds: u64,
+    pub owed: [u32; ISSUES],
+}
+
 /// A ticket's numbers: issue, unit, account, lots, day, count.
 pub type TicketNumbers = [u32; 6];
 
@@ -100,36 +111,43 @@ pub struct WriteAnswer {
     pub count: usize,
 }
 
+/// Calls a function that takes a book to be read: its numbers, its marks and each column with its
+/// length, then what else it takes.
+macro_rules! on_book {
+    ($function:ident, $book:expr $(, $more:expr)*) => {
+        $function(
+            $book.day,
+            $book.phase,
+            $book.entries,
+            $book.marks,
+            $book.nets.as_ptr(),
+            $book.nets.len(),
+            $book.delivered.as_ptr(),
+            $book.delivered.len(),
+            $book.lifts.as_ptr(),
+            $book.lifts.len(),
+            $book.charges.as_ptr(),
+            $book.charges.len(),
+            $book.issues.as_ptr(),
+            $book.issues.len(),
+            $book.froms.as_ptr(),
+            $book.froms.len(),
+            $book.tos.as_ptr(),
+            $book.tos.len(),
+            $book.lots.as_ptr(),
+            $book.lots.len(),
+            $book.days.as_ptr(),
+            $book.days.len()
+            $(, $more)*
+        )
+    };
+}
+
 /// Is the book sound? 1 if it is, 0 if not.
 pub fn sound(book: &Columns) -> u32 {
     // SAFETY: there are sixteen marks, and each column is given with its length; they live through the
     // call, which reads them alone.
-    unsafe {
-        day_sound(
-            book.day,
-            book.phase,
-            book.entries,
-            book.marks,
-            book.nets.as_ptr(),
-            book.nets.len(),
-            book.delivered.as_ptr(),
-            book.delivered.len(),
-            book.lifts.as_ptr(),
-            book.lifts.len(),
-            book.charges.as_ptr(),
-            book.charges.len(),
-            book.issues.as_ptr(),
-            book.issues.len(),
-            book.froms.as_ptr(),
-            book.froms.len(),
-            book.tos.as_ptr(),
-            book.tos.len(),
-            book.lots.as_ptr(),
-            book.lots.len(),
-            book.days.as_ptr(),
-            book.days.len(),
-        )
-    }
+    unsafe { on_book!(day_sound, book) }
 }
 
 /// The k-th unit of an issue, k from 0.
@@ -137,35 +155,7 @@ pub fn unit(book: &Columns, issue: u32, k: u32) -> UnitAnswer {
     let mut answer = [u32::MAX; 3];
     // SAFETY: there are sixteen marks, and each column is given with its length; they live through the
     // call, which reads them alone; the answer has the three words that are written.
-    let refusal = unsafe {
-        day_unit(
-            book.day,
-            book.phase,
-            book.entries,
-            book.marks,
-            book.nets.as_ptr(),
-            book.nets.len(),
-            book.delivered.as_ptr(),
-            book.delivered.len(),
-            book.lifts.as_ptr(),
-            book.lifts.len(),
-            book.charges.as_ptr(),
-            book.charges.len(),
-            book.issues.as_ptr(),
-            book.issues.len(),
-            book.froms.as_ptr(),
-            book.froms.len(),
-            book.tos.as_ptr(),
-            book.tos.len(),
-            book.lots.as_ptr(),
-            book.lots.len(),
-            book.days.as_ptr(),
-            book.days.len(),
-            issue,
-            k,
-            &mut answer,
-        )
-    };
+    let refusal = unsafe { on_book!(day_unit, book, issue, k, &mut answer) };
     let [found, account, lots] = answer;
     UnitAnswer { refusal, found, account, lots }
 }
@@ -222,37 +212,33 @@ pub fn status(book: &Columns, issue: u32, k: u32) -> StatusAnswer {
     let mut answer = [u32::MAX; 2];
     // SAFETY: there are sixteen marks, and each column is given with its length; they live through the
     // call, which reads them alone; the answer has the two numbers that are written.
-    let refusal = unsafe {
-        day_status(
-            book.day,
-            book.phase,
-            book.entries,
-            book.marks,
-            book.nets.as_ptr(),
-            book.nets.len(),
-            book.delivered.as_ptr(),
-            book.delivered.len(),
-            book.lifts.as_ptr(),
-            book.lifts.len(),
-            book.charges.as_ptr(),
-            book.charges.len(),
-            book.issues.as_ptr(),
-            book.issues.len(),
-            book.froms.as_ptr(),
-            book.froms.len(),
-            book.tos.as_ptr(),
-            book.tos.len(),
-            book.lots.as_ptr(),
-            book.lots.len(),
-            book.days.as_ptr(),
-            book.days.len(),
-            issue,
-            k,
-            &mut answer,
-        )
-    };
+    let refusal = unsafe { on_book!(day_status, book, issue, k, &mut answer) };
     let [case, lots] = answer;
     StatusAnswer { refusal, case, lots }
+}
+
+/// A plan tried on the simulated desk: the settlement account of each netting account (64), the
+/// inventories (issue × 16 + settlement account, 256) and the size of a unit.
+pub fn simulate(book: &Columns, settles: &[u32], inventories: &[u32], size: u32) -> Simulated {
+    let (mut deliveries, mut rounds, mut owed) = (u64::MAX, u64::MAX, [u32::MAX; ISSUES]);
+    // SAFETY: there are sixteen marks; columns, settlement accounts and inventories are given with
+    // their lengths and live through the call, which reads them alone; the three places that it
+    // writes are of this function.
+    let refusal = unsafe {
+        on_book!(
+            day_simulate,
+            book,
+            settles.as_ptr(),
+            settles.len(),
+            inventories.as_ptr(),
+            inventories.len(),
+            size,
+            &mut deliveries,
+            &mut rounds,
+            &mut owed
+        )
+    };
+    Simulated { refusal, deliveries, rounds, owed }
 }
 
 /// The ticket for a lift of an issue's unit, by its number.
@@ -260,35 +246,7 @@ pub fn ask(book: &Columns, issue: u32, unit: u32) -> AskAnswer {
     let mut ticket = [u32::MAX; 6];
     // SAFETY: there are sixteen marks, and each column is given with its length; they live through the
     // call, which reads them alone; the ticket has the six numbers that are written.
-    let refusal = unsafe {
-        day_ask(
-            book.day,
-            book.phase,
-            book.entries,
-            book.marks,
-            book.nets.as_ptr(),
-            book.nets.len(),
-            book.delivered.as_ptr(),
-            book.delivered.len(),
-            book.lifts.as_ptr(),
-            book.lifts.len(),
-            book.charges.as_ptr(),
-            book.charges.len(),
-            book.issues.as_ptr(),
-            book.issues.len(),
-            book.froms.as_ptr(),
-            book.froms.len(),
-            book.tos.as_ptr(),
-            book.tos.len(),
-            book.lots.as_ptr(),
-            book.lots.len(),
-            book.days.as_ptr(),
-            book.days.len(),
-            issue,
-            unit,
-            &mut ticket,
-        )
-    };
+    let refusal = unsafe { on_book!(day_ask, book, issue, unit, &mut ticket) };
     AskAnswer { refusal, ticket }
 }
 

@@ -8,6 +8,7 @@ pub mod calls;
 pub mod measures;
 pub mod questions;
 pub mod run;
+pub mod simulation;
 pub mod soundness;
 pub mod tape;
 pub mod trust;

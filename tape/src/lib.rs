@@ -1,5 +1,5 @@
-//! Tapes for people: a text form of the words, what the book refuses, what a tape does day by day, and
-//! why a unit has not come.
+//! Tapes for people: a text form of the words, what the book refuses, what a tape does day by day, why a
+//! unit has not come, and whether smaller units would loosen a jam.
 
 pub mod bytes;
 pub mod check;
@@ -7,6 +7,7 @@ pub mod facts;
 pub mod fault;
 pub mod input;
 mod interrupt;
+pub mod jam;
 pub mod measure;
 pub mod options;
 pub mod output;

@@ -46,7 +46,7 @@ pub fn ask(tape: &[u8], question: Question) -> Result<Told, String> {
 
 /// The book after the instructions before a word, or after all that can be read; where that is, and
 /// whether reading ended there by a refusal.
-fn run(tape: &[u8], until: Option<usize>) -> Result<(Book, usize, bool), String> {
+pub fn run(tape: &[u8], until: Option<usize>) -> Result<(Book, usize, bool), String> {
     let (words, stray) = split(tape);
     let mut book = Book::fresh();
     let mut output = vec![0; OUTPUT_WORDS];

@@ -277,7 +277,7 @@ fn number(field: Field, word: &Word) -> Result<u32, Fault> {
 
 /// The digits of a number that may have `,` or `_` before every three of them; none where it has
 /// anything else.
-fn digits_of(word: &str) -> Option<String> {
+pub fn digits_of(word: &str) -> Option<String> {
     let groups: Vec<&str> = word.split([',', '_']).collect();
     let digits = groups.concat();
     let grouped = groups.len() == 1

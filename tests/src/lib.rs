@@ -3,6 +3,7 @@
 pub mod books;
 pub mod case;
 pub mod convert;
+pub mod desks;
 pub mod engines;
 pub mod options;
 pub mod programs;

@@ -3,6 +3,7 @@
 
 mod check;
 mod explain;
+mod jam;
 mod read;
 mod run;
 mod why;
@@ -27,7 +28,7 @@ struct Verb {
 
 /// The verbs, in the order in which help tells them.
 const VERBS: &[&Verb] =
-    &[&write::VERB, &read::VERB, &check::VERB, &run::VERB, &explain::VERB, &why::VERB];
+    &[&write::VERB, &read::VERB, &check::VERB, &run::VERB, &explain::VERB, &why::VERB, &jam::VERB];
 
 /// What help says of all verbs.
 const OF_ALL: &str = "\

@@ -1,6 +1,6 @@
 //! `bench`: run times of the library and the program beside the second engine, as Markdown.
 //!
-//! Parts: calls, lifts, growth and programs; `--part NAME` runs one of them. `--cases N` is the number of
+//! Parts: calls, lifts, growth, simulation and programs; `--part NAME` runs one of them. `--cases N` is the number of
 //! rounds of which the middle one is shown. `--program PATH` and `--reference PATH` name the
 //! programs.
 
@@ -8,6 +8,7 @@ mod calls;
 mod growth;
 mod lifts;
 mod programs;
+mod simulation;
 mod timing;
 
 use std::process::ExitCode;
@@ -35,6 +36,7 @@ fn run(options: Options) -> Result<(), String> {
             calls::run(rounds);
             lifts::run(rounds);
             growth::run(rounds);
+            simulation::run();
             programs::run(&options)
         }
         "calls" => {
@@ -49,9 +51,13 @@ fn run(options: Options) -> Result<(), String> {
             growth::run(rounds);
             Ok(())
         }
+        "simulation" => {
+            simulation::run();
+            Ok(())
+        }
         "programs" => programs::run(&options),
         other => {
-            let parts = "calls, lifts, growth and programs";
+            let parts = "calls, lifts, growth, simulation and programs";
             Err(format!("there is no part {other:?}: there are {parts}"))
         }
     }

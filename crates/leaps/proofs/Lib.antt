@@ -1,0 +1,3 @@
+-- Laws of columns and of the room that a leap has.
+pub mod Columns
+pub mod Leaping

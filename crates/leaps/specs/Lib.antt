@@ -1,0 +1,2 @@
+-- What the contracts of leaps cite.
+pub mod Rooms

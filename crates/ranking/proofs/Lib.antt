@@ -1,0 +1,2 @@
+-- Laws of units in runs at any size.
+pub mod Sized

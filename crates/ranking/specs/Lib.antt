@@ -1,0 +1,3 @@
+-- What the contracts of the ranking cite.
+pub mod Runs
+pub mod Orders

@@ -1,0 +1,3 @@
+-- What the contracts of a round cite.
+pub mod Runs
+pub mod Turns

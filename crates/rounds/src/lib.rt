@@ -1,0 +1,166 @@
+// One full round of a simulated desk (document 02, F-7), by account and then issue. A delivery is handed over by
+// runs, never unit by unit.
+ghost use mathlib.Core.Path.{_≡_};
+ghost use Prim.Native.Nat.{_+_, _-_, _<_, min};
+ghost use Rattle.units.specs.Runs.{runsIn};
+ghost use Rattle.rounds.specs.Runs.{handedOf, joinedRuns, CanJoin};
+ghost use Rattle.rounds.specs.Turns.{amountIn, CanAsk, CanDeliver, Delivered, CanTurn, Turned, CanRound, Rounded};
+
+// The lots of a run that a total hands over: all of them, or the units that go whole into it.
+fn handed_lots(lots: u32, d: u32, size: u32) -> u32
+    requires { ⌜ 0 < size ⌝ }
+    ensures { λ r. ⌜ r ≡ handedOf size lots d ⌝ }
+{
+    if lots <= d {
+        return lots;
+    }
+    d / size * size
+}
+
+// What is left of a total behind some lots.
+pub fn less(d: u32, lots: u32) -> u32
+    ensures { λ r. ⌜ r ≡ d - lots ⌝ }
+{
+    if d < lots { 0 } else { d - lots }
+}
+
+// What x more lots hand over joins the inventories of the issue, run by run.
+fn join(
+    runs: &[u32],
+    n: usize,
+    size: u32,
+    settles: &[u32],
+    i: usize,
+    d: u32,
+    x: u32,
+    inventories: &mut [u32],
+)
+    requires { ⌜ CanJoin (now runs) n size (now settles) i d x (now inventories) ⌝ }
+    ensures { λ _. ⌜ now (inventories .exit) ≡ joinedRuns (now (settles .entry)) size i (runsIn (now (runs .entry)) n) d (d + x) (now (inventories .entry)) ⌝ }
+{
+    let mut b = d;
+    let mut e = d + x;
+    let mut j = 0;
+    while j < n {
+        let key = runs[j];
+        let lots = key / 64;
+        let a = (key % 64) as usize;
+        let c = i * 16 + settles[a] as usize;
+        let g = handed_lots(lots, e, size) - handed_lots(lots, b, size);
+        inventories[c] += g;
+        b = less(b, lots);
+        e = less(e, lots);
+        j += 1;
+    }
+}
+
+// The smaller of two numbers.
+pub fn smaller(a: u32, b: u32) -> u32
+    ensures { λ r. ⌜ r ≡ min a b ⌝ }
+{
+    if a < b { a } else { b }
+}
+
+// The smaller of the inventory of an account's settlement account and what it still owes of an issue.
+fn amount(
+    nets: &[i32],
+    settles: &[u32],
+    delivered: &[u32],
+    inventories: &[u32],
+    a: usize,
+    i: usize,
+) -> u32
+    requires { ⌜ CanAsk (now nets) (now settles) (now delivered) (now inventories) a i ⌝ }
+    ensures { λ r. ⌜ r ≡ amountIn (now (nets .entry)) (now (settles .entry)) (now (delivered .entry)) (now (inventories .entry)) a i ⌝ }
+{
+    let c = i * 64 + a;
+    let k = i * 16 + settles[a] as usize;
+    let net = nets[c];
+    let owed = less(book::owed(net), delivered[c]);
+    smaller(inventories[k], owed)
+}
+
+// An account delivers x lots of an issue, and what is handed over for them joins the inventories.
+fn deliver(
+    settles: &[u32],
+    runs: &[u32],
+    n: usize,
+    size: u32,
+    a: usize,
+    i: usize,
+    x: u32,
+    delivered: &mut [u32],
+    inventories: &mut [u32],
+)
+    requires { ⌜ CanDeliver (now settles) (now runs) n size a i x (now delivered) (now inventories) ⌝ }
+    ensures { λ _. ⌜ Delivered (now (settles .entry)) (now (runs .entry)) n size a i x (now (delivered .entry)) (now (delivered .exit)) (now (inventories .entry)) (now (inventories .exit)) ⌝ }
+{
+    let s = i * 64;
+    let e = s + 64;
+    let d = book::total(&delivered[s..e]);
+    let c = s + a;
+    let k = i * 16 + settles[a] as usize;
+    delivered[c] += x;
+    inventories[k] -= x;
+    join(runs, n, size, settles, i, d, x, inventories);
+}
+
+// An account's turn in an issue: 1 where it delivers, 0 where it has nothing to deliver.
+fn turn(
+    nets: &[i32],
+    settles: &[u32],
+    runs: &[u32],
+    n: usize,
+    size: u32,
+    a: usize,
+    i: usize,
+    delivered: &mut [u32],
+    inventories: &mut [u32],
+) -> u32
+    requires { ⌜ CanTurn (now nets) (now settles) (now runs) n size a i (now delivered) (now inventories) ⌝ }
+    ensures { λ r. ⌜ Turned (now (nets .entry)) (now (settles .entry)) size a i (now (delivered .entry)) (now (delivered .exit)) (now (inventories .entry)) (now (inventories .exit)) r ⌝ }
+{
+    let x = amount(nets, settles, delivered, inventories, a, i);
+    if x == 0 {
+        return 0;
+    }
+    deliver(settles, runs, n, size, a, i, x, delivered, inventories);
+    1
+}
+
+// A full round, by account and then issue; answers how many deliveries were made.
+pub fn round(
+    nets: &[i32],
+    settles: &[u32],
+    runs: &[u32],
+    counts: &[u32],
+    size: u32,
+    delivered: &mut [u32],
+    inventories: &mut [u32],
+) -> u32
+    requires { ⌜ CanRound (now nets) (now settles) (now runs) (now counts) size (now delivered) (now inventories) ⌝ }
+    ensures { λ r. ⌜ Rounded (now (nets .entry)) (now (settles .entry)) size (now (delivered .entry)) (now (delivered .exit)) (now (inventories .entry)) (now (inventories .exit)) r ⌝ }
+{
+    let mut made: u32 = 0;
+    let mut t: usize = 0;
+    while t < 1024 {
+        let a = t / 16;
+        let i = t % 16;
+        let s = i * 128;
+        let e = s + 128;
+        let n = counts[i] as usize;
+        made += turn(
+            nets,
+            settles,
+            &runs[s..e],
+            n,
+            size,
+            a,
+            i,
+            delivered,
+            inventories,
+        );
+        t += 1;
+    }
+    made
+}

@@ -1,0 +1,7 @@
+-- Theorems of the simulated desk.
+pub mod Stops
+pub mod Keeps
+pub mod Leaps
+pub mod Ending
+pub mod First
+pub mod Shown

@@ -1,0 +1,3 @@
+-- What the contracts of the whole simulation cite.
+pub mod Steps
+pub mod Host

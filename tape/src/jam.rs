@@ -1,0 +1,355 @@
+//! Would smaller units loosen a jam? Unit sizes are tried on a simulated desk, from the nets of a
+//! tape's book at its end and a text with settlement accounts and inventories.
+
+use crate::fault::{words_of, Fault, Faults, Word};
+use crate::measure::{Grouped, Lots};
+use crate::status;
+use crate::text::digits_of;
+use library::simulation::{simulate, Desk, Simulated, MOST_SIZE, SETTLEMENT_ACCOUNTS};
+use library::{Book, Refusal, ACCOUNTS, ISSUES};
+
+/// The sizes that are tried where none are named.
+pub const SIZES: [u32; 9] = [100_000, 50_000, 20_000, 10_000, 5_000, 2_000, 1_000, 100, 1];
+
+/// The most lots of an issue in a settlement account.
+const MOST_LOTS: u32 = 20_000_000;
+
+/// What a line of a desk's text may be.
+const LINES: &str = "write `settles ACCOUNT SETTLEMENT`, `settles FIRST-LAST SETTLEMENT` or \
+                     `holds SETTLEMENT ISSUE LOTS`";
+
+/// A desk as a text has it: which accounts and inventories are named.
+struct Named {
+    settles: [Option<u32>; ACCOUNTS],
+    holds: [Option<u32>; ISSUES * SETTLEMENT_ACCOUNTS],
+}
+
+/// Reads a desk from its text: settlement accounts of the netting accounts, and inventories, 0 where
+/// none is named. Every account with a net in the book needs a settlement account.
+pub fn desk_of(text: &str, book: &Book) -> Result<Desk, Faults> {
+    let mut named =
+        Named { settles: [None; ACCOUNTS], holds: [None; ISSUES * SETTLEMENT_ACCOUNTS] };
+    let text = text.strip_prefix('\u{feff}').unwrap_or(text);
+    let mut faults = Faults::default();
+    let mut last = 1;
+    for (number, line) in (1..).zip(text.lines()) {
+        last = number;
+        let words: Vec<Word> = words_of(line, number).collect();
+        if let Some((name, arguments)) = words.split_first() {
+            named.take(name, arguments).err().into_iter().for_each(|fault| faults.push(fault));
+        }
+    }
+    for account in 0..ACCOUNTS as u32 {
+        let net = (0..ISSUES as u32).find(|&issue| book.net(issue, account) != 0);
+        if let (Some(issue), None) = (net, named.settles[account as usize]) {
+            let what = format!(
+                "account {account} has a net in issue {issue} and no settlement account: write \
+                 `settles {account} SETTLEMENT`"
+            );
+            faults.push(Fault { line: last, column: 1, what });
+        }
+    }
+    if faults.is_empty() {
+        return Ok(named.desk());
+    }
+    Err(faults)
+}
+
+impl Named {
+    /// Takes a line.
+    fn take(&mut self, name: &Word, arguments: &[Word]) -> Result<(), Fault> {
+        match (name.text, arguments) {
+            ("settles", [accounts, settlement]) => self.settles(accounts, settlement),
+            ("holds", [settlement, issue, lots]) => self.holds(settlement, issue, lots),
+            ("settles" | "holds", _) => {
+                let what = format!("{} has other words than these: {LINES}", name.text);
+                Err(name.fault(what))
+            }
+            (other, _) => Err(name.fault(format!("there is no line {other:?}: {LINES}"))),
+        }
+    }
+
+    /// Accounts that share a settlement account; each is named once.
+    fn settles(&mut self, accounts: &Word, settlement: &Word) -> Result<(), Fault> {
+        let (first, last) = range(accounts)?;
+        let settlement =
+            number("a settlement account", settlement, SETTLEMENT_ACCOUNTS as u32 - 1)?;
+        for account in first..=last {
+            if self.settles[account as usize].replace(settlement).is_some() {
+                let what =
+                    format!("account {account} has a settlement account already: name it once");
+                return Err(accounts.fault(what));
+            }
+        }
+        Ok(())
+    }
+
+    /// What a settlement account holds of an issue; each is named once.
+    fn holds(&mut self, settlement: &Word, issue: &Word, lots: &Word) -> Result<(), Fault> {
+        let account = number("a settlement account", settlement, SETTLEMENT_ACCOUNTS as u32 - 1)?;
+        let of = number("an issue", issue, ISSUES as u32 - 1)?;
+        let lots = number("lots", lots, MOST_LOTS)?;
+        let place = of as usize * SETTLEMENT_ACCOUNTS + account as usize;
+        if self.holds[place].replace(lots).is_some() {
+            let what = format!(
+                "settlement account {account} has lots of issue {of} already: name them once"
+            );
+            return Err(settlement.fault(what));
+        }
+        Ok(())
+    }
+
+    /// The desk, 0 for all that is not named.
+    fn desk(&self) -> Desk {
+        Desk {
+            settles: self.settles.map(Option::unwrap_or_default),
+            inventories: self.holds.map(Option::unwrap_or_default),
+        }
+    }
+}
+
+/// The accounts of a word: one, or a first and a last with `-` between.
+fn range(word: &Word) -> Result<(u32, u32), Fault> {
+    let most = ACCOUNTS as u32 - 1;
+    let Some((first, last)) = word.text.split_once('-') else {
+        let account = number("an account", word, most)?;
+        return Ok((account, account));
+    };
+    let part = |text| number("an account", &Word { text, ..*word }, most);
+    let (first, last) = (part(first)?, part(last)?);
+    if first > last {
+        return Err(word.fault(format!("{first}-{last} has no account: write the lower one first")));
+    }
+    Ok((first, last))
+}
+
+/// A number from 0 to a limit.
+fn number(what: &str, word: &Word, most: u32) -> Result<u32, Fault> {
+    let number = digits_of(word.text).and_then(|digits| digits.parse().ok());
+    number.filter(|&number: &u32| number <= most).ok_or_else(|| {
+        let most = Grouped(most.into());
+        word.fault(format!("{what} is a number from 0 to {most}, not {:?}", word.text))
+    })
+}
+
+/// The sizes of an option: numbers with a comma between, each 1 to 100,000.
+pub fn sizes_of(list: &str) -> Result<Vec<u32>, String> {
+    let size = |word: &str| {
+        let size = word.trim().replace('_', "").parse().ok();
+        size.filter(|size| (1..=MOST_SIZE).contains(size)).ok_or_else(|| {
+            format!("--sizes needs numbers from 1 to 100000 with a comma between, not {word:?}")
+        })
+    };
+    list.split(',').map(size).collect()
+}
+
+/// What came of each size, on which book.
+pub struct Tried {
+    day: u16,
+    phase: &'static str,
+    /// Did reading end by a refusal, and at which word?
+    ended: Option<usize>,
+    /// The lots owed at the opening.
+    owed: u64,
+    rows: Vec<(u32, Simulated)>,
+}
+
+/// The book of a tape at its end.
+pub fn book_of(tape: &[u8]) -> Result<(Book, Option<usize>), String> {
+    let (book, word, ended) = status::run(tape, None)?;
+    Ok((book, ended.then_some(word)))
+}
+
+/// Tries sizes on a book's nets.
+pub fn try_sizes(
+    book: &Book,
+    ended: Option<usize>,
+    desk: &Desk,
+    sizes: &[u32],
+) -> Result<Tried, Refusal> {
+    let mut rows = Vec::new();
+    for &size in sizes {
+        let tried = simulate(book, desk, size);
+        if let Some(refusal) = tried.refused() {
+            return Err(refusal);
+        }
+        rows.push((size, tried));
+    }
+    let owed = book.nets.iter().map(|&net| u64::from(net.min(0).unsigned_abs())).sum();
+    let phase = book.phase.name().unwrap_or("no phase");
+    Ok(Tried { day: book.day, phase, ended, owed, rows })
+}
+
+impl Tried {
+    /// Where the tape stood, and what is owed.
+    fn head(&self) -> String {
+        let Tried { day, phase, ended, owed, .. } = self;
+        let at = match ended {
+            Some(word) => format!("where reading ends, at word {word}"),
+            None => "at the end of the tape".to_string(),
+        };
+        format!("{at}, day {day}, {phase}: {} owed, nothing delivered yet", Lots(*owed))
+    }
+
+    /// A table for people.
+    pub fn text(&self) -> String {
+        let mut text = format!("{}\n", self.head());
+        let line = |cells: [String; 4]| {
+            let [size, rounds, deliveries, owed] = cells;
+            format!("{size:>10}  {rounds:>14}  {deliveries:>14}  {owed:>16}\n")
+        };
+        text.push_str(&line(
+            ["unit size", "rounds", "deliveries", "lots still owed"].map(String::from),
+        ));
+        for (size, tried) in &self.rows {
+            let numbers = [u64::from(*size), tried.rounds, tried.deliveries, tried.owed_in_all()];
+            text.push_str(&line(numbers.map(|number| Grouped(number.into()).to_string())));
+        }
+        text
+    }
+
+    /// An object of JSON for each size, a line each.
+    pub fn json(&self) -> String {
+        let Tried { day, phase, owed, rows, .. } = self;
+        let word = self.ended.map_or("null".to_string(), |word| word.to_string());
+        let object = |(size, tried): &(u32, Simulated)| {
+            let Simulated { deliveries, rounds, .. } = tried;
+            let issues = tried.owed.map(|lots| lots.to_string()).join(",");
+            format!(
+                "{{\"fact\":\"jam\",\"day\":{day},\"phase\":\"{phase}\",\"ended\":{word},\
+                 \"owed\":{owed},\"size\":{size},\"rounds\":{rounds},\"deliveries\":{deliveries},\
+                 \"stillOwed\":{},\"stillOwedByIssue\":[{issues}]}}\n",
+                tried.owed_in_all()
+            )
+        };
+        rows.iter().map(object).collect()
+    }
+
+    /// A page with a bar for each size: what was delivered, and what is still owed.
+    pub fn html(&self) -> String {
+        let rows: String = self.rows.iter().map(|row| self.bar(row)).collect();
+        format!("{HEAD}<p>{}.</p>\n<table>\n{HEADS}{rows}</table>\n</body>\n</html>\n", self.head())
+    }
+
+    /// A size's row of the page.
+    fn bar(&self, (size, tried): &(u32, Simulated)) -> String {
+        let left = tried.owed_in_all();
+        let came = self.owed.saturating_sub(left);
+        let percent = |part: u64| match self.owed {
+            0 => 0.0,
+            all => part as f64 * 100.0 / all as f64,
+        };
+        let numbers = [u64::from(*size), tried.rounds, tried.deliveries, left];
+        let cells: String =
+            numbers.iter().map(|&number| format!("<td>{}</td>", Grouped(number.into()))).collect();
+        let came_text = if came == self.owed {
+            "all delivered".to_string()
+        } else {
+            format!("{:.1} percent delivered", percent(came))
+        };
+        format!(
+            "<tr>{cells}<td class=\"bar\"><span class=\"came\" style=\"width:{:.3}%\"></span>\
+             <b>{came_text}</b></td></tr>\n",
+            percent(came)
+        )
+    }
+}
+
+const HEADS: &str = "<tr><th>unit size</th><th>rounds</th><th>deliveries</th>\
+                     <th>lots still owed</th><th>delivered</th></tr>\n";
+
+/// The head of the page, with its colours.
+const HEAD: &str = "<!DOCTYPE html>
+<html lang=\"en\">
+<head>
+<meta charset=\"utf-8\">
+<meta name=\"viewport\" content=\"width=device-width, initial-scale=1\">
+<title>Unit sizes on a simulated desk</title>
+<style>
+body { font: 15px sans-serif; margin: 2em; color: #222; }
+table { border-collapse: collapse; }
+th, td { padding: 4px 10px; border: 1px solid #bbb; text-align: right; }
+.bar { position: relative; min-width: 16em; text-align: left; background: #eee; }
+.came { position: absolute; left: 0; top: 0; bottom: 0; background: #9ecae1; }
+.bar b { position: relative; font-weight: normal; }
+</style>
+</head>
+<body>
+<h1>Unit sizes on a simulated desk</h1>
+<p>Each account delivers in turn what its settlement account holds, until a round goes by without a
+delivery, which is counted too. What is still owed then is jammed at that size.</p>
+";
+
+#[cfg(test)]
+mod tests {
+    use super::*;
+    use crate::text;
+
+    /// Account 0 owes 100,000 lots, of which 1 is due 60,000 and 2 is due 40,000.
+    fn ring() -> Book {
+        let tape = text::to_tape("trade 0 0 1 60000\ntrade 0 0 2 40000\n").unwrap();
+        let (book, ended) = book_of(&tape).unwrap();
+        assert_eq!(ended, None);
+        book
+    }
+
+    const HALF: &str = "# all three share one account\nsettles 0-2 0\nholds 0 0 50,000\n";
+
+    fn tried(sizes: &[u32]) -> Tried {
+        let book = ring();
+        try_sizes(&book, None, &desk_of(HALF, &book).unwrap(), sizes).unwrap()
+    }
+
+    #[test]
+    fn a_ring_that_jams_is_told_as_a_table() {
+        let text = tried(&[100_000, 10_000]).text();
+        let lines: Vec<Vec<&str>> =
+            text.lines().skip(2).map(|line| line.split_whitespace().collect()).collect();
+        assert_eq!(lines, [["100,000", "2", "1", "50,000"], ["10,000", "3", "2", "0"]]);
+        assert!(
+            text.starts_with("at the end of the tape, day 0, Taking: 100,000 lots owed"),
+            "{text}"
+        );
+    }
+
+    #[test]
+    fn the_same_as_json_and_as_a_page() {
+        let json = tried(&[100_000]).json();
+        assert!(
+            json.contains("\"size\":100000,\"rounds\":2,\"deliveries\":1,\"stillOwed\":50000,"),
+            "{json}"
+        );
+        assert!(json.contains("\"stillOwedByIssue\":[50000,0,0,"), "{json}");
+        let page = tried(&[100_000, 10_000]).html();
+        assert!(page.contains("width:50.000%"), "{page}");
+        assert!(page.contains("all delivered"), "{page}");
+    }
+
+    #[test]
+    fn a_wrong_line_is_told_with_its_place() {
+        let faults =
+            desk_of("settles 0-2 16\nhold 0 0 5\nholds 0 16 5\nsettles 3\n", &ring()).unwrap_err();
+        let places: Vec<(usize, usize)> =
+            faults.first.iter().map(|fault| (fault.line, fault.column)).collect();
+        assert_eq!(places, [(1, 13), (2, 1), (3, 9), (4, 1), (4, 1), (4, 1), (4, 1)]);
+        assert!(faults.first[0].what.contains("from 0 to 15"), "{}", faults.first[0].what);
+        assert!(
+            faults.first[4].what.contains("account 0 has a net in issue 0"),
+            "{}",
+            faults.first[4].what
+        );
+        let twice = desk_of("settles 0-2 1\nsettles 2 0\n", &ring()).unwrap_err();
+        assert!(twice.first[0].what.contains("already"), "{}", twice.first[0].what);
+        assert!(desk_of("settles 2-0 1\n", &ring()).unwrap_err().first[0]
+            .what
+            .contains("lower one first"));
+    }
+
+    #[test]
+    fn sizes_are_a_list() {
+        assert_eq!(sizes_of("100000,1"), Ok(vec![100_000, 1]));
+        for wrong in ["0", "100001", "", "1,,2", "x"] {
+            assert!(sizes_of(wrong).is_err(), "{wrong}");
+        }
+    }
+}
