@@ -4,4 +4,5 @@ pub mod Bases
 pub mod Order
 pub mod Rounds
 pub mod Shares
+pub mod Turns
 pub mod Answers
