@@ -5,4 +5,5 @@ pub mod Order
 pub mod Rounds
 pub mod Shares
 pub mod Turns
+pub mod Giving
 pub mod Answers

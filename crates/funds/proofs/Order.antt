@@ -84,10 +84,12 @@ module _ (averages : List ℕ) where
       let l = ltb-false (amountOf averages j) (amountOf averages k) e in
       let b : Before j k = record { average = l; equals = h .0 } in
       let bs : Every (Before j) ks =
-          each-zip (Before k) (λ r. amountOf averages r ≡ amountOf averages j → j < r) (Before j)
-          (λ r p q. record { average = omega (arith, p .average); equals = q }) ks (o .0) (h .1) in
-      simp e (each-insert (Before j) k ks b bs,
-          insert-ordered k ks (each-map (Before k) (λ r. amountOf averages r ≡ amountOf averages k → k < r) (λ r p. p .equals) ks (o .0)) (o .1)))
+      each-zip (Before k) (λ r. amountOf averages r ≡ amountOf averages j → j < r) (Before j)
+      (λ r p q. record { average = omega (arith, p .average); equals = q }) ks (o .0) (h .1) in
+      simp e (
+        each-insert (Before j) k ks b bs,
+        insert-ordered k ks (each-map (Before k) (λ r. amountOf averages r ≡ amountOf averages k → k < r) (λ r p. p .equals) ks (o .0)) (o .1),
+      ))
 
   ordered-from : (k n : ℕ) → Ordered (orderFrom averages k n)
   ordered-from k zero = tt

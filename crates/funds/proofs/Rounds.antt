@@ -130,8 +130,8 @@ round-ended m left (b ∷ bs) (s ∷ ss) h =
     let e = h .0 in (
       record { least = omega arith; most = omega arith },
       (λ l.
-      let z : left - gets b s left ≡ 0 = omega arith in
-      subst (Level m bs) (sym (ap (λ n. round n bs ss) z ∙ round-none bs ss)) (h .1)),
+          let z : left - gets b s left ≡ 0 = omega arith in
+          subst (Level m bs) (sym (ap (λ n. round n bs ss) z ∙ round-none bs ss)) (h .1)),
       round-ended m (left - gets b s left) bs ss (h .1),
     )
 
@@ -164,12 +164,12 @@ rounds-done (suc n) left m bs ss h l c v =
     (λ q.
     let z = eqb-true (leftOver left bs ss) 0 q in
     let r : rounds (suc n) left bs ss ≡ round left bs ss =
-        simp e (ap (λ k. rounds n k bs (round left bs ss)) z ∙ rounds-none n bs (round left bs ss)) in
+    simp e (ap (λ k. rounds n k bs (round left bs ss)) z ∙ rounds-none n bs (round left bs ss)) in
     subst (Done (sum ss + left) bs) (sym r) (record { whole = omega arith; level = m; ended = round-ended m left bs ss v }))
     (λ q.
     let u = eqb-false (leftOver left bs ss) 0 q in
     let r = rounds-done n (leftOver left bs ss) (suc m) bs (round left bs ss) (omega arith) (omega (arith, length-round left bs ss))
-        (omega arith) (round-level m left bs ss v (omega (arith, u))) in
+    (omega arith) (round-level m left bs ss v (omega (arith, u))) in
     simp e (rw (sym s) r)))
 
 none-level : (bs : List ℕ) → Level 0 bs (replicate (length bs) 0)

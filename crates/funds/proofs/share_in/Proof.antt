@@ -27,9 +27,11 @@ returns c =
 loop-again : tie.Need-loop-again Inv-loop μ-loop
 loop-again c =
     let s = c .before .before .before .before in
-    let l = c .before .before .before .loop in
-    (search needs, share-on (now (s .args .order)) (now (s .args .given)) (l .i) (s .args .k) _ (search needs) (search needs)
-    (ne-eqb _ _ (c .if1 .left)) (l .inv .1))
+    let l = c .before .before .before .loop in (
+      search needs,
+      share-on (now (s .args .order)) (now (s .args .given)) (l .i) (s .args .k) _ (search needs) (search needs)
+          (ne-eqb _ _ (c .if1 .left)) (l .inv .1),
+    )
 
 returns-2 : tie.Need-returns-2 Inv-loop μ-loop
 returns-2 c =
