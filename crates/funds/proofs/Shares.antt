@@ -98,12 +98,6 @@ share-within m bases (j ∷ js) (s ∷ ss) k v l h =
 -- The shares
 
 module _ (averages bases : List ℕ) (funds : ℕ) (columns : length bases ≡ length averages) (covered : funds ≤ sum bases) where
-  abbrev order : List ℕ
-  order = orderOf averages
-
-  abbrev inTurn : List ℕ
-  inTurn = sharesInOrder averages bases funds
-
   done : Done funds (inOrder bases (orderOf averages)) (sharesInOrder averages bases funds)
   done = allotted-done (inOrder bases (orderOf averages)) funds (omega (arith, bases-in-order averages bases columns))
 
