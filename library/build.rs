@@ -1,4 +1,5 @@
-//! Links the static libraries `libdesk.a`, `libentries.a`, `libexports.a`, `libstatus.a` and `libtrust.a`.
+//! Links the static libraries `libdesk.a`, `libentries.a`, `libexports.a`, `libfunds.a`, `libstatus.a` and
+//! `libtrust.a`.
 
 use std::env;
 use std::path::{Path, PathBuf};
@@ -8,7 +9,7 @@ const DIRECTORY: &str = "STATICLIB_DIR";
 /// Where the archives are otherwise, seen from this package.
 const DEFAULT_DIRECTORY: &str = "../target/staticlib";
 /// The crates whose archives are linked.
-const CRATES: [&str; 5] = ["desk", "entries", "exports", "status", "trust"];
+const CRATES: [&str; 6] = ["desk", "entries", "exports", "funds", "status", "trust"];
 
 fn main() {
     let directory = archive_directory();
