@@ -16,7 +16,8 @@ help:
 	@echo 'make libraries       build the static libraries, target/staticlib/lib*.a'
 	@echo 'make hosts           build the hosts in C: build/measures, build/day, build/trust, build/funds and build/stack'
 	@echo 'make clean           remove everything that was built'
-	@echo 'The proved program is target/bin/dayrun, the tool for tapes build/release/tape.'
+	@echo 'The proved program is target/bin/dayrun, the tool for tapes build/release/tape,'
+	@echo 'the treasurer'\''s command build/release/treasury.'
 
 test:
 	@scripts/test.sh

@@ -7,3 +7,4 @@ pub mod Shares
 pub mod Turns
 pub mod Giving
 pub mod Answers
+pub mod Answered
