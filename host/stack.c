@@ -126,6 +126,19 @@ static void make_funds(void)
     refusal |= day_funds(averages, DAY_PARTICIPANTS, DAY_MOST_AMOUNT, DAY_MOST_AMOUNT, shares);
 }
 
+/* A desk whose lots go round at units of 7 lots, from the nets of the lifted day. */
+static void make_simulation(void)
+{
+    static uint32_t settles[DAY_ACCOUNTS], inventories[DAY_INVENTORIES];
+    for (uint32_t account = 0; account < DAY_ACCOUNTS; account++) {
+        settles[account] = account % DAY_SETTLEMENT_ACCOUNTS;
+    }
+    for (uint32_t place = 0; place < DAY_INVENTORIES; place++) {
+        inventories[place] = 10 + place;
+    }
+    refusal |= day_book_simulate(&book, settles, inventories, 7).refusal;
+}
+
 static void make_nothing(void) {}
 
 struct measured {
@@ -146,6 +159,7 @@ static const struct measured measures[] = {
     {"pair-off", make_pair_off},  {"write", make_write},           {"read", make_read},
     {"value and charge", make_charge},   {"trust", make_trust},
     {"funds", make_funds},
+    {"simulated desk", make_simulation},
 };
 
 static void *run(void *make)

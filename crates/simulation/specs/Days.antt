@@ -38,6 +38,15 @@ ringDays =
     ∷ case (ringAt 10000) (tried 0 2 3 (leaves 0))
     ∷ []
 
+-- account 0 owes 10 and has them; 1, which is due 15, shares settlement account 1 with 2, which owes 5 and has none: it
+-- delivers in the same round what 1 was just handed
+unfoldable pub passedOn : Tried
+passedOn =
+    simulationWhere true (negsuc 9 ∷ pos 15 ∷ negsuc 4 ∷ replicate 1021 (pos 0)) (0 ∷ 1 ∷ 1 ∷ replicate 61 0) (10 ∷ replicate 255 0) 5
+
+abbrev pub passedDays : List Case
+passedDays = case passedOn (tried 0 2 2 (leaves 0)) ∷ []
+
 abbrev pub refusedDays : List Case
 refusedDays =
     case (simulationWhere false ring oneForAll half 10000) (refused 2)
@@ -50,9 +59,9 @@ refusedDays =
     ∷ []
 
 unfoldable pub workedDesks : List Case
-workedDesks = ringDays ++ refusedDays
+workedDesks = ringDays ++ passedDays ++ refusedDays
 
 -- each by computing what the definitions give
 pub worked : Holds workedDesks
-unfolding workedDesks ringAt simulationWhere simulated owedLots owedOfEach units handovers amount delivers turn round
-worked = (refl, (refl, (refl, (refl, (refl, (refl, (refl, (refl, (refl, tt)))))))))
+unfolding workedDesks ringAt passedOn simulationWhere simulated owedLots owedOfEach units handovers amount delivers turn round
+worked = (refl, (refl, (refl, (refl, (refl, (refl, (refl, (refl, (refl, (refl, tt))))))))))
