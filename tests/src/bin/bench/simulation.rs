@@ -67,13 +67,14 @@ fn by_reference(trial: &Trial, answer: &Simulated) -> u128 {
     time
 }
 
-/// Nets of up to 20,000,000 lots in every issue and account, and inventories that are so many
+/// Nets of up to 20,000,000 lots in every issue and account, deliverers and receivers side by side in a
+/// settlement account, so that lots go on, and inventories that are so many
 /// millionths of what the accounts of each settlement account owe.
 fn full_market(size: u32, millionths: u64) -> Trial {
     let mut rng = Rng::new(7);
     let mut trial = Trial::of_size(size);
     for (account, settlement) in trial.plan.settlement.iter_mut().enumerate() {
-        *settlement = (account % SETTLEMENT_ACCOUNTS) as u32;
+        *settlement = (account * SETTLEMENT_ACCOUNTS / ACCOUNTS) as u32;
     }
     for issue in 0..ISSUES {
         for account in (0..ACCOUNTS).step_by(2) {
