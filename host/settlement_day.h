@@ -7,6 +7,7 @@
  *     target/staticlib/libdesk.a      day_value day_charge
  *     target/staticlib/libentries.a   entry_meet
  *     target/staticlib/libsizes.a     day_simulate
+ *     target/staticlib/libfunds.a     day_bases day_shares day_funds
  *     target/staticlib/libstatus.a    day_status
  *     target/staticlib/libtrust.a     day_trust
  *
@@ -45,6 +46,7 @@ extern "C" {
 #define DAY_SUB_ACCOUNTS 32u /* sub-accounts 0 to 31 */
 #define DAY_SETTLEMENT_ACCOUNTS 16u /* of a simulated desk: settlement accounts 0 to 15 */
 #define DAY_INVENTORIES 256u /* issue i in settlement account s stands at i * 16 + s */
+#define DAY_PARTICIPANTS 64u /* the most participants, and the places of an output of funds */
 #define DAY_STACK_BYTES 32768u /* the most stack that a call needs; measured: 26,232 */
 
 /* The place of an issue and an account, both in range, in nets and delivered lots. */
@@ -63,6 +65,7 @@ extern "C" {
 #define DAY_MOST_DAYS 12u       /* days of a roll, from 1 */
 #define DAY_MOST_RATE 10000u    /* rates are hundredths of a percent a year, from 0 */
 #define DAY_LAST_DAY 65535u     /* the last day, which does not roll */
+#define DAY_MOST_AMOUNT 1000000u /* an average, a factor in tenths, funds, in 100 million yen */
 
 /* ---- phases of the day; any other number is a damaged book */
 
@@ -114,6 +117,9 @@ extern "C" {
 #define DAY_REFUSED_DRAW 21u    /* the list is not each report number just once; a column's length */
 #define DAY_REFUSED_REPORTS 22u /* more than 256 reports, or a sub-account above 31 */
 #define DAY_REFUSED_ELIGIBLE 23u /* the fail is larger than the eligible lots */
+#define DAY_REFUSED_PARTICIPANTS 24u /* more than 64 participants, columns of unequal length, or an
+                                      * average, factor or funds above 1,000,000 */
+#define DAY_REFUSED_BASES 25u   /* the funds are above all bases together */
 
 /* ---- why a unit has not come: the cases of day_status */
 
@@ -289,6 +295,27 @@ uint32_t day_trust(const uint32_t *sub_accounts, size_t sub_accounts_length,
                    const uint8_t *earlier, size_t earlier_length,
                    const uint32_t *draw, size_t draw_length,
                    uint32_t fail, uint32_t failing, uint32_t *out, size_t out_length);
+
+/* Obligated funds for a default. Amounts are in 100 million yen, a factor is in tenths; what is
+ * answered stands at the places of the participants' numbers, 0 at the places beyond them. On a
+ * refusal out is as it came. A place of bases may hold any number.
+ *
+ * The base contributions of averages: average times factor; 0 stays 0, above 0 up to 50 gives 50, above
+ * that down to a multiple of 50. Refused by 24. */
+uint32_t day_bases(const uint64_t *averages, size_t averages_length, uint64_t tenths,
+                   uint64_t out[64]);
+
+/* The shares of the funds among participants with given bases. Participants come by average, largest
+ * first, equals by lower number; rounds give each 50 up to its base, and the last fraction goes to the
+ * next whose base is not full. Refused by 24 and then 25. */
+uint32_t day_shares(const uint64_t *averages, size_t averages_length,
+                    const uint64_t *bases, size_t bases_length,
+                    uint64_t funds, uint64_t out[64]);
+
+/* The shares of the funds among participants with the base contributions of their averages. Refused by
+ * 24 and then 25. */
+uint32_t day_funds(const uint64_t *averages, size_t averages_length, uint64_t tenths,
+                   uint64_t funds, uint64_t out[64]);
 
 /* ---- a book as a struct, and the calls on it */
 
@@ -604,6 +631,8 @@ static inline const char *day_refusal_text(uint32_t refusal)
     case DAY_REFUSED_DRAW: return "the list is not each report number just once";
     case DAY_REFUSED_REPORTS: return "more than 256 reports, or a sub-account above 31";
     case DAY_REFUSED_ELIGIBLE: return "the fail is larger than the eligible lots";
+    case DAY_REFUSED_PARTICIPANTS: return "more than 64 participants, or an amount above 1,000,000";
+    case DAY_REFUSED_BASES: return "the funds are above all bases together";
     default: return "no refusal of the rules";
     }
 }

@@ -114,6 +114,18 @@ static void make_trust(void)
                          DAY_REPORTS, draw, DAY_REPORTS, 256000, 4, out, DAY_OUT_WORDS);
 }
 
+/* 64 participants in rising order of averages, and the most funds. */
+static void make_funds(void)
+{
+    static uint64_t averages[DAY_PARTICIPANTS], bases[DAY_PARTICIPANTS], shares[DAY_PARTICIPANTS];
+    for (uint64_t participant = 0; participant < DAY_PARTICIPANTS; participant++) {
+        averages[participant] = participant + 1;
+    }
+    refusal |= day_bases(averages, DAY_PARTICIPANTS, DAY_MOST_AMOUNT, bases);
+    refusal |= day_shares(averages, DAY_PARTICIPANTS, bases, DAY_PARTICIPANTS, DAY_MOST_AMOUNT, shares);
+    refusal |= day_funds(averages, DAY_PARTICIPANTS, DAY_MOST_AMOUNT, DAY_MOST_AMOUNT, shares);
+}
+
 /* A desk whose lots go round at units of 7 lots, from the nets of the lifted day. */
 static void make_simulation(void)
 {
@@ -146,6 +158,7 @@ static const struct measured measures[] = {
     {"cutoff, lifted", make_cutoff},     {"status, cut", make_status},
     {"pair-off", make_pair_off},  {"write", make_write},           {"read", make_read},
     {"value and charge", make_charge},   {"trust", make_trust},
+    {"funds", make_funds},
     {"simulated desk", make_simulation},
 };
 

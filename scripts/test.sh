@@ -33,6 +33,7 @@ step 'what the host of value and charge prints' scripts/test-host.sh build/measu
 step 'what the host of the book prints' scripts/test-day-host.sh build/day
 step 'what the host of a trust account prints' scripts/test-trust-host.sh build/trust
 step 'what the host of a simulated desk prints' scripts/test-sizes-host.sh build/sizes
+step 'what the host of funds for a default prints' scripts/test-funds-host.sh build/funds
 step 'the stack that a call needs' build/stack
 step 'the tests in Rust' cargo test --release --offline
 step 'the test programs' cargo build --release --offline
@@ -40,6 +41,7 @@ step 'value and charge beside the second engine' build/release/measures
 step 'entries beside the second engine' build/release/entries
 step 'a trust account beside the second engine' build/release/trust
 step 'simulated desks beside the second engine' build/release/simulation
+step 'funds for a default beside the second engine' build/release/funds
 step 'the calls beside the second engine' build/release/calls
 step 'the program beside the second engine' build/release/tapes
 step 'the program where input or output fails' build/release/failures

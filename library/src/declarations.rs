@@ -23,6 +23,31 @@ extern "C" {
     pub fn entry_meet(entries: *mut Entry, length: usize, at: usize, lots: u32) -> u32;
 }
 
+// libfunds.a
+extern "C" {
+    pub fn day_bases(
+        averages: *const u64,
+        averages_length: usize,
+        tenths: u64,
+        bases: *mut [u64; 64],
+    ) -> u32;
+    pub fn day_shares(
+        averages: *const u64,
+        averages_length: usize,
+        bases: *const u64,
+        bases_length: usize,
+        funds: u64,
+        shares: *mut [u64; 64],
+    ) -> u32;
+    pub fn day_funds(
+        averages: *const u64,
+        averages_length: usize,
+        tenths: u64,
+        funds: u64,
+        shares: *mut [u64; 64],
+    ) -> u32;
+}
+
 // libsizes.a
 extern "C" {
     pub fn day_simulate(

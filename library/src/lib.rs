@@ -1,6 +1,6 @@
 //! The proved library, called safely from Rust: a book and the calls on it, lifts of one unit, why a
 //! unit has not come, unit sizes tried on a simulated desk, the tape's reader and writer, value and
-//! charge, entries met, a fail inside a trust account.
+//! charge, entries met, a fail inside a trust account, obligated funds for a default.
 //!
 //! ```
 //! use library::{calls, Book, Instruction, OUTPUT_WORDS};
@@ -21,6 +21,7 @@ pub mod calls;
 mod declarations;
 pub mod desk;
 pub mod entries;
+pub mod funds;
 mod instruction;
 pub mod raw;
 mod refusal;

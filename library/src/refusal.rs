@@ -54,11 +54,16 @@ pub enum Refusal {
     Reports = 22,
     /// 23: the fail is larger than the eligible lots (trust).
     Eligible = 23,
+    /// 24: there are more than 64 participants, averages and bases are not of one number, or an
+    /// average, the factor in tenths or the funds are above 1,000,000 (funds).
+    Participants = 24,
+    /// 25: the funds are above all bases together (funds).
+    Bases = 25,
 }
 
 impl Refusal {
     /// All refusals, by their numbers.
-    pub const ALL: [Refusal; 23] = [
+    pub const ALL: [Refusal; 25] = [
         Refusal::Output,
         Refusal::Book,
         Refusal::Phase,
@@ -82,6 +87,8 @@ impl Refusal {
         Refusal::Draw,
         Refusal::Reports,
         Refusal::Eligible,
+        Refusal::Participants,
+        Refusal::Bases,
     ];
 
     /// The refusal of a number; none for 0, which is done, and for a number that none has.
@@ -123,6 +130,11 @@ impl Refusal {
             Refusal::Draw => "the list is not each report number just once",
             Refusal::Reports => "there are more than 256 reports, or a sub-account is above 31",
             Refusal::Eligible => "the fail is larger than the eligible lots",
+            Refusal::Participants => {
+                "there are more than 64 participants, or an average, the factor in tenths or the \
+                 funds are above 1,000,000"
+            }
+            Refusal::Bases => "the funds are above all bases together",
         }
     }
 }
@@ -140,10 +152,11 @@ mod tests {
     #[test]
     fn numbers_are_those_of_the_papers_in_order() {
         let numbers: Vec<u32> = Refusal::ALL.into_iter().map(Refusal::number).collect();
-        assert_eq!(numbers, (1..=23).collect::<Vec<u32>>());
+        assert_eq!(numbers, (1..=25).collect::<Vec<u32>>());
         assert_eq!(Refusal::of(9), Some(Refusal::Owed));
         assert_eq!(Refusal::of(23), Some(Refusal::Eligible));
-        assert_eq!([0, 24, u32::MAX].map(Refusal::of), [None; 3]);
+        assert_eq!(Refusal::of(25), Some(Refusal::Bases));
+        assert_eq!([0, 26, u32::MAX].map(Refusal::of), [None; 3]);
     }
 
     #[test]
@@ -167,7 +180,7 @@ mod tests {
     fn the_header_says_the_same() {
         let header = include_str!("../../host/settlement_day.h");
         let texts: Vec<&str> = header.lines().filter(|line| line.contains("return \"")).collect();
-        let own = [Refusal::Terms, Refusal::Reports];
+        let own = [Refusal::Terms, Refusal::Reports, Refusal::Participants];
         for refusal in Refusal::ALL.into_iter().filter(|refusal| !own.contains(refusal)) {
             let text = format!("return \"{}\";", refusal.meaning());
             assert!(texts.iter().any(|line| line.ends_with(&text)), "{text}");

@@ -5,6 +5,7 @@
 
 pub mod book;
 pub mod calls;
+pub mod funds;
 pub mod measures;
 pub mod questions;
 pub mod run;

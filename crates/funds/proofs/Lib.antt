@@ -1,0 +1,10 @@
+-- Why the shares are right: lists filled and read, bases, the order, the rounds, the theorems of the shares, the answers.
+pub mod Lists
+pub mod Bases
+pub mod Order
+pub mod Rounds
+pub mod Shares
+pub mod Turns
+pub mod Giving
+pub mod Answers
+pub mod Answered

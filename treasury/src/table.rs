@@ -1,0 +1,225 @@
+//! The table of a default: what the proved library answers, as text and as JSON.
+
+use crate::file::{Fault, Participant};
+use library::funds::{self, Amounts, MOST_AMOUNT, PARTICIPANTS};
+use library::Refusal;
+
+/// The participants of a default, the factor that their bases come from (none where bases are given),
+/// and the funds (none where only bases are asked for).
+#[derive(Clone, Debug, PartialEq, Eq)]
+pub struct Provision {
+    pub participants: Vec<Participant>,
+    pub tenths: Option<u64>,
+    pub funds: Option<u64>,
+}
+
+/// A line of the table.
+#[derive(Clone, Debug, PartialEq, Eq)]
+pub struct Row {
+    pub name: String,
+    pub average: u64,
+    pub base: u64,
+    pub share: Option<u64>,
+}
+
+/// The table, by participant number.
+#[derive(Clone, Debug, PartialEq, Eq)]
+pub struct Table {
+    pub rows: Vec<Row>,
+    pub tenths: Option<u64>,
+    pub funds: Option<u64>,
+}
+
+/// Why there is no table: a refusal, where in the file it comes from if it comes from there, and what
+/// to do.
+#[derive(Clone, Debug, PartialEq, Eq)]
+pub struct Refused {
+    pub number: u32,
+    pub place: Option<Fault>,
+    pub what: String,
+}
+
+impl Provision {
+    /// The averages, by participant number.
+    fn averages(&self) -> Vec<u64> {
+        self.participants.iter().map(|one| one.average.amount).collect()
+    }
+
+    /// The bases: those given, or those of the averages and the factor.
+    fn bases(&self, averages: &[u64]) -> Result<Vec<u64>, u32> {
+        if let Some(tenths) = self.tenths {
+            let mut output: Amounts = [0; PARTICIPANTS];
+            let number = funds::bases(averages, tenths, &mut output);
+            let bases = output.into_iter().take(averages.len()).collect();
+            return if number == 0 { Ok(bases) } else { Err(number) };
+        }
+        Ok(self.participants.iter().map(|one| one.base.map_or(0, |base| base.amount)).collect())
+    }
+
+    /// The table, or why there is none.
+    pub fn table(&self) -> Result<Table, Refused> {
+        let averages = self.averages();
+        let bases = self.bases(&averages).map_err(|number| self.refused(number, 0))?;
+        let together = bases.iter().map(|&base| u128::from(base)).sum();
+        let mut output: Amounts = [0; PARTICIPANTS];
+        let amount = self.funds.unwrap_or(0);
+        let number = match self.tenths {
+            Some(tenths) => funds::funds(&averages, tenths, amount, &mut output),
+            None => funds::shares(&averages, &bases, amount, &mut output),
+        };
+        if number != 0 {
+            return Err(self.refused(number, together));
+        }
+        let rows = self.participants.iter().zip(bases).zip(output);
+        let row = |((one, base), share): ((&Participant, u64), u64)| Row {
+            name: one.name.clone(),
+            average: one.average.amount,
+            base,
+            share: self.funds.map(|_| share),
+        };
+        Ok(Table { rows: rows.map(row).collect(), tenths: self.tenths, funds: self.funds })
+    }
+
+    /// What a refusal comes from.
+    fn refused(&self, number: u32, together: u128) -> Refused {
+        let funds = self.funds.unwrap_or(0);
+        if number == Refusal::Bases.number() {
+            let what = format!(
+                "the funds of {funds} are above all bases together, {together}; lower the funds or \
+                 raise the factor"
+            );
+            return Refused { number, place: None, what };
+        }
+        if let Some(one) = self.participants.get(PARTICIPANTS) {
+            let what =
+                format!("{} is participant {}; there are at most 64", one.name, PARTICIPANTS + 1);
+            return Refused {
+                number,
+                place: Some(Fault { place: one.place, what: what.clone() }),
+                what,
+            };
+        }
+        let large = self.participants.iter().find(|one| one.average.amount > MOST_AMOUNT);
+        if let Some(one) = large {
+            let amount = one.average.amount;
+            let what =
+                format!("the average {amount} is above 1,000,000; write it in 100 million yen");
+            let fault = Fault { place: one.average.place, what: what.clone() };
+            return Refused { number, place: Some(fault), what };
+        }
+        let what = match self.tenths.filter(|&tenths| tenths > MOST_AMOUNT) {
+            Some(tenths) => {
+                format!("the factor of {}.{} is above 100,000", tenths / 10, tenths % 10)
+            }
+            None => {
+                format!("the funds of {funds} are above 1,000,000; give them in 100 million yen")
+            }
+        };
+        Refused { number, place: None, what }
+    }
+}
+
+impl Table {
+    /// The sums of averages, bases and shares.
+    fn sums(&self) -> (u128, u128, u128) {
+        let sum = |of: fn(&Row) -> u64| self.rows.iter().map(|row| u128::from(of(row))).sum();
+        (sum(|row| row.average), sum(|row| row.base), sum(|row| row.share.unwrap_or(0)))
+    }
+
+    /// The table as text, with the sums in the last line.
+    pub fn text(&self) -> String {
+        let (average, base, share) = self.sums();
+        let head = ["no", "participant", "average", "base", "share"].map(String::from);
+        let foot =
+            [String::new(), "sum".into(), average.to_string(), base.to_string(), share.to_string()];
+        let mut lines = vec![head];
+        for (number, row) in self.rows.iter().enumerate() {
+            let share = row.share.map_or(String::new(), |share| share.to_string());
+            let amounts = (row.average.to_string(), row.base.to_string());
+            lines.push([number.to_string(), row.name.clone(), amounts.0, amounts.1, share]);
+        }
+        lines.push(foot);
+        let columns = if self.funds.is_some() { 5 } else { 4 };
+        let width =
+            |at: usize| lines.iter().map(|line| line[at].chars().count()).max().unwrap_or(0);
+        let widths: Vec<usize> = (0..columns).map(width).collect();
+        let mut text = self.heading();
+        for line in &lines {
+            let cell = |at: usize| match at {
+                1 => format!("{:<1$}", line[at], widths[at]),
+                _ => format!("{:>1$}", line[at], widths[at]),
+            };
+            let cells: Vec<String> = (0..columns).map(cell).collect();
+            text.push_str(cells.join("  ").trim_end());
+            text.push('\n');
+        }
+        text
+    }
+
+    /// What the table is of.
+    fn heading(&self) -> String {
+        let factor = match self.tenths {
+            Some(tenths) => format!("factor {}.{}", tenths / 10, tenths % 10),
+            None => "given bases".into(),
+        };
+        let funds = self.funds.map_or(String::new(), |funds| format!(", funds {funds}"));
+        format!("{factor}{funds}; amounts in 100 million yen\n")
+    }
+
+    /// The table as one object of JSON.
+    pub fn json(&self) -> String {
+        let (average, base, share) = self.sums();
+        let number =
+            |amount: Option<u64>| amount.map_or("null".into(), |amount| amount.to_string());
+        let row = |(at, row): (usize, &Row)| {
+            format!(
+                r#"{{"number":{at},"participant":{},"average":{},"base":{},"share":{}}}"#,
+                quoted(&row.name),
+                row.average,
+                row.base,
+                number(row.share)
+            )
+        };
+        let rows: Vec<String> = self.rows.iter().enumerate().map(row).collect();
+        let share = if self.funds.is_some() { share.to_string() } else { "null".into() };
+        format!(
+            "{{\"factor_tenths\":{},\"funds\":{},\"participants\":[{}],\
+             \"sum\":{{\"average\":{average},\"base\":{base},\"share\":{share}}}}}\n",
+            number(self.tenths),
+            number(self.funds),
+            rows.join(",")
+        )
+    }
+}
+
+impl Refused {
+    /// The refusal for people; the file is that of the participants.
+    pub fn text(&self, file: &str) -> String {
+        let told = format!("refused by {}: {}", self.number, self.what);
+        match &self.place {
+            Some(fault) => Fault { place: fault.place, what: told }.in_file(file),
+            None => told,
+        }
+    }
+
+    /// The refusal as one object of JSON.
+    pub fn json(&self) -> String {
+        format!("{{\"refusal\":{},\"what\":{}}}\n", self.number, quoted(&self.what))
+    }
+}
+
+/// A text as a string of JSON.
+fn quoted(text: &str) -> String {
+    let mut string = String::from("\"");
+    for letter in text.chars() {
+        match letter {
+            '"' | '\\' => string.extend(['\\', letter]),
+            letter if u32::from(letter) < 32 => {
+                string.push_str(&format!("\\u{:04x}", u32::from(letter)));
+            }
+            letter => string.push(letter),
+        }
+    }
+    string.push('"');
+    string
+}
