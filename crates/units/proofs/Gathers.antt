@@ -348,7 +348,7 @@ drop-take (suc j) (suc n) (w ∷ ws) h = ap (λ m. take m (drop j ws)) (suc-sub-
 pub lent-runs : (runs : List ℕ) (n j : ℕ) → j ≤ n → map partOf (take (n - j) (drop j runs)) ≡ drop j (runsIn runs n)
 lent-runs runs n j h = ap (map partOf) (drop-take j n runs h) ∙ sym (drop-map j (take n runs))
 
-run-account : (a : ℕ) (u : AccountLots) → total (ofAccount a) (unitsOfRun u) ≡ ofAccount a u
+pub run-account : (a : ℕ) (u : AccountLots) → total (ofAccount a) (unitsOfRun u) ≡ ofAccount a u
 run-account a u =
     let b = u .account in
     let e₁ = total-append (ofAccount a) (replicate (u .lots / 100000) (accountLots b 100000)) (prepend b (u .lots % 100000) []) in
