@@ -472,7 +472,7 @@ module _ (dues runs : List ℕ) (n : ℕ) (held : n ≤ length runs) (few : n �
       map-take (suc k) [] = refl
       map-take (suc k) (x ∷ xs) = ap (λ l. partOf x ∷ l) (map-take k xs)
 
-  small-ss : smallsOf runs n m ≡ ss
+  pub small-ss : smallsOf runs n m ≡ ss
   small-ss =
       let l : m ≡ length fs + 0 = omega (arith, number-fs) in
       ap (drop m) apart ∙ ap (λ i. drop i (fs ++ ss)) l ∙ drop-append-add fs ss 0

@@ -40,7 +40,7 @@ seeking-more us u vs d e h s =
 
 -- Runs of 0 lots
 
-skip0-cons : (v : AccountLots) (vs : List AccountLots) → dropLots 0 (v ∷ vs) ≡ prepend (v .account) (v .lots) (dropLots 0 vs)
+pub skip0-cons : (v : AccountLots) (vs : List AccountLots) → dropLots 0 (v ∷ vs) ≡ prepend (v .account) (v .lots) (dropLots 0 vs)
 skip0-cons v vs = rw (sub-zero (v .lots), zero-sub (v .lots))
 
 skip0-tail : (v : AccountLots) (us vs : List AccountLots) → dropLots 0 us ≡ dropLots 0 vs → dropLots 0 (v ∷ us) ≡ dropLots 0 (v ∷ vs)
@@ -274,7 +274,7 @@ zeros (suc n) (suc a) = zeros n a
 
 -- The cursor
 
-cursor-lacks : (runs : List ℕ) (n j a x st : ℕ) (vs : List AccountLots) → dropLots 0 (accountLots a x ∷ drop j (runsIn runs n)) ≡ dropLots 0 vs →
+pub cursor-lacks : (runs : List ℕ) (n j a x st : ℕ) (vs : List AccountLots) → dropLots 0 (accountLots a x ∷ drop j (runsIn runs n)) ≡ dropLots 0 vs →
     (missing : List ℕ) → overlapsFrom runs n missing (position j a x st .cursor) ≡ overlaps (byAccount 0 missing) vs
 unfolding overlapsFrom
 cursor-lacks runs n j a x st vs e missing =
