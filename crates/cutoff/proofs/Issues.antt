@@ -25,12 +25,7 @@ use Rattle.units.specs.Cursor.{overlapsFrom, Started}
 use Rattle.units.proofs.Cells.{owed-sized, sound-row, total-due}
 use Rattle.cutoff.specs.Issue.{IsReady}
 
-module _ (new : Bool) (nets : List ℤ) (delivered lifts : List ℕ) (i : ℕ) (h : i < 16) (s : SoundCells nets delivered lifts) where
-  -- an issue has at most 126 fails
-  pub few : length (issueFails (orderIn new nets lifts) nets delivered i) ≤ 126
-  unfolding issueFails
-  few = issue-fails (row i nets) (row i delivered) (orderIn new nets lifts i) (order-in new nets lifts i) (length-row nets i (s .cells) h) (sound-row nets delivered lifts s i h)
-
+module _ (nets : List ℤ) (delivered lifts : List ℕ) (i : ℕ) (h : i < 16) (s : SoundCells nets delivered lifts) where
   pub owing : (out : List ℕ) → length out ≡ 64 → Owing (row i nets) (row i delivered) out
   owing out l =
       let r = sound-row nets delivered lifts s i h in
@@ -39,6 +34,12 @@ module _ (new : Bool) (nets : List ℤ) (delivered lifts : List ℕ) (i : ℕ) (
         room = l ∙ sym (length-row nets i (s .cells) h);
         most = λ a. within-at (row i nets) (row i delivered) a (r .lengths) (r .owed);
       }
+
+module _ (new : Bool) (nets : List ℤ) (delivered lifts : List ℕ) (i : ℕ) (h : i < 16) (s : SoundCells nets delivered lifts) where
+  -- an issue has at most 126 fails
+  pub few : length (issueFails (orderIn new nets lifts) nets delivered i) ≤ 126
+  unfolding issueFails
+  few = issue-fails (row i nets) (row i delivered) (orderIn new nets lifts i) (order-in new nets lifts i) (length-row nets i (s .cells) h) (sound-row nets delivered lifts s i h)
 
   -- the cursor after a delivered total of its units
   module _ (after out : List ℕ) (n d : ℕ) (r : Position) (t : d ≡ deliveredTotal delivered i) (o : out ≡ undelivered (obligationsOf nets i) (row i delivered))
