@@ -180,7 +180,7 @@ mod tests {
     fn the_header_says_the_same() {
         let header = include_str!("../../host/settlement_day.h");
         let texts: Vec<&str> = header.lines().filter(|line| line.contains("return \"")).collect();
-        let own = [Refusal::Terms, Refusal::Reports];
+        let own = [Refusal::Terms, Refusal::Reports, Refusal::Participants];
         for refusal in Refusal::ALL.into_iter().filter(|refusal| !own.contains(refusal)) {
             let text = format!("return \"{}\";", refusal.meaning());
             assert!(texts.iter().any(|line| line.ends_with(&text)), "{text}");
