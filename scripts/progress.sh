@@ -36,11 +36,23 @@ edits_of() { # NAME
 
 edits_too=0
 [ $# -gt 0 ] || edits_too=1
-declare -A seconds
-while IFS='|' read -r _ name time _; do
-    name=${name// /} time=${time// /}
-    [[ $time =~ ^[0-9]+(\.[0-9]+)?$ ]] && seconds[$name]=${time%.*}
-done <docs/CHECK-TIMES.md
+# Of each crate the seconds of its proof, and of one of its edits (rounded up), as they were measured;
+# where none are known, 20 for a crate, and for an edit those of its crate.
+declare -A seconds an_edit
+while IFS='|' read -r _ name time number sum _; do
+    name=${name// /} time=${time// /} number=${number// /} sum=${sum// /}
+    [[ $time =~ ^[0-9]+$ ]] || continue
+    seconds[$name]=$time
+    [[ $number =~ ^[1-9][0-9]*$ && $sum =~ ^[0-9]+$ ]] && an_edit[$name]=$(((sum + number - 1) / number))
+done <"${CHECK_TIMES:-docs/CHECK-TIMES.md}"
+
+to_prove() { # NAME
+    echo "${seconds[$1]:-20}"
+}
+
+to_refuse() { # NAME of the edit's crate
+    echo "${an_edit[$1]:-$(to_prove "$1")}"
+}
 
 # Has a crate been proved before? rt tests whether that still holds; with the edits, all begin anew.
 known() { # NAME
@@ -51,7 +63,7 @@ crates=0 edits=0 left=0
 for name in $(needed "$@"); do
     of_crate=$(edits_of "$name" | wc -l)
     crates=$((crates + 1)) edits=$((edits + of_crate))
-    known "$name" || left=$((left + ${seconds[$name]:-20} * (1 + of_crate)))
+    known "$name" || left=$((left + $(to_prove "$name") + of_crate * $(to_refuse "$name")))
 done
 cores=$(nproc 2>/dev/null || echo 1)
 [ "$cores" -le 2 ] || cores=2
@@ -80,7 +92,7 @@ show() { # LINE
     *': note: large solution'* | 'note: no function with a body'* | 'rt: ok, '* | 'rt: target/staticlib/'*) ;;
     'rt: must-fail '*': refused, as it must be'*)
         name=${line#rt: must-fail } name=${name%%:*}
-        refused=$((refused + 1)) left=$((left - ${seconds[${name%%/*}]:-20}))
+        refused=$((refused + 1)) left=$((left - $(to_refuse "${name%%/*}")))
         printf 'refused %d of %d: %s (%s)\n' "$refused" "$edits" "$name" "$(took "$line")"
         ;;
     'rt: '*' proved (unchanged'*)
@@ -88,7 +100,7 @@ show() { # LINE
         ;;
     'rt: '*' proved ('*)
         name=${line#rt: } name=${name%% *}
-        proved=$((proved + 1)) left=$((left - ${seconds[$name]:-20}))
+        proved=$((proved + 1)) left=$((left - $(to_prove "$name")))
         printf 'proved %d of %d: %s (%s)%s\n' "$proved" "$crates" "$name" "$(took "$line")" "$(to_come)"
         ;;
     *) printf '%s\n' "$line" ;;

@@ -8,7 +8,8 @@ use Rattle.rules.specs.Fails.{lacks, fails}
 use Rattle.rules.specs.Book.{liftConditions, liftsSound, cellsEven, conditions, sound, orderIn}
 use Rattle.rules.specs.Calls.{Answer, Cutoff, called, issuePartials, issueFails}
 use Rattle.rules.specs.Tally.{inIssue}
-use Rattle.rules.specs.Days.{lent, traded1, traded2, traded3, closed, delivered1, delivered2, cut, resolved, committed7, Case, case, Holds}
+use Rattle.rules.specs.Days.{Case, case, Holds}
+use Rattle.days.specs.Books.{lent, traded1, traded2, traded3, closed, delivered1, delivered2, cut, resolved, committed7}
 use Rattle.status.specs.Status.{isHanded, waitsFor, failsPartly, failsWholly, statusRefused, inSettling, afterCutoff, status}
 use Rattle.status.specs.Lists.{lacking}
 
