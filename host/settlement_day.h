@@ -1,6 +1,6 @@
 /* The settlement-day book for hosts in C and C++.
  *
- * The functions are in four static libraries, which `make libraries` makes:
+ * The functions are in static libraries, which `make libraries` makes:
  *
  *     target/staticlib/libexports.a   day_sound day_unit day_call day_ask day_commit day_read
  *                                     day_quotes day_write

@@ -1,6 +1,9 @@
 // Full units dealt in turn, out of the runs of the order without lifts: m runs of full units, which never
 // rise, and small units behind them. Round by round the units are never listed: a place in them is a
 // round, how many runs take part in it, and how many units of it are passed.
+use rules::Found;
+use units::lifting::lift_all;
+use units::number;
 use units::ranked;
 ghost use mathlib.Core.Path.{_≡_};
 ghost use mathlib.Core.List.{map};
@@ -8,8 +11,8 @@ ghost use Prim.Native.Nat.{_+_, _≤_, min};
 ghost use lib.ListN.{length, take, drop};
 ghost use mathlib.Core.Bool.{true};
 ghost use Rattle.rules.specs.Book.{orderIn};
-ghost use Rattle.units.specs.Runs.{partOf, runsIn, unitsIn};
-ghost use Rattle.dealing.specs.Dealing.{Falling, Narrowed, CanDeal, dealtRuns, dealtFrom, Seated, CanStep, Stepped, BackIs, SpanIs, CanSpan, CanWindow, liftedRuns, fullNumber, CanDealOut};
+ghost use Rattle.units.specs.Runs.{partOf, runsIn, foundOf, CanRankNets, CanOrder};
+ghost use Rattle.dealing.specs.Dealing.{Falling, Narrowed, CanDeal, dealtRuns, dealtFrom, Seated, CanStep, Stepped, BackIs, SpanIs, CanSpan, CanWindow, liftedRuns, fullNumber, IsRanked, CanReady, IsReady, CanDealOut, DealtOut};
 
 // A place in front of a unit: in a round in which so many runs take part, behind so many of its units;
 // where none takes part, behind so many small units.
@@ -207,16 +210,81 @@ fn full_runs(runs: &[u32], n: usize) -> usize
     m
 }
 
-// The units of an issue from unit k on, full units dealt in turn and then lifted: as many as there are
-// places lent for, a word each.
-pub fn units_from(nets: &[i32], lifts: &[u32], i: usize, k: u32, out: &mut [u32])
-    requires { ⌜ CanDealOut (now nets) (now lifts) i k (now out) ⌝ }
-    ensures { λ _. ⌜ unitsIn (now (out .exit)) (length (now (out .entry))) ≡ take (length (now (out .entry))) (drop k (orderIn true (now (nets .entry)) (now (lifts .entry)) i)) ⌝ }
+// An issue's runs in the order without lifts: n words, the first `full` of them of full units.
+pub struct Ranks {
+    pub n: usize,
+    pub full: usize,
+}
+
+// The runs of an issue in the order without lifts, into a lent array of at least 128 words.
+pub fn rank(nets: &[i32], i: usize, keys: &mut [u32]) -> Ranks
+    requires { ⌜ CanRankNets (now nets) i (now keys) ⌝ }
+    ensures { λ r. ⌜ IsRanked (now (nets .entry)) i (now (keys .exit)) r ⌝ }
 {
-    let mut runs = [0u32; 128];
-    let n = ranked(nets, i, &mut runs);
-    let m = full_runs(&runs, n);
+    let n = ranked(nets, i, keys);
+    let full = full_runs(keys, n);
+    Ranks { n, full }
+}
+
+// The first n words of an array to the front of another.
+fn copy(words: &[u32], n: usize, out: &mut [u32])
+    requires { ⌜ (n ≤ length (now words)) × (n ≤ length (now out)) ⌝ }
+    ensures { λ _. ⌜ take n (now (out .exit)) ≡ take n (now (words .entry)) ⌝ }
+{
+    let mut j = 0;
+    while j < n {
+        out[j] = words[j];
+        j += 1;
+    }
+}
+
+// An issue ranked, and so many words of the same runs as lifted in the order of old: place by place the
+// units dealt in turn have the same lots.
+pub struct Ready {
+    pub ranks: Ranks,
+    pub lifted: usize,
+}
+
+// The runs of an issue into two lent arrays, of at least 128 and 144 words: without lifts, and as lifted.
+pub fn prepare(nets: &[i32], lifts: &[u32], i: usize, keys: &mut [u32], runs: &mut [u32]) -> Ready
+    requires { ⌜ CanReady (now nets) (now lifts) i (now keys) (now runs) ⌝ }
+    ensures { λ r. ⌜ IsReady (now (nets .entry)) (now (lifts .entry)) i (now (keys .exit)) (now (runs .exit)) r ⌝ }
+{
+    let ranks = rank(nets, i, keys);
+    let n = ranks.n;
+    copy(keys, n, runs);
     let s = i * 18;
     let e = s + 18;
-    window(&runs, n, m, &lifts[s..e], k, out);
+    let lifted = lift_all(&lifts[s..e], runs, n);
+    Ready { ranks, lifted }
+}
+
+// The units of a ranked issue from unit k on, full units dealt in turn and then lifted: as many as there are
+// places lent for, a word each.
+pub fn units_from(keys: &[u32], p: Ranks, lifts: &[u32], i: usize, k: u32, out: &mut [u32])
+    requires { ⌜ CanDealOut (now keys) p (now lifts) i k (now out) ⌝ }
+    ensures { λ _. ⌜ DealtOut (now (keys .entry)) p (now (lifts .entry)) i k (length (now (out .entry))) (now (out .exit)) ⌝ }
+{
+    let n = p.n;
+    let m = p.full;
+    let s = i * 18;
+    let e = s + 18;
+    window(keys, n, m, &lifts[s..e], k, out);
+}
+
+// The k-th unit of an issue, full units dealt in turn and then lifted.
+pub fn unit(nets: &[i32], lifts: &[u32], i: usize, k: u32) -> Found
+    requires { ⌜ CanOrder (now nets) (now lifts) i ⌝ }
+    ensures { λ r. ⌜ r ≡ foundOf (drop k (orderIn true (now (nets .entry)) (now (lifts .entry)) i)) ⌝ }
+{
+    let mut keys = [0u32; 128];
+    let p = rank(nets, i, &mut keys);
+    let n = p.n;
+    if number(&keys, n) <= k {
+        return Found::Nothing;
+    }
+    let mut out = [0u32; 1];
+    units_from(&keys, p, lifts, i, k, &mut out);
+    let word = out[0];
+    Found::Unit(word % 64, word / 64)
 }

@@ -1,0 +1,3 @@
+-- Why the stretches made are those of what waits.
+pub mod Adding
+pub mod Feeding
