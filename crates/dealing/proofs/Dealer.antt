@@ -17,18 +17,19 @@ use Rattle.rules.specs.Dealt.{dealt}
 use Rattle.rules.specs.Lifts.{Among, lifted}
 use Rattle.rules.specs.Book.{row, block, duesOf, placesIn, liftsAt, orderIn}
 use Rattle.laws.proofs.Basics.{byTest, each-take, each-drop, put-pos}
-use Rattle.laws.proofs.Units.{UnitSized}
+use Rattle.laws.proofs.Units.{UnitSized, Small}
 use Rattle.laws.proofs.Lifts.{length-lifted}
 use Rattle.laws.proofs.Dealt.{dealt-lots, same-length}
 use Rattle.laws.proofs.SoundRows.{order-in}
 use Rattle.units.specs.Runs.{partOf, runsIn, unitsOfRun, unitsOfRuns, unitsIn, foundOf, CanOrder, RankedNets}
 use Rattle.dealing.specs.declared.Ranks.{Ranks}
-use Rattle.dealing.specs.Dealing.{dealtRuns, liftedRuns, fullNumber, IsRanked, CanDealOut, DealtOut, CanWindow}
+use Rattle.dealing.specs.Dealing.{smallsOf, dealtRuns, liftedRuns, fullNumber, IsRanked, CanDealOut, DealtOut, CanWindow}
 use Rattle.units.proofs.Cells.{dues-sum}
 use Rattle.units.proofs.Loops.{dues-small}
 use Rattle.laws.proofs.LiftColumn.{length-lift-words}
 use Rattle.units.proofs.Lifted.{words-part}
-use Rattle.dealing.proofs.Dealing.{can-deal, dealt-runs}
+use Rattle.units.proofs.Units.{smalls-sorted}
+use Rattle.dealing.proofs.Dealing.{can-deal, small-ss, dealt-runs}
 
 -- a unit is a run of its own
 one-unit : (u : AccountLots) → UnitSized u → unitsOfRun u ≡ u ∷ []
@@ -53,7 +54,7 @@ length-lots : (us : List AccountLots) → Every UnitSized us → length us ≤ s
 length-lots [] ps = omega arith
 length-lots (u ∷ us) ps = omega (arith, ps .0 .0, length-lots us (ps .1))
 
-order-short : (nets : List ℤ) (lifts : List ℕ) (i : ℕ) → CanOrder nets lifts i → length (orderIn true nets lifts i) < 4294967296
+pub order-short : (nets : List ℤ) (lifts : List ℕ) (i : ℕ) → CanOrder nets lifts i → length (orderIn true nets lifts i) < 4294967296
 order-short nets lifts i o =
     let r = order-in true nets lifts i in
     omega (arith, length-lots (orderIn true nets lifts i) (r .sized), r .whole, dues-sum nets i (o .size) (o .cells) (o .issue))
@@ -111,6 +112,24 @@ module _ (keys : List ℕ) (p : Ranks) (lifts : List ℕ) (i : ℕ) where
   dealt-out k len out e nets o r =
       (rw (r .fulls) at e) ∙ ap (λ us. take len (drop k us)) (as-lifted nets lifts i o keys (p .n) (r .held) (r .order))
 
+module _ (nets : List ℤ) (lifts : List ℕ) (i : ℕ) (o : CanOrder nets lifts i) (keys : List ℕ) (p : Ranks) (r : IsRanked nets i keys p) where
+  pub ranked-lifted : liftedRuns keys (p .n) (p .full) (take (i * 18 + 18 - i * 18) (drop (i * 18) lifts)) ≡ orderIn true nets lifts i
+  ranked-lifted = rw (r .fulls) (as-lifted nets lifts i o keys (p .n) (r .held) (r .order))
+
+  pub ranked-length : length (dealtRuns keys (p .n) (p .full)) ≡ length (orderIn true nets lifts i)
+  ranked-length = rw (r .fulls) (whole-length nets lifts i o keys (p .n) (r .held) (r .order))
+
+  pub ranked-number : length (unitsIn keys (p .n)) ≡ length (orderIn true nets lifts i)
+  unfolding orderIn
+  ranked-number =
+      ap length (r .order .units) ∙ sym (length-lifted (liftsAt lifts i) (unitsOfNets unitLots (row i nets)))
+      ∙ as-many nets lifts i o keys (p .n) (r .held) (r .order) ∙ whole-length nets lifts i o keys (p .n) (r .held) (r .order)
+
+  pub ranked-smalls : Every (Small unitLots) (smallsOf keys (p .n) (p .full))
+  ranked-smalls =
+      rw (r .fulls, small-ss (duesOf nets i) keys (p .n) (r .held) (omega (arith, r .order .few)) (small nets lifts i o keys (p .n) (r .held) (r .order)) (r .order .runs))
+      (smalls-sorted (duesOf nets i))
+
 -- words of units are runs of one unit each
 pub words-units : (new : Bool) (nets : List ℤ) (lifts : List ℕ) (i k len : ℕ) (out : List ℕ) → length out ≡ len →
     map partOf out ≡ take len (drop k (orderIn new nets lifts i)) → unitsIn out len ≡ take len (drop k (orderIn new nets lifts i))
@@ -134,26 +153,20 @@ copy-ranked nets i keys runs n e p =
 -- The k-th unit
 
 module _ (nets : List ℤ) (lifts : List ℕ) (i k : ℕ) (o : CanOrder nets lifts i) (keys : List ℕ) (p : Ranks) (r : IsRanked nets i keys p) where
-  unfolded-number : length (unitsIn keys (p .n)) ≡ length (orderIn true nets lifts i)
-  unfolding orderIn
-  unfolded-number =
-      ap length (r .order .units) ∙ sym (length-lifted (liftsAt lifts i) (unitsOfNets unitLots (row i nets)))
-      ∙ as-many nets lifts i o keys (p .n) (r .held) (r .order) ∙ whole-length nets lifts i o keys (p .n) (r .held) (r .order)
-
   pub none-found : length (unitsIn keys (p .n)) ≤ k → Nothing ≡ foundOf (drop k (orderIn true nets lifts i))
   none-found h =
-      let g : length (orderIn true nets lifts i) ≤ k = omega (arith, unfolded-number) in
+      let g : length (orderIn true nets lifts i) ≤ k = omega (arith, ranked-number nets lifts i o keys p r) in
       sym (ap foundOf (drop-of-length-le (orderIn true nets lifts i) g))
 
   pub one-there : (out : List ℕ) → length out ≡ 1 → k < length (unitsIn keys (p .n)) → CanDealOut keys p lifts i k out
-  one-there out l h = record { nets = nets; order = o; ranked = r; there = omega (arith, unfolded-number) }
+  one-there out l h = record { nets = nets; order = o; ranked = r; there = omega (arith, ranked-number nets lifts i o keys p r) }
 
   pub one-found : (out : List ℕ) → length out ≡ 1 → k < length (unitsIn keys (p .n)) → DealtOut keys p lifts i k 1 out →
       Unit (getD out 0 0 % 64) (getD out 0 0 / 64) ≡ foundOf (drop k (orderIn true nets lifts i))
   one-found out l h d =
       let us = orderIn true nets lifts i in
       let z = partOf 0 in
-      let g : k < length us = omega (arith, unfolded-number) in
+      let g : k < length us = omega (arith, ranked-number nets lifts i o keys p r) in
       let f : partOf (getD out 0 0) ≡ getD us k z =
       sym (List·getD-map partOf out 0 0)
       ∙ ap (λ l. getD l 0 z) (d nets o r)

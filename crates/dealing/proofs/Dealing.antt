@@ -21,7 +21,7 @@ use Rattle.laws.proofs.Ranking.{Before, Ordered, ordered-sort, rising-parts}
 use Rattle.laws.proofs.Dealt.{most-first}
 use Rattle.units.specs.Runs.{partOf, runsIn, fullOf, smallLots, runsOf}
 use Rattle.dealing.specs.declared.Deal.{Deal}
-use Rattle.dealing.specs.Dealing.{Falling, Narrowed, fullUnit, CanDeal, smallsOf, dealtRuns, dealtFrom, CanStep, Stepped, fullNumber}
+use Rattle.dealing.specs.Dealing.{Falling, Narrowed, fullUnit, CanDeal, smallsOf, dealtRuns, dealtFrom, SeatAt, CanStep, Stepped, fullNumber}
 use Rattle.units.proofs.Units.{withFull, full-sorted, smalls-parts, smalls-sorted}
 use Rattle.units.proofs.Loops.{runs-length, runs-end, runs-at}
 
@@ -220,6 +220,66 @@ module _ (runs : List ℕ) (n m : ℕ) (ready : CanDeal runs n m) (w : ℕ) (h :
       let own : w ≤ w = omega arith in
       omega (arith, mul-le-mul own g)
 
+-- Places by numbers
+
+pub rounds-add : (size r a b : ℕ) (us : List AccountLots) → rounds size r (a + b) us ≡ rounds size r a us ++ rounds size (r + a) b us
+rounds-add size r zero b us =
+    let e : 0 + b ≡ b = omega arith in
+    let f : r ≡ r + 0 = omega arith in
+    ap (λ i. rounds size r i us) e ∙ ap (λ i. rounds size i b us) f
+rounds-add size r (suc a) b us =
+    let e : suc a + b ≡ suc (a + b) = omega arith in
+    let f : suc r + a ≡ r + suc a = omega arith in
+    ap (λ i. rounds size r i us) e
+    ∙ ap (λ l. round size r us ++ l) (rounds-add size (suc r) a b us ∙ ap (λ i. rounds size (suc r) a us ++ rounds size i b us) f)
+    ∙ sym (append-assoc (round size r us) (rounds size (suc r) a us) (rounds size (r + suc a) b us))
+
+pub narrowed-on : (runs : List ℕ) (m r w s v : ℕ) → Narrowed runs m r w → Narrowed runs w s v → r ≤ s → Narrowed runs m s v
+narrowed-on runs m r w s v k l h =
+    record {
+      few = omega (arith, k .few, l .few);
+      rest = λ t g. k .rest t (omega arith) ∙ l .rest t g;
+      all = l .all;
+      some = l .some;
+    }
+
+-- rounds in which the first w of m runs take part
+module _ (runs : List ℕ) (n m : ℕ) (ready : CanDeal runs n m) (w : ℕ) (o : 0 < w) (r₀ : ℕ) (k : Narrowed runs m r₀ w) where
+  some-rounds : (c r : ℕ) → r₀ ≤ r → r + c ≤ getD runs (w - 1) 0 / 6400000 → length (rounds unitLots r c (runsIn runs m)) ≡ c * w
+  some-rounds zero r h g = let e : 0 * w ≡ 0 = omega arith in sym e
+  some-rounds (suc c) r h g =
+      let e : round unitLots r (runsIn runs m) ≡ map fullUnit (runsIn runs w) =
+      k .rest r h ∙ narrow-all runs m w (w - 1) r (ready .falling) (omega arith) (k .few) (omega arith) in
+      length-append (round unitLots r (runsIn runs m)) (rounds unitLots (suc r) c (runsIn runs m))
+      ∙ rw (e, wide-length runs n m ready w (k .few), some-rounds c (suc r) (omega arith) (omega arith)) (omega (arith, suc-mul c w))
+
+  pub front-block : (c : ℕ) → r₀ + c ≤ getD runs (w - 1) 0 / 6400000 →
+      length (rounds unitLots 0 (r₀ + c) (runsIn runs m)) ≡ length (rounds unitLots 0 r₀ (runsIn runs m)) + w * c
+  front-block c g =
+      let e : 0 + r₀ ≡ r₀ = omega arith in
+      ap length (rounds-add unitLots 0 r₀ c (runsIn runs m))
+      ∙ length-append (rounds unitLots 0 r₀ (runsIn runs m)) (rounds unitLots (0 + r₀) c (runsIn runs m))
+      ∙ ap (λ i. length (rounds unitLots 0 r₀ (runsIn runs m)) + i)
+      (ap (λ i. length (rounds unitLots i c (runsIn runs m))) e ∙ some-rounds c r₀ (omega arith) g ∙ mul-comm c w)
+
+  -- a place within them
+  pub seat-in : (x left j : ℕ) → j ≡ length (rounds unitLots 0 r₀ (runsIn runs m)) + left → x ≡ left / w → r₀ + x < getD runs (w - 1) 0 / 6400000 →
+      SeatAt runs m j (record { round = r₀ + x; wide = w; at = left % w })
+  seat-in x left j e f g =
+      let d = div-add-mod' left w in
+      let b = front-block x (omega arith) in
+      let c : w * x ≡ left / w * w = mul-comm w x ∙ ap (λ i. i * w) f in
+      record {
+        place = omega (arith, b, c, d);
+        narrowed = record {
+          few = k .few;
+          rest = λ s l. k .rest s (omega arith);
+          all = narrow-all runs m w (w - 1) (r₀ + x) (ready .falling) (omega arith) (k .few) g;
+          some = λ l. g;
+        };
+        most = omega (arith, ready .small (w - 1) (omega (arith, k .few)));
+      }
+
 -- The three steps
 
 module _ (runs : List ℕ) (n m : ℕ) (d : Deal) (can : CanStep runs n m d) where
@@ -412,7 +472,7 @@ module _ (dues runs : List ℕ) (n : ℕ) (held : n ≤ length runs) (few : n �
       map-take (suc k) [] = refl
       map-take (suc k) (x ∷ xs) = ap (λ l. partOf x ∷ l) (map-take k xs)
 
-  small-ss : smallsOf runs n m ≡ ss
+  pub small-ss : smallsOf runs n m ≡ ss
   small-ss =
       let l : m ≡ length fs + 0 = omega (arith, number-fs) in
       ap (drop m) apart ∙ ap (λ i. drop i (fs ++ ss)) l ∙ drop-append-add fs ss 0

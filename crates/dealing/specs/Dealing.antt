@@ -62,6 +62,12 @@ pub record Seated (runs : List ℕ) (m : ℕ) (d : Deal) : Type 0 where
   pub within : 0 < d .wide → d .at < d .wide
   pub some : 0 < d .wide → d .round < mostRounds
 
+-- the place in front of unit k by numbers: behind the units of whole rounds and so many of its own round
+pub record SeatAt (runs : List ℕ) (m k : ℕ) (d : Deal) : Type 0 where
+  pub place : k ≡ length (rounds unitLots 0 (d .round) (runsIn runs m)) + d .at
+  pub narrowed : Narrowed runs m (d .round) (d .wide)
+  pub most : d .round ≤ mostRounds
+
 pub record CanStep (runs : List ℕ) (n m : ℕ) (d : Deal) : Type 0 where
   pub ready : CanDeal runs n m
   pub seated : Seated runs m d

@@ -12,7 +12,7 @@ ghost use lib.ListN.{length, take, drop};
 ghost use mathlib.Core.Bool.{true};
 ghost use Rattle.rules.specs.Book.{orderIn};
 ghost use Rattle.units.specs.Runs.{partOf, runsIn, foundOf, CanRankNets, CanOrder};
-ghost use Rattle.dealing.specs.Dealing.{Falling, Narrowed, CanDeal, dealtRuns, dealtFrom, Seated, CanStep, Stepped, BackIs, SpanIs, CanSpan, CanWindow, liftedRuns, fullNumber, IsRanked, CanReady, IsReady, CanDealOut, DealtOut};
+ghost use Rattle.dealing.specs.Dealing.{Falling, Narrowed, CanDeal, dealtRuns, dealtFrom, Seated, SeatAt, CanStep, Stepped, BackIs, SpanIs, CanSpan, CanWindow, liftedRuns, fullNumber, IsRanked, CanReady, IsReady, CanDealOut, DealtOut};
 
 // A place in front of a unit: in a round in which so many runs take part, behind so many of its units;
 // where none takes part, behind so many small units.
@@ -45,9 +45,9 @@ fn narrow(runs: &[u32], n: usize, r: u32) -> usize
 
 // The place in front of unit k, k from 0. The same runs take part in round after round until the least of
 // them has no unit left: so many rounds are passed at once.
-fn seat(runs: &[u32], n: usize, m: usize, k: u32) -> Deal
+pub fn seat(runs: &[u32], n: usize, m: usize, k: u32) -> Deal
     requires { ⌜ CanDeal (now runs) n m ⌝ }
-    ensures { λ d. ⌜ (drop k (dealtRuns (now (runs .entry)) n m) ≡ dealtFrom (now (runs .entry)) n m d) × Seated (now (runs .entry)) m d ⌝ }
+    ensures { λ d. ⌜ (drop k (dealtRuns (now (runs .entry)) n m) ≡ dealtFrom (now (runs .entry)) n m d) × Seated (now (runs .entry)) m d × SeatAt (now (runs .entry)) m k d ⌝ }
 {
     let mut left = k;
     let mut r: u32 = 0;
@@ -132,7 +132,7 @@ pub struct Span {
     pub len: u32,
 }
 
-fn least(x: u32, y: u32) -> u32
+pub fn least(x: u32, y: u32) -> u32
     ensures { λ r. ⌜ r ≡ min x y ⌝ }
 {
     if x < y {
@@ -167,7 +167,7 @@ fn before_lift(s: Span, old: u32, new: u32) -> Span
 }
 
 // Where the unit at place k stood before all lifts, and how many behind it stood behind it there too.
-fn before_lifts(words: &[u32], k: u32) -> Span
+pub fn before_lifts(words: &[u32], k: u32) -> Span
     requires { ⌜ CanSpan (now words) ⌝ }
     ensures { λ r. ⌜ SpanIs (now (words .entry)) k r ⌝ }
 {

@@ -1,5 +1,5 @@
 -- Runs one after the other: what each has of some rounds, behind the stretches of the units before it.
-use mathlib.Core.Path.{_≡_, refl, sym, ap, _∙_}
+use mathlib.Core.Path.{_≡_, refl, sym, ap, subst, _∙_}
 use mathlib.Core.Bool.{true, false, cond}
 use mathlib.Core.List.{List, [], _∷_, _++_, map, append-nil, append-assoc}
 use Prim.Native.Nat.{ℕ, zero, suc, _+_, _-_, _*_, _/_, _%_, _≤_, _<_, min}
@@ -108,7 +108,7 @@ module _ (runs : List ℕ) (x y r n : ℕ) (before : List ℕ) (c : ℕ) (at₀ 
             list = f .list us (can .room .list);
             fits = fits-front ((us ++ f .done) ++ u) rest (rw (all-of us) at (can .room .fits));
           };
-          plain = rw e (share-plain r n (partOf (getD runs j 0)) plain);
+          plain = subst Plain (sym e) (share-plain r n (partOf (getD runs j 0)) plain);
         }
 
     pub feed-next : (out′ at′ : List ℕ) (k′ : ℕ) → length out′ ≡ length out → Added out out′ k at′ w k′ →
