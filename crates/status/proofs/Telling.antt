@@ -12,13 +12,15 @@ use Rattle.rules.specs.declared.Book.{Book}
 use Rattle.rules.specs.declared.Phase.{Phase}
 use Rattle.rules.specs.Units.{AccountLots, accountLots, sumLots}
 use Rattle.rules.specs.Handover.{covered, stock, firstUnit}
-use Rattle.rules.specs.Book.{isTaking, isCut, headOr0, deliveredTotal, orderIn, dealtToday}
+use Rattle.rules.specs.Questions.{ask, firstNo, askIssue}
+use Rattle.rules.specs.Book.{isTaking, isCut, headOr0, deliveredTotal, inForce, orderIn, orderOf, dealtToday, sound, withTurn}
 use Rattle.laws.proofs.Basics.{byTest, either}
 use Rattle.laws.proofs.Handover.{stock-below, waits-short}
 use Rattle.laws.proofs.Dealt.{lotsIn, same-covered, same-stock, same-length, same-sum}
 use Rattle.laws.proofs.SoundRows.{order-lots}
+use Rattle.laws.proofs.Carried.{sound-turn}
 use Rattle.soundness.specs.Sound.{lengthsRight, soundIn}
-use Rattle.status.specs.Status.{isHanded, waitsFor, failsPartly, failsWholly, statusRefused, wanted, inSettling, afterCutoff, status}
+use Rattle.status.specs.Status.{StatusAnswer, isHanded, waitsFor, failsPartly, failsWholly, statusRefused, wanted, inSettling, afterCutoff, reason, askNotTaking, statusAsks, statusAnswer, status}
 use Rattle.status.specs.Columns.{reasonAt, statusOf, statusWhere, statusIn}
 
 -- a unit is handed exactly if the units up to it, it included, have no more lots than are delivered
@@ -127,3 +129,27 @@ module _ (good : Bool) (b : Book) (i k : ℕ) where
 pub status-in : (b : Book) (i k : ℕ) → lengthsRight b ≡ true → statusIn b i k ≡ status b i k
 unfolding statusWhere status soundIn
 status-in b i k h = rw h
+
+-- what is told is the same whatever day is named for the new order
+abbrev toldOf : Bool → Phase → List AccountLots → ℕ → ℕ → ℕ → StatusAnswer
+toldOf good phase us d i k = statusAnswer (firstNo (ask 2 good ∷ statusAsks phase (λ j. us) i k)) (reason phase us d k)
+
+same-reason : (phase : Phase) (us vs : List AccountLots) (d k : ℕ) → lotsIn us ≡ lotsIn vs → reason phase us d k ≡ reason phase vs d k
+unfolding afterCutoff inSettling
+same-reason phase us vs d k e =
+    rw (same-covered us vs e d, same-stock us vs e d, same-sum us vs e (suc k), first-lots k us, first-lots k vs, e)
+
+told-by-lots : (good : Bool) (phase : Phase) (us vs : List AccountLots) (d i k : ℕ) → lotsIn us ≡ lotsIn vs →
+    toldOf good phase us d i k ≡ toldOf good phase vs d i k
+told-by-lots good phase us vs d i k e =
+    ap (λ n. statusAnswer (firstNo (ask 2 good ∷ askNotTaking phase ∷ askIssue i ∷ ask 16 (ltb k n) ∷ [])) (reason phase us d k)) (same-length us vs e)
+    ∙ ap (statusAnswer (firstNo (ask 2 good ∷ statusAsks phase (λ j. vs) i k))) (same-reason phase us vs d k e)
+
+pub told-turned : (b : Book) (t i k : ℕ) → status (withTurn b t) i k ≡ status b i k
+unfolding status
+told-turned b t i k =
+    let us = orderIn (inForce t (b .day)) (b .nets) (b .lifts) i in
+    let d = deliveredTotal (b .delivered) i in
+    ap (λ good. toldOf good (b .phase) us d i k) (sound-turn b t)
+    ∙ told-by-lots (sound b) (b .phase) us (orderOf b i) d i k
+    (order-lots (inForce t (b .day)) (b .nets) (b .lifts) i ∙ sym (order-lots (dealtToday b) (b .nets) (b .lifts) i))
