@@ -13,13 +13,14 @@ use crate::{Fields, ISSUES, QUOTES};
 const NOT_WRITTEN: usize = usize::MAX;
 
 /// A book as it is lent to a question: three numbers, the marks of the issues, any number but 0 being
-/// one, and nine columns, of any length.
+/// one, the change-over day, 0 where none is named, and nine columns, of any length.
 #[derive(Clone, Copy, Debug, PartialEq, Eq)]
 pub struct Columns<'a> {
     pub day: u16,
     pub phase: u32,
     pub entries: usize,
     pub marks: &'a [u8; ISSUES],
+    pub turn: u32,
     pub nets: &'a [i32],
     pub delivered: &'a [u32],
     pub lifts: &'a [u32],
@@ -38,6 +39,7 @@ pub struct ColumnsMut<'a> {
     pub phase: &'a mut u32,
     pub entries: &'a mut usize,
     pub marks: &'a mut [u8; ISSUES],
+    pub turn: &'a mut u32,
     pub nets: &'a mut [i32],
     pub delivered: &'a mut [u32],
     pub lifts: &'a mut [u32],
@@ -111,7 +113,7 @@ pub struct WriteAnswer {
     pub count: usize,
 }
 
-/// Calls a function that takes a book to be read: its numbers, its marks and each column with its
+/// Calls a function that takes a book to be read: its numbers and marks and each column with its
 /// length, then what else it takes.
 macro_rules! on_book {
     ($function:ident, $book:expr $(, $more:expr)*) => {
@@ -120,6 +122,7 @@ macro_rules! on_book {
             $book.phase,
             $book.entries,
             $book.marks,
+            $book.turn,
             $book.nets.as_ptr(),
             $book.nets.len(),
             $book.delivered.as_ptr(),
@@ -180,6 +183,7 @@ pub fn call(book: &mut ColumnsMut, fields: &Fields, quotes: &[u32], out: &mut [u
             book.phase,
             book.entries,
             book.marks,
+            book.turn,
             book.nets.as_mut_ptr(),
             book.nets.len(),
             book.delivered.as_mut_ptr(),
@@ -263,6 +267,7 @@ pub fn commit(book: &mut ColumnsMut, ticket: &TicketNumbers, out: &mut [u32]) ->
             *book.phase,
             *book.entries,
             book.marks,
+            *book.turn,
             book.nets.as_ptr(),
             book.nets.len(),
             book.delivered.as_ptr(),

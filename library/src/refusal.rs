@@ -54,11 +54,13 @@ pub enum Refusal {
     Reports = 22,
     /// 23: the fail is larger than the eligible lots (trust).
     Eligible = 23,
+    /// 26: the day is not after today, or full units are dealt in turn already (turn).
+    ChangeOver = 26,
 }
 
 impl Refusal {
     /// All refusals, by their numbers.
-    pub const ALL: [Refusal; 23] = [
+    pub const ALL: [Refusal; 24] = [
         Refusal::Output,
         Refusal::Book,
         Refusal::Phase,
@@ -82,6 +84,7 @@ impl Refusal {
         Refusal::Draw,
         Refusal::Reports,
         Refusal::Eligible,
+        Refusal::ChangeOver,
     ];
 
     /// The refusal of a number; none for 0, which is done, and for a number that none has.
@@ -123,6 +126,7 @@ impl Refusal {
             Refusal::Draw => "the list is not each report number just once",
             Refusal::Reports => "there are more than 256 reports, or a sub-account is above 31",
             Refusal::Eligible => "the fail is larger than the eligible lots",
+            Refusal::ChangeOver => "the day is not after today, or the new order is in force",
         }
     }
 }
