@@ -4,8 +4,8 @@
 //! is damaged: the library refuses it by 2. There are always sixteen marks.
 
 use crate::declarations::{
-    day_ask, day_call, day_commit, day_quotes, day_read, day_simulate, day_sound, day_status, day_unit,
-    day_write,
+    day_ask, day_call, day_commit, day_quotes, day_read, day_simulate, day_sound, day_status,
+    day_unit, day_write,
 };
 use crate::{Fields, ISSUES, QUOTES};
 

@@ -146,7 +146,10 @@ fn waiting(nets: &[i32], size: u64, units: Units) -> Vec<Run> {
         let (number, rest) = (net / size, net % size);
         let full = Run { account, lots: size, number };
         ranked.push(((Reverse(true), Reverse(net), account), full));
-        ranked.push(((Reverse(false), Reverse(rest), account), Run { account, lots: rest, number: 1 }));
+        ranked.push((
+            (Reverse(false), Reverse(rest), account),
+            Run { account, lots: rest, number: 1 },
+        ));
     }
     ranked.retain(|(_, run)| run.lots > 0 && run.number > 0);
     ranked.sort_by_key(|&(rank, _)| rank);

@@ -43,11 +43,14 @@ fn what_is_handed_can_be_delivered_in_the_same_round() {
     plan.settlement[..4].copy_from_slice(&[0, 1, 1, 2]);
     plan.inventories[0] = 5;
     assert_eq!(tried(&book(&[-5, 10, -5]), &plan), (2, 2, 0));
-    assert_eq!(tried(&book(&[-5, -5, 10]), &{
-        let mut plan = plan.clone();
-        plan.settlement[..3].copy_from_slice(&[1, 0, 1]);
-        plan
-    }), (2, 3, 0));
+    assert_eq!(
+        tried(&book(&[-5, -5, 10]), &{
+            let mut plan = plan.clone();
+            plan.settlement[..3].copy_from_slice(&[1, 0, 1]);
+            plan
+        }),
+        (2, 3, 0)
+    );
 }
 
 #[test]

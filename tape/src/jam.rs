@@ -72,10 +72,12 @@ impl Named {
     /// Accounts that share a settlement account; each is named once.
     fn settles(&mut self, accounts: &Word, settlement: &Word) -> Result<(), Fault> {
         let (first, last) = range(accounts)?;
-        let settlement = number("a settlement account", settlement, SETTLEMENT_ACCOUNTS as u32 - 1)?;
+        let settlement =
+            number("a settlement account", settlement, SETTLEMENT_ACCOUNTS as u32 - 1)?;
         for account in first..=last {
             if self.settles[account as usize].replace(settlement).is_some() {
-                let what = format!("account {account} has a settlement account already: name it once");
+                let what =
+                    format!("account {account} has a settlement account already: name it once");
                 return Err(accounts.fault(what));
             }
         }
@@ -89,7 +91,9 @@ impl Named {
         let lots = number("lots", lots, MOST_LOTS)?;
         let place = of as usize * SETTLEMENT_ACCOUNTS + account as usize;
         if self.holds[place].replace(lots).is_some() {
-            let what = format!("settlement account {account} has lots of issue {of} already: name them once");
+            let what = format!(
+                "settlement account {account} has lots of issue {of} already: name them once"
+            );
             return Err(settlement.fault(what));
         }
         Ok(())
@@ -157,7 +161,12 @@ pub fn book_of(tape: &[u8]) -> Result<(Book, Option<usize>), String> {
 }
 
 /// Tries sizes on a book's nets.
-pub fn try_sizes(book: &Book, ended: Option<usize>, desk: &Desk, sizes: &[u32]) -> Result<Tried, Refusal> {
+pub fn try_sizes(
+    book: &Book,
+    ended: Option<usize>,
+    desk: &Desk,
+    sizes: &[u32],
+) -> Result<Tried, Refusal> {
     let mut rows = Vec::new();
     for &size in sizes {
         let tried = simulate(book, desk, size);
@@ -189,7 +198,9 @@ impl Tried {
             let [size, rounds, deliveries, owed] = cells;
             format!("{size:>10}  {rounds:>14}  {deliveries:>14}  {owed:>16}\n")
         };
-        text.push_str(&line(["unit size", "rounds", "deliveries", "lots still owed"].map(String::from)));
+        text.push_str(&line(
+            ["unit size", "rounds", "deliveries", "lots still owed"].map(String::from),
+        ));
         for (size, tried) in &self.rows {
             let numbers = [u64::from(*size), tried.rounds, tried.deliveries, tried.owed_in_all()];
             text.push_str(&line(numbers.map(|number| Grouped(number.into()).to_string())));
@@ -231,7 +242,9 @@ impl Tried {
         let numbers = [u64::from(*size), tried.rounds, tried.deliveries, left];
         let cells: String =
             numbers.iter().map(|&number| format!("<td>{}</td>", Grouped(number.into()))).collect();
-        let came_text = if came == self.owed { "all delivered".to_string() } else {
+        let came_text = if came == self.owed {
+            "all delivered".to_string()
+        } else {
             format!("{:.1} percent delivered", percent(came))
         };
         format!(
@@ -293,13 +306,19 @@ mod tests {
         let lines: Vec<Vec<&str>> =
             text.lines().skip(2).map(|line| line.split_whitespace().collect()).collect();
         assert_eq!(lines, [["100,000", "2", "1", "50,000"], ["10,000", "3", "2", "0"]]);
-        assert!(text.starts_with("at the end of the tape, day 0, Taking: 100,000 lots owed"), "{text}");
+        assert!(
+            text.starts_with("at the end of the tape, day 0, Taking: 100,000 lots owed"),
+            "{text}"
+        );
     }
 
     #[test]
     fn the_same_as_json_and_as_a_page() {
         let json = tried(&[100_000]).json();
-        assert!(json.contains("\"size\":100000,\"rounds\":2,\"deliveries\":1,\"stillOwed\":50000,"), "{json}");
+        assert!(
+            json.contains("\"size\":100000,\"rounds\":2,\"deliveries\":1,\"stillOwed\":50000,"),
+            "{json}"
+        );
         assert!(json.contains("\"stillOwedByIssue\":[50000,0,0,"), "{json}");
         let page = tried(&[100_000, 10_000]).html();
         assert!(page.contains("width:50.000%"), "{page}");
@@ -308,14 +327,18 @@ mod tests {
 
     #[test]
     fn a_wrong_line_is_told_with_its_place() {
-        let faults = desk_of("settles 0-2 16\nhold 0 0 5\nholds 0 16 5\nsettles 3\n", &ring()).unwrap_err();
-        let places: Vec<(usize, usize)> = faults.iter().map(|fault| (fault.line, fault.column)).collect();
+        let faults =
+            desk_of("settles 0-2 16\nhold 0 0 5\nholds 0 16 5\nsettles 3\n", &ring()).unwrap_err();
+        let places: Vec<(usize, usize)> =
+            faults.iter().map(|fault| (fault.line, fault.column)).collect();
         assert_eq!(places, [(1, 13), (2, 1), (3, 9), (4, 1), (4, 1), (4, 1), (4, 1)]);
         assert!(faults[0].what.contains("from 0 to 15"), "{}", faults[0].what);
         assert!(faults[4].what.contains("account 0 has a net in issue 0"), "{}", faults[4].what);
         let twice = desk_of("settles 0-2 1\nsettles 2 0\n", &ring()).unwrap_err();
         assert!(twice[0].what.contains("already"), "{}", twice[0].what);
-        assert!(desk_of("settles 2-0 1\n", &ring()).unwrap_err()[0].what.contains("lower one first"));
+        assert!(desk_of("settles 2-0 1\n", &ring()).unwrap_err()[0]
+            .what
+            .contains("lower one first"));
     }
 
     #[test]

@@ -61,7 +61,8 @@ impl Trial {
                 "settle" => {
                     let account = next("an account")? as usize;
                     let settlement = next("a settlement account")? as u32;
-                    *trial.plan.settlement.get_mut(account).ok_or("an account above 63")? = settlement;
+                    *trial.plan.settlement.get_mut(account).ok_or("an account above 63")? =
+                        settlement;
                 }
                 "hold" => {
                     let at = next("a place")? as usize;

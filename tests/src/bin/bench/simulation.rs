@@ -28,7 +28,9 @@ pub fn run() {
             row(&format!("{}", millionths as f64 / 10_000.0), &full_market(size, millionths));
         }
     }
-    println!("\nThe market that takes the most rounds, one unit going round, in 1 and in 16 issues.\n");
+    println!(
+        "\nThe market that takes the most rounds, one unit going round, in 1 and in 16 issues.\n"
+    );
     println!("| size | issues | rounds | deliveries | library | second engine |");
     println!("|--:|--:|--:|--:|--:|--:|");
     for size in SIZES {
