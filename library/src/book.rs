@@ -312,7 +312,8 @@ mod tests {
         assert_eq!(calls::turn(&mut book, 0).refused(), Some(Refusal::ChangeOver));
         assert_eq!(calls::turn(&mut book, 5).refused(), None);
         assert_eq!(calls::turn(&mut book, 1).refused(), None);
-        let accounts = |book: &Book| [0, 1, 2].map(|k| calls::unit(book, 3, k).unit.map(|unit| unit.account));
+        let accounts =
+            |book: &Book| [0, 1, 2].map(|k| calls::unit(book, 3, k).unit.map(|unit| unit.account));
         let sell = |book: &mut Book| {
             assert_eq!(calls::trade(book, 3, 8, 1, 200_000).refusal, 0);
             assert_eq!(calls::trade(book, 3, 8, 2, 100_000).refusal, 0);
