@@ -137,7 +137,7 @@ extern "C" {
  * damaged book. The number returned, but for day_sound's, is the refusal's, 0 where it is done. */
 
 /* 1 where the book is sound, else 0. */
-uint32_t day_sound(uint16_t day, uint32_t phase, size_t entries, const uint8_t marks[16], uint32_t turn,
+uint32_t day_sound(uint16_t day, uint32_t phase, size_t entries, uint32_t turn, const uint8_t marks[16],
                    const int32_t *nets, size_t nets_length,
                    const uint32_t *delivered, size_t delivered_length,
                    const uint32_t *lifts, size_t lifts_length,
@@ -149,7 +149,7 @@ uint32_t day_sound(uint16_t day, uint32_t phase, size_t entries, const uint8_t m
                    const uint16_t *days, size_t days_length);
 
 /* The k-th unit of an issue, k from 0: 1, account, lots; or 0, 0, 0 where there is none. */
-uint32_t day_unit(uint16_t day, uint32_t phase, size_t entries, const uint8_t marks[16], uint32_t turn,
+uint32_t day_unit(uint16_t day, uint32_t phase, size_t entries, uint32_t turn, const uint8_t marks[16],
                   const int32_t *nets, size_t nets_length,
                   const uint32_t *delivered, size_t delivered_length,
                   const uint32_t *lifts, size_t lifts_length,
@@ -163,7 +163,7 @@ uint32_t day_unit(uint16_t day, uint32_t phase, size_t entries, const uint8_t ma
 
 /* Why the k-th unit of an issue, k from 0, has not come, in Settling and in Cut: the case and its lots
  * (0 where it is handed or wholly failed); twice 0 on a refusal (2, 3 in Taking, 4, 16). */
-uint32_t day_status(uint16_t day, uint32_t phase, size_t entries, const uint8_t marks[16], uint32_t turn,
+uint32_t day_status(uint16_t day, uint32_t phase, size_t entries, uint32_t turn, const uint8_t marks[16],
                     const int32_t *nets, size_t nets_length,
                     const uint32_t *delivered, size_t delivered_length,
                     const uint32_t *lifts, size_t lifts_length,
@@ -183,7 +183,7 @@ uint32_t day_status(uint16_t day, uint32_t phase, size_t entries, const uint8_t 
  * the first round without a delivery, which is counted. deliveries, rounds and the lots still owed of
  * each issue are all 0 on a refusal (2; 5, also for other than 64 settlement accounts; 7, also for
  * other than 256 inventories). */
-uint32_t day_simulate(uint16_t day, uint32_t phase, size_t entries, const uint8_t marks[16], uint32_t turn,
+uint32_t day_simulate(uint16_t day, uint32_t phase, size_t entries, uint32_t turn, const uint8_t marks[16],
                       const int32_t *nets, size_t nets_length,
                       const uint32_t *delivered, size_t delivered_length,
                       const uint32_t *lifts, size_t lifts_length,
@@ -202,7 +202,7 @@ uint32_t day_simulate(uint16_t day, uint32_t phase, size_t entries, const uint8_
  * steps), cancelled pair-off's lots; both are 0 on a refusal. */
 uint32_t day_call(uint32_t kind, uint32_t a, uint32_t b, uint32_t c, uint32_t d,
                   const uint32_t *quotes, size_t quotes_length,
-                  uint16_t *day, uint32_t *phase, size_t *entries, uint8_t marks[16], uint32_t *turn,
+                  uint16_t *day, uint32_t *phase, size_t *entries, uint32_t *turn, uint8_t marks[16],
                   int32_t *nets, size_t nets_length,
                   uint32_t *delivered, size_t delivered_length,
                   uint32_t *lifts, size_t lifts_length,
@@ -216,7 +216,7 @@ uint32_t day_call(uint32_t kind, uint32_t a, uint32_t b, uint32_t c, uint32_t d,
 
 /* Asks for a lift of an issue's unit, by its number, in Settling; changes nothing. The ticket is
  * issue, unit, account, lots, day, count; six times 0 on a refusal. */
-uint32_t day_ask(uint16_t day, uint32_t phase, size_t entries, const uint8_t marks[16], uint32_t turn,
+uint32_t day_ask(uint16_t day, uint32_t phase, size_t entries, uint32_t turn, const uint8_t marks[16],
                  const int32_t *nets, size_t nets_length,
                  const uint32_t *delivered, size_t delivered_length,
                  const uint32_t *lifts, size_t lifts_length,
@@ -231,7 +231,7 @@ uint32_t day_ask(uint16_t day, uint32_t phase, size_t entries, const uint8_t mar
 /* Lifts the ticket's unit before all unhanded ones, in Settling, and hands on as far as stock covers.
  * Only the lifts and the output are changed; count is that of the records written, 0 on a refusal. */
 uint32_t day_commit(const uint32_t ticket[6], uint16_t day, uint32_t phase, size_t entries,
-                    const uint8_t marks[16], uint32_t turn,
+                    uint32_t turn, const uint8_t marks[16],
                     const int32_t *nets, size_t nets_length,
                     const uint32_t *delivered, size_t delivered_length,
                     uint32_t *lifts, size_t lifts_length,
@@ -378,7 +378,7 @@ static inline void day_book_fresh(struct day_book *book)
 /* 1 where the book is sound, else 0. */
 static inline uint32_t day_book_sound(const struct day_book *book)
 {
-    return day_sound(book->day, book->phase, book->entries, book->marks, book->turn, book->nets, DAY_PLACES,
+    return day_sound(book->day, book->phase, book->entries, book->turn, book->marks, book->nets, DAY_PLACES,
                      book->delivered, DAY_PLACES, book->lifts, DAY_LIFT_PLACES,
                      book->charges, DAY_ACCOUNTS, book->issues, DAY_ENTRIES,
                      book->froms, DAY_ENTRIES, book->tos, DAY_ENTRIES,
@@ -391,7 +391,7 @@ static inline struct day_unit_answer day_book_unit(const struct day_book *book, 
 {
     struct day_unit_answer unit;
     uint32_t answer[3] = {0, 0, 0};
-    unit.refusal = day_unit(book->day, book->phase, book->entries, book->marks, book->turn,
+    unit.refusal = day_unit(book->day, book->phase, book->entries, book->turn, book->marks,
                             book->nets, DAY_PLACES, book->delivered, DAY_PLACES,
                             book->lifts, DAY_LIFT_PLACES,
                             book->charges, DAY_ACCOUNTS, book->issues, DAY_ENTRIES,
@@ -409,7 +409,7 @@ static inline struct day_status_answer day_book_status(const struct day_book *bo
 {
     struct day_status_answer told;
     uint32_t answer[2] = {0, 0};
-    told.refusal = day_status(book->day, book->phase, book->entries, book->marks, book->turn,
+    told.refusal = day_status(book->day, book->phase, book->entries, book->turn, book->marks,
                               book->nets, DAY_PLACES, book->delivered, DAY_PLACES,
                               book->lifts, DAY_LIFT_PLACES,
                               book->charges, DAY_ACCOUNTS, book->issues, DAY_ENTRIES,
@@ -427,7 +427,7 @@ day_book_simulate(const struct day_book *book, const uint32_t settles[DAY_ACCOUN
 {
     struct day_simulated tried;
     memset(&tried, 0, sizeof tried);
-    tried.refusal = day_simulate(book->day, book->phase, book->entries, book->marks, book->turn,
+    tried.refusal = day_simulate(book->day, book->phase, book->entries, book->turn, book->marks,
                                  book->nets, DAY_PLACES, book->delivered, DAY_PLACES,
                                  book->lifts, DAY_LIFT_PLACES,
                                  book->charges, DAY_ACCOUNTS, book->issues, DAY_ENTRIES,
@@ -448,7 +448,7 @@ static inline struct day_answer day_book_call(struct day_book *book, uint32_t ki
     answer.count = 0;
     answer.cancelled = 0;
     answer.refusal = day_call(kind, a, b, c, d, quotes, quotes_length, &book->day, &book->phase,
-                              &book->entries, book->marks, &book->turn, book->nets, DAY_PLACES,
+                              &book->entries, &book->turn, book->marks, book->nets, DAY_PLACES,
                               book->delivered, DAY_PLACES, book->lifts, DAY_LIFT_PLACES,
                               book->charges, DAY_ACCOUNTS, book->issues, DAY_ENTRIES,
                               book->froms, DAY_ENTRIES, book->tos, DAY_ENTRIES,
@@ -463,7 +463,7 @@ static inline struct day_ask_answer day_book_ask(const struct day_book *book, ui
 {
     struct day_ask_answer asked;
     uint32_t ticket[6] = {0, 0, 0, 0, 0, 0};
-    asked.refusal = day_ask(book->day, book->phase, book->entries, book->marks, book->turn,
+    asked.refusal = day_ask(book->day, book->phase, book->entries, book->turn, book->marks,
                             book->nets, DAY_PLACES, book->delivered, DAY_PLACES,
                             book->lifts, DAY_LIFT_PLACES,
                             book->charges, DAY_ACCOUNTS, book->issues, DAY_ENTRIES,
@@ -492,7 +492,7 @@ static inline struct day_answer day_book_commit(struct day_book *book, struct da
     numbers[5] = ticket.count;
     answer.count = 0;
     answer.cancelled = 0;
-    answer.refusal = day_commit(numbers, book->day, book->phase, book->entries, book->marks, book->turn,
+    answer.refusal = day_commit(numbers, book->day, book->phase, book->entries, book->turn, book->marks,
                                 book->nets, DAY_PLACES, book->delivered, DAY_PLACES,
                                 book->lifts, DAY_LIFT_PLACES, book->charges, DAY_ACCOUNTS,
                                 book->issues, DAY_ENTRIES, book->froms, DAY_ENTRIES,

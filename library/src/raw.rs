@@ -12,15 +12,15 @@ use crate::{Fields, ISSUES, QUOTES};
 /// What stands in a count before the library writes it: no answer has it.
 const NOT_WRITTEN: usize = usize::MAX;
 
-/// A book as it is lent to a question: three numbers, the marks of the issues, any number but 0 being
-/// one, the change-over day, 0 where none is named, and nine columns, of any length.
+/// A book as it is lent to a question: four numbers, of them the change-over day 0 where none is
+/// named, the marks of the issues, any number but 0 being one, and nine columns, of any length.
 #[derive(Clone, Copy, Debug, PartialEq, Eq)]
 pub struct Columns<'a> {
     pub day: u16,
     pub phase: u32,
     pub entries: usize,
-    pub marks: &'a [u8; ISSUES],
     pub turn: u32,
+    pub marks: &'a [u8; ISSUES],
     pub nets: &'a [i32],
     pub delivered: &'a [u32],
     pub lifts: &'a [u32],
@@ -38,8 +38,8 @@ pub struct ColumnsMut<'a> {
     pub day: &'a mut u16,
     pub phase: &'a mut u32,
     pub entries: &'a mut usize,
-    pub marks: &'a mut [u8; ISSUES],
     pub turn: &'a mut u32,
+    pub marks: &'a mut [u8; ISSUES],
     pub nets: &'a mut [i32],
     pub delivered: &'a mut [u32],
     pub lifts: &'a mut [u32],
@@ -121,8 +121,8 @@ macro_rules! on_book {
             $book.day,
             $book.phase,
             $book.entries,
-            $book.marks,
             $book.turn,
+            $book.marks,
             $book.nets.as_ptr(),
             $book.nets.len(),
             $book.delivered.as_ptr(),
@@ -182,8 +182,8 @@ pub fn call(book: &mut ColumnsMut, fields: &Fields, quotes: &[u32], out: &mut [u
             book.day,
             book.phase,
             book.entries,
-            book.marks,
             book.turn,
+            book.marks,
             book.nets.as_mut_ptr(),
             book.nets.len(),
             book.delivered.as_mut_ptr(),
@@ -266,8 +266,8 @@ pub fn commit(book: &mut ColumnsMut, ticket: &TicketNumbers, out: &mut [u32]) ->
             *book.day,
             *book.phase,
             *book.entries,
-            book.marks,
             *book.turn,
+            book.marks,
             book.nets.as_ptr(),
             book.nets.len(),
             book.delivered.as_ptr(),
