@@ -7,6 +7,10 @@ CFLAGS := -std=c11 -O2 -Wall -Wextra -Wpedantic -Werror
 CXXFLAGS := -std=c++17 -Wall -Wextra -Wpedantic -Werror
 CRATE_FILES := crates.txt $(shell find crates -name '*.rt' -o -name '*.antt')
 
+# The name of a tape, as it was given: a dollar or a quote in it is a letter of the name.
+unexport TAPE
+export DAY_TAPE := $(value TAPE)
+
 .PHONY: help test run day libraries hosts clean
 
 help:
@@ -25,7 +29,7 @@ run:
 	@scripts/run.sh
 
 day:
-	@scripts/day.sh '$(TAPE)'
+	@scripts/day.sh "$$DAY_TAPE"
 
 libraries: $(LIBRARIES)
 	@:

@@ -105,7 +105,7 @@ extern "C" {
 #define DAY_REFUSED_TERMS 11u   /* price, accrued, days or rate out of range, or quotes are not 32 */
 #define DAY_REFUSED_LAST 12u    /* the day is 65,535 */
 #define DAY_REFUSED_TAPE 13u    /* the tape ends before the instruction does */
-#define DAY_REFUSED_WORD 14u    /* a kind or unused bits are wrong; a kind that is none of 1..7, 13 */
+#define DAY_REFUSED_WORD 14u    /* a kind or unused bits are wrong (day_call: before 1 and 2) */
 #define DAY_REFUSED_BITS 15u    /* a number does not fit its bits (writer) */
 #define DAY_REFUSED_UNIT 16u    /* there is no such unit, or (ask, commit) it is handed already */
 #define DAY_REFUSED_TICKET 17u  /* account, lots, day or count is not what asking now gives */
@@ -197,9 +197,10 @@ uint32_t day_simulate(uint16_t day, uint32_t phase, size_t entries, uint32_t tur
                       const uint32_t *inventories, size_t inventories_length, uint32_t size,
                       uint64_t *deliveries, uint64_t *rounds, uint32_t owed[16]);
 
-/* The call of an instruction, made in place on any book. Only deliver, cutoff and resolve use the
- * output, and only roll the quotes. count is that of the records written (for pair-off, of the
- * steps), cancelled pair-off's lots; both are 0 on a refusal. */
+/* The call of an instruction, made in place on any book. A kind that is none of 1..7, 13 is refused by
+ * 14 before anything else is asked, the output (1) and the book (2) too. Only deliver, cutoff and
+ * resolve use the output, and only roll the quotes. count is that of the records written (for pair-off,
+ * of the steps), cancelled pair-off's lots; both are 0 on a refusal. */
 uint32_t day_call(uint32_t kind, uint32_t a, uint32_t b, uint32_t c, uint32_t d,
                   const uint32_t *quotes, size_t quotes_length,
                   uint16_t *day, uint32_t *phase, size_t *entries, uint32_t *turn, uint8_t marks[16],
@@ -607,7 +608,7 @@ static inline const char *day_refusal_text(uint32_t refusal)
     case DAY_REFUSED_TAPE: return "the tape ends before the instruction does";
     case DAY_REFUSED_WORD: return "a word's kind or its unused bits are wrong";
     case DAY_REFUSED_BITS: return "a number does not fit its bits";
-    case DAY_REFUSED_UNIT: return "there is no such unhanded unit";
+    case DAY_REFUSED_UNIT: return "there is no such unit, or for a lift it is handed already";
     case DAY_REFUSED_TICKET: return "the ticket is not what asking now gives";
     case DAY_REFUSED_LIFTS: return "eight lifts stand for the issue";
     case DAY_REFUSED_ODD: return "lots are odd in a marked issue";

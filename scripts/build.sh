@@ -5,6 +5,8 @@ set -euo pipefail
 cd "$(dirname "$0")/.."
 scripts/tools.sh rt make gcc cargo rustc
 
+libraries=(desk entries exports status trust)
+
 # The crates of this repository that a library depends on. It is proved itself where its archive is
 # made.
 uses() { # NAME
@@ -14,8 +16,21 @@ uses() { # NAME
     true
 }
 
+# The libraries whose archives are still to be made.
+to_make() {
+    for name in "${libraries[@]}"; do
+        make --no-print-directory -q "target/staticlib/lib$name.a" 2>/dev/null || printf '%s ' "$name"
+    done
+}
+
 mkdir -p build
-read -ra first <<<"dayrun $(uses desk)$(uses entries)$(uses exports)$(uses trust)"
-rt check "${first[@]}" 2>&1 | scripts/progress.sh build/dayrun.log "${first[@]}"
+# rt links the program only where it proves it: one that is missing, or not the one that was linked, is
+# proved again.
+scripts/proved.sh program || rm -f target/stamp/dayrun
+sources=$(scripts/proved.sh sources)
+read -ra first <<<"dayrun $(for name in "${libraries[@]}"; do uses "$name"; done)"
+rt check "${first[@]}" 2>&1 | PROGRESS_LATER=$(to_make) scripts/progress.sh build/dayrun.log "${first[@]}"
+scripts/proved.sh mark "$sources"
 make --no-print-directory libraries
 cargo build --quiet --release --offline -p tape
+echo 'Proved: the program target/bin/dayrun and the libraries target/staticlib/lib*.a.'

@@ -3,7 +3,8 @@
 # whole in a file. The prover's notes and the line 'N passed, M failed' are not shown; every line
 # about an error is. A crate that was proved before is only counted. Usage: rt check NAME 2>&1 | progress.sh LOG [NAME..]
 # The names are the crates that are proved, with all that they depend on; none are all of them,
-# with their must-fail edits.
+# with their must-fail edits. PROGRESS_LATER names libraries whose archives are made after these: their
+# time is counted too.
 set -euo pipefail
 cd "$(dirname "$0")/.."
 
@@ -36,11 +37,23 @@ edits_of() { # NAME
 
 edits_too=0
 [ $# -gt 0 ] || edits_too=1
-declare -A seconds
-while IFS='|' read -r _ name time _; do
-    name=${name// /} time=${time// /}
-    [[ $time =~ ^[0-9]+(\.[0-9]+)?$ ]] && seconds[$name]=${time%.*}
-done <docs/CHECK-TIMES.md
+# Of each crate the seconds of its proof, and of one of its edits (rounded up), as they were measured;
+# where none are known, 20 for a crate, and for an edit those of its crate.
+declare -A seconds an_edit
+while IFS='|' read -r _ name time number sum _; do
+    name=${name// /} time=${time// /} number=${number// /} sum=${sum// /}
+    [[ $time =~ ^[0-9]+$ ]] || continue
+    seconds[$name]=$time
+    [[ $number =~ ^[1-9][0-9]*$ && $sum =~ ^[0-9]+$ ]] && an_edit[$name]=$(((sum + number - 1) / number))
+done <"${CHECK_TIMES:-docs/CHECK-TIMES.md}"
+
+to_prove() { # NAME
+    echo "${seconds[$1]:-20}"
+}
+
+to_refuse() { # NAME of the edit's crate
+    echo "${an_edit[$1]:-$(to_prove "$1")}"
+}
 
 # Has a crate been proved before? rt tests whether that still holds; with the edits, all begin anew.
 known() { # NAME
@@ -51,19 +64,51 @@ crates=0 edits=0 left=0
 for name in $(needed "$@"); do
     of_crate=$(edits_of "$name" | wc -l)
     crates=$((crates + 1)) edits=$((edits + of_crate))
-    known "$name" || left=$((left + ${seconds[$name]:-20} * (1 + of_crate)))
+    known "$name" || left=$((left + $(to_prove "$name") + of_crate * $(to_refuse "$name")))
 done
+libraries=0
+for name in ${PROGRESS_LATER:-}; do
+    libraries=$((libraries + 1)) left=$((left + ${seconds[$name]:-20}))
+done
+all=$left
 cores=$(nproc 2>/dev/null || echo 1)
 [ "$cores" -le 2 ] || cores=2
 
-minutes() { # SECONDS of one core
-    local whole=$((($1 / cores + 59) / 60))
+# The seconds since the start; a test names a file that has them.
+gone() {
+    if [ -n "${PROGRESS_CLOCK:-}" ]; then cat "$PROGRESS_CLOCK"; else echo $((SECONDS - first)); fi
+}
+
+# How long so many seconds of the table take by the clock. At the beginning that is the table divided
+# by the cores; the more is proved, the more the pace so far counts.
+by_the_clock() { # SECONDS
+    local weight=30 # seconds by the clock for which the table speaks
+    echo $(($1 * ($(gone) + weight) / (all - left + weight * cores)))
+}
+
+minutes() { # SECONDS of the table
+    local whole=$((($(by_the_clock "$1") + 59) / 60))
     if [ "$whole" -le 1 ]; then echo 'about a minute'; else echo "about $whole minutes"; fi
 }
 
-what="$crates crates"
-[ "$edits" -eq 0 ] || what="$what, and $edits wrong edits to be refused"
-[ "$left" -eq 0 ] || echo "To be proved: $what; $(minutes "$left") on $cores cores, by docs/CHECK-TIMES.md."
+some() { # COUNT THING: with an s where they are not one
+    if [ "$1" -eq 1 ]; then echo "1 $2"; else echo "$1 $2s"; fi
+}
+
+# How many of the crates are to be proved.
+unproved() { # NAME..
+    local count=0 name
+    for name in $(needed "$@"); do known "$name" || count=$((count + 1)); done
+    echo "$count"
+}
+
+first=$SECONDS
+what=$(some "$crates" crate)
+few=$(unproved "$@")
+[ "$few" -eq "$crates" ] || what="$few of $what"
+[ "$edits" -eq 0 ] || what="$what, and $(some "$edits" 'wrong edit') to be refused"
+[ "$libraries" -eq 0 ] || what="$what, then $(some "$libraries" library | sed 's/librarys/libraries/')"
+[ "$left" -eq 0 ] || echo "To be proved: $what; $(minutes "$left") on $(some "$cores" core), by docs/CHECK-TIMES.md."
 
 took() { # LINE: the seconds in it
     sed -n 's/.*[( ]\([0-9][0-9]*\) s).*/\1 s/p' <<<"$1"
@@ -71,16 +116,17 @@ took() { # LINE: the seconds in it
 
 to_come() { [ "$left" -le 0 ] || printf '; %s to come' "$(minutes "$left")"; }
 
-proved=0 refused=0 first=$SECONDS
+proved=0 refused=0
 show() { # LINE
     local line=$1 name
     case $line in
     [0-9]*' passed, '[0-9]*' failed') ;;
-    'library '*': modules '* | 'logic='* | 'logic /'* | 'fn '*': proved' | 'axioms '*) ;;
+    'library '*': modules '* | 'logic='* | 'logic /'* | 'axioms '* | 'linked target='*) ;;
+    'fn '*': proved' | 'enum '*': proved' | 'struct '*': proved') ;;
     *': note: large solution'* | 'note: no function with a body'* | 'rt: ok, '* | 'rt: target/staticlib/'*) ;;
     'rt: must-fail '*': refused, as it must be'*)
         name=${line#rt: must-fail } name=${name%%:*}
-        refused=$((refused + 1)) left=$((left - ${seconds[${name%%/*}]:-20}))
+        refused=$((refused + 1)) left=$((left - $(to_refuse "${name%%/*}")))
         printf 'refused %d of %d: %s (%s)\n' "$refused" "$edits" "$name" "$(took "$line")"
         ;;
     'rt: '*' proved (unchanged'*)
@@ -88,7 +134,7 @@ show() { # LINE
         ;;
     'rt: '*' proved ('*)
         name=${line#rt: } name=${name%% *}
-        proved=$((proved + 1)) left=$((left - ${seconds[$name]:-20}))
+        proved=$((proved + 1)) left=$((left - $(to_prove "$name")))
         printf 'proved %d of %d: %s (%s)%s\n' "$proved" "$crates" "$name" "$(took "$line")" "$(to_come)"
         ;;
     *) printf '%s\n' "$line" ;;
@@ -100,7 +146,7 @@ still() {
     local busy
     busy=$({ grep -L '^rt: ' target/log/*.out target/must-fail/*/*.out 2>/dev/null || true; } |
         sed 's,^target/log/,,; s,^target/must-fail/,,; s,\.out$,,' | tr '\n' ' ')
-    [ -z "$busy" ] || printf '   %d s: at work on %s\n' $((SECONDS - first)) "$busy"
+    [ -z "$busy" ] || printf '   %d s: at work on %s\n' "$(gone)" "$busy"
 }
 
 : >"$log"

@@ -6,30 +6,32 @@ cd "$(dirname "$0")/.."
 scripts/tools.sh rt make gcc cargo rustc
 
 day=tapes/p5-to-p9
-
-# Is the program there, and no source of a crate newer than it?
-up_to_date() {
-    [ -f target/bin/dayrun ] && [ -z "$(find crates crates.txt -newer target/bin/dayrun -print -quit)" ]
-}
+copy=''
+trap '[ -z "$copy" ] || rm -rf "$copy"' EXIT
+trap 'exit 129' HUP
+trap 'exit 130' INT
+trap 'exit 143' TERM
 
 # Runs the day on the program as `rt try` builds it, which proves nothing; a copy of the sources has
 # the day as its standard input and the stored lines as what must come of it.
 try_day() {
-    local copy
     copy=$(mktemp -d)
     cp -R crates crates.txt "$copy"
     cp "$day.tape" "$copy/crates/dayrun/stdin"
     cp "$day.expected" "$copy/crates/dayrun/stdout"
-    (cd "$copy" && rt try dayrun) >"$copy/log" 2>&1 || { cat "$copy/log" >&2; rm -rf "$copy"; exit 1; }
+    (cd "$copy" && exec rt try dayrun) >"$copy/log" 2>&1 || { cat "$copy/log" >&2; exit 1; }
     rm -rf "$copy"
+    copy=''
 }
 
-if ! up_to_date; then
+if ! scripts/proved.sh; then
     try_day
     printf 'NOT PROVED HERE YET. The day %s.txt, run by dayrun built without proof:\n' "$day"
     cat "$day.expected"
-    printf '\nNow dayrun is proved. What is proved once is not proved again.\n'
+    printf '\nThe same day, told, as it is stored in %s.told:\n' "$day"
+    cat "$day.told"
+    printf '\nNext come the proofs of dayrun and the libraries. What is proved once is not proved again.\n'
+    scripts/build.sh
+    printf '\n'
 fi
-scripts/build.sh
-printf '\n'
 scripts/day.sh "$day.txt"

@@ -13,11 +13,15 @@ step() { # NAME COMMAND..
 
 # Proves all crates from nothing and tries the must-fail edits; the log keeps the verdict.
 proofs() {
-    rt ci 2>&1 | scripts/progress.sh build/proofs.log
+    local sources
+    sources=$(scripts/proved.sh sources)
+    rt ci 2>&1 | scripts/progress.sh build/proofs.log || return 1
+    scripts/proved.sh mark "$sources"
 }
 
 step 'tools' scripts/tools.sh rt make gcc g++ cargo rustc
 step 'what is shown of the proofs' scripts/test-progress.sh
+step 'make day and make run' scripts/test-day.sh
 mkdir -p build
 step 'proofs' proofs
 verdict=$(tail -n 1 build/proofs.log)

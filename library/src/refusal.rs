@@ -118,7 +118,7 @@ impl Refusal {
             Refusal::TapeEnds => "the tape ends before the instruction does",
             Refusal::Word => "a word's kind or its unused bits are wrong",
             Refusal::Bits => "a number does not fit its bits",
-            Refusal::Unit => "there is no such unhanded unit",
+            Refusal::Unit => "there is no such unit, or for a lift it is handed already",
             Refusal::Ticket => "the ticket is not what asking now gives",
             Refusal::Lifts => "eight lifts stand for the issue",
             Refusal::OddLots => "lots are odd in a marked issue",
@@ -155,6 +155,26 @@ mod tests {
         for one in Refusal::ALL {
             let same = Refusal::ALL.into_iter().filter(|other| other.meaning() == one.meaning());
             assert_eq!(same.count(), 1, "{one}");
+        }
+    }
+
+    #[test]
+    fn sixteen_fits_status_too() {
+        let said = Refusal::Unit.to_string();
+        assert_eq!(
+            said,
+            "refused by 16: there is no such unit, or for a lift it is handed already"
+        );
+    }
+
+    #[test]
+    fn the_header_says_the_same() {
+        let header = include_str!("../../host/settlement_day.h");
+        let texts: Vec<&str> = header.lines().filter(|line| line.contains("return \"")).collect();
+        let own = [Refusal::Terms, Refusal::Reports];
+        for refusal in Refusal::ALL.into_iter().filter(|refusal| !own.contains(refusal)) {
+            let text = format!("return \"{}\";", refusal.meaning());
+            assert!(texts.iter().any(|line| line.ends_with(&text)), "{text}");
         }
     }
 }

@@ -1,25 +1,25 @@
 //! What the book will refuse of a tape, without running the program: one line for each refusal.
 
 use crate::bytes::split;
-use crate::input::Input;
+use crate::input::{Day, Stands};
 use crate::text::why_ended;
 use crate::why::why;
 use library::{calls, tape, Book, OUTPUT_WORDS};
+use std::io;
 
-/// What was found: the lines about refusals, and how many instructions there are.
-#[derive(Clone, Debug, PartialEq, Eq)]
+/// How many instructions there are, and how many lines about refusals were told.
+#[derive(Clone, Copy, Debug, Default, PartialEq, Eq)]
 pub struct Checked {
-    pub refusals: Vec<String>,
     pub instructions: usize,
+    pub refused: usize,
 }
 
 /// Makes every call on a fresh book and tells each refusal, with the place in the file.
-pub fn check(file: &str, input: &Input) -> Checked {
-    let (words, stray) = split(&input.tape);
-    let places = Places::of(file, input);
+pub fn check(day: &Day, tell: &mut dyn FnMut(&str) -> io::Result<()>) -> io::Result<Checked> {
+    let (words, stray) = split(&day.tape);
     let mut book = Book::fresh();
     let mut output = vec![0; OUTPUT_WORDS];
-    let mut checked = Checked { refusals: Vec::new(), instructions: 0 };
+    let mut checked = Checked::default();
     let mut at = 0;
     while at < words.len() || !stray.is_empty() {
         match tape::read(&words[at..]) {
@@ -28,61 +28,60 @@ pub fn check(file: &str, input: &Input) -> Checked {
                 let quotes = tape::quotes(&words[at..]);
                 let answer = calls::call(&mut book, &instruction, &quotes, &mut output);
                 if let Some(refusal) = answer.refused() {
+                    checked.refused += 1;
                     let (name, why) =
                         (instruction.name(), why(&book, &instruction, &quotes, refusal));
-                    checked.refusals.push(format!("{}: {name}: {why}", places.at(at)));
+                    tell(&format!("{}: {name}: {why}", place(day, at)))?;
                 }
                 at += count;
             }
             Err(refusal) => {
+                checked.refused += 1;
                 let why = why_ended(&words[at..], refusal);
-                let (place, number) = (places.at(at), refusal.number());
-                let line = format!("{place}: reading ends here: refused by {number}: {why}");
-                checked.refusals.push(line);
+                let (place, number) = (place(day, at), refusal.number());
+                tell(&format!("{place}: reading ends here: refused by {number}: {why}"))?;
                 break;
             }
         }
     }
-    checked
+    Ok(checked)
 }
 
-/// Where each word of a tape stands in the file that it came from.
-struct Places<'a> {
-    file: &'a str,
-    /// The first word of each line of the text, with its line and column.
-    lines: Vec<(usize, usize, usize)>,
-}
-
-impl Places<'_> {
-    /// The places of an input.
-    fn of<'a>(file: &'a str, input: &Input) -> Places<'a> {
-        let mut before = 0;
-        let mut lines = Vec::new();
-        for line in input.lines.iter().flatten() {
-            lines.push((before / 4, line.number, line.column));
-            before += line.bytes.len();
+/// The place of the instruction that begins at a word: file, line and column, or file and word.
+fn place(day: &Day, word: usize) -> String {
+    match day.stands_in(word) {
+        Stands { file: Some(file), line: Some(line), column: Some(column) } => {
+            format!("{file}:{line}:{column}")
         }
-        Places { file, lines }
-    }
-
-    /// The place of the instruction that begins at a word: file, line and column, or the word.
-    fn at(&self, word: usize) -> String {
-        let file = self.file;
-        let after = self.lines.partition_point(|(first, ..)| *first <= word);
-        match after.checked_sub(1).map(|last| self.lines[last]) {
-            Some((_, line, column)) => format!("{file}:{line}:{column}"),
-            None => format!("{file}: word {word}"),
-        }
+        Stands { file, .. } => format!("{}: word {word}", file.unwrap_or_default()),
     }
 }
 
 #[cfg(test)]
 mod tests {
     use super::*;
-    use crate::input::of_any;
+    use crate::input::Taken;
 
-    fn checked(text: &str) -> Checked {
-        check("day.txt", &of_any("day.txt", text.as_bytes().to_vec()).unwrap())
+    /// What is found.
+    struct Found {
+        refusals: Vec<String>,
+        instructions: usize,
+    }
+
+    fn found(file: &str, bytes: &[u8]) -> Found {
+        let day = Day::of(file, bytes.to_vec(), Taken::Apart).unwrap();
+        let mut refusals = Vec::new();
+        let mut tell = |line: &str| {
+            refusals.push(line.to_string());
+            Ok(())
+        };
+        let Checked { instructions, refused } = check(&day, &mut tell).unwrap();
+        assert_eq!(refused, refusals.len());
+        Found { refusals, instructions }
+    }
+
+    fn checked(text: &str) -> Found {
+        found("day.txt", text.as_bytes())
     }
 
     #[test]
@@ -106,17 +105,23 @@ mod tests {
     }
 
     #[test]
+    fn a_net_is_told_in_threes() {
+        let found = checked("trade 0 1 2 20000000\ntrade 0 1 3 1\n");
+        assert!(found.refusals[0].ends_with("; account 1 stands at -20,000,000, account 3 at 0"));
+    }
+
+    #[test]
     fn refusals_of_a_roll_name_the_number() {
         let mut day = "close\ncutoff\n".to_string();
         let rolls = [
             ("roll 13 10001 0 accrued 0", "days are 13"),
-            ("roll 12 10001 0 accrued 0", "the rate is 10001"),
+            ("roll 12 10001 0 accrued 0", "the rate is 10,001"),
             ("roll 12 10000 0 accrued 5", "the price of issue 0 is 0"),
-            ("roll 12 10000 1 accrued 10001", "the accrued amount of issue 0 is 10001"),
+            ("roll 12 10000 1 accrued 10001", "the accrued amount of issue 0 is 10,001"),
             (
                 "roll 1 0 190000 accrued 0 0 0 0 0 0 0 0 0 0 0 0 0 0 0 10000\n\
                  close\ncutoff\nroll 1 0 190001 accrued 0 0 0 0 0 0 0 0 0 0 0 0 0 0 0 10000",
-                "price and accrued amount of issue 15 are together 200001",
+                "price and accrued amount of issue 15 are together 200,001",
             ),
         ];
         rolls.iter().for_each(|(roll, _)| day.push_str(&format!("{roll}\n")));
@@ -149,16 +154,15 @@ mod tests {
     #[test]
     fn a_good_day_has_nothing_to_tell() {
         let found = checked("trade 0 1 2 5\nclose\ncutoff\nroll 1 300 100000\n");
-        assert_eq!(found, Checked { refusals: vec![], instructions: 4 });
+        assert_eq!((found.refusals.len(), found.instructions), (0, 4));
     }
 
     #[test]
     fn where_reading_ends_is_told() {
-        let found = checked("close\nword 50000001\ncutoff\n");
-        assert_eq!(found.instructions, 1);
-        assert!(found.refusals[0].starts_with("day.txt:2:1: reading ends here: refused by 14"));
-        let words = Input { tape: vec![0, 0, 0, 0x50, 1], lines: None };
-        let found = check("day.tape", &words);
-        assert!(found.refusals[0].starts_with("day.tape: word 1: reading ends here: refused by 13"));
+        let text = checked("close\nword 50000001\ncutoff\n");
+        assert_eq!(text.instructions, 1);
+        assert!(text.refusals[0].starts_with("day.txt:2:1: reading ends here: refused by 14"));
+        let words = found("day.tape", &[0, 0, 0, 0x50, 1]);
+        assert!(words.refusals[0].starts_with("day.tape: word 1: reading ends here: refused by 13"));
     }
 }

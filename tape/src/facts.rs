@@ -10,7 +10,7 @@ pub enum Fact {
     /// A day begins.
     Day { day: u16 },
     /// An instruction, and why it was refused, if it was.
-    Instruction { word: usize, instruction: Instruction, refusal: Option<(Refusal, String)> },
+    Instruction { instruction: Instruction, refusal: Option<(Refusal, String)> },
     /// Units of an account, which is due this many lots in all.
     Units { issue: u32, first: u32, last: u32, account: u32, lots: u32, due: u32 },
     /// Accounts with equal nets (both full) or equal small units (both small): the lower number comes
@@ -40,7 +40,7 @@ pub enum Fact {
     /// The charge that a roll lays on an entry, and what it is made of.
     Charge { terms: Terms, from: u32, to: u32, lots: u32, value: u64, yen: u64 },
     /// Reading ends before the tape does.
-    ReadingEnds { word: usize, refusal: Refusal, why: String },
+    ReadingEnds { refusal: Refusal, why: String },
     /// The book at the end.
     End { phase: &'static str, entries: usize, charged: usize },
     /// An issue that is marked at the end: it takes even lots only.
@@ -49,6 +49,15 @@ pub enum Fact {
     Entry { issue: u32, from: u32, to: u32, lots: u32, since: u16 },
     /// An account's charges at the end.
     Charged { account: u32, yen: i64 },
+}
+
+/// A fact as it is told: the day that it is of, and the first word of the instruction that it belongs
+/// to; none where a day begins, and of the book at the end.
+#[derive(Clone, Copy, Debug, PartialEq, Eq)]
+pub struct Told<'a> {
+    pub day: u16,
+    pub word: Option<usize>,
+    pub fact: &'a Fact,
 }
 
 /// The terms of a charge: of which issue, at which price and accrued amount, for how many days at

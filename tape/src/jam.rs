@@ -1,7 +1,7 @@
 //! Would smaller units loosen a jam? Unit sizes are tried on a simulated desk, from the nets of a
 //! tape's book at its end and a text with settlement accounts and inventories.
 
-use crate::fault::{words_of, Fault, Word};
+use crate::fault::{words_of, Fault, Faults, Word};
 use crate::measure::{Grouped, Lots};
 use crate::status;
 use crate::text::digits_of;
@@ -26,17 +26,17 @@ struct Named {
 
 /// Reads a desk from its text: settlement accounts of the netting accounts, and inventories, 0 where
 /// none is named. Every account with a net in the book needs a settlement account.
-pub fn desk_of(text: &str, book: &Book) -> Result<Desk, Vec<Fault>> {
+pub fn desk_of(text: &str, book: &Book) -> Result<Desk, Faults> {
     let mut named =
         Named { settles: [None; ACCOUNTS], holds: [None; ISSUES * SETTLEMENT_ACCOUNTS] };
     let text = text.strip_prefix('\u{feff}').unwrap_or(text);
-    let mut faults = Vec::new();
+    let mut faults = Faults::default();
     let mut last = 1;
     for (number, line) in (1..).zip(text.lines()) {
         last = number;
-        let words = words_of(line, number);
+        let words: Vec<Word> = words_of(line, number).collect();
         if let Some((name, arguments)) = words.split_first() {
-            faults.extend(named.take(name, arguments).err());
+            named.take(name, arguments).err().into_iter().for_each(|fault| faults.push(fault));
         }
     }
     for account in 0..ACCOUNTS as u32 {
@@ -330,13 +330,17 @@ mod tests {
         let faults =
             desk_of("settles 0-2 16\nhold 0 0 5\nholds 0 16 5\nsettles 3\n", &ring()).unwrap_err();
         let places: Vec<(usize, usize)> =
-            faults.iter().map(|fault| (fault.line, fault.column)).collect();
+            faults.first.iter().map(|fault| (fault.line, fault.column)).collect();
         assert_eq!(places, [(1, 13), (2, 1), (3, 9), (4, 1), (4, 1), (4, 1), (4, 1)]);
-        assert!(faults[0].what.contains("from 0 to 15"), "{}", faults[0].what);
-        assert!(faults[4].what.contains("account 0 has a net in issue 0"), "{}", faults[4].what);
+        assert!(faults.first[0].what.contains("from 0 to 15"), "{}", faults.first[0].what);
+        assert!(
+            faults.first[4].what.contains("account 0 has a net in issue 0"),
+            "{}",
+            faults.first[4].what
+        );
         let twice = desk_of("settles 0-2 1\nsettles 2 0\n", &ring()).unwrap_err();
-        assert!(twice[0].what.contains("already"), "{}", twice[0].what);
-        assert!(desk_of("settles 2-0 1\n", &ring()).unwrap_err()[0]
+        assert!(twice.first[0].what.contains("already"), "{}", twice.first[0].what);
+        assert!(desk_of("settles 2-0 1\n", &ring()).unwrap_err().first[0]
             .what
             .contains("lower one first"));
     }

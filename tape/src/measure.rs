@@ -72,6 +72,11 @@ impl Line {
         self.put(&written[at..])
     }
 
+    /// Takes away what was put.
+    pub fn clear(&mut self) {
+        self.length = 0;
+    }
+
     /// What was put.
     pub fn bytes(&self) -> &[u8] {
         &self.bytes[..self.length]
@@ -102,6 +107,11 @@ impl fmt::Display for Grouped {
         let at = digits(number, true, &mut written);
         text.write_str(std::str::from_utf8(&written[at..]).unwrap_or_default())
     }
+}
+
+/// So many of a thing, with an `s` where they are not one.
+pub fn counted(count: usize, thing: &str) -> String {
+    format!("{} {thing}{}", Grouped(count as i128), if count == 1 { "" } else { "s" })
 }
 
 /// Lots with their measure.
@@ -169,6 +179,7 @@ mod tests {
     #[test]
     fn measures_are_named() {
         assert_eq!(Lots(1).to_string(), "1 lot");
+        assert_eq!([0, 1, 2].map(|n| counted(n, "step")), ["0 steps", "1 step", "2 steps"]);
         assert_eq!(Face(100_000).to_string(), "100,000 lots (5,000,000,000 yen face)");
         assert_eq!(Rate(305).to_string(), "3.05 percent a year");
         assert_eq!(Price(99_999).to_string(), "99.999");

@@ -1,7 +1,7 @@
 //! Why a unit has not come: the tape is run up to a word, and the book is asked.
 
 use crate::bytes::split;
-use crate::measure::{Face, Lots};
+use crate::measure::{counted, Face, Lots};
 use crate::story::traded;
 use library::calls::{self, Unit};
 use library::{tape, Book, Refusal, Status, ISSUES, OUTPUT_WORDS};
@@ -56,8 +56,8 @@ pub fn run(tape: &[u8], until: Option<usize>) -> Result<(Book, usize, bool), Str
         if until.is_some_and(|until| until < at + count) {
             let name = instruction.name();
             return Err(format!(
-                "--at needs the first word of an instruction: {name} begins at word {at} and has \
-                 {count}"
+                "--at needs the first word of an instruction: {name} begins at word {at} and has {}",
+                counted(count, "word")
             ));
         }
         if !traded(&mut book, &instruction) {
@@ -82,6 +82,7 @@ fn why_refused(book: &Book, Question { issue, unit, .. }: Question, refusal: Ref
             .take_while(|&k| calls::unit(book, issue, k).unit.is_some())
             .last()
         {
+            Some(0) => format!("issue {issue} has no unit {unit}, its one unit is 0"),
             Some(last) => format!("issue {issue} has no unit {unit}, its units are 0 to {last}"),
             None => format!("issue {issue} has no units today"),
         },
@@ -219,13 +220,19 @@ mod tests {
         assert!(told(0, Some(6)).refused());
         let of = |issue| ask(&day(), Question { issue, unit: 0, at: None }).unwrap().sentence();
         assert!(of(1).ends_with("refused by 16: issue 1 has no units today\n"));
+        let one = text::to_tape("trade 0 1 2 3\nclose\n").unwrap();
+        let one = ask(&one, Question { issue: 0, unit: 1, at: None }).unwrap().sentence();
+        assert!(
+            one.ends_with("refused by 16: issue 0 has no unit 1, its one unit is 0\n"),
+            "{one}"
+        );
         assert!(of(16).ends_with("refused by 4: there is no issue 16, issues are 0 to 15\n"));
     }
 
     #[test]
     fn a_word_that_begins_no_instruction_is_an_error() {
         let at = |at| ask(&day(), Question { at: Some(at), ..Question::default() }).unwrap_err();
-        assert!(at(8).contains("deliver begins at word 7 and has 2"));
+        assert!(at(8).ends_with("deliver begins at word 7 and has 2 words"));
         assert_eq!(at(15), "--at 15: reading ends at word 14");
     }
 

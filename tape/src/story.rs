@@ -5,7 +5,7 @@
 //! takes no longer than it must; every other instruction is put to the library, refused trades too.
 
 use crate::bytes::split;
-use crate::facts::{Fact, Terms};
+use crate::facts::{Fact, Terms, Told};
 use crate::text::why_ended;
 use crate::units::{close, runs, Case, Run, Walk};
 use crate::why::{owed_today, why};
@@ -20,8 +20,8 @@ const FAIL: u32 = 12;
 /// The most lots of a trade, and of a net to either side.
 const MOST_LOTS: u32 = 20_000_000;
 
-/// What is done with each fact, with the day that it is of.
-pub type Sink<'a> = dyn FnMut(u16, &Fact) -> io::Result<()> + 'a;
+/// What is done with each fact.
+pub type Sink<'a> = dyn FnMut(&Told) -> io::Result<()> + 'a;
 
 /// A tape as it runs.
 struct Story<'a> {
@@ -29,6 +29,8 @@ struct Story<'a> {
     output: Vec<u32>,
     /// For each issue, today's handovers from the house: their number and lots.
     handed: [(u32, u64); ISSUES],
+    /// The first word of the instruction that is at work.
+    word: Option<usize>,
     sink: &'a mut Sink<'a>,
 }
 
@@ -42,49 +44,47 @@ struct Record {
     lots: u32,
 }
 
-/// Runs a tape and tells its facts.
-pub fn tell<'a>(tape: &[u8], sink: &'a mut Sink<'a>) -> io::Result<()> {
+/// Runs a tape and tells its facts; answers the day on which it ends.
+pub fn tell<'a>(tape: &[u8], sink: &'a mut Sink<'a>) -> io::Result<u16> {
     let (words, stray) = split(tape);
     let mut story = Story {
         book: Book::fresh(),
         output: vec![0; OUTPUT_WORDS],
         handed: [(0, 0); ISSUES],
+        word: None,
         sink,
     };
     story.fact(&Fact::Day { day: 0 })?;
     let mut at = 0;
     while at < words.len() || !stray.is_empty() {
+        story.word = Some(at);
         match tape::read(&words[at..]) {
             Ok((instruction, count)) => {
-                story.instruction(at, &instruction, &words[at..])?;
+                story.instruction(&instruction, &words[at..])?;
                 at += count;
             }
             Err(refusal) => {
                 let why = why_ended(&words[at..], refusal);
-                story.fact(&Fact::ReadingEnds { word: at, refusal, why })?;
+                story.fact(&Fact::ReadingEnds { refusal, why })?;
                 break;
             }
         }
     }
-    story.end()
+    story.end()?;
+    Ok(story.book.day)
 }
 
 impl Story<'_> {
     /// Tells a fact of today.
     fn fact(&mut self, fact: &Fact) -> io::Result<()> {
-        (self.sink)(self.book.day, fact)
+        (self.sink)(&Told { day: self.book.day, word: self.word, fact })
     }
 
     /// Makes the call of an instruction and tells what it did, or why it was refused.
-    fn instruction(
-        &mut self,
-        word: usize,
-        instruction: &Instruction,
-        words: &[u32],
-    ) -> io::Result<()> {
+    fn instruction(&mut self, instruction: &Instruction, words: &[u32]) -> io::Result<()> {
         let instruction = *instruction;
         if traded(&mut self.book, &instruction) {
-            return self.fact(&Fact::Instruction { word, instruction, refusal: None });
+            return self.fact(&Fact::Instruction { instruction, refusal: None });
         }
         let roll = matches!(instruction, Instruction::Roll { .. });
         let quotes = if roll { tape::quotes(words) } else { [0; QUOTES] };
@@ -94,7 +94,7 @@ impl Story<'_> {
             .refused()
             .map(|refusal| (refusal, why(&self.book, &instruction, &quotes, refusal)));
         let refused = refusal.is_some();
-        let told = Fact::Instruction { word, instruction, refusal };
+        let told = Fact::Instruction { instruction, refusal };
         if let (Instruction::Roll { days, rate }, false) = (instruction, refused) {
             return self.rolled(&told, &entries, days, rate, &quotes);
         }
@@ -229,8 +229,8 @@ impl Story<'_> {
         rate: u32,
         quotes: &[u32; QUOTES],
     ) -> io::Result<()> {
-        let ended = self.book.day - 1;
-        (self.sink)(ended, told)?;
+        let (day, word) = (self.book.day - 1, self.word);
+        (self.sink)(&Told { day, word, fact: told })?;
         for &Entry { issue, from, to, lots, .. } in entries {
             let at = usize::from(issue) % ISSUES;
             let (price, accrued) = (quotes[at], quotes[ISSUES + at]);
@@ -238,13 +238,15 @@ impl Story<'_> {
             let (_, yen) = desk::charge(lots, price, days, rate, accrued);
             let terms = Terms { issue: issue.into(), price, accrued, days, rate };
             let fact = Fact::Charge { terms, from: from.into(), to: to.into(), lots, value, yen };
-            (self.sink)(ended, &fact)?;
+            (self.sink)(&Told { day, word, fact: &fact })?;
         }
+        self.word = None;
         self.fact(&Fact::Day { day: self.book.day })
     }
 
     /// The phase, the marked issues, the ledger and the charges at the end.
     fn end(&mut self) -> io::Result<()> {
+        self.word = None;
         let phase = self.book.phase.name().unwrap_or("no phase");
         let entries: Vec<Entry> = self.book.ledger().collect();
         let charges: Vec<(u32, i64)> =

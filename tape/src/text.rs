@@ -4,7 +4,8 @@
 //! tape has a text form, damaged ones too.
 
 use crate::bytes::{join, split};
-use crate::fault::{words_of, Fault, Word};
+use crate::fault::{shown, words_of, Fault, Faults, Word};
+use crate::measure::{counted, Grouped};
 use library::{tape, Instruction, Refusal, ISSUES, WRITER_WORDS};
 
 /// The instructions' forms, for errors.
@@ -12,19 +13,33 @@ const FORMS: &str = "trade ISSUE FROM TO LOTS, close, deliver ISSUE ACCOUNT LOTS
     resolve ISSUE ACCOUNT LOTS, pair-off ISSUE ACCOUNT, roll DAYS RATE PRICE accrued ACCRUED (one \
     price or sixteen, one accrued amount or sixteen), mark ISSUE MARK (1: even lots only, 0: any lots), word HEX, byte HEX";
 
-/// A field of an instruction: its name and the highest number that fits its bits.
-type Field = (&'static str, u32);
+/// A field of an instruction: its name, the bits that it has on a tape, and the least and the highest
+/// number that the book takes.
+#[derive(Clone, Copy)]
+struct Field {
+    name: &'static str,
+    bits: u32,
+    takes: (u32, u32),
+}
 
-const ISSUE: Field = ("issue", 15);
-const FROM: Field = ("from", 63);
-const TO: Field = ("to", 63);
-const ACCOUNT: Field = ("account", 63);
-const LOTS: Field = ("lots", (1 << 28) - 1);
-const DAYS: Field = ("days", 15);
-const RATE: Field = ("rate", (1 << 14) - 1);
-const PRICE: Field = ("price", (1 << 18) - 1);
-const ACCRUED: Field = ("accrued", (1 << 18) - 1);
-const MARK: Field = ("mark", 1);
+/// A field of this name.
+const fn field(name: &'static str, bits: u32, takes: (u32, u32)) -> Field {
+    Field { name, bits, takes }
+}
+
+const ISSUE: Field = field("issue", 4, (0, 15));
+const FROM: Field = field("from", 6, (0, 63));
+const TO: Field = field("to", 6, (0, 63));
+const ACCOUNT: Field = field("account", 6, (0, 63));
+const LOTS: Field = field("lots", 28, (1, 20_000_000));
+const DAYS: Field = field("days", 4, (1, 12));
+const RATE: Field = field("rate", 14, (0, 10_000));
+const PRICE: Field = field("price", 18, (1, 200_000));
+const ACCRUED: Field = field("accrued", 18, (0, 10_000));
+const MARK: Field = field("mark", 1, (0, 1));
+
+/// The most words that a line takes after its first: those of a roll.
+const MOST_WORDS: usize = 2 + ISSUES + 1 + ISSUES;
 
 /// The word between the prices and the accrued amounts of a roll.
 const ACCRUED_WORD: &str = "accrued";
@@ -36,54 +51,68 @@ const NO_ACCRUED: &str = "this roll has no accrued amounts: they are taken as 0 
 const OLDER_ROLL: &str = "this roll has no accrued amounts: put sixteen words of kind 9 after its \
     prices, 90000000 where nothing is accrued";
 
-/// What one line of a text puts on the tape.
-#[derive(Clone, Debug, PartialEq, Eq)]
-pub struct Line {
+/// Where a line of a text begins, and the first word that it puts on the tape.
+#[derive(Clone, Copy, Debug, PartialEq, Eq)]
+pub struct Place {
+    pub word: usize,
     /// The line's number, from 1.
-    pub number: usize,
+    pub line: usize,
     /// The column at which it begins, from 1.
     pub column: usize,
-    pub bytes: Vec<u8>,
-    /// What is to be said of it, though it is right.
-    pub note: Option<&'static str>,
 }
 
-/// What is to be said of lines that are right.
-pub fn notes(lines: &[Line]) -> Vec<Fault> {
-    let note = |line: &Line| {
-        let what = line.note?.to_string();
-        Some(Fault { line: line.number, column: line.column, what })
-    };
-    lines.iter().filter_map(note).collect()
+/// A text that is right: its tape, the places of its lines, and what is to be said of some of them.
+#[derive(Clone, Debug, Default, PartialEq, Eq)]
+pub struct Parsed {
+    pub tape: Vec<u8>,
+    pub places: Vec<Place>,
+    pub notes: Faults,
 }
 
-/// The bytes of a tape in text form, or everything that is wrong with it.
-pub fn to_tape(text: &str) -> Result<Vec<u8>, Vec<Fault>> {
-    Ok(lines_of(text)?.into_iter().flat_map(|line| line.bytes).collect())
+/// The bytes of a tape in text form, or what is wrong with it.
+pub fn to_tape(text: &str) -> Result<Vec<u8>, Faults> {
+    parse(text).map(|parsed| parsed.tape)
 }
 
-/// The lines of a text that put something on the tape, or everything that is wrong with it. A
-/// byte-order mark before the first line is passed over.
-pub fn lines_of(text: &str) -> Result<Vec<Line>, Vec<Fault>> {
+/// Reads a text, or tells what is wrong with it. A byte-order mark before the first line is passed
+/// over.
+pub fn parse(text: &str) -> Result<Parsed, Faults> {
     let text = text.strip_prefix('\u{feff}').unwrap_or(text);
-    let (mut lines, mut faults) = (Vec::new(), Vec::new());
+    let (mut parsed, mut faults) = (Parsed::default(), Faults::default());
     let mut ended = false;
     for (number, line) in (1..).zip(text.lines()) {
-        let words = words_of(line, number);
-        let Some((name, arguments)) = words.split_first() else { continue };
-        match line_bytes(name, arguments, ended) {
-            Ok(bytes) => {
+        let mut words = words_of(line, number);
+        let Some(name) = words.next() else { continue };
+        // One more than a line can take is enough to tell that they are too many.
+        let arguments: Vec<Word> = words.take(MOST_WORDS + 1).collect();
+        match line_bytes(&name, &arguments, ended) {
+            Ok(bytes) if faults.is_empty() => {
                 ended = name.text == "byte";
-                let note = note_of(name, arguments);
-                lines.push(Line { number, column: name.column, bytes, note });
+                parsed.put(&name, &arguments, &bytes);
             }
-            Err(more) => faults.extend(more),
+            Ok(_) => ended = name.text == "byte",
+            Err(more) => {
+                parsed = Parsed::default();
+                faults.extend(more);
+            }
         }
     }
     if faults.is_empty() {
-        return Ok(lines);
+        return Ok(parsed);
     }
     Err(faults)
+}
+
+impl Parsed {
+    /// Puts the bytes of a line on the tape.
+    fn put(&mut self, name: &Word, arguments: &[Word], bytes: &[u8]) {
+        let Word { line, column, .. } = *name;
+        self.places.push(Place { word: self.tape.len() / 4, line, column });
+        self.tape.extend(bytes);
+        if let Some(note) = note_of(name, arguments) {
+            self.notes.push(name.fault(note.to_string()));
+        }
+    }
 }
 
 /// What is to be said of a line that is right.
@@ -98,7 +127,8 @@ fn line_bytes(name: &Word, arguments: &[Word], ended: bool) -> Result<Vec<u8>, V
         return Ok(vec![raw::<u8>(name, arguments, 2).map_err(|fault| vec![fault])?]);
     }
     if ended {
-        let what = format!("`{}` cannot follow `byte`: single bytes end a tape", name.text);
+        let name_shown = shown(name.text);
+        let what = format!("{name_shown} cannot follow `byte`: single bytes end a tape");
         return Err(vec![name.fault(what)]);
     }
     if name.text == "word" {
@@ -154,7 +184,7 @@ fn instruction_of(name: &Word, words: &[Word]) -> Result<(Instruction, Vec<u32>)
         "cutoff" => take(&[]).map(|_| Instruction::Cutoff)?,
         "roll" => return roll_of(name, words),
         other => {
-            let what = format!("there is no instruction {other:?}: write one of {FORMS}");
+            let what = format!("there is no instruction {}: write one of {FORMS}", shown(other));
             return Err(vec![name.fault(what)]);
         }
     };
@@ -171,8 +201,8 @@ fn roll_of(name: &Word, words: &[Word]) -> Result<(Instruction, Vec<u32>), Vec<F
     {
         let what = format!(
             "roll takes days, rate, sixteen prices (issue 0 first) or one price for all issues, \
-             then `accrued` with sixteen amounts or one; here are {} words",
-            words.len()
+             then `accrued` with sixteen amounts or one; {}",
+            here(words.len(), "word")
         );
         return Err(vec![name.fault(what)]);
     }
@@ -201,9 +231,9 @@ fn for_issues(given: &[u32]) -> Vec<u32> {
 /// The numbers of an instruction, each of which must fit its bits; all that do not are told.
 fn numbers(name: &Word, fields: &[Field], words: &[Word]) -> Result<Vec<u32>, Vec<Fault>> {
     if words.len() != fields.len() {
-        let names: Vec<&str> = fields.iter().map(|(field, _)| *field).collect();
+        let names: Vec<&str> = fields.iter().map(|field| field.name).collect();
         let takes = if names.is_empty() { "no numbers".to_string() } else { names.join(", ") };
-        let what = format!("{} takes {takes}; here are {} numbers", name.text, words.len());
+        let what = format!("{} takes {takes}; {}", name.text, here(words.len(), "number"));
         return Err(vec![name.fault(what)]);
     }
     let (mut numbers, mut faults) = (Vec::new(), Vec::new());
@@ -219,22 +249,29 @@ fn numbers(name: &Word, fields: &[Field], words: &[Word]) -> Result<Vec<u32>, Ve
     Err(faults)
 }
 
+/// How many there are on a line.
+fn here(count: usize, what: &str) -> String {
+    match count {
+        1 => format!("here is 1 {what}"),
+        count if count > MOST_WORDS => format!("here are more than {MOST_WORDS} {what}s"),
+        count => format!("here are {}", counted(count, what)),
+    }
+}
+
 /// One number of an instruction.
-fn number((name, most): Field, word: &Word) -> Result<u32, Fault> {
+fn number(field: Field, word: &Word) -> Result<u32, Fault> {
+    let Field { name, bits, takes: (least, most) } = field;
     let Some(digits) = digits_of(word.text) else {
         let what = format!(
-            "{name} {:?} is not a number: write digits alone, or with `,` or `_` before every three",
-            word.text
+            "{name} {} is not a number: write digits alone, or with `,` or `_` before every three",
+            shown(word.text)
         );
         return Err(word.fault(what));
     };
     let number: Option<u32> = digits.parse().ok();
-    number.filter(|&number| number <= most).ok_or_else(|| {
-        let what = format!(
-            "{name} {:?} does not fit its bits: write a number from 0 to {most}",
-            word.text
-        );
-        word.fault(what)
+    number.filter(|&number| number >> bits == 0).ok_or_else(|| {
+        let (shown, most) = (shown(word.text), Grouped(most.into()));
+        word.fault(format!("{name} {shown} is too large: write a number from {least} to {most}"))
     })
 }
 
@@ -355,14 +392,15 @@ mod tests {
     #[test]
     fn a_roll_without_accrued_amounts_has_0_and_says_so() {
         let text = "close\n  roll 1 300 100000\nroll 1 300 100000 accrued 0\n";
-        let lines = lines_of(text).unwrap();
-        assert_eq!(lines[1].bytes, lines[2].bytes);
-        let notes = notes(&lines);
+        let parsed = parse(text).unwrap();
+        let (one, other) = parsed.tape[4..].split_at(33 * 4);
+        assert_eq!(one, other);
+        let notes = &parsed.notes.first;
         assert_eq!(notes.len(), 1);
         let told = "day.txt:2:3: this roll has no accrued amounts: they are taken as 0 for every \
             issue";
         assert_eq!(notes[0].in_file("day.txt"), told);
-        assert_eq!(of_tape(&lines[1].bytes), "roll 1 300 100000 accrued 0\n");
+        assert_eq!(of_tape(one), "roll 1 300 100000 accrued 0\n");
     }
 
     #[test]
@@ -406,43 +444,90 @@ mod tests {
         for (text, place, error) in [
             ("close\nsell 1 2", (2, 1), "there is no instruction \"sell\": write one of trade"),
             ("  trade 1 2 3", (1, 3), "trade takes issue, from, to, lots; here are 3 numbers"),
-            ("\n\nclose 1", (3, 1), "close takes no numbers; here are 1 numbers"),
-            ("deliver 16 0 1", (1, 9), "issue \"16\" does not fit its bits: write a number from 0"),
+            ("\n\nclose 1", (3, 1), "close takes no numbers; here is 1 number"),
+            ("deliver 16 0 1", (1, 9), "issue \"16\" is too large: write a number from 0 to 15"),
             ("deliver 0 x 1", (1, 11), "account \"x\" is not a number: write digits alone"),
-            ("trade 0 1 2 268435456", (1, 13), "lots \"268435456\" does not fit"),
-            ("trade 0 1 2 99999999999", (1, 13), "lots \"99999999999\" does not fit"),
+            (
+                "trade 0 1 2 268435456",
+                (1, 13),
+                "lots \"268435456\" is too large: write a number from 1 to 20,000,000",
+            ),
+            (
+                "trade 0 1 2 99999999999",
+                (1, 13),
+                "lots \"99999999999\" is too large: write a number from 1 to 20,000,000",
+            ),
             ("roll 1 2", (1, 1), "roll takes days, rate, sixteen prices"),
             ("roll 1 2 3 4", (1, 1), "roll takes days, rate, sixteen prices"),
             ("roll 1 2 3 accrued", (1, 1), "roll takes days, rate, sixteen prices"),
             ("roll 1 2 accrued 3", (1, 1), "roll takes days, rate, sixteen prices"),
             ("roll 1 2 3 accrued 4 5", (1, 1), "roll takes days, rate, sixteen prices"),
-            ("roll 1 2 3 accrued 262144", (1, 20), "accrued \"262144\" does not fit its bits"),
-            ("roll 1 2 3 accrued accrued", (1, 20), "accrued \"accrued\" is not a number"),
-            ("roll 16 2 3", (1, 6), "days \"16\" does not fit"),
-            ("mark 3", (1, 1), "mark takes issue, mark; here are 1 numbers"),
             (
-                "mark 16 1",
-                (1, 6),
-                "issue \"16\" does not fit its bits: write a number from 0 to 15",
+                "roll 1 2 3 accrued 262144",
+                (1, 20),
+                "accrued \"262144\" is too large: write a number from 0 to 10,000",
             ),
-            ("mark 3 2", (1, 8), "mark \"2\" does not fit its bits: write a number from 0 to 1"),
+            ("roll 1 2 3 accrued accrued", (1, 20), "accrued \"accrued\" is not a number"),
+            ("roll 16 2 3", (1, 6), "days \"16\" is too large: write a number from 1 to 12"),
+            ("mark 3", (1, 1), "mark takes issue, mark; here is 1 number"),
+            ("mark 16 1", (1, 6), "issue \"16\" is too large: write a number from 0 to 15"),
+            ("mark 3 2", (1, 8), "mark \"2\" is too large: write a number from 0 to 1"),
+            (
+                "roll 1 16384 3",
+                (1, 8),
+                "rate \"16384\" is too large: write a number from 0 to 10,000",
+            ),
+            (
+                "roll 1 2 262144",
+                (1, 10),
+                "price \"262144\" is too large: write a number from 1 to 200,000",
+            ),
+            ("trade 0 1 64 1", (1, 11), "to \"64\" is too large: write a number from 0 to 63"),
             ("word 123456789", (1, 6), "one hexadecimal number of up to 8 digits"),
             ("word", (1, 1), "one hexadecimal number of up to 8 digits"),
             ("byte 100", (1, 6), "one hexadecimal number of up to 2 digits"),
-            ("byte 1\nclose", (2, 1), "`close` cannot follow `byte`"),
+            ("byte 1\nclose", (2, 1), "\"close\" cannot follow `byte`"),
         ] {
             let faults = to_tape(text).unwrap_err();
-            assert_eq!(faults.len(), 1, "{text}: {faults:?}");
-            assert_eq!((faults[0].line, faults[0].column), place, "{text}");
-            assert!(faults[0].what.starts_with(error), "{text}: {}", faults[0]);
+            assert_eq!(faults.count, 1, "{text}: {faults:?}");
+            let fault = &faults.first[0];
+            assert_eq!((fault.line, fault.column), place, "{text}");
+            assert!(fault.what.starts_with(error), "{text}: {fault}");
         }
     }
 
     #[test]
     fn all_errors_are_told() {
-        let faults = to_tape("trade 16 64 2 x\nclose\nsell\nroll 1 2 3 4\n").unwrap_err();
+        let faults = to_tape("trade 16 64 2 x\nclose\nsell\nroll 1 2 3 4\n").unwrap_err().first;
         let places: Vec<(usize, usize)> = faults.iter().map(|f| (f.line, f.column)).collect();
         assert_eq!(places, [(1, 7), (1, 10), (1, 15), (3, 1), (4, 1)]);
         assert_eq!(faults[3].in_file("day.txt").split(": ").next(), Some("day.txt:3:1"));
+    }
+
+    #[test]
+    fn a_text_that_is_wrong_throughout_takes_no_more_room() {
+        let text = format!("close\n{}", "sell\n".repeat(200_000));
+        let faults = to_tape(&text).unwrap_err();
+        assert_eq!((faults.first.len(), faults.count), (12, 200_000));
+        let rolls = parse(&"roll 1 300 100000\n".repeat(100)).unwrap();
+        assert_eq!((rolls.notes.first.len(), rolls.notes.count), (12, 100));
+        let long = format!("trade 0 1 2 {}", "x".repeat(1_000_000));
+        let fault = &to_tape(&long).unwrap_err().first[0];
+        assert!(fault.what.len() < 200, "{}", fault.what.len());
+        let long = "x".repeat(1_000_000);
+        let fault = &to_tape(&long).unwrap_err().first[0];
+        assert!(fault.what.len() < 500, "{}", fault.what.len());
+        let many = format!("close{}", " 1".repeat(1_000_000));
+        let fault = &to_tape(&many).unwrap_err().first[0];
+        assert_eq!(fault.what, "close takes no numbers; here are more than 35 numbers");
+    }
+
+    #[test]
+    fn what_fits_its_bits_can_be_written_though_the_book_refuses_it() {
+        for line in
+            ["trade 0 1 2 0", "trade 0 1 2 268435455", "roll 15 16383 262143 accrued 262143"]
+        {
+            assert!(to_tape(line).is_ok(), "{line}");
+        }
     }
 }

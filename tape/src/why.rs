@@ -1,6 +1,6 @@
 //! Why the book refuses an instruction: the question that it answers 'no', and the numbers behind it.
 
-use crate::measure::Lots;
+use crate::measure::{Grouped, Lots};
 use library::{Book, Instruction, Refusal, ACCOUNTS, ISSUES};
 
 /// The limits of a roll's numbers.
@@ -29,8 +29,8 @@ fn behind(book: &Book, instruction: &Instruction, refusal: Refusal) -> Option<St
             Some(format!("the book is in {is}, {} belongs to {wanted}", instruction.name()))
         }
         (Refusal::Net, Instruction::Trade { issue, from, to, .. }) => {
-            let (from_net, to_net) = (book.net(issue, from), book.net(issue, to));
-            Some(format!("account {from} stands at {from_net}, account {to} at {to_net}"))
+            let net = |account| Grouped(book.net(issue, account).into());
+            Some(format!("account {from} stands at {}, account {to} at {}", net(from), net(to)))
         }
         (Refusal::Owed, Instruction::Deliver { issue, account, .. }) => {
             let owed = Lots(owed_today(book, issue, account));
@@ -47,7 +47,10 @@ fn behind(book: &Book, instruction: &Instruction, refusal: Refusal) -> Option<St
             | Instruction::Resolve { issue, .. },
         ) => Some(format!("issue {issue} is in multiples of 100,000 yen face: give even lots")),
         (Refusal::InUse, Instruction::Mark { issue, .. }) => Some(in_use(book, issue)),
-        (Refusal::Room, _) => Some(format!("it has {} entries before the cutoff", book.entries)),
+        (Refusal::Room, _) => {
+            let ies = if book.entries == 1 { "y" } else { "ies" };
+            Some(format!("it has {} entr{ies} before the cutoff", book.entries))
+        }
         _ => None,
     }
 }
@@ -58,18 +61,20 @@ fn terms(days: u32, rate: u32, quotes: &[u32]) -> Option<String> {
         return Some(format!("days are {days}"));
     }
     if rate > MOST_RATE {
-        return Some(format!("the rate is {rate}"));
+        return Some(format!("the rate is {}", Grouped(rate.into())));
     }
     let (prices, accrued) = quotes.split_at(ISSUES.min(quotes.len()));
     (0..).zip(prices.iter().zip(accrued)).find_map(|(issue, (&price, &accrued))| {
         if !(1..=MOST_PRICE).contains(&price) {
-            return Some(format!("the price of issue {issue} is {price}"));
+            return Some(format!("the price of issue {issue} is {}", Grouped(price.into())));
         }
         if accrued > MOST_ACCRUED {
+            let accrued = Grouped(accrued.into());
             return Some(format!("the accrued amount of issue {issue} is {accrued}"));
         }
         let sum = price + accrued;
-        let what = format!("price and accrued amount of issue {issue} are together {sum}");
+        let told = Grouped(sum.into());
+        let what = format!("price and accrued amount of issue {issue} are together {told}");
         (sum > MOST_PRICE).then_some(what)
     })
 }

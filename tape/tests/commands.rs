@@ -1,17 +1,18 @@
 //! The tool as it is called: what it prints, what it says and with which status it ends.
 
+use std::ffi::OsStr;
+use std::fs;
 use std::io::Write;
-use std::process::{Command, Output, Stdio};
+use std::os::unix::ffi::OsStrExt;
+use std::os::unix::fs::PermissionsExt;
+use std::path::{Path, PathBuf};
+use std::process::{Child, Command, Output, Stdio};
+use std::thread::sleep;
+use std::time::{Duration, Instant};
 
 /// Runs the tool with these words on this input.
-fn tape(words: &[&str], input: &[u8]) -> Output {
-    let mut child = Command::new(env!("CARGO_BIN_EXE_tape"))
-        .args(words)
-        .stdin(Stdio::piped())
-        .stdout(Stdio::piped())
-        .stderr(Stdio::piped())
-        .spawn()
-        .expect("the tool runs");
+fn tape<W: AsRef<OsStr>>(words: &[W], input: &[u8]) -> Output {
+    let mut child = begun(words);
     let mut stdin = child.stdin.take().expect("standard input is piped");
     // The tool may end without reading its input.
     let _ = stdin.write_all(input);
@@ -19,8 +20,43 @@ fn tape(words: &[&str], input: &[u8]) -> Output {
     child.wait_with_output().expect("the tool ends")
 }
 
+/// The tool at work on these words.
+fn begun<W: AsRef<OsStr>>(words: &[W]) -> Child {
+    Command::new(env!("CARGO_BIN_EXE_tape"))
+        .args(words)
+        .stdin(Stdio::piped())
+        .stdout(Stdio::piped())
+        .stderr(Stdio::piped())
+        .spawn()
+        .expect("the tool runs")
+}
+
+/// An empty folder for a test of this name.
+fn folder(name: &str) -> PathBuf {
+    let folder = std::env::temp_dir().join(format!("tape-test-{}-{name}", std::process::id()));
+    let _ = fs::remove_dir_all(&folder);
+    fs::create_dir(&folder).expect("a folder");
+    folder
+}
+
+/// A file of a folder, with this content.
+fn file(folder: &Path, name: impl AsRef<Path>, content: &[u8]) -> PathBuf {
+    let path = folder.join(name);
+    fs::write(&path, content).expect("a file");
+    path
+}
+
+/// The names of the files of a folder.
+fn names(folder: &Path) -> Vec<String> {
+    let files = fs::read_dir(folder).expect("the folder");
+    let mut names: Vec<String> =
+        files.map(|file| file.expect("a file").file_name().to_string_lossy().into()).collect();
+    names.sort();
+    names
+}
+
 /// The status, what was printed and what was said.
-fn ended(words: &[&str], input: &[u8]) -> (i32, String, String) {
+fn ended<W: AsRef<OsStr>>(words: &[W], input: &[u8]) -> (i32, String, String) {
     let output = tape(words, input);
     let text = |bytes: &[u8]| String::from_utf8_lossy(bytes).to_string();
     (output.status.code().unwrap_or(-1), text(&output.stdout), text(&output.stderr))
@@ -41,12 +77,30 @@ fn wrong_words_are_told_with_status_2() {
     for (words, told) in [
         (&[][..], "say what to do"),
         (&["play"], "there is no `tape play`"),
-        (&["read", "--hexa"], "there is no option --hexa"),
-        (&["read", "a", "b", "c"], "at most 2 files"),
-        (&["check", "a", "b"], "at most 1 files"),
+        (
+            &["read", "--hexa"],
+            "`tape read` has no option --hexa: it takes --hex, --words, -o, --force",
+        ),
+        (&["write", "--account", "1"], "`tape write` has no option --account"),
+        (&["read", "a", "b"], "name one file: what is told goes to another by -o FILE"),
+        (&["write", "w.txt", "w.tape"], "name one file: what is told goes to another by -o FILE"),
         (&["read", "/nowhere/day.tape"], "cannot read /nowhere/day.tape"),
-        (&["write", "-", "/nowhere/day.tape"], "cannot write /nowhere/day.tape"),
+        (&["write", "-o", "/nowhere/day.tape"], "cannot write /nowhere/day.tape"),
+        (&["write", "-o", "/"], "cannot write /: it is a folder"),
+        (&["write", "-o"], "-o needs a file"),
+        (&["write", "--force"], "name one by -o FILE"),
         (&["run", "--program"], "--program needs a path"),
+        (&["explain", "--account", "64"], "--account needs a number from 0 to 63, not \"64\""),
+        (&["explain", "--account=99"], "--account needs a number from 0 to 63, not \"99\""),
+        (&["explain", "--issue", "16"], "--issue needs a number from 0 to 15, not \"16\""),
+        (&["explain", "--day", "65536"], "--day needs a number from 0 to 65535, not \"65536\""),
+        (&["explain", "--day", "1"], "--day 1: the tape ends on day 0"),
+        (&["explain", "--issue"], "--issue needs a number from 0 to 15"),
+        (&["explain", "--issue", "1", "--issue=2"], "--issue stands twice"),
+        (&["explain", "--json", "--html"], "--json and --html contradict each other"),
+        (&["check", "--hex", "--words"], "--hex and --words contradict each other"),
+        (&["check", "--hex=1"], "--hex takes no value"),
+        (&["check", "-", "-"], "standard input is one file: name `-` once"),
         (&["run", "--program", "/nowhere/dayrun"], "/nowhere/dayrun cannot be run"),
     ] {
         let (status, printed, said) = ended(words, b"close\n");
@@ -77,11 +131,15 @@ fn a_text_is_told_from_words() {
     let (status, _, said) = ended(&["read"], text);
     assert!(status == 2 && said.contains("this is text and not the words of a tape"), "{said}");
     let (status, _, said) = ended(&["write"], &words);
-    assert!(status == 2 && said.contains("the input is not text"), "{said}");
+    assert!(status == 2 && said.contains("these are the words of a tape and not text"), "{said}");
     let told = ended(&["explain"], text).1;
     assert!(told.contains("account 1 fails account 2"), "{told}");
-    assert_eq!(ended(&["explain"], &words).1, told);
-    assert_eq!(ended(&["explain", "--hex"], b"10042000 80000003 50000000 60000000").1, told);
+    let of_words = ended(&["explain"], &words).1;
+    assert_eq!(
+        of_words,
+        told.replace(", line 1", "").replace(", line 2", "").replace(", line 3", "")
+    );
+    assert_eq!(ended(&["explain", "--hex"], b"10042000 80000003 50000000 60000000").1, of_words);
 }
 
 #[test]
@@ -93,7 +151,7 @@ fn check_tells_refusals_with_status_1() {
         "standard input:3:1: trade: refused by 3: this is not the call's phase; the book is in \
          Settling, trade belongs to Taking\n3 instructions, 1 refused\n"
     );
-    assert_eq!(ended(&["check"], b"close\n"), (0, "1 instructions, 0 refused\n".into(), "".into()));
+    assert_eq!(ended(&["check"], b"close\n"), (0, "1 instruction, 0 refused\n".into(), "".into()));
 }
 
 #[test]
@@ -147,9 +205,10 @@ fn why_tells_of_a_unit() {
     assert!(printed.ends_with("refused by 16: issue 0 has no unit 2, its units are 0 to 1\n"));
     for (words, told) in [
         (&["why", "-", "0"][..], "why needs a day, an issue and a unit"),
-        (&["why", "-", "0", "x"], "UNIT needs a number in range, not \"x\""),
+        (&["why", "0", "1"], "why needs a day, an issue and a unit"),
+        (&["why", "-", "0", "x"], "UNIT needs a number from 0 to 4294967295, not \"x\""),
         (&["why", "--at", "1", "-", "0", "0"], "trade begins at word 0 and has 2"),
-        (&["why", "--html", "-", "0", "0"], "it makes no page"),
+        (&["why", "--html", "-", "0", "0"], "`tape why` has no option --html"),
     ] {
         let (status, printed, said) = ended(words, text);
         assert!(status == 2 && printed.is_empty() && said.contains(told), "{words:?}: {said}");
@@ -163,4 +222,200 @@ fn an_output_that_fails_is_told() {
     let output = output.expect("the tool runs");
     assert_eq!(output.status.code(), Some(2));
     assert!(String::from_utf8_lossy(&output.stderr).starts_with("tape: cannot write"));
+}
+
+#[test]
+fn a_file_that_exists_is_left_unless_it_is_asked_for() {
+    let folder = folder("exists");
+    let text = file(&folder, "w.txt", b"close\n");
+    let (status, printed, said) = ended(&[OsStr::new("write"), text.as_ref(), text.as_ref()], b"");
+    assert_eq!((status, printed.as_str()), (2, ""), "{said}");
+    assert_eq!(fs::read(&text).unwrap(), b"close\n");
+    let out = folder.join("w.tape");
+    let words = |more: &[&str]| -> Vec<std::ffi::OsString> {
+        let words = ["write".as_ref(), text.as_os_str(), "-o".as_ref(), out.as_os_str()];
+        words.into_iter().chain(more.iter().map(OsStr::new)).map(OsStr::to_os_string).collect()
+    };
+    assert_eq!(ended(&words(&[]), b""), (0, "".into(), "".into()));
+    assert_eq!(fs::read(&out).unwrap(), [0, 0, 0, 0x50]);
+    fs::write(&out, "what was there").unwrap();
+    let (status, _, said) = ended(&words(&[]), b"");
+    assert!(status == 2 && said.contains("w.tape exists and is left as it is"), "{said}");
+    assert_eq!(fs::read(&out).unwrap(), b"what was there");
+    fs::set_permissions(&out, fs::Permissions::from_mode(0o640)).unwrap();
+    assert_eq!(ended(&words(&["--force"]), b"").0, 0);
+    assert_eq!(fs::read(&out).unwrap(), [0, 0, 0, 0x50]);
+    assert_eq!(fs::metadata(&out).unwrap().permissions().mode() & 0o777, 0o640);
+    assert_eq!(names(&folder), ["w.tape", "w.txt"]);
+    fs::remove_dir_all(folder).unwrap();
+}
+
+#[test]
+fn a_run_that_fails_leaves_the_file_that_was_there() {
+    let folder = folder("fails");
+    let out = file(&folder, "lines.txt", b"what was there");
+    let run = |verb: &str, more: &[&str], input: &[u8]| {
+        let words = [verb.as_ref(), "--force".as_ref(), "-o".as_ref(), out.as_os_str()];
+        let words: Vec<&OsStr> = words.into_iter().chain(more.iter().map(OsStr::new)).collect();
+        ended(&words, input)
+    };
+    assert_eq!(run("write", &[], b"sell\n").0, 2);
+    assert_eq!(run("explain", &["--day", "3"], b"close\n").0, 2);
+    let (status, _, said) = run("run", &["--program", "/bin/true"], b"close\n");
+    assert!(
+        status == 1 && said.contains("the ledger is missing") && said.contains("no file is"),
+        "{said}"
+    );
+    assert_eq!(fs::read(&out).unwrap(), b"what was there");
+    assert_eq!(names(&folder), ["lines.txt"]);
+    let link = folder.join("link.txt");
+    std::os::unix::fs::symlink(&out, &link).unwrap();
+    let words = ["check".as_ref(), "--force".as_ref(), "-o".as_ref(), link.as_os_str()];
+    assert_eq!(ended(&words, b"close\n").0, 0);
+    assert_eq!(fs::read(&out).unwrap(), b"1 instruction, 0 refused\n");
+    assert!(fs::symlink_metadata(&link).unwrap().is_symlink());
+    fs::remove_dir_all(folder).unwrap();
+}
+
+#[test]
+fn a_run_that_is_interrupted_leaves_the_old_file_and_no_other() {
+    for signal in ["-INT", "-TERM", "-HUP"] {
+        let folder = folder(&format!("interrupted{signal}"));
+        let out = file(&folder, "told.txt", b"what was there");
+        // A million refused calls take a while to tell.
+        let day = file(&folder, "day.tape", &[0, 0, 0, 0x60].repeat(1_000_000));
+        let words = [
+            "explain".as_ref(),
+            "--force".as_ref(),
+            "-o".as_ref(),
+            out.as_os_str(),
+            day.as_os_str(),
+        ];
+        let mut child = begun(&words);
+        let start = Instant::now();
+        while names(&folder).len() < 3 && start.elapsed() < Duration::from_secs(20) {
+            sleep(Duration::from_millis(1));
+        }
+        assert_eq!(names(&folder).len(), 3, "it is written beside");
+        let id = child.id().to_string();
+        assert!(Command::new("kill").args([signal, &id]).status().unwrap().success());
+        assert!(!child.wait().unwrap().success());
+        assert_eq!(names(&folder), ["day.tape", "told.txt"], "{signal}");
+        assert_eq!(fs::read(&out).unwrap(), b"what was there");
+        fs::remove_dir_all(folder).unwrap();
+    }
+}
+
+#[test]
+fn several_days_are_run_one_after_the_other() {
+    let folder = folder("several");
+    let monday = file(&folder, "mon.txt", b"trade 0 1 2 3\nclose\n");
+    let tuesday = file(&folder, "tue.txt", b"cutoff\ntrade 0 1 2 3\n");
+    let (before, after) = (fs::read(&monday).unwrap(), fs::read(&tuesday).unwrap());
+    let days = |words: &[&str]| {
+        let words = words.iter().map(OsStr::new).chain([monday.as_os_str(), tuesday.as_os_str()]);
+        ended(&words.collect::<Vec<_>>(), b"")
+    };
+    let (status, told, _) = days(&["explain"]);
+    assert_eq!(status, 0);
+    assert!(told.contains("account 1 fails account 2") && told.contains("tue.txt line 1: cutoff"));
+    let (status, told, _) = days(&["check"]);
+    assert!(status == 1 && told.ends_with("4 instructions, 1 refused\n"), "{told}");
+    assert!(told.contains("tue.txt:2:1: trade: refused by 3"), "{told}");
+    assert_eq!((fs::read(&monday).unwrap(), fs::read(&tuesday).unwrap()), (before, after));
+    let mut words = vec![OsStr::new("why"), monday.as_os_str(), tuesday.as_os_str()];
+    words.extend(["0", "0"].map(OsStr::new));
+    assert!(ended(&words, b"").1.contains("day 0, Cut: unit 0 of issue 0"));
+    fs::remove_dir_all(folder).unwrap();
+}
+
+#[test]
+fn a_name_that_is_no_text_is_taken() {
+    let folder = folder("bytes");
+    let day = file(&folder, OsStr::from_bytes(b"m\xffn\xe9.txt"), b"close\nsell\n");
+    let out = folder.join(OsStr::from_bytes(b"\xfe\xff"));
+    let (status, _, said) = ended(&[OsStr::new("check"), day.as_os_str()], b"");
+    assert!(status == 2 && said.contains(".txt:2:1: there is no instruction"), "{said}");
+    fs::write(&day, "close\n").unwrap();
+    let words = ["check".as_ref(), "-o".as_ref(), out.as_os_str(), day.as_os_str()];
+    assert_eq!(ended(&words, b""), (0, "".into(), "".into()));
+    assert_eq!(fs::read(&out).unwrap(), b"1 instruction, 0 refused\n");
+    let program = folder.join(OsStr::from_bytes(b"\xfe"));
+    let words = ["run".as_ref(), "--program".as_ref(), program.as_os_str()];
+    assert!(ended(&words, b"").2.contains("cannot be run"));
+    let wrong = OsStr::from_bytes(b"--\xff");
+    assert!(ended(&[OsStr::new("run"), wrong], b"").2.contains("has no option"));
+    assert!(ended(&[wrong], b"").2.contains("there is no `tape"));
+    let number = OsStr::from_bytes(b"--day=\xff");
+    assert!(ended(&[OsStr::new("explain"), number], b"").2.contains("--day needs a number"));
+    fs::remove_dir_all(folder).unwrap();
+}
+
+#[test]
+fn two_dashes_end_the_options() {
+    let folder = folder("dashes");
+    file(&folder, "--day", b"close\n");
+    let run = |words: &[&str]| {
+        let mut tool = Command::new(env!("CARGO_BIN_EXE_tape"));
+        let output = tool.args(words).current_dir(&folder).output().expect("the tool runs");
+        (output.status.code(), String::from_utf8(output.stdout).expect("text"))
+    };
+    let checked = (Some(0), "1 instruction, 0 refused\n".to_string());
+    assert_eq!(run(&["check", "--", "--day"]), checked);
+    assert!(run(&["explain", "--day=0", "--", "--day"]).1.contains("word 0, line 1: close"));
+    fs::remove_dir_all(folder).unwrap();
+}
+
+#[test]
+fn text_in_another_encoding_is_neither_text_nor_words() {
+    let utf16 = |text: &str| text.encode_utf16().flat_map(u16::to_le_bytes).collect::<Vec<u8>>();
+    let shift_jis = b"trade 0 1 2 3 # \x96\xf1\x92\xe8\nclose\n".to_vec();
+    for (bytes, what) in [
+        (shift_jis, "text that is not in UTF-8, by line 1: save it as UTF-8"),
+        (b"close # caf\xe9\n".to_vec(), "text that is not in UTF-8, by line 1: save it as UTF-8"),
+        (utf16("\u{feff}trade 0 1 2 3\n"), "text in UTF-16: save it as UTF-8"),
+        (utf16("trade 0 1 2 3\n"), "text in UTF-16: save it as UTF-8"),
+        (
+            vec![0x12, 0x34, 0x56, 0xf8, 0xff],
+            "begins with the bytes 12 34 56 f8, which no instruction",
+        ),
+    ] {
+        for verb in ["write", "read", "check", "run", "explain"] {
+            let (status, printed, said) = ended(&[verb], &bytes);
+            assert_eq!((status, printed.as_str()), (2, ""), "{verb}: {said}");
+            assert!(
+                said.contains("this is neither the text form nor the words of a tape"),
+                "{said}"
+            );
+            assert!(said.contains(what), "{verb}: {said}");
+        }
+    }
+    let damaged = ended(&["check", "--words"], &[1, 0, 0, 0x50]);
+    assert!(damaged.0 == 1 && damaged.1.contains("word 0: reading ends here: refused by 14"));
+    assert!(ended(&["read", "--words"], &[1, 0, 0, 0x50]).1.ends_with("word 50000001\n"));
+}
+
+#[test]
+fn a_text_that_is_wrong_throughout_is_told_in_a_dozen_lines() {
+    let text = "sell everything now\n".repeat(200_000);
+    for verb in ["write", "check", "explain"] {
+        let (status, printed, said) = ended(&[verb], text.as_bytes());
+        assert_eq!((status, printed.as_str()), (2, ""));
+        assert_eq!(said.lines().count(), 13);
+        assert!(said.ends_with("standard input: 199,988 more errors are not listed\n"), "{said}");
+    }
+    let long = format!("close\n{}\n", "x".repeat(5_000_000));
+    let said = ended(&["write"], long.as_bytes()).2;
+    assert!(said.len() < 1_000 && said.contains(".. (5,000,000 letters)"), "{}", said.len());
+    let hex = ended(&["check", "--hex"], "x ".repeat(200_000).as_bytes()).2;
+    assert!(hex.lines().count() == 13 && hex.contains("199,988 more errors"), "{hex}");
+}
+
+#[test]
+fn a_device_is_written_as_it_is() {
+    let (status, printed, said) = ended(&["check", "-o", "/dev/null"], b"close\n");
+    assert_eq!((status, printed.as_str(), said.as_str()), (0, "", ""));
+    let (status, _, said) = ended(&["check", "-o", "/dev/full"], b"close\n");
+    assert!(status == 2 && said.starts_with("tape: cannot write /dev/full: "), "{said}");
+    assert_eq!(ended(&["check", "-o", "-"], b"close\n").1, "1 instruction, 0 refused\n");
 }

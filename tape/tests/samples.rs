@@ -2,6 +2,7 @@
 
 use std::fs;
 use std::path::{Path, PathBuf};
+use tape::input::{Day, Taken};
 use tape::{telling, text};
 
 /// The samples in text form.
@@ -20,6 +21,12 @@ fn samples() -> Vec<PathBuf> {
 fn tape_of(sample: &Path) -> Vec<u8> {
     let lines = fs::read_to_string(sample).expect("a sample in text form");
     text::to_tape(&lines).unwrap_or_else(|faults| panic!("{}: {faults:?}", sample.display()))
+}
+
+/// A sample as a day, in its text form.
+fn day_of(sample: &Path) -> Day {
+    let bytes = fs::read(sample).expect("a sample in text form");
+    Day::of("sample", bytes, Taken::Apart).expect("a day")
 }
 
 #[test]
@@ -50,7 +57,7 @@ fn each_sample_is_read_back() {
 #[test]
 fn each_sample_is_explained() {
     for sample in samples() {
-        let told = telling::explained(&tape_of(&sample));
+        let told = telling::explained(&day_of(&sample));
         assert!(told.starts_with("Day 0\n") && told.contains("\nAt the end: day "), "{told}");
     }
 }
@@ -58,7 +65,7 @@ fn each_sample_is_explained() {
 #[test]
 fn the_settled_days_are_told() {
     let sample = Path::new(env!("CARGO_MANIFEST_DIR")).join("../tapes/p5-to-p9.txt");
-    let told = telling::explained(&tape_of(&sample));
+    let told = telling::explained(&day_of(&sample));
     for line in [
         "issue 0: units 0 to 1 are account 2's, 100,000 lots each",
         "issue 0: unit 5 is account 2's, 50,000 lots",

@@ -3,6 +3,7 @@
 use std::collections::BTreeMap;
 use std::fs;
 use std::path::Path;
+use tape::input::{Day, Taken};
 use tape::telling::{explain, explained, Form, Only};
 use tape::text;
 
@@ -27,14 +28,25 @@ const DAYS: &str = "trade 0 4 1 230000\ntrade 0 5 2 250000\ntrade 0 5 3 150000\n
 const MARKED: &str = "mark 3 1\nmark 5 1\nmark 5 0\ntrade 3 4 1 7\ntrade 3 4 1 130000\nmark 3 1\n\
     close\ndeliver 3 4 110002\ncutoff\nroll 1 300 100000\nmark 3 0\nresolve 3 4 1\n";
 
-fn tape(text: &str) -> Vec<u8> {
-    text::to_tape(text).expect("a text form")
+/// A day in its text form.
+fn day(text: &str) -> Day {
+    Day::of("day.txt", text.as_bytes().to_vec(), Taken::Apart).expect("a text form")
+}
+
+/// The same as words.
+fn words(text: &str) -> Day {
+    let tape = text::to_tape(text).expect("a text form");
+    Day::of("day.tape", tape, Taken::Words).expect("words")
+}
+
+fn told_of(day: &Day, form: Form, only: Only) -> String {
+    let mut told = Vec::new();
+    explain(day, form, only, &mut told).expect("it is written");
+    String::from_utf8(told).expect("text")
 }
 
 fn told(form: Form, only: Only, text: &str) -> String {
-    let mut told = Vec::new();
-    explain(&tape(text), form, only, &mut told).expect("it is written");
-    String::from_utf8(told).expect("text")
+    told_of(&day(text), form, only)
 }
 
 /// Parses a flat object; anything else is told.
@@ -104,9 +116,9 @@ fn named<'a>(objects: &'a [Object], name: &str) -> Vec<&'a Object> {
 #[test]
 fn the_settled_days_are_told_as_stored() {
     let folder = Path::new(env!("CARGO_MANIFEST_DIR")).join("../tapes");
-    let day = fs::read_to_string(folder.join("p5-to-p9.txt")).expect("the settled days");
+    let text = fs::read_to_string(folder.join("p5-to-p9.txt")).expect("the settled days");
     let stored = fs::read_to_string(folder.join("p5-to-p9.told")).expect("what is told of them");
-    assert_eq!(explained(&tape(&day)), stored);
+    assert_eq!(explained(&day(&text)), stored);
 }
 
 #[test]
@@ -135,8 +147,8 @@ fn text_says_why() {
 fn marks_are_told_in_plain_words() {
     let text = told(Form::Text, Only::default(), MARKED);
     for line in [
-        "word 0: mark: issue 3 in multiples of 100,000 yen face, even lots only\n",
-        "word 2: mark: issue 5 in multiples of 50,000 yen face, any lots\n",
+        "word 0, line 1: mark: issue 3 in multiples of 100,000 yen face, even lots only\n",
+        "word 2, line 3: mark: issue 5 in multiples of 50,000 yen face, any lots\n",
         "of issue 3: refused by 19: lots are odd in a marked issue; issue 3 is in multiples of",
         "even lots only: refused by 20: the issue has a net or an entry; issue 3 has nets of 2 accounts",
         "any lots: refused by 20: the issue has a net or an entry; issue 3 has nets of 0 accounts and 1 entry in",
@@ -234,10 +246,21 @@ fn every_fact_of_json_is_in_the_documents() {
         let Value::Text(name) = &object["fact"] else { panic!("{object:?}") };
         let row = documents.lines().find(|line| line.starts_with(&format!("| `{name}` |")));
         let row = row.unwrap_or_else(|| panic!("docs/TAPE.md has no row of `{name}`"));
-        for field in object.keys().filter(|field| !["fact", "day"].contains(&field.as_str())) {
+        let of_all = ["fact", "day", "word", "line"];
+        for field in object.keys().filter(|field| !of_all.contains(&field.as_str())) {
             assert!(row.contains(&format!("`{field}`")), "docs/TAPE.md: `{name}` has `{field}`");
         }
     }
+}
+
+/// Is the object about this account, or about none?
+fn is_about(object: &Object, account: i64) -> bool {
+    let accounts = ["from", "to", "account", "follower"].map(|name| object.get(name));
+    let listed = match object.get("accounts") {
+        Some(Value::List(accounts)) => accounts.contains(&account),
+        _ => accounts == [None; 4],
+    };
+    accounts.contains(&Some(&Value::Number(account))) || listed
 }
 
 #[test]
@@ -247,15 +270,118 @@ fn issue_account_and_day_narrow_it() {
     assert!(of_issue.iter().all(|o| !o.contains_key("issue") || number(o, "issue") == 3));
     assert!(!named(&of_issue, "fails").is_empty() && of_issue.len() < all.len());
     let of_account = objects(Only { account: Some(4), ..Only::default() });
-    for object in &of_account {
-        let accounts = ["from", "to", "account"].map(|name| object.get(name));
-        let about = accounts.contains(&Some(&Value::Number(4)));
-        assert!(about || accounts == [None; 3], "{object:?}");
-    }
     assert_eq!(named(&of_account, "charged").len(), 1);
+    assert!(of_account.len() < all.len());
     let of_day = objects(Only { day: Some(1), ..Only::default() });
     assert!(of_day.iter().all(|object| number(object, "day") == 1));
     assert!(!named(&of_day, "paired").is_empty() && named(&of_day, "charge").is_empty());
+}
+
+#[test]
+fn a_narrowed_telling_keeps_the_instruction_that_an_effect_belongs_to() {
+    for account in 0..6 {
+        let objects = objects(Only { account: Some(account), ..Only::default() });
+        let account = i64::from(account);
+        for (at, object) in objects.iter().enumerate() {
+            let is_instruction = object["fact"] == Value::Text("instruction".to_string());
+            if !is_instruction {
+                assert!(is_about(object, account), "{object:?}");
+            }
+            let Some(Value::Number(word)) = object.get("word") else { continue };
+            let of_word = |other: &&Object| other.get("word") == Some(&Value::Number(*word));
+            let ends = object["fact"] == Value::Text("reading-ends".to_string());
+            let first = objects.iter().find(of_word).expect("itself");
+            assert!(ends || first["fact"] == Value::Text("instruction".to_string()), "{object:?}");
+            // An instruction of others is there for an effect that follows it.
+            if is_instruction && !is_about(object, account) {
+                assert!(objects[at + 1..].iter().any(|next| of_word(&next)), "{object:?}");
+            }
+        }
+    }
+    let two = told(Form::Text, Only { account: Some(2), ..Only::default() }, DAYS);
+    let handed = "word 11, line 7: deliver: account 5 delivers 345,000 lots (17,250,000,000 yen face) \
+        of issue 0\n      units 0 to 1 are handed to account 2: 100,000 lots (5,000,000,000 yen face) \
+        each\n  word 13, line 8: deliver: account 4 delivers 200,000 lots (10,000,000,000 yen face) of \
+        issue 0\n      45,000 lots wait for unit 5 of account 2, 50,000 lots\n  word 17, line 10: cutoff";
+    assert!(two.contains(handed), "{two}");
+    assert!(!two.contains("delivers 30,001"), "{two}");
+}
+
+#[test]
+fn every_fact_names_its_instruction() {
+    let of_book = ["day", "end", "marked", "entry", "charged"].map(|name| name.to_string());
+    let parsed = |text: String| -> Vec<Object> {
+        text.lines().map(|line| parse(line).expect("an object")).collect()
+    };
+    let of_text = parsed(told(Form::Json, Only::default(), DAYS));
+    let of_words = parsed(told_of(&words(DAYS), Form::Json, Only::default()));
+    assert_eq!(of_text.len(), of_words.len());
+    let mut last = None;
+    for (one, other) in of_text.iter().zip(&of_words) {
+        let Value::Text(name) = &one["fact"] else { panic!("{one:?}") };
+        let has = !of_book.contains(name);
+        assert_eq!((one.contains_key("word"), one.contains_key("line")), (has, has), "{one:?}");
+        assert_eq!((one.get("word"), None), (other.get("word"), other.get("line")), "{other:?}");
+        if name == "instruction" {
+            last = Some((one["word"].clone(), one["line"].clone()));
+        } else if has && name != "reading-ends" {
+            assert_eq!(last, Some((one["word"].clone(), one["line"].clone())), "{one:?}");
+        }
+    }
+    let fails = of_text.iter().filter(|one| one["fact"] == Value::Text("fails".to_string()));
+    let lines: Vec<i64> = fails.map(|one| number(one, "line")).collect();
+    assert_eq!(lines, [10, 10, 10, 10, 10, 15, 15]);
+}
+
+#[test]
+fn several_days_are_one_tape_and_name_their_files() {
+    let mut days = Day::of("mon.txt", b"trade 0 1 2 3\nclose\n".to_vec(), Taken::Apart).unwrap();
+    days.add("tue.txt", b"# late\ncutoff\n".to_vec(), Taken::Apart).unwrap();
+    let text = told_of(&days, Form::Text, Only::default());
+    assert!(text.contains("  word 2, mon.txt line 2: close\n"), "{text}");
+    assert!(
+        text.contains("  word 3, tue.txt line 2: cutoff\n      issue 0: account 1 fails account 2")
+    );
+    let json = told_of(&days, Form::Json, Only::default());
+    let fails = json.lines().find(|line| line.contains("\"fails\"")).expect("a fail");
+    assert!(fails.contains("\"word\":3,\"line\":2,\"file\":\"tue.txt\","), "{fails}");
+}
+
+#[test]
+fn days_have_a_line_between_them() {
+    let all = told(Form::Text, Only::default(), DAYS);
+    assert!(all.starts_with("Day 0\n") && all.contains("\n\nDay 1\n"), "{all}");
+    let second = told(Form::Text, Only { day: Some(1), ..Only::default() }, DAYS);
+    assert!(second.starts_with("Day 1\n"), "{second}");
+}
+
+#[test]
+fn ones_are_told_in_the_singular() {
+    let day = "trade 0 1 2 150001\nclose\ndeliver 0 1 100001\ncutoff\nroll 1 300 100000\n\
+        trade 0 2 3 50000\nclose\ncutoff\npair-off 0 2\n";
+    let text = told(Form::Text, Only::default(), day);
+    for line in [
+        "\n      1 lot waits for unit 1 of account 2, 50,001 lots\n",
+        "issue 0: the remaining 1 lot goes to unit 1 of account 2, which still lacks 50,000 lots",
+        "\n      1 step, 50,000 lots cancelled\n",
+        "\n  the whole book has 1 fail entry in the ledger and 2 accounts with charges\n",
+    ] {
+        assert!(text.contains(line), "{line}\n{text}");
+    }
+}
+
+#[test]
+fn a_page_counts_the_units_that_it_shows() {
+    let of = |account| told(Form::Html, Only { account, ..Only::default() }, DAYS);
+    assert!(of(None).contains("<p>630,000 lots (31,500,000,000 yen face) due in 8 units</p>"));
+    assert!(of(Some(1)).contains("<p><b>Only what is of account 1 is shown.</b></p>"));
+    assert!(!of(None).contains("Only what is"));
+    assert!(of(None).contains("<td>5,000</td><td>100.000</td><td>0.000</td><td>250,000,000</td>"));
+    assert!(of(Some(1)).contains("<p>230,000 lots (11,500,000,000 yen face) due in 3 units</p>"));
+    let day = "trade 0 9 1 230000\ntrade 0 9 8 7\nclose\n";
+    let page = told(Form::Html, Only { account: Some(8), ..Only::default() }, day);
+    assert!(page.contains("<p>7 lots (350,000 yen face) due in 1 unit</p>"), "{page}");
+    assert!(page.contains("title=\"unit 3 of account 8, 7 lots: 0 lots handed"), "{page}");
 }
 
 #[test]
@@ -275,7 +401,7 @@ fn html_is_one_page_with_nothing_from_elsewhere() {
         "<h2>Day 0, issue 0</h2>",
         "<h2>Day 1, issue 3</h2>",
         "units 0–1 of account 2, 100,000 lots each, 200,000 lots in all: 200,000 lots handed, 0 lots",
-        "units 5 of account 2, 50,000 lots each, 50,000 lots in all: 45,000 lots handed, 5,000 lots f",
+        "\"unit 5 of account 2, 50,000 lots: 45,000 lots handed, 5,000 lots failed, 0 lots open\"",
         "<span class=\"handed\" style=\"flex-grow:45000\"></span><span class=\"partly\" \
          style=\"flex-grow:5000\">",
         "<span class=\"failed\" style=\"flex-grow:50000\">",

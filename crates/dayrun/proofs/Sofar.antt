@@ -1,6 +1,6 @@
 -- A run on its way: the bytes that came, what was printed of them and the run from here.
 use mathlib.Core.Path.{_≡_, refl, sym, ap, subst, _∙_}
-use mathlib.Core.Bool.{Bool, true, false, not, _||_}
+use mathlib.Core.Bool.{Bool, true, false, not, false≢true}
 use mathlib.Core.List.{List, [], _∷_, _++_, append-assoc, append-nil}
 use Prim.Native.Nat.{ℕ, zero, suc, _+_, _-_, _*_, _%_, _≤_, _<_}
 use native.Mathlib.Omega.{arith}
@@ -22,7 +22,7 @@ use Rattle.turns.specs.Going.{Follows, Goes, onward, Went}
 use Rattle.turns.proofs.Goings.{went-as}
 use Rattle.dayrun.specs.declared.Sent.{Sent}
 use Rattle.dayrun.specs.declared.End.{End}
-use Rattle.dayrun.specs.Day.{Standing, unused, Stepped, Shown, Played, Whole}
+use Rattle.dayrun.specs.Day.{mostReads, Standing, unused, Stepped, Shown, Played, Closed, Whole}
 
 drop-front : (n m : ℕ) (xs : List ℕ) → drop n (take m xs) ≡ take (m - n) (drop n xs)
 drop-front zero m xs = let e : m ≡ m - 0 = omega arith in ap (λ (k : ℕ). take k xs) e
@@ -63,19 +63,27 @@ failed-none : (z : ℤ) (m : ℕ) → saysFailed z ≡ true → clamped z m ≡ 
 failed-none (pos n) m e = absurd (let q : _≡_ {A = ℕ} 0 1 = cc in omega arith)
 failed-none (negsuc n) m e = refl
 
+-- a read that neither ends the tape nor fails brings a byte
+brings : (z : ℤ) (m : ℕ) → saysEnd z ≡ false → saysFailed z ≡ false → 0 < m → 0 < clamped z m
+brings (pos zero) m e f h = absurd (false≢true (sym e))
+brings (pos (suc n)) m e f h = omega arith
+brings (negsuc n) m e f h = absurd (false≢true (sym f))
+
 -- a run on its way: of all bytes that the reads brought, in order, and whatever comes behind them, the text written so far and
--- the run from here
-pub record Sofar (over : Bool) (index : ℕ) (b : Book) (rest : List ℕ) (sent : ℕ) : Type 0 where
+-- the run from here; each read but the last brought a byte, and the last where the run goes on
+pub record Sofar (over failed : Bool) (reads index : ℕ) (b : Book) (rest : List ℕ) (sent : ℕ) : Type 0 where
   pub came : List ℕ
   pub text : List ℕ
   pub ended : Bool
   pub many : length text ≡ sent
+  pub each : over ≡ false → failed ≡ false → reads ≤ length came
+  pub brought : reads ≤ length came + 1
   pub goes : over ≡ false → ended ≡ false
   pub run : (more : List ℕ) → (ended ≡ true → more ≡ []) →
       Goes (ranOf (came ++ more)) text (onward over index b (wordsIn (rest ++ more)) (strayIn (rest ++ more)))
 
 -- nothing came yet
-pub sofar-starts : (b : Book) (rest : List ℕ) → b ≡ fresh → rest ≡ [] → Sofar false 0 b rest 0
+pub sofar-starts : (b : Book) (rest : List ℕ) → b ≡ fresh → rest ≡ [] → Sofar false false 0 0 b rest 0
 unfolding ranOf
 sofar-starts b rest e r =
     record {
@@ -83,6 +91,8 @@ sofar-starts b rest e r =
       text = [];
       ended = false;
       many = refl;
+      each = λ z f. omega arith;
+      brought = omega arith;
       goes = λ z. refl;
       run = λ more f. rw (e, r, run-start (wordsIn more) (strayIn more)) (record { printed = refl; book = refl });
     }
@@ -156,7 +166,13 @@ module _ (p r : Place) (bytes bytes′ text : List ℕ) (d : Stepped p bytes byt
       rw (words-append all more, d .parted .index, ← u, ← words-from k all more (went .within), ← stray-from k all more (omega (arith, went .within, z .0)))
       (went .run (wordsIn (tailIn all ++ more)) (strayIn (all ++ more)) (follows (d .read .done) all more f))
 
-  module _ (sent : ℕ) (o : p .over ≡ false) (s : Sofar (p .over) (p .index) (p .book) (unused p bytes) sent) where
+  -- and one that neither fails nor ends the run brings a byte
+  came-some : p .end < p .start + 132 → p .start ≤ p .end → 132 ≤ length bytes → r .over ≡ false → r .failed ≡ false → 0 < length came
+  came-some k h l o e =
+      let f = d .fed .refilled in
+      omega (arith, f .many, brings (f .said) (length bytes - (p .end - p .start)) (sym (f .took .done) ∙ went .goes o) (sym (f .took .failed) ∙ sym (d .parted .failed) ∙ e) (omega arith))
+
+  module _ (sent reads : ℕ) (o : p .over ≡ false) (s : Sofar (p .over) (p .failed) reads (p .index) (p .book) (unused p bytes) sent) where
     on : (more : List ℕ) → (d .read .done ≡ true → more ≡ []) →
         Goes (ranOf ((s .came ++ came) ++ more)) (s .text ++ take (r .printed) text)
         (onward (r .over) (r .index) (r .book) (wordsIn (unused r bytes′ ++ more)) (strayIn (unused r bytes′ ++ more)))
@@ -173,13 +189,16 @@ module _ (p r : Place) (bytes bytes′ text : List ℕ) (d : Stepped p bytes byt
         (on-goes (p .over) (p .index) (p .book) _ (s .text) (wordsIn (unused p bytes ++ (came ++ more))) (strayIn (unused p bytes ++ (came ++ more))) o old))
         (part-goes more f))
 
-    pub sofar-on : (next : ℕ) → next ≡ sent + length (take (r .printed) text) → Sofar (r .over) (r .index) (r .book) (unused r bytes′) next
-    sofar-on next e =
+    pub sofar-on : (next : ℕ) → next ≡ sent + length (take (r .printed) text) → p .failed ≡ false → Standing p → 132 ≤ length bytes →
+        Sofar (r .over) (r .failed) (reads + 1) (r .index) (r .book) (unused r bytes′) next
+    sofar-on next e w g l =
         record {
           came = s .came ++ came;
           text = s .text ++ take (r .printed) text;
           ended = d .read .done;
           many = omega (arith, e, s .many, length-append (s .text) (take (r .printed) text));
+          each = λ u v. omega (arith, s .each o w, came-some (g .few o) (g .order) l u v, length-append (s .came) came);
+          brought = omega (arith, s .each o w, length-append (s .came) came);
           goes = went .goes;
           run = on;
         }
@@ -198,54 +217,57 @@ over-goes : (over : Bool) (index : ℕ) (b : Book) (a : Ran) (text ws : List ℕ
     Goes a text (onward over index b ws stray) → Goes a text (stopped [] b)
 over-goes over index b a text ws stray e g = rw e at g
 
-pub played : (r : End) (index : ℕ) (rest : List ℕ) → r .sent ≤ 11529215046068469760 → sound (r .book) ≡ true →
-    Sofar (r .over) index (r .book) rest (r .sent) → Played r
-played r index rest n o s =
-    let g : r .over ≡ true → Goes (ranOf (s .came)) (s .text) (stopped [] (r .book)) =
-    λ e. over-goes (r .over) index (r .book) _ (s .text) (wordsIn (rest ++ [])) (strayIn (rest ++ [])) e
-    (subst (λ (l : List ℕ). Goes (ranOf l) (s .text) (onward (r .over) index (r .book) (wordsIn (rest ++ [])) (strayIn (rest ++ []))))
-    (append-nil (s .came)) (s .run [] (λ z. refl))) in
+pub played : (r : End) (index : ℕ) (rest : List ℕ) → r .sent .count ≤ 327680 * mostReads → sound (r .book) ≡ true →
+    (r .over ≡ false → r .failed ≡ false → r .sent .written ≡ true → r .reads ≡ mostReads) → (r .failed ≡ true → r .over ≡ false) →
+    0 < r .reads → Sofar (r .over) (r .failed) (r .reads) index (r .book) rest (r .sent .count) → Played r
+played r index rest n o stops waits begun s =
+    let g : r .over ≡ true → (more : List ℕ) → (s .ended ≡ true → more ≡ []) → Goes (ranOf (s .came ++ more)) (s .text) (stopped [] (r .book)) =
+    λ e more f. over-goes (r .over) index (r .book) _ (s .text) (wordsIn (rest ++ more)) (strayIn (rest ++ more)) e (s .run more f) in
     record {
       few = n;
       count = sound-parts _ o .ledger .count;
+      stops = stops;
+      waits = waits;
+      begun = begun;
       came = s .came;
       ended = s .ended;
       text = s .text;
+      each = s .each;
+      brought = s .brought;
       many = s .many;
       printed = record { part = λ more f. stands 0 [] (s .text) _ _ refl (s .run more f) };
-      lines = λ e. g e .printed ∙ append-nil (s .text);
-      book = λ e. g e .book;
+      goes = s .goes;
+      lines = λ e more f. g e more f .printed ∙ append-nil (s .text);
+      book = λ e more f. g e more f .book;
     }
 
 -- the lines behind a run's end what is printed
 module _ (e : End) (text : List ℕ) (q : Played e) (o : e .over ≡ true) (t : text ≡ closingText (e .book)) where
-  printed-all : printedOf (q .came) ≡ linesText (ranOf (q .came) .lines) ++ text
+  printed-all : (more : List ℕ) → (q .ended ≡ true → more ≡ []) → printedOf (q .came ++ more) ≡ q .text ++ text
   unfolding printedOf
-  printed-all = ap (λ (l : List ℕ). linesText (ranOf (q .came) .lines) ++ l) (ap closingText (q .book o) ∙ sym t)
+  printed-all more f =
+      ap (λ (l : List ℕ). linesText (ranOf (q .came ++ more) .lines) ++ l) (ap closingText (q .book o more f) ∙ sym t)
+      ∙ ap (λ (l : List ℕ). l ++ text) (q .lines o more f)
 
-  pub closing-shown : Shown (e .sent) text
+  pub closing-shown : Shown (e .sent .count) text
   closing-shown =
-      let lines = linesText (ranOf (q .came) .lines) in
       record {
         came = q .came;
-        ended = true;
+        ended = q .ended;
         printed = record {
           part = λ more f.
-              ap (λ (l : List ℕ). take (length text) (drop (e .sent) (printedOf l))) (ap (λ (l : List ℕ). q .came ++ l) (f refl) ∙ append-nil (q .came))
-              ∙ ap (λ (n : ℕ). take (length text) (drop n (printedOf (q .came)))) (sym (ap length (q .lines o) ∙ q .many))
-              ∙ stands-in lines text [] (printedOf (q .came)) (printed-all ∙ ap (λ (l : List ℕ). lines ++ l) (sym (append-nil text)));
+              ap (λ (n : ℕ). take (length text) (drop n (printedOf (q .came ++ more)))) (sym (q .many))
+              ∙ stands-in (q .text) text [] (printedOf (q .came ++ more)) (printed-all more f ∙ ap (λ (l : List ℕ). q .text ++ l) (sym (append-nil text)));
         };
       }
 
-  pub whole : (r : Sent) → r .count ≡ e .sent + length text → Whole r
-  whole r c =
-      record {
-        came = q .came;
-        count = omega (arith, c, ap length (q .lines o), q .many, ap length printed-all, length-append (linesText (ranOf (q .came) .lines)) text);
-      }
-
--- a part behind which the run goes on
-pub goes-on : (over failed written : Bool) → ((over || failed) || not written) ≡ false → (over ≡ false) × (failed ≡ false)
-goes-on false false written e = (refl, refl)
-goes-on false true written e = (refl, e)
-goes-on true failed written e = (e, cc)
+-- the lines of a run and those behind it are all that is printed
+pub whole : (e : End) (r : Sent) → Played e → Closed e r → Whole (record { run = e; closing = r })
+whole e r q k =
+    let closing = closingText (e .book) in
+    record {
+      played = q;
+      closed = k;
+      count = λ o w. omega (arith, k .closing o w, q .many, length-append (q .text) closing);
+      printed = λ o more f. sym (printed-all e closing q o refl more f);
+    }

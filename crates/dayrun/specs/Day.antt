@@ -1,17 +1,22 @@
 -- A day of the program: its buffers, where a run stands between two parts, what is written and what was at the end.
 use mathlib.Core.Path.{_≡_}
 use mathlib.Core.Bool.{Bool, true, false}
-use mathlib.Core.List.{List}
-use Prim.Native.Nat.{ℕ, _+_, _-_, _≤_, _<_}
+use mathlib.Core.List.{List, [], _++_}
+use Prim.Native.Nat.{ℕ, _+_, _-_, _*_, _≤_, _<_}
 use lib.ListN.{length, take, drop}
 use Rattle.rules.specs.Book.{sound}
-use Rattle.rules.specs.Text.{linesText, ranOf, printedOf, PrintedAt}
+use Rattle.rules.specs.Text.{linesText, closingText, ranOf, printedOf, PrintedAt}
 use Rattle.input.specs.declared.Words.{Words}
 use Rattle.input.specs.Fed.{Fed}
 use Rattle.parts.specs.declared.Place.{Place}
 use Rattle.parts.specs.Parting.{Parted}
 use Rattle.dayrun.specs.declared.Sent.{Sent}
 use Rattle.dayrun.specs.declared.End.{End}
+use Rattle.dayrun.specs.declared.Outcome.{Outcome}
+
+-- a run makes at most 2 ^ 45 - 1 reads
+abbrev pub mostReads : ℕ
+mostReads = 35184372088831
 
 -- 4,096 words and their bytes, room for the text of as many lines, and an output
 pub record Buffers (bytes words text out : List ℕ) : Type 0 where
@@ -45,20 +50,43 @@ pub record Shown (sent : ℕ) (text : List ℕ) : Type 0 where
   pub ended : Bool
   pub printed : PrintedAt came ended sent text
 
--- how a run ended: of the bytes that came, the text sent is what is printed first, whatever may still come; where the run was
--- over it is all its lines, and the book is the run's
+-- how a run ended. It made a read; one that is not over had a read that failed, a write that failed, or all its reads; where its last
+-- read failed it is not over. Of the bytes that came, and whatever may still come, the text handed over is what is printed first; where
+-- the run was over it is all its lines, and the book is the run's; else the tape had not ended. Each read but the last brought a byte,
+-- and so did the last where the run was not over and it did not fail
 pub record Played (r : End) : Type 0 where
-  pub few : r .sent ≤ 11529215046068469760
+  pub few : r .sent .count ≤ 327680 * mostReads
   pub count : r .book .count ≤ 2048
+  pub begun : 0 < r .reads
+  pub stops : r .over ≡ false → r .failed ≡ false → r .sent .written ≡ true → r .reads ≡ mostReads
+  pub waits : r .failed ≡ true → r .over ≡ false
   pub came : List ℕ
   pub ended : Bool
   pub text : List ℕ
-  pub many : length text ≡ r .sent
+  pub each : r .over ≡ false → r .failed ≡ false → r .reads ≤ length came
+  pub brought : r .reads ≤ length came + 1
+  pub many : length text ≡ r .sent .count
   pub printed : PrintedAt came ended 0 text
-  pub lines : r .over ≡ true → linesText (ranOf came .lines) ≡ text
-  pub book : r .over ≡ true → ranOf came .book ≡ r .book
+  pub goes : r .over ≡ false → ended ≡ false
+  pub lines : r .over ≡ true → (more : List ℕ) → (ended ≡ true → more ≡ []) → linesText (ranOf (came ++ more) .lines) ≡ text
+  pub book : r .over ≡ true → (more : List ℕ) → (ended ≡ true → more ≡ []) → ranOf (came ++ more) .book ≡ r .book
 
--- all that is printed for the bytes that came, and no more
-pub record Whole (r : Sent) : Type 0 where
-  pub came : List ℕ
-  pub count : r .count ≡ length (printedOf came)
+-- nothing is handed over behind a run's lines, and it counts as not written
+pub record Nothing (e : End) (r : Sent) : Type 0 where
+  pub written : r .written ≡ false
+  pub count : r .count ≡ e .sent .count
+
+-- behind a run: the lines of its book where it was over and its own lines are written, and else nothing
+pub record Closed (e : End) (r : Sent) : Type 0 where
+  pub closing : e .over ≡ true → e .sent .written ≡ true → r .count ≡ e .sent .count + length (closingText (e .book))
+  pub unread : e .over ≡ false → Nothing e r
+  pub unwritten : e .sent .written ≡ false → Nothing e r
+
+-- a whole day: where its run was over and the run's lines are written, the bytes handed over, from the first to the last, are all that
+-- is printed for the bytes that came, and no more, whatever may still come
+pub record Whole (d : Outcome) : Type 0 where
+  pub played : Played (d .run)
+  pub closed : Closed (d .run) (d .closing)
+  pub count : d .run .over ≡ true → d .run .sent .written ≡ true → d .closing .count ≡ length (played .text ++ closingText (d .run .book))
+  pub printed : d .run .over ≡ true → (more : List ℕ) → (played .ended ≡ true → more ≡ []) →
+      played .text ++ closingText (d .run .book) ≡ printedOf (played .came ++ more)

@@ -1,7 +1,7 @@
 // Runs a tape of little-endian words from standard input. Prints a line for each instruction: the index of
 // its first word, its name, the refusal number (0 if done), the count of records (for pair-off, steps);
 // then `F` issue from to lots day for each ledger entry, and `C` account yen for each charge not 0. Where
-// the tape cannot be read to its end, or a line cannot be written, a message says so and nothing follows.
+// the tape cannot be read to its end, or a write fails, a message says so and nothing more is written.
 use libc::STDERR_FILENO;
 use libc::STDOUT_FILENO;
 use parts::Place;
@@ -10,7 +10,11 @@ ghost use mathlib.Core.Path.{_≡_};
 ghost use mathlib.Core.Bool.{true, false};
 ghost use Prim.Native.Nat.{_+_, _<_, _^_};
 ghost use lib.ListN.{length};
-ghost use Rattle.dayrun.specs.Day.{Buffers, Standing, Stepped, Shown, Played, Whole};
+ghost use Rattle.rules.specs.Text.{closingText};
+ghost use Rattle.dayrun.specs.Day.{mostReads, Buffers, Standing, Stepped, Shown, Played, Closed, Whole};
+
+// The most reads of a run: the loop has to end, and the bytes printed are counted in 64 bits.
+const MOST_READS: u64 = 35_184_372_088_831;
 
 // One part of a run: the words that one read adds to those not used yet.
 fn step(p: Place, bytes: &mut [u8], words: &mut [u32], text: &mut [u8], out: &mut [u32]) -> Place
@@ -36,12 +40,11 @@ fn say_unwritten(written: bool)
     io::write_all(STDERR_FILENO, b"dayrun: the lines could not be written\n");
 }
 
-// Writes bytes that stand at this place of what is to be printed.
-fn show(sent: u64, text: &[u8]) -> Sent
-    requires { ⌜ Shown sent (now text) × (sent + length (now text) < 2 ^ 64) ⌝ }
-    ensures { λ r. ⌜ r .count ≡ sent + length (now (text .entry)) ⌝ }
+// What a write answered: its bytes are handed over, and it took them or not.
+fn taken(written: bool, sent: u64, text: &[u8]) -> Sent
+    requires { ⌜ sent + length (now text) < 2 ^ 64 ⌝ }
+    ensures { λ r. ⌜ (r .written ≡ written) × (r .count ≡ sent + length (now (text .entry))) ⌝ }
 {
-    let written = io::write_all(STDOUT_FILENO, text);
     if !written {
         say_unwritten(written);
     }
@@ -49,12 +52,22 @@ fn show(sent: u64, text: &[u8]) -> Sent
     Sent { written, count }
 }
 
-// How a run ended: whether it was over, whether its lines were written and how many bytes they had, and
-// the book.
+// Writes bytes that stand at this place of what is to be printed, where all before them were written.
+// That `taken` is given what the write answered cannot be proved: an answer of C has no name in a contract.
+fn show(s: Sent, text: &[u8]) -> Sent
+    requires { ⌜ (s .written ≡ true) × Shown (s .count) (now text) × (s .count + length (now text) < 2 ^ 64) ⌝ }
+    ensures { λ r. ⌜ r .count ≡ s .count + length (now (text .entry)) ⌝ }
+{
+    taken(io::write_all(STDOUT_FILENO, text), s.count, text)
+}
+
+// How a run ended: whether it was over, whether its last read failed, how many reads it made, what was
+// written of its lines, and the book.
 struct End {
     over: bool,
-    written: bool,
-    sent: u64,
+    failed: bool,
+    reads: u64,
+    sent: Sent,
     book: Book,
 }
 
@@ -73,24 +86,22 @@ fn play(bytes: &mut [u8], words: &mut [u32], text: &mut [u8], out: &mut [u32]) -
         failed: false,
         book,
     };
-    let mut sent: u64 = 0;
-    let mut written = true;
-    let mut turns: u64 = 35_184_372_088_831;
-    while 0 < turns {
-        turns -= 1;
+    let mut sent = Sent {
+        written: true,
+        count: 0,
+    };
+    let mut reads: u64 = 0;
+    while sent.written & !p.over & !p.failed & (reads < MOST_READS) {
+        reads += 1;
         p = step(p, bytes, words, text, out);
         let length = p.printed;
-        let s = show(sent, &text[..length]);
-        sent = s.count;
-        written = s.written;
-        if p.over | p.failed | !written {
-            turns = 0;
-        }
+        sent = show(sent, &text[..length]);
     }
     let last = p.book;
     End {
         over: p.over,
-        written,
+        failed: p.failed,
+        reads,
         sent,
         book: last,
     }
@@ -98,17 +109,18 @@ fn play(bytes: &mut [u8], words: &mut [u32], text: &mut [u8], out: &mut [u32]) -
 
 // Writes the lines of the ledger and the charges of the book in which a run ended.
 fn finish(text: &mut [u8], e: End) -> Sent
-    requires { ⌜ (length (now text) ≡ 327680) × Played e × (e .over ≡ true) ⌝ }
-    ensures { λ r. ⌜ Whole r ⌝ }
+    requires { ⌜ (length (now text) ≡ 327680) × Played e × (e .over ≡ true) × (e .sent .written ≡ true) ⌝ }
+    ensures { λ r. ⌜ r .count ≡ e .sent .count + length (closingText (e .book)) ⌝ }
 {
     let book = e.book;
     let length = report::closing(text, book);
-    show(e.sent, &text[..length])
+    let sent = e.sent;
+    show(sent, &text[..length])
 }
 
-// Says that the tape could not be read to its end.
-fn say_unread(over: bool)
-    requires { ⌜ over ≡ false ⌝ }
+// Says that the tape could not be read to its end: a read failed, or all reads were made.
+fn say_unread(over: bool, failed: bool, reads: u64)
+    requires { ⌜ (over ≡ false) × (failed ≡ false → reads ≡ mostReads) ⌝ }
 {
     io::write_all(
         STDERR_FILENO,
@@ -119,29 +131,37 @@ fn say_unread(over: bool)
 // Behind a run: the lines of the ledger and the charges, if it was over and all its lines are written.
 fn close(text: &mut [u8], e: End) -> Sent
     requires { ⌜ (length (now text) ≡ 327680) × Played e ⌝ }
-    ensures { λ r. ⌜ (r .written ≡ true → Whole r) ⌝ }
+    ensures { λ r. ⌜ Closed e r ⌝ }
 {
+    let sent = e.sent;
     let none = Sent {
         written: false,
-        count: e.sent,
+        count: sent.count,
     };
-    if !e.written {
+    if !sent.written {
         return none;
     }
     if !e.over {
-        say_unread(e.over);
+        say_unread(e.over, e.failed, e.reads);
         return none;
     }
     finish(text, e)
 }
 
+// A day: how its run ended, and what was written behind the run's lines.
+struct Outcome {
+    run: End,
+    closing: Sent,
+}
+
 // Runs the tape, then writes the lines of the ledger and the charges.
-fn day(bytes: &mut [u8], words: &mut [u32], text: &mut [u8], out: &mut [u32]) -> Sent
+fn day(bytes: &mut [u8], words: &mut [u32], text: &mut [u8], out: &mut [u32]) -> Outcome
     requires { ⌜ Buffers (now bytes) (now words) (now text) (now out) ⌝ }
-    ensures { λ r. ⌜ (r .written ≡ true → Whole r) ⌝ }
+    ensures { λ r. ⌜ Whole r ⌝ }
 {
-    let e = play(bytes, words, text, out);
-    close(text, e)
+    let run = play(bytes, words, text, out);
+    let closing = close(text, run);
+    Outcome { run, closing }
 }
 
 fn main() {

@@ -3,3 +3,4 @@ pub mod Hosting
 pub mod LiftHosts
 pub mod Writing
 pub mod Fed
+pub mod Contracts

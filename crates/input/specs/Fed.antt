@@ -27,6 +27,11 @@ pub record Took (got : ℤ) (left room : ℕ) (r : Fill) : Type 0 where
   pub done : r .done ≡ saysEnd got
   pub failed : r .failed ≡ saysFailed got
 
+-- the same of some answer: what a read answered has no name
+pub record Received (left room : ℕ) (r : Fill) : Type 0 where
+  pub said : ℤ
+  pub took : Took said left room r
+
 -- bytes not yet used go to the front, and behind them come as many as a read says
 pub record Refilled (before after : List ℕ) (start left : ℕ) (r : Fill) : Type 0 where
   pub said : ℤ

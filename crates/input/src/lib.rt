@@ -4,7 +4,7 @@ ghost use mathlib.Core.Path.{_≡_};
 ghost use Prim.Native.Nat.{_+_, _-_, _*_, _≤_, _<_, _^_};
 ghost use lib.ListN.{length, getD, take, drop};
 ghost use Rattle.rules.specs.Bytes.{wordOf};
-ghost use Rattle.input.specs.Fed.{Decoded, Few, Took, Refilled, Fed};
+ghost use Rattle.input.specs.Fed.{Decoded, Few, Took, Received, Refilled, Fed};
 
 // Where the bytes in the buffer end, whether the input has ended, and whether the read failed.
 pub struct Fill {
@@ -72,14 +72,22 @@ fn took(got: isize, left: usize, room: &[u8]) -> Fill
     }
 }
 
+// One read fills the room behind the bytes left. That `took` is given what the read answered cannot be
+// proved: an answer of C has no name in a contract.
+fn receive(room: &mut [u8], left: usize) -> Fill
+    requires { ⌜ (0 < length (now room)) × (left + length (now room) < 2 ^ 64) ⌝ }
+    ensures { λ r. ⌜ Received left (length (now (room .entry))) r ⌝ }
+{
+    took(libc::read(libc::STDIN_FILENO, room), left, room)
+}
+
 // The bytes not yet used go to the front, and one read fills up behind them.
 fn refill(buffer: &mut [u8], start: usize, end: usize) -> Fill
     requires { ⌜ Few start end (now buffer) ⌝ }
     ensures { λ r. ⌜ Refilled (now (buffer .entry)) (now (buffer .exit)) start (end - start) r ⌝ }
 {
     let left = shift(buffer, start, end);
-    let got = libc::read(libc::STDIN_FILENO, &mut buffer[left..]);
-    took(got, left, &buffer[left..])
+    receive(&mut buffer[left..], left)
 }
 
 // The words in the buffer: how many, where their bytes end, and whether the input has ended or could not

@@ -8,7 +8,7 @@ use Rattle.rules.specs.Calls.{Call, Trade, Close, Deliver, Ask, Commit, Cutoff,
 use Rattle.rules.specs.Run.{callOf}
 use Rattle.rules.specs.Tally.{State, Demand3}
 use Rattle.laws.proofs.Answers.{by-answer}
-use Rattle.tally.proofs.Made.{Made, demand3-of}
+use Rattle.tally.proofs.Made.{Made, Step, asCalled, demand3-of}
 use Rattle.running.specs.declared.Turn.{Turn}
 use Rattle.running.specs.Turns.{Gives}
 
@@ -61,7 +61,7 @@ pub data InPlace (b : Book) : Call → Answer → Type 0 where
 
 -- so demand 3 holds after every list of instructions made through it
 pub demand3-in-place : {s : State} → Made InPlace s → Demand3 s
-demand3-in-place m = demand3-of InPlace right m
+demand3-in-place m = demand3-of InPlace step m
   where
-    right : (b : Book) (c : Call) (r : Answer) → InPlace b c r → r ≡ called b c
-    right b _ _ (turned x quotes out r b′ out′ g) = gave-answer b (callOf x quotes out) r b′ out out′ g
+    step : (b : Book) (c : Call) (r : Answer) → InPlace b c r → Step b c r
+    step b _ _ (turned x quotes out r b′ out′ g) = asCalled (gave-answer b (callOf x quotes out) r b′ out out′ g)

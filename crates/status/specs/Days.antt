@@ -1,63 +1,62 @@
--- The settled days P6 to P8, and days with lifts and a resolve: what is told of their units, as one list with one proof.
+-- What is told of the units of P5, and of a book in Cut, as one list with one proof. Days on whole books, through the calls, are in `reasons`.
 use mathlib.Core.Path.{refl}
 use mathlib.Core.List.{List, [], _∷_, _++_}
+use Prim.Native.Nat.{ℕ}
+use lib.ListN.{replicate}
+use lib.IntN.{pos, negsuc}
+use Rattle.rules.specs.declared.Book.{Book}
+use Rattle.rules.specs.declared.Phase.the-variants.{Taking, Settling, Cut}
 use Rattle.rules.specs.Units.{units}
-use Rattle.rules.specs.Handover.{handovers, partials}
-use Rattle.rules.specs.Lifts.{lift, handedFrom}
-use Rattle.rules.specs.Fails.{lacks, fails}
-use Rattle.rules.specs.Book.{liftConditions, liftsSound, cellsEven, conditions, sound, orderIn}
-use Rattle.rules.specs.Calls.{Answer, Cutoff, called, issuePartials, issueFails}
-use Rattle.rules.specs.Tally.{inIssue}
-use Rattle.rules.specs.Days.{lent, traded1, traded2, traded3, closed, delivered1, delivered2, cut, resolved, committed7, Case, case, Holds}
-use Rattle.status.specs.Status.{isHanded, waitsFor, failsPartly, failsWholly, statusRefused, inSettling, afterCutoff, status}
-use Rattle.status.specs.Lists.{lacking}
+use Rattle.rules.specs.Book.{liftConditions, liftsSound, cellsEven, conditions, sound, orderIn, withPhase, withNets, withDelivered, withLedger, fresh}
+use Rattle.rules.specs.Questions.{firstNo}
+use Rattle.rules.specs.Days.{fail, unitsP5, Case, case, Holds}
+use Rattle.status.specs.Status.{isHanded, waitsFor, failsPartly, failsWholly, inSettling, afterCutoff, reason, statusAsks, status}
 
--- P6: three units, stock 45,000; unit 3 waits for 55,000 lots, and unit 4 for 100,000 more
-abbrev pub settlingDays : List Case
-settlingDays =
-    case (status (delivered1 .book) 0 2) isHanded
-    ∷ case (status (delivered1 .book) 0 3) (waitsFor 55000)
-    ∷ case (status (delivered1 .book) 0 4) (waitsFor 155000)
+-- P6: of 345,000 lots 45,000 are stock: unit 3 waits for 55,000, and unit 4 for 100,000 more
+abbrev pub settlingCases : List Case
+settlingCases =
+    case (reason Settling unitsP5 345000 2) isHanded
+    ∷ case (reason Settling unitsP5 345000 3) (waitsFor 55000)
+    ∷ case (reason Settling unitsP5 345000 4) (waitsFor 155000)
     ∷ []
 
--- P8: unit 5 partly failed 5,000, units 6 and 7 wholly; of account 3 50,000 are lacking, as many as were failed to it
-abbrev pub cutDays : List Case
-cutDays =
-    case (status (cut .book) 0 4) isHanded
-    ∷ case (status (cut .book) 0 5) (failsPartly 5000)
-    ∷ case (status (cut .book) 0 6) failsWholly
-    ∷ case (status (cut .book) 0 7) failsWholly
-    ∷ case (lacking (cut .book) 0 3) 50000
-    -- later resolves are not counted: 4 delivers 6,000, so that the fail to account 2 is met
-    ∷ case (status (resolved .book) 0 5) (failsPartly 5000)
+-- P8: of 545,000 lots 45,000 go to unit 5; with 500,000 nothing of it comes
+abbrev pub cutCases : List Case
+cutCases =
+    case (reason Cut unitsP5 545000 4) isHanded
+    ∷ case (reason Cut unitsP5 545000 5) (failsPartly 5000)
+    ∷ case (reason Cut unitsP5 545000 6) failsWholly
+    ∷ case (reason Cut unitsP5 500000 5) failsWholly
     ∷ []
 
--- after P7 unit 7 (account 1, 30,000 lots) is lifted and handed: the units behind it move back, and so does the stock of 15,000
-unfoldable pub liftedCut : Answer
-liftedCut = called (committed7 .book) (Cutoff lent)
-
-abbrev pub liftDays : List Case
-liftDays =
-    case (status (delivered2 .book) 0 7) (waitsFor 85000)
-    ∷ case (status (committed7 .book) 0 5) isHanded
-    ∷ case (status (committed7 .book) 0 6) (waitsFor 35000)
-    ∷ case (status (liftedCut .book) 0 6) (failsPartly 35000)
-    ∷ case (status (liftedCut .book) 0 7) failsWholly
+-- the first 'no': Taking before the issue, that before a missing unit
+abbrev pub refusedCases : List Case
+refusedCases =
+    case (firstNo (statusAsks Taking (λ i. unitsP5) 16 8)) 3
+    ∷ case (firstNo (statusAsks Settling (λ i. unitsP5) 16 8)) 4
+    ∷ case (firstNo (statusAsks Cut (λ i. unitsP5) 15 8)) 16
+    ∷ case (firstNo (statusAsks Cut (λ i. unitsP5) 15 7)) 0
     ∷ []
 
--- Taking is refused by phase, a missing unit by 16
-abbrev pub refusedDays : List Case
-refusedDays =
-    case (status (traded3 .book) 0 0) (statusRefused 3)
-    ∷ case (status (delivered1 .book) 16 0) (statusRefused 4)
-    ∷ case (status (delivered1 .book) 0 8) (statusRefused 16)
-    ∷ []
+-- the book of P8 after a resolve that met the fail 4→2 and part of 4→3
+unfoldable pub resolvedBook : Book
+resolvedBook =
+    withPhase
+    (withLedger
+    (withDelivered
+    (withNets fresh (pos 0 ∷ pos 230000 ∷ pos 250000 ∷ pos 150000 ∷ negsuc 229999 ∷ negsuc 399999 ∷ replicate 1018 (pos 0)))
+    (0 ∷ 0 ∷ 0 ∷ 0 ∷ 200000 ∷ 345000 ∷ replicate 1018 0))
+    (fail 4 3 24000 ∷ fail 5 3 25000 ∷ fail 5 1 30000 ∷ []))
+    Cut
+
+-- later resolves are not counted: unit 5 lacked 5,000
+abbrev pub bookCases : List Case
+bookCases = case (status resolvedBook 0 5) (failsPartly 5000) ∷ []
 
 unfoldable pub statusDays : List Case
-statusDays = settlingDays ++ cutDays ++ liftDays ++ refusedDays
+statusDays = settlingCases ++ cutCases ++ refusedCases ++ bookCases
 
 -- each by computing what the definitions give
 pub told : Holds statusDays
-unfolding statusDays units handovers partials lacks fails liftConditions liftsSound cellsEven conditions sound lift handedFrom orderIn issuePartials issueFails called inIssue traded1 traded2 traded3 closed delivered1 delivered2 cut resolved committed7 liftedCut inSettling afterCutoff status lacking
-told =
-    (refl, (refl, (refl, (refl, (refl, (refl, (refl, (refl, (refl, (refl, (refl, (refl, (refl, (refl, (refl, (refl, (refl, tt)))))))))))))))))
+unfolding statusDays resolvedBook units liftConditions liftsSound cellsEven conditions sound orderIn inSettling afterCutoff status
+told = (refl, (refl, (refl, (refl, (refl, (refl, (refl, (refl, (refl, (refl, (refl, (refl, tt))))))))))))

@@ -11,7 +11,7 @@ pub mod PairingOff
 pub mod Rolling
 pub mod Marking
 pub mod Demand
-pub mod Made
 pub mod Reached
+pub mod Made
 pub mod Settles
 pub mod Corollaries

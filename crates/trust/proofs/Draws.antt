@@ -5,30 +5,15 @@ use mathlib.Core.List.{List, [], _∷_}
 use Prim.Native.Nat.{ℕ, zero, suc, _+_, _≤_, _<_}
 use native.Mathlib.Omega.{arith}
 use lib.Dec.{ltb, eqb}
-use borrow.Author.Tests.{ltb-true, ltb-false, eqb-true, eqb-false, ne-eqb}
+use lib.ListN.{length}
+use borrow.Author.Tests.{ltb-true, ltb-false, eqb-true, eqb-false, eq-eqb, ne-eqb}
 use Rattle.rules.specs.Measures.{total}
 use Rattle.rules.specs.Book.{all, tabulate}
-use Rattle.laws.proofs.Basics.{byTest, and-left, and-right, and-both, all-at, total-add}
-use Rattle.laws.proofs.Scans.{and-false}
+use Rattle.laws.proofs.Basics.{byTest, and-left, and-right, and-both, all-at, total-add, count-one}
 use Rattle.trust.specs.Reports.{numbers}
 use Rattle.trust.specs.Trust.{times, onceIn, drawRight}
 use Rattle.trust.proofs.Sums.{length-numbers, number-at}
 use Rattle.trust.proofs.Allotting.{same-self, same-other}
-
--- The test in its parts
-
-pub not-below : (n : ℕ) (draw : List ℕ) → all (λ k. ltb k n) draw ≡ false → false ≡ drawRight n draw
-unfolding drawRight
-not-below n draw e = simp e
-
-pub not-once : (n : ℕ) (draw : List ℕ) → all (onceIn draw) (numbers n) ≡ false → false ≡ drawRight n draw
-unfolding drawRight
-not-once n draw e = simp (e, and-false)
-
-pub each-once : (n : ℕ) (draw : List ℕ) → all (λ k. ltb k n) draw ≡ true → all (onceIn draw) (numbers n) ≡ true →
-    true ≡ drawRight n draw
-unfolding drawRight
-each-once n draw b o = sym (and-both (all (λ k. ltb k n) draw) (all (onceIn draw) (numbers n)) b o)
 
 -- What a right draw has
 
@@ -124,3 +109,43 @@ total-numbers f g n e = total-same f g 0 n (λ k l. e k (omega arith))
 pub total-draw : (f : ℕ → ℕ) (n : ℕ) (draw : List ℕ) → RightDraw n draw → total f draw ≡ total f (numbers n)
 total-draw f n draw r =
     sym (by-number f n draw (r .below)) ∙ total-numbers (λ k. total (at f k) draw) f n (λ k l. at-once f k draw (r .once k l))
+
+-- The test as the code makes it: none beyond, as many as there are reports, none twice
+
+not-right : (n : ℕ) (draw : List ℕ) → (drawRight n draw ≡ true → ⊥) → false ≡ drawRight n draw
+not-right n draw h = byTest (drawRight n draw) (λ e. absurd (h e)) (λ e. sym e)
+
+pub other-length : (n : ℕ) (draw : List ℕ) → (length draw ≡ n → ⊥) → false ≡ drawRight n draw
+other-length n draw h =
+    not-right n draw
+    (λ e. h (sym (count-one draw) ∙ total-draw (λ k. 1) n draw (right-draw n draw e) ∙ count-one (numbers n) ∙ length-numbers n))
+
+pub not-below : (n : ℕ) (draw : List ℕ) → all (λ k. ltb k n) draw ≡ false → false ≡ drawRight n draw
+unfolding drawRight
+not-below n draw e = simp e
+
+pub drawn-twice : (n : ℕ) (draw : List ℕ) → (((k : ℕ) → times k draw ≤ 1) → ⊥) → false ≡ drawRight n draw
+drawn-twice n draw h = not-right n draw (λ e. h (at-most-once n draw (right-draw n draw e)))
+
+-- m numbers of which each counts 0 or 1: where they count m together, each counts 1
+at-most : (f : ℕ → ℕ) (i m : ℕ) → ((k : ℕ) → k < i + m → f k ≤ 1) → total f (tabulate (λ k. k) i m) ≤ m
+at-most f i zero h = omega arith
+at-most f i (suc m) h = omega (arith, h i (omega arith), at-most f (suc i) m (λ k l. h k (omega arith)))
+
+each-one : (f : ℕ → ℕ) (i m : ℕ) → ((k : ℕ) → k < i + m → f k ≤ 1) → total f (tabulate (λ k. k) i m) ≡ m →
+    all (λ k. eqb (f k) 1) (tabulate (λ k. k) i m) ≡ true
+each-one f i zero h e = refl
+each-one f i (suc m) h e =
+    let rest : (k : ℕ) → k < suc i + m → f k ≤ 1 = λ k l. h k (omega arith) in
+    let o = h i (omega arith) in
+    let a = at-most f (suc i) m rest in
+    and-both (eqb (f i) 1) (all (λ k. eqb (f k) 1) (tabulate (λ k. k) (suc i) m)) (eq-eqb (f i) 1 (omega arith))
+    (each-one f (suc i) m rest (omega arith))
+
+pub each-once : (n : ℕ) (draw : List ℕ) → length draw ≡ n → all (λ k. ltb k n) draw ≡ true → ((k : ℕ) → k < n → times k draw ≤ 1) →
+    true ≡ drawRight n draw
+unfolding drawRight numbers times
+each-once n draw l b o =
+    sym
+    (and-both (all (λ k. ltb k n) draw) (all (onceIn draw) (numbers n)) b
+    (each-one (λ k. times k draw) 0 n (λ k h. o k (omega arith)) (by-number (λ k. 1) n draw b ∙ count-one draw ∙ l)))

@@ -19,7 +19,7 @@ use Rattle.trust.specs.Allotting.{Allotment, allot}
 use Rattle.trust.specs.Trust.{same, times, drawRight, columnsRight, trustAsks, facing, others, noShares, sharesOf, trust}
 use Rattle.trust.proofs.Allotting.{those-below, allot-length, allot-append, left-after, allot-has, not-in, allot-sum, times-those, total-those, first-whole}
 use Rattle.trust.proofs.Draws.{RightDraw, right-draw, at-most-once, total-draw, total-numbers}
-use Rattle.trust.proofs.Sums.{sum-numbers}
+use Rattle.trust.proofs.Sums.{zeros, sum-numbers}
 
 -- A fail that is allotted
 
@@ -49,11 +49,6 @@ size-none rs k e = rw e
 pub size-whole : (rs : Reports) (k : ℕ) → eligible rs k ≡ true → sizeOf rs k ≡ receivedBy rs k
 unfolding sizeOf
 size-whole rs k e = rw e
-
-zeros : (n k : ℕ) → _≡_ {A = ℕ} (getD (replicate n 0) k 0) 0
-zeros zero k = refl
-zeros (suc n) zero = refl
-zeros (suc n) (suc k) = zeros n k
 
 -- The order in which the reports take lots
 

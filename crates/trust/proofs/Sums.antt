@@ -1,19 +1,16 @@
 -- Sums over what is left of a list, and over report numbers.
 use mathlib.Core.Path.{_≡_, refl, sym, ap, _∙_}
-use mathlib.Core.Bool.{Bool, true, _&&_}
 use mathlib.Core.List.{List, [], _∷_}
-use Prim.Native.Nat.{ℕ, suc, _+_, _≤_, _<_}
+use Prim.Native.Nat.{ℕ, zero, suc, _+_, _≤_, _<_}
 use native.Mathlib.Numerals.{add-one}
 use native.Mathlib.Nat.{zero-add, add-zero, add-suc, suc-add}
-use lib.ListN.{length, drop, getD, drop-of-length-le}
+use lib.ListN.{length, drop, getD, replicate, drop-of-length-le}
 use lib.Seq.{drop-cons}
-use lib.Dec.{eqb}
 use native.Mathlib.Omega.{arith}
 use Rattle.rules.specs.Measures.{total, sum}
-use Rattle.rules.specs.Book.{all, tabulate}
+use Rattle.rules.specs.Book.{tabulate}
 use Rattle.trust.specs.Reports.{numbers}
-use Rattle.laws.proofs.Basics.{either, length-tab, getD-tab}
-use Rattle.trust.specs.Trust.{same}
+use Rattle.laws.proofs.Basics.{length-tab, getD-tab}
 
 pub total-at {ℓ} : {A : Type ℓ} (f : A → ℕ) (l : List A) (i : ℕ) (d : A) → i < length l →
     total f (drop i l) ≡ f (getD l i d) + total f (drop (i + 1) l)
@@ -22,9 +19,10 @@ total-at f l i d h = rw add-one (ap (total f) (drop-cons l i d h))
 pub total-end {ℓ} : {A : Type ℓ} (f : A → ℕ) (l : List A) (i : ℕ) → length l ≤ i → total f (drop i l) ≡ 0
 total-end f l i h = ap (total f) (drop-of-length-le l h)
 
--- one number more of those counted
-pub same-le : (k j : ℕ) → same k j ≤ 1
-same-le k j = either (λ x. x ≤ 1) (eqb j k) (omega arith) (omega arith)
+pub zeros : (n k : ℕ) → _≡_ {A = ℕ} (getD (replicate n 0) k 0) 0
+zeros zero k = refl
+zeros (suc n) zero = refl
+zeros (suc n) (suc k) = zeros n k
 
 -- Report numbers: what is left of them from i on
 
@@ -42,15 +40,6 @@ total-number f n i h =
 
 pub total-numbers-end : (f : ℕ → ℕ) (n i : ℕ) → n ≤ i → total f (drop i (numbers n)) ≡ 0
 total-numbers-end f n i h = total-end f (numbers n) i (omega (arith, length-numbers n))
-
-pub all-number : (p : ℕ → Bool) (n i : ℕ) → i < n → all p (drop i (numbers n)) ≡ p i && all p (drop (i + 1) (numbers n))
-all-number p n i h =
-    let l : i < length (numbers n) = omega (arith, length-numbers n) in
-    rw add-one (ap (all p) (drop-cons (numbers n) i 0 l)) ∙ ap (λ k. p k && all p (drop (i + 1) (numbers n))) (number-at n i h)
-
-pub all-numbers-end : (p : ℕ → Bool) (n i : ℕ) → n ≤ i → all p (drop i (numbers n)) ≡ true
-all-numbers-end p n i h =
-    let l : length (numbers n) ≤ i = omega (arith, length-numbers n) in ap (all p) (drop-of-length-le (numbers n) l)
 
 -- a sum by numbers
 sum-from : (xs : List ℕ) (f : ℕ → ℕ) (i : ℕ) → ((k : ℕ) → f (i + k) ≡ getD xs k 0) → total f (tabulate (λ k. k) i (length xs)) ≡ sum xs

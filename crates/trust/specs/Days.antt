@@ -1,9 +1,9 @@
 -- Worked days of a fail inside a trust account, as one list with one proof.
 use mathlib.Core.Path.{refl}
 use mathlib.Core.List.{List, [], _∷_, _++_}
-use Prim.Native.Nat.{ℕ}
+use Prim.Native.Nat.{ℕ, suc}
 use lib.ListN.{replicate}
-use lib.IntN.{pos, negsuc}
+use lib.IntN.{ℤ, pos, negsuc}
 use Rattle.rules.specs.Days.{Case, case, Holds}
 use Rattle.trust.specs.Reports.{Reports, reports, numbers, receipts, deliveries, eligible, sizeOf, eligibleLots}
 use Rattle.trust.specs.Trust.{times, drawRight, facing, others, sharesOf, TrustAnswer, answered, trust}
@@ -32,6 +32,15 @@ shared shares = answered 0 (shares ++ replicate 247 7)
 abbrev pub refused : ℕ → TrustAnswer
 refused n = answered n lent
 
+-- a day with one report
+abbrev pub oneReport : ℕ → ℕ → ℤ → Reports
+oneReport sub party lots = reports (sub ∷ []) (party ∷ []) (lots ∷ []) (0 ∷ [])
+
+-- and one with so many of one lot each, and then one more: all but the last with an earlier fail
+abbrev pub andOneMore : ℕ → Reports
+andOneMore n =
+    reports (replicate (suc n) 0) (replicate (suc n) 4) (replicate (suc n) (pos 1)) (replicate n 1 ++ (0 ∷ []))
+
 unfoldable pub workedDays : List Case
 workedDays =
     -- reports 8, 6 and 0 face account 4 and take all they can; 4 takes the rest
@@ -57,10 +66,23 @@ workedDays =
     -- a column of another length
     ∷ case (trust (nineReports (day .subs) []) drawn 50000 4 lent) (refused 21)
     ∷ case (trust (nineReports (32 ∷ 0 ∷ 1 ∷ 1 ∷ 2 ∷ 2 ∷ 3 ∷ 4 ∷ 4 ∷ []) (day .earlier)) drawn 79001 4 lent) (refused 22)
+    -- each number at its edge and past it: the failing account, a counterparty, the lots of a receipt and of a delivery, a
+    -- sub-account
+    ∷ case (trust (oneReport 31 63 (pos 20000000)) (0 ∷ []) 20000000 63 lent) (answered 0 (20000000 ∷ replicate 255 7))
+    ∷ case (trust (oneReport 31 63 (pos 20000000)) (0 ∷ []) 20000000 64 lent) (refused 5)
+    ∷ case (trust (oneReport 31 64 (pos 20000000)) (0 ∷ []) 20000000 63 lent) (refused 5)
+    ∷ case (trust (oneReport 31 63 (pos 20000001)) (0 ∷ []) 20000000 63 lent) (refused 7)
+    ∷ case (trust (oneReport 31 63 (negsuc 20000000)) (0 ∷ []) 20000000 63 lent) (refused 7)
+    ∷ case (trust (oneReport 31 63 (negsuc 19999999)) (0 ∷ []) 20000000 63 lent) (refused 23)
+    ∷ case (trust (oneReport 32 63 (pos 20000000)) (0 ∷ []) 20000000 63 lent) (refused 22)
+    -- 256 reports; 257, each number once; and with one missing 21 comes first
+    ∷ case (trust (andOneMore 255) (numbers 256) 1 4 lent) (answered 0 (replicate 255 0 ++ (1 ∷ [])))
+    ∷ case (trust (andOneMore 256) (numbers 257) 1 4 lent) (refused 22)
+    ∷ case (trust (andOneMore 256) (numbers 256) 1 4 lent) (refused 21)
     ∷ []
 
 -- each by computing what the definitions give
 pub worked : Holds workedDays
 unfolding workedDays numbers receipts deliveries eligible sizeOf eligibleLots times drawRight facing others sharesOf trust
 worked =
-    (refl, (refl, (refl, (refl, (refl, (refl, (refl, (refl, (refl, (refl, (refl, (refl, (refl, (refl, (refl, tt)))))))))))))))
+    (refl, (refl, (refl, (refl, (refl, (refl, (refl, (refl, (refl, (refl, (refl, (refl, (refl, (refl, (refl, (refl, (refl, (refl, (refl, (refl, (refl, (refl, (refl, (refl, (refl, tt)))))))))))))))))))))))))

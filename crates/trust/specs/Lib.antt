@@ -2,5 +2,6 @@
 pub mod Reports
 pub mod Allotting
 pub mod Trust
+pub mod Marks
 pub mod Steps
 pub mod Days

@@ -1,15 +1,16 @@
 // Fails inside a trust account: each report's share of a fail, for a bank in C or Rust.
 ghost use mathlib.Core.Path.{_≡_};
 ghost use mathlib.Core.List.{_++_};
-ghost use Prim.Native.Nat.{_≤_, min};
-ghost use lib.Dec.{ltb};
+ghost use Prim.Native.Nat.{_+_, _^_, _≤_, _<_, min};
+ghost use lib.Dec.{ltb, eqb};
 ghost use lib.ListN.{length, drop, replicate};
 ghost use Rattle.rules.specs.Measures.{mostLots};
 ghost use Rattle.rules.specs.Book.{all, withinSize};
 ghost use Rattle.rules.specs.Questions.{firstNo};
 ghost use Rattle.trust.specs.Reports.{reports, netReceiver, sizeOf};
 ghost use Rattle.trust.specs.Allotting.{allotment};
-ghost use Rattle.trust.specs.Trust.{same as sameAs, times as timesIn, drawRight, drawnRight, fewRight, reportAsks, answered, trust};
+ghost use Rattle.trust.specs.Trust.{drawRight, drawnRight, fewRight, reportAsks, answered, trust};
+ghost use Rattle.trust.specs.Marks.{bitOf, Unmarked, Marked, NoneTwice};
 ghost use Rattle.trust.specs.Steps.{unfaced, Few, OneOf, Sizable, Sized, countedFor, inGroup, Drawn, allotGroup, sharedOut};
 
 // Is each number of the column below the limit?
@@ -39,36 +40,81 @@ fn lots_right(lots: &[i32]) -> bool
     good
 }
 
-// 1 where the number is k, 0 where it is another.
-fn same(j: u32, k: usize) -> usize
-    ensures { λ r. ⌜ r ≡ sameAs k j ⌝ }
+// Is bit b of the word set?
+fn is_set(word: u64, b: usize) -> bool
+    requires { ⌜ b < 64 ⌝ }
+    ensures { λ r. ⌜ r ≡ eqb (bitOf word b) 1 ⌝ }
 {
-    if j as usize == k { 1 } else { 0 }
+    (word >> b) % 2 == 1
 }
 
-// How often is k in the list?
-fn times(k: usize, draw: &[u32]) -> usize
-    ensures { λ r. ⌜ r ≡ timesIn k (now (draw .entry)) ⌝ }
+// The word with bit b set, which is not.
+fn with_bit(word: u64, b: usize) -> u64
+    requires { ⌜ (b < 64) × (bitOf word b ≡ 0) ⌝ }
+    ensures { λ r. ⌜ r ≡ word + 2 ^ b ⌝ }
 {
-    let mut n: usize = 0;
+    word + (1u64 << b)
+}
+
+// Marks the number j in the window that starts at w, 64 numbers a word. Has it no mark yet, or another window?
+fn mark(w: usize, j: usize, marks: &mut [u64]) -> bool
+    ensures { λ r. ⌜ Marked w j (now (marks .entry)) (now (marks .exit)) r ⌝ }
+{
+    if j < w {
+        return true;
+    }
+    let d = j - w;
+    let at = d / 64;
+    if marks.len() <= at {
+        return true;
+    }
+    let word = marks[at];
+    let b = d % 64;
+    if is_set(word, b) {
+        return false;
+    }
+    marks[at] = with_bit(word, b);
+    true
+}
+
+// Is no number of the window that starts at w in the list twice?
+fn none_twice(w: usize, draw: &[u32], marks: &mut [u64]) -> bool
+    requires { ⌜ Unmarked (now marks) ⌝ }
+    ensures { λ r. ⌜ NoneTwice w (length (now (marks .entry))) (now (draw .entry)) r ⌝ }
+{
     let mut i: usize = 0;
     while i < draw.len() {
-        n += same(draw[i], k);
+        let j = draw[i] as usize;
+        if !mark(w, j, marks) {
+            return false;
+        }
         i += 1;
     }
-    n
+    true
 }
 
-// Is the list each of n report numbers just once?
+// The same of a window of 65,536 numbers: 1,024 words, a bit for each number.
+fn window_right(w: usize, draw: &[u32]) -> bool
+    ensures { λ r. ⌜ NoneTwice w 1024 (now (draw .entry)) r ⌝ }
+{
+    let mut marks = [0u64; 1024];
+    none_twice(w, draw, &mut marks)
+}
+
+// Is the list each of n report numbers just once? It is looked through once for each 65,536 of them.
 fn draw_right(n: usize, draw: &[u32]) -> bool
     ensures { λ r. ⌜ r ≡ drawRight n (now (draw .entry)) ⌝ }
 {
+    if draw.len() != n {
+        return false;
+    }
     if !below(draw, n) {
         return false;
     }
+    let windows = n / 65_536 + 1;
     let mut k: usize = 0;
-    while k < n {
-        if times(k, draw) != 1 {
+    while k < windows {
+        if !window_right(k * 65_536, draw) {
             return false;
         }
         k += 1;

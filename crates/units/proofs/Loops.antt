@@ -6,15 +6,18 @@ use Prim.Native.Nat.{ℕ, zero, suc, _+_, _-_, _*_, _/_, _%_, _≤_, _<_, min}
 use native.Mathlib.Omega.{arith}
 use native.Mathlib.Numerals.{add-one}
 use lib.ListN.{length, take, drop, getD, set, length-map, List·getD-map, drop-of-length-le}
+use lib.Dec.{lit<}
 use lib.Seq.{take-suc, take-suc-set, drop-cons, getD-take, length-take-le, take-append-add, take-append-le}
 use borrow.Author.Tests.{le-leb}
 use lib.IntN.{ℤ, pos, natAbs}
 use Rattle.rules.specs.Measures.{Every, unitLots, mostLots, dueOf}
-use Rattle.rules.specs.Units.{AccountLots, accountLots, byAccount, largestFirst}
+use Rattle.rules.specs.Units.{AccountLots, accountLots, byAccount, largestFirst, units}
+use Rattle.rules.specs.Ranking.{OnlyOrder}
 use Rattle.rules.specs.Handover.{covered, stock}
 use Rattle.rules.specs.Book.{all, row, withinSize, duesOf}
 use Rattle.laws.proofs.Basics.{each-append, each-map}
 use Rattle.laws.proofs.Units.{Small}
+use Rattle.laws.proofs.Ranking.{only-order}
 use Rattle.laws.proofs.Cells.{length-dues}
 use Rattle.laws.proofs.Sound.{each-getD}
 use Rattle.laws.proofs.Signed.{size-of}
@@ -112,6 +115,14 @@ unfolding runsOf
 ordered dues rests r₀ r₁ r₂ n m k h g e f r s =
     ap (map partOf) (behind r₁ r₂ n m k h g) ∙ map-append partOf (take n r₁) (take m r₂)
     ∙ rw (f, e, s, at-least-one rests, r)
+
+-- and they hold the one order of their units that the four cases nowhere contradict
+only-units : (dues : List ℕ) (us : List AccountLots) → us ≡ units unitLots dues → OnlyOrder unitLots dues us
+only-units dues us e = rw e (only-order unitLots (lit< tt) dues)
+
+pub ordered-only : (dues runs : List ℕ) (n : ℕ) → runsIn runs n ≡ runsOf dues → OnlyOrder unitLots dues (unitsIn runs n)
+unfolding unitsIn
+ordered-only dues runs n r = only-units dues (unitsOfRuns (runsIn runs n)) (ap unitsOfRuns r ∙ units-runs dues)
 
 -- the dues of an issue can be ranked
 module _ (nets : List ℤ) (i : ℕ) (dues : List ℕ) (e : dues ≡ duesOf nets i) (s : all (withinSize mostLots) nets ≡ true) where

@@ -1,8 +1,10 @@
 //! The facts as one page of HTML: for each day and issue its units in order as a bar, and the
 //! ledger and the charges as tables. The page holds all that it needs and no script.
 
-use crate::facts::Fact;
-use crate::measure::{Face, Grouped, Lots};
+use crate::facts::{Fact, Told};
+use crate::input::Stands;
+use crate::measure::{counted, Face, Grouped, Lots, Price};
+use crate::telling::Only;
 use std::collections::BTreeMap;
 use std::io::{self, Write};
 
@@ -11,7 +13,8 @@ use std::io::{self, Write};
 pub struct Page {
     /// The units of each day and issue.
     bars: BTreeMap<(u16, u32), Vec<Units>>,
-    refused: Vec<(u16, usize, String)>,
+    /// Where an instruction was refused, and why.
+    refused: Vec<String>,
     charges: Vec<(u16, Fact)>,
     end: Option<(u16, &'static str)>,
     marked: Vec<u32>,
@@ -32,15 +35,21 @@ struct Units {
 }
 
 impl Units {
+    /// How many they are.
+    fn count(&self) -> usize {
+        (self.last - self.first + 1) as usize
+    }
+
     /// The lots of all of them.
     fn all(&self) -> u64 {
-        u64::from(self.last - self.first + 1) * u64::from(self.lots)
+        self.count() as u64 * u64::from(self.lots)
     }
 }
 
 impl Page {
-    /// Notes a fact.
-    pub fn note(&mut self, day: u16, fact: &Fact) {
+    /// Notes a fact of an instruction that stands there.
+    pub fn note(&mut self, told: &Told, stands: Stands) {
+        let Told { day, fact, .. } = *told;
         match fact {
             Fact::Units { issue, first, last, account, lots, .. } => {
                 let (first, last, account, lots) = (*first, *last, *account, *lots);
@@ -60,16 +69,13 @@ impl Page {
             Fact::Fails { issue, lots, first, .. } => {
                 self.at(day, *issue, *first, |units| units.failed += u64::from(*lots));
             }
-            Fact::Instruction { word, instruction, refusal: Some((_, why)) } => {
-                self.refused.push((day, *word, format!("{}: {why}", instruction.name())));
+            Fact::Instruction { instruction, refusal: Some((_, why)) } => {
+                let place = place(told, stands);
+                self.refused.push(format!("{place}: {}: {why}", instruction.name()));
             }
-            Fact::ReadingEnds { word, refusal, why } => {
-                let number = refusal.number();
-                self.refused.push((
-                    day,
-                    *word,
-                    format!("reading ends, refused by {number}: {why}"),
-                ));
+            Fact::ReadingEnds { refusal, why } => {
+                let (place, number) = (place(told, stands), refusal.number());
+                self.refused.push(format!("{place}: reading ends, refused by {number}: {why}"));
             }
             Fact::Charge { .. } => self.charges.push((day, fact.clone())),
             Fact::End { phase, .. } => self.end = Some((day, phase)),
@@ -83,15 +89,20 @@ impl Page {
     /// Changes the units of a day and issue that a unit is among.
     fn at(&mut self, day: u16, issue: u32, unit: u32, change: impl FnOnce(&mut Units)) {
         let bar = self.bars.get_mut(&(day, issue));
-        let found = bar.and_then(|bar| bar.iter_mut().find(|units| units.last >= unit));
+        let found = bar.and_then(|bar| {
+            bar.iter_mut().find(|units| (units.first..=units.last).contains(&unit))
+        });
         if let Some(units) = found {
             change(units);
         }
     }
 
-    /// Writes the page.
-    pub fn write(&self, out: &mut impl Write) -> io::Result<()> {
+    /// Writes the page, and on it to what it is narrowed.
+    pub fn write(&self, only: Only, out: &mut impl Write) -> io::Result<()> {
         out.write_all(HEAD.as_bytes())?;
+        if let Some(only) = narrowed(only) {
+            writeln!(out, "<p><b>Only what is of {only} is shown.</b></p>")?;
+        }
         self.bars(out)?;
         self.charges(out)?;
         self.refusals(out)?;
@@ -104,8 +115,8 @@ impl Page {
         for ((day, issue), bar) in &self.bars {
             let all: u64 = bar.iter().map(Units::all).sum();
             writeln!(out, "<h2>Day {day}, issue {issue}</h2>")?;
-            let (units, s) = (count(bar), if count(bar) == 1 { "" } else { "s" });
-            writeln!(out, "<p>{} due in {units} unit{s}</p>", Face(all))?;
+            let units: usize = bar.iter().map(Units::count).sum();
+            writeln!(out, "<p>{} due in {}</p>", Face(all), counted(units, "unit"))?;
             writeln!(out, "<div class=\"bar\">")?;
             bar.iter().try_for_each(|units| segment(out, units))?;
             writeln!(out, "</div>")?;
@@ -117,13 +128,14 @@ impl Page {
     fn charges(&self, out: &mut impl Write) -> io::Result<()> {
         let rows = self.charges.iter().map(|(day, fact)| {
             let Fact::Charge { terms, from, to, lots, value, yen } = fact else { return vec![] };
-            let numbers = [u64::from(*day), terms.issue.into(), (*from).into(), (*to).into()];
-            let more = [u64::from(*lots), terms.price.into(), terms.accrued.into(), *value];
-            let last = [terms.days.into(), terms.rate.into(), *yen];
-            [&numbers[..], &more, &last].concat().into_iter().map(i128::from).collect()
+            let of = [u32::from(*day), terms.issue, *from, *to, *lots].map(number);
+            let price = [terms.price, terms.accrued].map(|price| Price(price).to_string());
+            let rate = format!("{}.{:02}", terms.rate / 100, terms.rate % 100);
+            let terms = [number(*value), number(terms.days), rate, number(*yen)];
+            [&of[..], &price, &terms].concat()
         });
-        let of = ["day", "issue", "from", "to", "lots"];
-        let terms = ["price", "accrued", "value", "days", "rate", "charge, yen"];
+        let of = ["day", "issue", "from account", "to account", "lots", "price", "accrued"];
+        let terms = ["value, yen", "days", "rate, percent a year", "charge, yen"];
         table(out, "Charges on fails", &[&of[..], &terms].concat(), &rows.collect::<Vec<_>>())
     }
 
@@ -133,8 +145,8 @@ impl Page {
             return Ok(());
         }
         writeln!(out, "<h2>Refused</h2>\n<ul>")?;
-        for (day, word, why) in &self.refused {
-            writeln!(out, "<li>day {day}, word {word}: {}</li>", escaped(why))?;
+        for refused in &self.refused {
+            writeln!(out, "<li>{}</li>", escaped(refused))?;
         }
         writeln!(out, "</ul>")
     }
@@ -146,29 +158,32 @@ impl Page {
         }
         if !self.marked.is_empty() {
             let issues: Vec<String> = self.marked.iter().map(u32::to_string).collect();
-            let issues = issues.join(", ");
+            let (s, issues) = (if issues.len() == 1 { "" } else { "s" }, issues.join(", "));
             writeln!(
                 out,
-                "<p>In multiples of 100,000 yen face, even lots only: issue {issues}</p>"
+                "<p>In multiples of 100,000 yen face, even lots only: issue{s} {issues}</p>"
             )?;
         }
         let ledger = self.ledger.iter().map(|fact| {
             let Fact::Entry { issue, from, to, lots, since } = *fact else { return vec![] };
-            [issue, from, to, lots, since.into()].map(i128::from).to_vec()
+            [issue, from, to, lots, since.into()].map(number).to_vec()
         });
-        let heads = ["issue", "from", "to", "lots", "since day"];
+        let heads = ["issue", "from account", "to account", "lots", "since day"];
         table(out, "Ledger of fails", &heads, &ledger.collect::<Vec<_>>())?;
         let charged = self.charged.iter().map(|fact| {
             let Fact::Charged { account, yen } = *fact else { return vec![] };
-            vec![i128::from(account), i128::from(yen)]
+            vec![number(account), number(yen)]
         });
         table(out, "Charges", &["account", "yen"], &charged.collect::<Vec<_>>())
     }
 }
 
-/// How many units a bar has.
-fn count(bar: &[Units]) -> u32 {
-    bar.last().map_or(0, |units| units.last + 1)
+/// Where an instruction stands, for people.
+fn place(told: &Told, stands: Stands) -> String {
+    let file = stands.file.map(|file| format!(", {file}")).unwrap_or_default();
+    let line = stands.line.map(|line| format!(", line {line}")).unwrap_or_default();
+    let word = told.word.map(|word| format!(", word {word}")).unwrap_or_default();
+    format!("day {}{file}{line}{word}", told.day)
 }
 
 /// The part of a bar that like units have: handed, lacking in a unit that was handed in part, failed
@@ -176,10 +191,16 @@ fn count(bar: &[Units]) -> u32 {
 fn segment(out: &mut impl Write, units: &Units) -> io::Result<()> {
     let Units { first, last, account, lots, handed, partly, failed } = *units;
     let open = units.all().saturating_sub(handed + failed);
-    let names = if first == last { format!("{first}") } else { format!("{first}–{last}") };
-    let (each, of) = (Lots(lots.into()), Lots(units.all()));
+    let of = Lots(units.all());
+    let names = match units.count() {
+        1 => format!("unit {first} of account {account}, {of}"),
+        _ => {
+            let each = Lots(lots.into());
+            format!("units {first}–{last} of account {account}, {each} each, {of} in all")
+        }
+    };
     write!(out, "<div class=\"units\" style=\"flex-grow:{}\" ", units.all())?;
-    write!(out, "title=\"units {names} of account {account}, {each} each, {of} in all: ")?;
+    write!(out, "title=\"{names}: ")?;
     write!(out, "{} handed, {} failed, {} open\">", Lots(handed), Lots(failed), Lots(open))?;
     let whole = failed.saturating_sub(partly);
     for (class, part) in [("handed", handed), ("partly", partly), ("failed", whole), ("open", open)]
@@ -191,8 +212,29 @@ fn segment(out: &mut impl Write, units: &Units) -> io::Result<()> {
     writeln!(out, "<b>{account}</b></div>")
 }
 
-/// A table of numbers, if it has rows.
-fn table(out: &mut impl Write, title: &str, heads: &[&str], rows: &[Vec<i128>]) -> io::Result<()> {
+/// A number of a table.
+fn number(number: impl Into<i128>) -> String {
+    Grouped(number.into()).to_string()
+}
+
+/// To what a page is narrowed, in words.
+fn narrowed(only: Only) -> Option<String> {
+    let parts = [
+        only.issue.map(|issue| format!("issue {issue}")),
+        only.account.map(|account| format!("account {account}")),
+        only.day.map(|day| format!("day {day}")),
+    ];
+    let parts: Vec<String> = parts.into_iter().flatten().collect();
+    (!parts.is_empty()).then(|| parts.join(" and "))
+}
+
+/// A table, if it has rows.
+fn table(
+    out: &mut impl Write,
+    title: &str,
+    heads: &[&str],
+    rows: &[Vec<String>],
+) -> io::Result<()> {
     if rows.is_empty() {
         return Ok(());
     }
@@ -201,7 +243,7 @@ fn table(out: &mut impl Write, title: &str, heads: &[&str], rows: &[Vec<i128>]) 
     writeln!(out, "</tr>")?;
     for row in rows {
         write!(out, "<tr>")?;
-        row.iter().try_for_each(|number| write!(out, "<td>{}</td>", Grouped(*number)))?;
+        row.iter().try_for_each(|cell| write!(out, "<td>{cell}</td>"))?;
         writeln!(out, "</tr>")?;
     }
     writeln!(out, "</table>")
@@ -221,7 +263,7 @@ const HEAD: &str = "<!DOCTYPE html>
 <style>
 body { font: 15px sans-serif; margin: 2em; color: #222; }
 .bar { display: flex; height: 3em; border: 1px solid #888; }
-.units { display: flex; position: relative; min-width: 4px; border-right: 1px solid #fff; }
+.units { display: flex; position: relative; min-width: 4px; border-right: 1px solid #fff; overflow: hidden; }
 .units b { position: absolute; left: 0; right: 0; top: 1em; text-align: center; font-weight: normal; }
 .units span { flex-basis: 0; }
 .handed { background: #8cc63f; }
@@ -234,6 +276,7 @@ th, td { padding: 2px 10px; border: 1px solid #bbb; text-align: right; }
 </head>
 <body>
 <h1>Settlement day</h1>
-<p>Units in their order; each part is an account's, as wide as its lots. Green: handed over. Orange:
-what a unit lacks that was handed in part, and failed. Red: failed whole. Grey: neither yet.</p>
+<p>Units in their order; each part is of one account, whose number it has, and as wide as its lots.
+Green: handed over. Orange: what a unit lacks that was handed in part, and failed. Red: failed whole.
+Grey: neither yet. Prices and accrued amounts are yen per 100 yen face.</p>
 ";

@@ -1,19 +1,43 @@
-//! The facts as JSON: one object a line, with `fact` and `day` first. docs/TAPE.md lists them.
+//! The facts as JSON: one object a line, with `fact` and `day` first, then the instruction that the
+//! fact belongs to. docs/TAPE.md lists them.
 
-use crate::facts::Fact;
+use crate::facts::{Fact, Told};
+use crate::input::Stands;
 use crate::measure::write_number;
 use crate::units::Case;
 use library::{Instruction, Refusal};
 use std::io::{self, Write};
 
-/// Tells a fact.
-pub fn tell(out: &mut impl Write, day: u16, fact: &Fact) -> io::Result<()> {
+/// Tells a fact of an instruction that stands there.
+pub fn tell(out: &mut impl Write, told: &Told, stands: Stands) -> io::Result<()> {
     out.write_all(b"{\"fact\":\"")?;
-    out.write_all(name(fact).as_bytes())?;
+    out.write_all(name(told.fact).as_bytes())?;
     out.write_all(b"\"")?;
-    field(out, "day", day.into())?;
-    fields(out, fact)?;
+    field(out, "day", told.day.into())?;
+    if let Some(word) = told.word {
+        field(out, "word", word as u64)?;
+    }
+    if let Some(line) = stands.line {
+        field(out, "line", line as u64)?;
+    }
+    if let Some(file) = stands.file {
+        text(out, "file", &escaped(file))?;
+    }
+    fields(out, told.fact)?;
     out.write_all(b"}\n")
+}
+
+/// A text as JSON has it between quotes.
+pub fn escaped(text: &str) -> String {
+    let mut escaped = String::new();
+    for letter in text.chars() {
+        match letter {
+            '"' | '\\' => escaped.extend(['\\', letter]),
+            control if control < ' ' => escaped.push_str(&format!("\\u{:04x}", control as u32)),
+            other => escaped.push(other),
+        }
+    }
+    escaped
 }
 
 /// The name of a fact.
@@ -86,8 +110,7 @@ fn fields(out: &mut impl Write, fact: &Fact) -> io::Result<()> {
 /// An instruction with its numbers and its refusal, or where reading ends.
 fn instruction(out: &mut impl Write, fact: &Fact) -> io::Result<()> {
     match fact {
-        Fact::Instruction { word, instruction, refusal } => {
-            field(out, "word", *word as u64)?;
+        Fact::Instruction { instruction, refusal } => {
             text(out, "call", instruction.name())?;
             arguments(out, instruction)?;
             match refusal {
@@ -95,10 +118,7 @@ fn instruction(out: &mut impl Write, fact: &Fact) -> io::Result<()> {
                 None => field(out, "refusal", 0),
             }
         }
-        Fact::ReadingEnds { word, refusal, why } => {
-            field(out, "word", *word as u64)?;
-            refused(out, *refusal, why)
-        }
+        Fact::ReadingEnds { refusal, why } => refused(out, *refusal, why),
         _ => Ok(()),
     }
 }
@@ -236,5 +256,15 @@ fn arguments(out: &mut impl Write, instruction: &Instruction) -> io::Result<()> 
             numbers(out, &[("days", wide(days)), ("rate", wide(rate))])
         }
         Instruction::Close | Instruction::Cutoff => Ok(()),
+    }
+}
+
+#[cfg(test)]
+mod tests {
+    use super::escaped;
+
+    #[test]
+    fn a_name_between_quotes() {
+        assert_eq!(escaped("a \"b\" \\ \n円.txt"), "a \\\"b\\\" \\\\ \\u000a円.txt");
     }
 }

@@ -4,9 +4,12 @@ mod html;
 mod json;
 mod text;
 
-use crate::facts::Fact;
+use crate::facts::{Fact, Told};
+use crate::input::{Day, Stands};
 use crate::story;
 use std::io::{self, Write};
+
+pub use json::escaped;
 
 /// The form in which facts are told.
 #[derive(Clone, Copy, Debug, Default, PartialEq, Eq)]
@@ -28,10 +31,8 @@ pub struct Only {
 
 impl Only {
     /// Is this a fact that is told?
-    fn has(&self, day: u16, fact: &Fact) -> bool {
-        if *self == Only::default() {
-            return true;
-        }
+    fn has(&self, told: &Told) -> bool {
+        let Told { day, fact, .. } = *told;
         let issue = self.issue.zip(fact.issue()).is_none_or(|(one, other)| one == other);
         let account = self.account.is_none_or(|account| {
             let accounts = fact.accounts();
@@ -41,42 +42,65 @@ impl Only {
     }
 }
 
-/// Runs a tape and tells its facts in a form.
-pub fn explain(tape: &[u8], form: Form, only: Only, output: &mut dyn Write) -> io::Result<()> {
-    let mut output = io::BufWriter::with_capacity(1 << 16, output);
-    match form {
-        Form::Text => {
-            let mut tell = |day: u16, fact: &Fact| match only.has(day, fact) {
-                true => text::tell(&mut output, day, fact),
-                false => Ok(()),
-            };
-            story::tell(tape, &mut tell)?;
-        }
-        Form::Json => {
-            let mut tell = |day: u16, fact: &Fact| match only.has(day, fact) {
-                true => json::tell(&mut output, day, fact),
-                false => Ok(()),
-            };
-            story::tell(tape, &mut tell)?;
-        }
-        Form::Html => {
-            let mut page = html::Page::default();
-            let mut tell = |day: u16, fact: &Fact| {
-                if only.has(day, fact) {
-                    page.note(day, fact);
-                }
-                Ok(())
-            };
-            story::tell(tape, &mut tell)?;
-            page.write(&mut output)?;
-        }
+/// Runs a tape and tells its facts, those that are wanted. An instruction is told also where it is not
+/// wanted itself but something that it did is. Answers the day on which the tape ends.
+fn tell<'a>(tape: &[u8], only: Only, sink: &'a mut story::Sink<'a>) -> io::Result<u16> {
+    if only == Only::default() {
+        return story::tell(tape, sink);
     }
-    output.flush()
+    let mut held: Option<(u16, Option<usize>, Fact)> = None;
+    let mut narrowed = |told: &Told| {
+        if !only.has(told) {
+            if let Fact::Instruction { .. } = told.fact {
+                held = Some((told.day, told.word, told.fact.clone()));
+            }
+            return Ok(());
+        }
+        if let Some((day, word, fact)) = held.take().filter(|(_, word, _)| *word == told.word) {
+            sink(&Told { day, word, fact: &fact })?;
+        }
+        sink(told)
+    };
+    story::tell(tape, &mut narrowed)
 }
 
-/// The text of a tape for people.
-pub fn explained(tape: &[u8]) -> String {
+/// Runs a day and tells its facts in a form; answers the day on which it ends.
+pub fn explain(day: &Day, form: Form, only: Only, output: &mut dyn Write) -> io::Result<u16> {
+    let mut output = io::BufWriter::with_capacity(1 << 16, output);
+    let out = &mut output;
+    let stands = |told: &Told| told.word.map_or(Stands::default(), |word| day.stands(word));
+    let last = match form {
+        Form::Text => {
+            let mut begun = false;
+            let mut tell_one = |told: &Told| {
+                // A line between two days.
+                if begun && matches!(told.fact, Fact::Day { .. }) {
+                    writeln!(out)?;
+                }
+                begun = true;
+                text::tell(out, told, stands(told))
+            };
+            tell(&day.tape, only, &mut tell_one)?
+        }
+        Form::Json => tell(&day.tape, only, &mut |told| json::tell(out, told, stands(told)))?,
+        Form::Html => {
+            let mut page = html::Page::default();
+            let mut note = |told: &Told| {
+                page.note(told, stands(told));
+                Ok(())
+            };
+            let last = tell(&day.tape, only, &mut note)?;
+            page.write(only, out)?;
+            last
+        }
+    };
+    output.flush()?;
+    Ok(last)
+}
+
+/// The text of a day for people.
+pub fn explained(day: &Day) -> String {
     let mut text = Vec::new();
-    let told = explain(tape, Form::Text, Only::default(), &mut text);
-    told.map_or_else(|error| error.to_string(), |()| String::from_utf8_lossy(&text).to_string())
+    let told = explain(day, Form::Text, Only::default(), &mut text);
+    told.map_or_else(|error| error.to_string(), |_| String::from_utf8_lossy(&text).to_string())
 }

@@ -1,33 +1,44 @@
 //! The facts as sentences: a line for each instruction, and below it what it did.
 
-use crate::facts::Fact;
-use crate::measure::{Face, Grouped, Line, Lots, Price, Rate};
+use crate::facts::{Fact, Told};
+use crate::input::Stands;
+use crate::measure::{counted, Face, Grouped, Line, Lots, Price, Rate};
 use crate::units::Case;
 use library::Instruction;
 use std::io::{self, Write};
 
-/// Tells a fact.
-pub fn tell(out: &mut impl Write, day: u16, fact: &Fact) -> io::Result<()> {
+/// Tells a fact of an instruction that stands there.
+pub fn tell(out: &mut impl Write, told: &Told, stands: Stands) -> io::Result<()> {
+    let Told { day, word, fact } = *told;
     match fact {
-        Fact::Day { day: 0 } => writeln!(out, "Day 0"),
-        Fact::Day { day } => writeln!(out, "\nDay {day}"),
-        Fact::Instruction { word, instruction: Instruction::Trade { .. }, refusal: None } => {
-            trade(out, *word, fact)
-        }
-        Fact::Instruction { word, instruction, refusal } => {
-            write!(out, "  word {word}: ")?;
+        Fact::Day { day } => writeln!(out, "Day {day}"),
+        Fact::Instruction { instruction, refusal } => {
+            let mut line = Line::new();
+            head(out, &mut line, word, stands)?;
+            if let (Instruction::Trade { .. }, None) = (instruction, refusal) {
+                return trade(out, &mut line, instruction);
+            }
+            out.write_all(line.put(b": ").bytes())?;
             sentence(out, instruction)?;
             match refusal {
                 Some((_, why)) => writeln!(out, ": {why}"),
                 None => writeln!(out),
             }
         }
-        Fact::ReadingEnds { word, refusal, why } => {
-            writeln!(out, "  word {word}: reading ends, refused by {}: {why}", refusal.number())
+        Fact::ReadingEnds { refusal, why } => {
+            let mut line = Line::new();
+            head(out, &mut line, word, stands)?;
+            out.write_all(line.bytes())?;
+            writeln!(out, ": reading ends, refused by {}: {why}", refusal.number())
         }
         Fact::End { phase, entries, charged } => {
             writeln!(out, "\nAt the end: day {day}, {phase}")?;
-            writeln!(out, "  {entries} fail entries in the ledger, {charged} accounts with charges")
+            let entries = match entries {
+                1 => "1 fail entry".to_string(),
+                entries => format!("{entries} fail entries"),
+            };
+            let charged = counted(*charged, "account");
+            writeln!(out, "  the whole book has {entries} in the ledger and {charged} with charges")
         }
         _ => {
             write!(out, "      ")?;
@@ -37,18 +48,38 @@ pub fn tell(out: &mut impl Write, day: u16, fact: &Fact) -> io::Result<()> {
     }
 }
 
-/// The line of a trade that was done, without the cost of a format: a tape may have a million.
-fn trade(out: &mut impl Write, word: usize, fact: &Fact) -> io::Result<()> {
-    let Fact::Instruction { instruction: Instruction::Trade { issue, from, to, lots }, .. } = fact
-    else {
-        return Ok(());
-    };
-    let lots = u64::from(*lots);
-    let mut line = Line::new();
-    line.put(b"  word ").number(word as u64).put(b": trade: account ").number((*from).into());
-    line.put(b" sells account ").number((*to).into()).put(b" ").grouped(lots);
+/// The beginning of an instruction's line: its first word, and where it stands. A name is written at
+/// once, for it may be long.
+fn head(
+    out: &mut impl Write,
+    line: &mut Line,
+    word: Option<usize>,
+    stands: Stands,
+) -> io::Result<()> {
+    line.put(b"  word ").number(word.unwrap_or_default() as u64);
+    if stands.file.is_some() || stands.line.is_some() {
+        line.put(b",");
+    }
+    if let Some(file) = stands.file {
+        out.write_all(line.bytes())?;
+        write!(out, " {file}")?;
+        line.clear();
+    }
+    if let Some(number) = stands.line {
+        line.put(b" line ").number(number as u64);
+    }
+    Ok(())
+}
+
+/// The rest of the line of a trade that was done, without the cost of a format: a tape may have a
+/// million.
+fn trade(out: &mut impl Write, line: &mut Line, instruction: &Instruction) -> io::Result<()> {
+    let Instruction::Trade { issue, from, to, lots } = *instruction else { return Ok(()) };
+    let lots = u64::from(lots);
+    line.put(b": trade: account ").number(from.into());
+    line.put(b" sells account ").number(to.into()).put(b" ").grouped(lots);
     line.put(if lots == 1 { b" lot (" } else { b" lots (" }).grouped(lots * 50_000);
-    line.put(b" yen face) of issue ").number((*issue).into()).put(b"\n");
+    line.put(b" yen face) of issue ").number(issue.into()).put(b"\n");
     out.write_all(line.bytes())
 }
 
@@ -146,14 +177,15 @@ fn handover(out: &mut impl Write, fact: &Fact) -> io::Result<()> {
             write!(out, "{units} {is} handed to account {account}: {lots}{each}")
         }
         Fact::Waits { stock, unit, account, lots, .. } => {
-            let (stock, lots) = (Lots(*stock), Lots((*lots).into()));
-            write!(out, "{stock} wait for unit {unit} of account {account}, {lots}")
+            let (wait, lots) = (if *stock == 1 { "waits" } else { "wait" }, Lots((*lots).into()));
+            write!(out, "{} {wait} for unit {unit} of account {account}, {lots}", Lots(*stock))
         }
         Fact::Partly { issue, unit, account, lots, lacks } => {
+            let go = if *lots == 1 { "goes" } else { "go" };
             let (lots, lacks) = (Lots((*lots).into()), Lots((*lacks).into()));
             write!(
                 out,
-                "issue {issue}: the remaining {lots} go to unit {unit} of account {account}"
+                "issue {issue}: the remaining {lots} {go} to unit {unit} of account {account}"
             )?;
             write!(out, ", which still lacks {lacks} (a partial fail)")
         }
@@ -173,7 +205,7 @@ fn fail(out: &mut impl Write, fact: &Fact) -> io::Result<()> {
             write!(out, "account {from} hands to account {to}: {}", Face((*lots).into()))
         }
         Fact::Paired { steps, cancelled, .. } => {
-            write!(out, "{steps} steps, {} cancelled", Lots(*cancelled))
+            write!(out, "{}, {} cancelled", counted(*steps, "step"), Lots(*cancelled))
         }
         Fact::Left { issue, from, to, lots, since } => {
             write!(out, "in the ledger: ")?;
@@ -238,12 +270,28 @@ mod tests {
     fn the_quick_line_of_a_trade_is_the_sentence() {
         for lots in [0, 1, 2, 999, 1_000, 20_000_000, u32::MAX] {
             let instruction = Instruction::Trade { issue: 15, from: 63, to: 0, lots };
-            let fact = Fact::Instruction { word: 1_234, instruction, refusal: None };
+            let fact = Fact::Instruction { instruction, refusal: None };
+            let told = Told { day: 0, word: Some(1_234), fact: &fact };
             let (mut quick, mut slow) = (Vec::new(), b"  word 1234: ".to_vec());
-            tell(&mut quick, 0, &fact).unwrap();
+            tell(&mut quick, &told, Stands::default()).unwrap();
             sentence(&mut slow, &instruction).unwrap();
             slow.push(b'\n');
             assert_eq!(String::from_utf8(quick), String::from_utf8(slow));
         }
+    }
+
+    #[test]
+    fn an_instruction_is_named_by_its_word_file_and_line() {
+        let fact = Fact::Instruction { instruction: Instruction::Close, refusal: None };
+        let told = Told { day: 0, word: Some(7), fact: &fact };
+        let of = |file, line| {
+            let mut text = Vec::new();
+            tell(&mut text, &told, Stands { file, line, column: line }).unwrap();
+            String::from_utf8(text).unwrap()
+        };
+        assert_eq!(of(None, None), "  word 7: close\n");
+        assert_eq!(of(None, Some(9)), "  word 7, line 9: close\n");
+        assert_eq!(of(Some("tue.txt"), Some(9)), "  word 7, tue.txt line 9: close\n");
+        assert_eq!(of(Some("tue.tape"), None), "  word 7, tue.tape: close\n");
     }
 }

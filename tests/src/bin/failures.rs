@@ -1,9 +1,9 @@
 //! `failures`: the program where its input cannot be read or its lines cannot be written.
 //!
-//! It then says so on standard error, and no line of ledger or charges stands on standard output.
-//! `--program PATH` names the program.
+//! It then says so on standard error, with status 0, and no line of ledger or charges stands on
+//! standard output, but where the write fails inside those lines. `--program PATH` names the program.
 
-use std::fs::File;
+use std::fs::{self, File};
 use std::io::{self, Write};
 use std::os::fd::OwnedFd;
 use std::os::unix::net::UnixStream;
@@ -19,12 +19,19 @@ const DAY: &str = "trade 0 1 2 3000\nclose\ncutoff\nroll 1 300 100000\n";
 const LINES: &str = "0 trade 0 0\n2 close 0 0\n3 cutoff 0 1\n4 roll 0 0\nF 0 1 2 3000 0\n\
     C 1 -12328\nC 2 12328\n";
 
+/// A day whose lines have fewer than 512 bytes, and with those of ledger and charges more than 1,024.
+const SELLERS: u32 = 30;
+/// Runs the program with a file as output that may have one block, of 512 bytes or of 1,024.
+const ONE_BLOCK: &str = "trap '' XFSZ; ulimit -f 1; exec \"$0\" >\"$1\"";
+
 /// What a case must say on standard error.
 #[derive(Clone, Copy, PartialEq, Eq)]
 enum Says {
     Nothing,
     Unread,
     Unwritten,
+    /// The same, where some lines of the ledger are out already.
+    UnwrittenInside,
 }
 
 /// A case: its name, what it must say, and the run.
@@ -81,34 +88,65 @@ fn run(options: &Options) -> Result<usize, String> {
         return Err(format!("there is no program {program}: make it by `rt check dayrun`"));
     }
     let program = Path::new(program).canonicalize().map_err(|error| error.to_string())?;
+    let program = program.to_string_lossy();
     let mut wrong = Vec::new();
     for (name, says, make) in CASES {
-        let output =
-            make(&program.to_string_lossy()).map_err(|error| format!("{name}: {error}"))?;
-        wrong.extend(faults(&output, says).into_iter().map(|fault| format!("{name}: {fault}")));
+        let output = make(&program).map_err(|error| format!("{name}: {error}"))?;
+        wrong.extend(
+            faults(&output, says, LINES).into_iter().map(|fault| format!("{name}: {fault}")),
+        );
     }
+    wrong.extend(inside(&program).map_err(|error| format!("{INSIDE}: {error}"))?);
     if wrong.is_empty() {
-        return Ok(CASES.len());
+        return Ok(CASES.len() + 1);
     }
     Err(format!("{} faults\n  {}", wrong.len(), wrong.join("\n  ")))
 }
 
-/// What is wrong with what the program printed and said.
-fn faults(output: &Output, says: Says) -> Vec<String> {
+/// The last case.
+const INSIDE: &str = "an output that is full inside the ledger";
+
+/// Runs it. The day is compared with what the program prints of it where there is room.
+fn inside(program: &str) -> io::Result<Vec<String>> {
+    let tape = to_tape(&long_day()).expect("the day is a tape");
+    let whole = Command::new(program).stdin(input_of(tape.clone())?).output()?.stdout;
+    let file = std::env::temp_dir().join(format!("failures-{}", std::process::id()));
+    let run = Command::new("sh")
+        .args(["-c", ONE_BLOCK, program])
+        .arg(&file)
+        .stdin(input_of(tape)?)
+        .output()?;
+    let output = Output { stdout: fs::read(&file)?, ..run };
+    fs::remove_file(&file)?;
+    let faults = faults(&output, Says::UnwrittenInside, &String::from_utf8_lossy(&whole));
+    Ok(faults.into_iter().map(|fault| format!("{INSIDE}: {fault}")).collect())
+}
+
+/// What is wrong with what the program printed and said of a day whose lines are these.
+fn faults(output: &Output, says: Says, lines: &str) -> Vec<String> {
     let printed = String::from_utf8_lossy(&output.stdout);
     let said = String::from_utf8_lossy(&output.stderr);
     let mut faults = Vec::new();
-    if !LINES.starts_with(&*printed) {
+    if !lines.starts_with(&*printed) {
         faults.push(format!("printed {printed:?}, which the day does not begin with"));
     }
     let closing = printed.lines().any(|line| line.starts_with("F ") || line.starts_with("C "));
-    if closing && says != Says::Nothing {
-        faults.push(format!("printed lines of ledger or charges: {printed:?}"));
+    match says {
+        Says::Unread | Says::Unwritten if closing => {
+            faults.push(format!("printed lines of ledger or charges: {printed:?}"));
+        }
+        Says::UnwrittenInside if !closing || printed == lines => {
+            faults.push(format!("does not end inside the ledger: {printed:?}"));
+        }
+        _ => {}
+    }
+    if !output.status.success() {
+        faults.push(format!("ended with {}", output.status));
     }
     let right = match says {
         Says::Nothing => said.is_empty(),
         Says::Unread => message(&said, "read"),
-        Says::Unwritten => message(&said, "written"),
+        Says::Unwritten | Says::UnwrittenInside => message(&said, "written"),
     };
     if !right {
         faults.push(format!("said {said:?} on standard error"));
@@ -124,6 +162,13 @@ fn message(said: &str, word: &str) -> bool {
 /// The words of the day.
 fn whole_day() -> Vec<u8> {
     to_tape(DAY).expect("the day is a tape")
+}
+
+/// As many sales of one issue, each of another account to another, that all fail and are charged.
+fn long_day() -> String {
+    let trades: String =
+        (0..SELLERS).map(|seller| format!("trade 0 {seller} {} 3000\n", 63 - seller)).collect();
+    format!("{trades}close\ncutoff\nroll 1 300 100000\n")
 }
 
 /// Runs the program on a tape that is read to its end.

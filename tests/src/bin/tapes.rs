@@ -34,6 +34,8 @@ const MOST_TIMES: f64 = 5.0;
 const ROUNDS: u32 = 5;
 /// The program's own options.
 const OWN: [&str; 5] = ["--program", "--reference", "--tool", "--large", "--samples"];
+/// One of so many small tapes is run through the tool too.
+const BY_TOOL: u64 = 20;
 /// Where the tool is otherwise.
 const TOOL: &str = "build/release/tape";
 
@@ -135,11 +137,31 @@ impl Programs {
         Ok(())
     }
 
+    /// Runs a tape through `tape run`, which counts its lines: none is missing.
+    fn counted_by_tool(&self, tape: &[u8]) -> Result<(), String> {
+        let file = save_tape(tape)?;
+        let mut run = Command::new(&self.tool);
+        let run = run.args(["run", "--words", "--program", &self.program]).arg(&file);
+        let output =
+            run.output().map_err(|error| format!("{} cannot be run: {error}", self.tool))?;
+        fs::remove_file(&file).map_err(|error| format!("{}: {error}", file.display()))?;
+        let said = String::from_utf8_lossy(&output.stderr);
+        let ended = said.starts_with("tape: reading ended before the tape did");
+        if output.status.code() != Some(i32::from(ended)) || said.is_empty() == ended {
+            return Err(format!("tape run ended with {} and said {said:?}", output.status));
+        }
+        Ok(())
+    }
+
     /// Runs small random tapes.
     fn random(&self, options: &Options) -> Result<(), String> {
         let start = Instant::now();
         for at in 0..options.cases {
-            self.check(options.seed, &small_tape(&mut Rng::of_case(options.seed, at)))?;
+            let tape = small_tape(&mut Rng::of_case(options.seed, at));
+            self.check(options.seed, &tape)?;
+            if at % BY_TOOL == 0 {
+                self.counted_by_tool(&tape)?;
+            }
             if (at + 1) % 1_000 == 0 {
                 let seconds = start.elapsed().as_secs();
                 eprintln!("{} of {} tapes agree, {seconds} s", at + 1, options.cases);
@@ -155,6 +177,7 @@ impl Programs {
             let mut rng = Rng::of_case(!options.seed, at);
             let tape = day_tape(&mut rng, LARGE, at % 2 == 1);
             let printed = self.check(options.seed, &tape)?;
+            self.counted_by_tool(&tape)?;
             eprintln!(
                 "large tape {} of {large}: {LARGE} instructions, {printed} bytes agree, {} s",
                 at + 1,

@@ -1,16 +1,19 @@
 //! `trust`: the shares of a fail inside a trust account, by the library and by the second engine.
 //!
 //! Every market of up to three small reports with every draw and every fail; every question at its
-//! edge, 'yes' and 'no', in every combination; columns of other lengths; then random cases. The
-//! number, every place of the output and the words around it are compared. `--replay` takes the
-//! fail, the failing account, the output's places, the number of reports, of each report its
-//! sub-account, counterparty, lots and earlier fail, and then the draw.
+//! edge, 'yes' and 'no', in every combination; columns of other lengths; draws of many reports, with
+//! a number missing or twice where the library's windows of marks meet, and of a million, which have
+//! to be answered within a time; then random cases. The number, every place of the output and the
+//! words around it are compared. `--replay` takes the fail, the failing account, the output's places,
+//! the number of reports, of each report its sub-account, counterparty, lots and earlier fail, and
+//! then the draw.
 
 use library::trust::{self as proved, Reports};
 use reference::trust::{self as model, Report, LAST_SUB_ACCOUNT, MOST_REPORTS};
 use std::collections::BTreeSet;
 use std::fmt;
 use std::process::ExitCode;
+use std::time::{Duration, Instant};
 use tests::options::{number, Options};
 use tests::report::{progress, Mismatch};
 use tests::rng::Rng;
@@ -21,6 +24,12 @@ const MOST_LOTS: i32 = 20_000_000;
 const NUMBERS: [u32; 7] = [0, 1, 5, 7, 21, 22, 23];
 /// Words on either side of the lent output, which nothing may write.
 const AROUND: usize = 4;
+/// The numbers that the library marks off in one window.
+const WINDOW: u32 = 65_536;
+/// The reports of a long draw, and the most time that its answer may take: windows need some
+/// milliseconds, a search of the draw for each number some minutes.
+const LONG: u32 = 1_000_000;
+const MOST_TIME: Duration = Duration::from_secs(2);
 
 /// One fail to be shared.
 #[derive(Clone, Debug)]
@@ -297,6 +306,72 @@ fn random_draw(rng: &mut Rng, n: u32) -> Vec<u32> {
     draw
 }
 
+/// A draw of many reports of one lot each, put to both; gives the number and how long the library
+/// took. The case is not told: it has too many words.
+fn many(reports: u32, draw: Vec<u32>) -> Result<(u32, Duration), String> {
+    let report = Report { sub_account: 0, counterparty: 0, lots: 1, earlier_fail: false };
+    let reports = vec![report; reports as usize];
+    let case = Case { fail: 1, failing: 0, places: MOST_REPORTS, reports, draw };
+    let columns = Columns::of(&case.reports);
+    let start = Instant::now();
+    let (number, words) = case.library(&columns);
+    let time = start.elapsed();
+    let expected = case.model();
+    let told = format!("a draw of {}: answered {number} after {time:.1?}", case.draw.len());
+    if (number, &words) != (expected.0, &expected.1) {
+        return Err(format!("{told}, and {} by the second engine", expected.0));
+    }
+    if time > MOST_TIME {
+        return Err(format!("{told}, more than {MOST_TIME:?}"));
+    }
+    Ok((number, time))
+}
+
+/// A list with another number in place of one of its own.
+fn with_instead(draw: &[u32], missing: u32, twice: u32) -> Vec<u32> {
+    draw.iter().map(|&number| if number == missing { twice } else { number }).collect()
+}
+
+/// Draws of as many reports as one or two windows have numbers, of one fewer and of one more: right,
+/// and with a number twice, in one window or in two; how many there are.
+fn windows(rng: &mut Rng) -> Result<u64, String> {
+    let mut cases = 0;
+    for reports in [1, 2].into_iter().flat_map(|n| n * WINDOW - 1..=n * WINDOW + 1) {
+        let (first, last) = (0, reports - 1);
+        let right = random_draw(rng, reports);
+        let mut numbers = vec![many(reports, right.clone())?.0];
+        for (missing, twice) in [
+            (first, 1),
+            (first, last),
+            (last, first),
+            (last - 1, last),
+            (63, 64),
+            (last / 2, last / 2 + 64),
+        ] {
+            numbers.push(many(reports, with_instead(&right, missing, twice))?.0);
+        }
+        if numbers != [22, 21, 21, 21, 21, 21, 21] {
+            return Err(format!("draws of {reports}: answered {numbers:?}"));
+        }
+        cases += numbers.len() as u64;
+    }
+    Ok(cases)
+}
+
+/// A draw of a million reports, right and with its last number twice, is answered in time.
+fn long_draws(rng: &mut Rng) -> Result<u64, String> {
+    let right = random_draw(rng, LONG);
+    let twice = with_instead(&right, LONG - 2, LONG - 1);
+    for (expected, draw) in [(22, (0..LONG).collect()), (22, right), (21, twice)] {
+        let (number, time) = many(LONG, draw)?;
+        if number != expected {
+            return Err(format!("a draw of {LONG}: answered {number}, expected {expected}"));
+        }
+        eprintln!("a draw of {LONG}: answered {number} after {time:.1?}");
+    }
+    Ok(3)
+}
+
 impl Case {
     /// A random case: few or many reports, few or many sub-accounts, a fail that is often the whole
     /// of what can be allotted or near it, and now and then one edge that is passed.
@@ -367,6 +442,8 @@ fn run(options: &Options) -> Result<String, String> {
     let small = small_markets(&mut met).map_err(told)?;
     eprintln!("{small} small markets agree");
     let edges = edges(&mut met).map_err(told)? + lengths().map_err(told)?;
+    let rng = &mut Rng::new(options.seed);
+    let long = windows(rng)? + long_draws(rng)?;
     every_number("the edges", &met)?;
     met.clear();
     for at in 0..options.cases {
@@ -376,9 +453,9 @@ fn run(options: &Options) -> Result<String, String> {
     if options.cases >= DEFAULT_CASES {
         every_number("the random cases", &met)?;
     }
-    let agreed = small + edges + options.cases;
+    let agreed = small + edges + long + options.cases;
     Ok(format!(
-        "trust: {agreed} cases agree ({small} small, {edges} of edges, {} random)",
+        "trust: {agreed} cases agree ({small} small, {edges} of edges, {long} long, {} random)",
         options.cases
     ))
 }

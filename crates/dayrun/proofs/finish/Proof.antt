@@ -1,10 +1,11 @@
 -- The lines are the book's, and stand within the text.
-use mathlib.Core.Path.{sym}
-use Prim.Native.Nat.{_≤_}
+use mathlib.Core.Path.{sym, ap, _∙_}
+use mathlib.Core.List.{List}
+use Prim.Native.Nat.{ℕ, _+_, _≤_}
 use native.Mathlib.Omega.{arith}
 use lib.ListN.{length}
 use lib.Seq.{length-take-le}
-use Rattle.dayrun.proofs.Sofar.{closing-shown, whole}
+use Rattle.dayrun.proofs.Sofar.{closing-shown}
 use borrow.Author.Needs.{needs}
 use Rattle.dayrun.proofs.finish.Statement.{statement}
 use Rattle.dayrun.proofs.finish.Tie as tie
@@ -14,23 +15,24 @@ fits c = omega (arith, c .closing .ensures .few, c .closing .kept .0, c .before 
 
 slice-aggregate-show : tie.Need-slice-aggregate-show
 slice-aggregate-show c =
-    let k = c .before .before .before in
+    let k = c .before .before .before .before in
     sym (length-take-le (k .closing .result) (k .closing .last .0) (fits k))
 
 show-requires : tie.Need-show-requires
 show-requires c κs =
-    let k = c .before .before .before in
+    let k = c .before .before .before .before in
     let s = k .before .before .before .before in
     let t = k .closing in (
+      s .pre .3,
       closing-shown (s .args .e) _ (s .pre .1) (s .pre .2) (t .ensures .front),
       omega (arith, length-take-le (t .result) (t .last .0) (fits k), t .ensures .few, s .pre .1 .few),
     )
 
 returns : tie.Need-returns
 returns c =
-    let k = c .before .before .before .before in
+    let k = c .before .before .before .before .before in
     let s = k .before .before .before .before in
-    whole (s .args .e) _ (s .pre .1) (s .pre .2) (k .closing .ensures .front) (c .show .result) (c .show .ensures)
+    c .show .ensures ∙ ap (λ (l : List ℕ). s .args .e .sent .count + length l) (k .closing .ensures .front)
 
 pub finish-spec : {M : Type 1} → statement M
 finish-spec =

@@ -12,18 +12,18 @@ use Rattle.input.proofs.refill.Tie as tie
 
 returns : tie.Need-returns
 returns c =
-    let a = c .before .before .before .before .before .before .before .before .before .before .before .before in
-    let k = c .before .before .before .before .before .before .before .before .before .shift in
+    let a = c .before .before .before .before .before .before .before .before .before in
+    let k = c .before .before .before .before .before .before .shift in
     let left = k .result in
     let shifted = k .last .0 in
     let front = ap (λ (n : ℕ). take n shifted) (k .ensures .0) ∙ k .ensures .1 ∙ ap (λ (n : ℕ). take n (drop (a .args .start) (now (a .args .buffer)))) (sym (k .ensures .0)) in
-    let back = c .before .before .before .before .before .read .last .1 .0 ++ drop (length shifted - left) (drop left shifted) in
-    subst (λ (n : ℕ). Refilled (now (a .args .buffer)) (take left shifted ++ back) (a .args .start) n (c .took .result)) (k .ensures .0)
-    (refilled (now (a .args .buffer)) shifted back (a .args .start) left _ _ (c .took .result) (search needs) (search needs) (search needs) front (c .took .ensures))
+    let back = c .before .before .receive .last .0 ++ drop (length shifted - left) (drop left shifted) in
+    subst (λ (n : ℕ). Refilled (now (a .args .buffer)) (take left shifted ++ back) (a .args .start) n (c .before .before .receive .result)) (k .ensures .0)
+    (refilled (now (a .args .buffer)) shifted back (a .args .start) left _ _ (c .before .before .receive .result) (search needs) (search needs) (search needs) front (c .before .before .receive .ensures .took))
 
 pub refill-spec : {M : Type 1} → statement M
 refill-spec =
     tie.close
     (tie.spec
     (λ c κs. search needs) (λ c. search needs) (λ c. search needs) (λ c. search needs) (λ c κs. search needs)
-    (λ c. search needs) (λ c. search needs) (λ c. search needs) (λ c κs. search needs) (λ c. search needs) returns)
+    (λ c. search needs) returns)

@@ -1,4 +1,4 @@
--- The full units are ranked by due, the small ones behind them: together the definition's runs.
+-- The full units are ranked by due, the small ones behind them: together the definition's runs, and the order of the four cases.
 use mathlib.Core.Path.{ap}
 use Prim.Native.Nat.{_-_, _≤_}
 use native.Mathlib.Omega.{arith}
@@ -7,7 +7,7 @@ use denote.Ref.{now}
 use lib.ListN.{length}
 use lib.ListN.{length-take, length-drop, length-map}
 use Rattle.units.specs.Runs.{smallLots}
-use Rattle.units.proofs.Loops.{rest-small, ordered}
+use Rattle.units.proofs.Loops.{rest-small, ordered, ordered-only}
 use Rattle.units.proofs.order.Statement.{statement}
 use Rattle.units.proofs.order.Tie as tie
 
@@ -35,10 +35,9 @@ returns c =
     let s = c .before .before .rank2 in
     let a = c .before .before .before .before .before .before .before .before .before .before .before .before .before .before .before .before .before .before in
     let n : r .result ≤ length (f .last .0) = omega (arith, f .kept .0, r .kept .1 .0, r .ensures .few, a .pre) in
-    let m : s .result ≤ length (s .last .1 .0) = omega (arith, s .kept .1 .0, s .ensures .few, simp (length-take, length-drop) at (s .kept .1 .0), f .kept .0, r .kept .1 .0, r .ensures .few, a .pre) in (
-      search needs,
-      ordered (now (a .args .dues)) (rs .last .1 .0) (r .last .1 .0) (f .last .0) (s .last .1 .0) (r .result) (s .result) (length (f .last .0) - r .result) n m (r .ensures .order) (f .ensures) (rs .ensures) (s .ensures .order),
-    )
+    let m : s .result ≤ length (s .last .1 .0) = omega (arith, s .kept .1 .0, s .ensures .few, simp (length-take, length-drop) at (s .kept .1 .0), f .kept .0, r .kept .1 .0, r .ensures .few, a .pre) in
+    let o = ordered (now (a .args .dues)) (rs .last .1 .0) (r .last .1 .0) (f .last .0) (s .last .1 .0) (r .result) (s .result) (length (f .last .0) - r .result) n m (r .ensures .order) (f .ensures) (rs .ensures) (s .ensures .order) in
+    (search needs, o, ordered-only (now (a .args .dues)) _ _ o)
 
 pub order-spec : {M : Type 1} → statement M
 order-spec =

@@ -1,5 +1,5 @@
--- In Settling, after any list of calls with no lift of the issue between and no cutoff, a unit that waits for n lots is
--- handed exactly if n or more were delivered, and else waits for the rest.
+-- In Settling, after any list of calls of which no accepted one is a lift of the issue or a cutoff, a unit that waits for
+-- n lots is handed exactly if n or more were delivered, and else waits for the rest.
 use mathlib.Core.Path.{_≡_, refl, sym, ap, _∙_}
 use mathlib.Core.Bool.{Bool, true, false, cond, not, false≢true}
 use mathlib.Core.List.{List, [], _∷_}
@@ -16,20 +16,20 @@ use Rattle.rules.specs.Handover.{covered, stock, firstUnit}
 use Rattle.rules.specs.Book.{isTaking, isSettling, isCut, deliveredAt, deliveredTotal, orderOf, sound}
 use Rattle.rules.specs.Questions.{ask, firstNo}
 use Rattle.rules.specs.Calls.{Call, Trade, Close, Deliver, Ask, Commit, Cutoff, Resolve, PairOff, Roll, Mark, asks, effect, called, commitLift}
-use Rattle.laws.proofs.Basics.{byTest}
+use Rattle.laws.proofs.Basics.{byTest, and-left, and-right}
 use Rattle.laws.proofs.Answers.{AllYes, by-answer}
 use Rattle.laws.proofs.Cells.{row-other, delivered-rises}
 use Rattle.laws.proofs.LiftColumn.{raised-order, lift-other, same-words}
 use Rattle.laws.proofs.Sound.{sound-parts, parts-sound}
 use Rattle.laws.proofs.Called.{Sizes, Standing, stands}
-use Rattle.status.specs.Status.{StatusAnswer, isHanded, waitsFor, failsPartly, failsWholly, statusRefused, covers, wanted, takesStock, inSettling, afterCutoff, statusAnswer, status}
-use Rattle.status.specs.Lists.{after, AllPass, noLift, lotsIn, ifAccepted, brought, HandedFor, Delivery, deliveries, AllAccepted, lotsTo}
-use Rattle.status.proofs.Phases.{settling-left, settling-not-taking, settling-not-cut}
+use Rattle.status.specs.Status.{StatusAnswer, isHanded, waitsFor, failsPartly, failsWholly, statusRefused, covers, wanted, takesStock, inSettling, afterCutoff, reason, statusAnswer, status}
 use Rattle.status.proofs.Telling.{exactly}
+use Rattle.reasons.specs.Lists.{after, unlessRefused, noLift, noLiftBetween, lotsIn, ifAccepted, brought, HandedFor}
+use Rattle.reasons.proofs.Phases.{settling-left, settling-not-taking, settling-not-cut}
 
 -- What an answer says
 
-abbrev caseOf : StatusAnswer → ℕ
+abbrev pub caseOf : StatusAnswer → ℕ
 caseOf isHanded = 1
 caseOf (waitsFor n) = 2
 caseOf (failsPartly x) = 3
@@ -43,17 +43,17 @@ lotsOf (failsPartly x) = x
 lotsOf failsWholly = 0
 lotsOf (statusRefused r) = r
 
--- no question is answered 'no' where a unit waits
-abbrev Asked : Bool → Bool → Bool → Bool → StatusAnswer → ℕ → Type 0
-Asked g₂ g₃ g₄ g₁₆ s n = (g₂ ≡ true) × (g₃ ≡ true) × (g₄ ≡ true) × (g₁₆ ≡ true) × (s ≡ waitsFor n)
+-- no question is answered 'no' where what is told is no refusal
+abbrev Asked : Bool → Bool → Bool → Bool → StatusAnswer → StatusAnswer → Type 0
+Asked g₂ g₃ g₄ g₁₆ s t = (g₂ ≡ true) × (g₃ ≡ true) × (g₄ ≡ true) × (g₁₆ ≡ true) × (s ≡ t)
 
-all-asked : (g₂ g₃ g₄ g₁₆ : Bool) (s : StatusAnswer) (n : ℕ) →
-    statusAnswer (firstNo (ask 2 g₂ ∷ ask 3 g₃ ∷ ask 4 g₄ ∷ ask 16 g₁₆ ∷ [])) s ≡ waitsFor n → Asked g₂ g₃ g₄ g₁₆ s n
-all-asked true true true true s n e = (refl, refl, refl, refl, e)
-all-asked true true true false s n e = absurd (let q = ap caseOf e in omega arith)
-all-asked true true false h s n e = absurd (let q = ap caseOf e in omega arith)
-all-asked true false g h s n e = absurd (let q = ap caseOf e in omega arith)
-all-asked false f g h s n e = absurd (let q = ap caseOf e in omega arith)
+all-asked : (g₂ g₃ g₄ g₁₆ : Bool) (s t : StatusAnswer) → caseOf t < 5 →
+    statusAnswer (firstNo (ask 2 g₂ ∷ ask 3 g₃ ∷ ask 4 g₄ ∷ ask 16 g₁₆ ∷ [])) s ≡ t → Asked g₂ g₃ g₄ g₁₆ s t
+all-asked true true true true s t h e = (refl, refl, refl, refl, e)
+all-asked true true true false s t h e = absurd (omega (arith, ap caseOf e))
+all-asked true true false g s t h e = absurd (omega (arith, ap caseOf e))
+all-asked true false f g s t h e = absurd (omega (arith, ap caseOf e))
+all-asked false d f g s t h e = absurd (omega (arith, ap caseOf e))
 
 -- in Cut no unit waits
 cut-none : (c t : Bool) (x n : ℕ) → cond c isHanded (cond t (failsPartly x) failsWholly) ≡ waitsFor n → ⊥
@@ -74,33 +74,45 @@ module _ (us : List AccountLots) (d k n : ℕ) where
   unfolding inSettling
   settling-wants = waits-uncovered (covers us d k) (wanted us d k) n
 
-handed-covered : (c : Bool) (w : ℕ) → cond c isHanded (waitsFor w) ≡ isHanded → c ≡ true
+pub handed-covered : (c : Bool) (w : ℕ) → cond c isHanded (waitsFor w) ≡ isHanded → c ≡ true
 handed-covered true w e = refl
 handed-covered false w e = absurd (let q = ap caseOf e in omega arith)
 
--- a unit waits for n lots
-pub record Waits (b : Book) (i k n : ℕ) : Type 0 where
+-- what is told is no refusal: the book is sound and not in Taking, and the unit is there
+pub record Tells (b : Book) (i k : ℕ) (t : StatusAnswer) : Type 0 where
   pub good : sound b ≡ true
-  pub phase : isSettling (b .phase) ≡ true
+  pub later : isTaking (b .phase) ≡ false
   pub issue : i ≤ 15
   pub there : k < length (orderOf b i)
-  pub wants : wanted (orderOf b i) (deliveredTotal (b .delivered) i) k ≡ n
+  pub told : reason (b .phase) (orderOf b i) (deliveredTotal (b .delivered) i) k ≡ t
 
-pub waits-of : (b : Book) (i k n : ℕ) → status b i k ≡ waitsFor n → Waits b i k n
+pub tells-of : (b : Book) (i k : ℕ) (t : StatusAnswer) → caseOf t < 5 → status b i k ≡ t → Tells b i k t
 unfolding status
+tells-of b i k t h e =
+    let us = orderOf b i in
+    let q = all-asked (sound b) (not (isTaking (b .phase))) (leb i 15) (ltb k (length us)) _ t h e in
+    record {
+      good = q .0;
+      later = not-true _ (q .1);
+      issue = leb-true i 15 (q .2);
+      there = ltb-true k (length us) (q .3);
+      told = q .4;
+    }
+
+-- a unit waits for n lots
+record Waits (b : Book) (i k n : ℕ) : Type 0 where
+  tells : Tells b i k (waitsFor n)
+  phase : isSettling (b .phase) ≡ true
+  wants : wanted (orderOf b i) (deliveredTotal (b .delivered) i) k ≡ n
+
+waits-of : (b : Book) (i k n : ℕ) → status b i k ≡ waitsFor n → Waits b i k n
 waits-of b i k n e =
     let us = orderOf b i in
     let d = deliveredTotal (b .delivered) i in
-    let q = all-asked (sound b) (not (isTaking (b .phase))) (leb i 15) (ltb k (length us)) _ n e in
+    let q = tells-of b i k (waitsFor n) (omega arith) e in
     byTest (isCut (b .phase))
-    (λ c. absurd (never-cut us d k n (simp c at (q .4))))
-    (λ c. record {
-      good = q .0;
-      phase = settling-left (b .phase) (not-true _ (q .1)) c;
-      issue = leb-true i 15 (q .2);
-      there = ltb-true k (length us) (q .3);
-      wants = settling-wants us d k n (simp c at (q .4));
-    })
+    (λ c. absurd (never-cut us d k n (simp c at (q .told))))
+    (λ c. record { tells = q; phase = settling-left (b .phase) (q .later) c; wants = settling-wants us d k n (simp c at (q .told)) })
 
 -- what is told of a unit of a sound book in Settling
 pub in-settling : (b : Book) (i k : ℕ) → sound b ≡ true → isSettling (b .phase) ≡ true → i ≤ 15 → k < length (orderOf b i) →
@@ -157,9 +169,11 @@ module _ (b : Book) (z : Sizes b) (i : ℕ) (p : isSettling (b .phase) ≡ true)
   does (Roll days rate prices) h y = absurd (false≢true (sym (settling-not-cut (b .phase) p) ∙ y .1 .0))
   does (Mark j m) h y = record { phase = p; order = refl; total = sym (add-zero (deliveredTotal (b .delivered) i)) }
 
-  brings : (c : Call) → noLift i c ≡ true → Brings b (called b c .book) i (ifAccepted (called b c .refusal) (lotsIn i c))
-  brings c h =
-      by-answer (λ r. Brings b (r .book) i (ifAccepted (r .refusal) (lotsIn i c))) b c (does c h) (λ r. nothing b i p)
+  brings : (c : Call) → unlessRefused (called b c .refusal) (noLift i c) ≡ true →
+      Brings b (called b c .book) i (ifAccepted (called b c .refusal) (lotsIn i c))
+  brings c =
+      by-answer (λ r. unlessRefused (r .refusal) (noLift i c) ≡ true → Brings b (r .book) i (ifAccepted (r .refusal) (lotsIn i c))) b c
+      (λ y h. does c h y) (λ r h. nothing b i p)
 
 -- Lists
 
@@ -167,13 +181,14 @@ then : (b b′ b″ : Book) (i x y : ℕ) → Brings b b′ i x → Brings b′ 
 then b b′ b″ i x y p q =
     record { phase = q .phase; order = q .order ∙ p .order; total = omega (arith, p .total, q .total) }
 
-pub brings-all : (cs : List Call) (b : Book) (i : ℕ) → Standing b → isSettling (b .phase) ≡ true → AllPass (noLift i) cs →
+pub brings-all : (cs : List Call) (b : Book) (i : ℕ) → Standing b → isSettling (b .phase) ≡ true → noLiftBetween i b cs ≡ true →
     Brings b (after b cs) i (brought i b cs) × Standing (after b cs)
 brings-all [] b i s p h = (nothing b i p, s)
 brings-all (c ∷ cs) b i s p h =
     let b′ = called b c .book in
-    let q = brings b (s .sizes) i p c (h .0) in
-    let r = brings-all cs b′ i (stands b c s) (q .phase) (h .1) in
+    let first = unlessRefused (called b c .refusal) (noLift i c) in
+    let q = brings b (s .sizes) i p c (and-left first (noLiftBetween i b′ cs) h) in
+    let r = brings-all cs b′ i (stands b c s) (q .phase) (and-right first (noLiftBetween i b′ cs) h) in
     (then b b′ (after b′ cs) i _ (brought i b′ cs) q (r .0), r .1)
 
 -- a unit of which x lots more than d are delivered
@@ -190,32 +205,18 @@ handed-for us d x k n t e =
           (λ c. simp c (ap waitsFor (omega arith)));
     }
 
--- with n more lots delivered and no lift between, the unit is handed; with fewer it is not
-pub handed-exactly : (b : Book) → Sizes b → (i k n : ℕ) → status b i k ≡ waitsFor n → (cs : List Call) → AllPass (noLift i) cs →
+-- with n more lots delivered and no lift between, the unit is handed; with fewer it is not. Any calls may stand between the
+-- deliveries; a commit of the issue that is refused is no lift, and neither is a refused cutoff a cutoff
+pub handed-by-deliveries : (b : Book) → Sizes b → (i k n : ℕ) → status b i k ≡ waitsFor n → (cs : List Call) → noLiftBetween i b cs ≡ true →
     HandedFor n (brought i b cs) (status (after b cs) i k)
-handed-exactly b z i k n e cs h =
+handed-by-deliveries b z i k n e cs h =
     let w = waits-of b i k n e in
+    let q = w .tells in
     let us = orderOf b i in
     let d = deliveredTotal (b .delivered) i in
     let x = brought i b cs in
-    let r = brings-all cs b i (record { sizes = z; parts = sound-parts b (w .good) }) (w .phase) h in
+    let r = brings-all cs b i (record { sizes = z; parts = sound-parts b (q .good) }) (w .phase) h in
     let b′ = after b cs in
-    let t : k < length (orderOf b′ i) = rw (r .0 .order) (w .there) in
-    rw (in-settling b′ i k (parts-sound b′ (r .1 .parts)) (r .0 .phase) (w .issue) t, r .0 .order, r .0 .total)
-    (handed-for us d x k n (w .there) (w .wants))
-
--- Accepted deliveries
-
-no-lifts : (i : ℕ) (ds : List Delivery) → AllPass (noLift i) (deliveries ds)
-no-lifts i [] = tt
-no-lifts i (d ∷ ds) = (refl, no-lifts i ds)
-
-all-brought : (i : ℕ) (ds : List Delivery) (b : Book) → AllAccepted b (deliveries ds) → brought i b (deliveries ds) ≡ lotsTo i ds
-all-brought i [] b h = refl
-all-brought i (d ∷ ds) b h = rw (h .0) (ap (λ x. cond (eqb (d .issue) i) (d .lots) 0 + x) (all-brought i ds _ (h .1)))
-
--- after any list of accepted deliveries that bring x lots to the issue, the unit is handed exactly if n ≤ x
-pub handed-by-deliveries : (b : Book) → Sizes b → (i k n : ℕ) → status b i k ≡ waitsFor n → (ds : List Delivery) → AllAccepted b (deliveries ds) →
-    HandedFor n (lotsTo i ds) (status (after b (deliveries ds)) i k)
-handed-by-deliveries b z i k n e ds h =
-    rw (← all-brought i ds b h) (handed-exactly b z i k n e (deliveries ds) (no-lifts i ds))
+    let t : k < length (orderOf b′ i) = rw (r .0 .order) (q .there) in
+    rw (in-settling b′ i k (parts-sound b′ (r .1 .parts)) (r .0 .phase) (q .issue) t, r .0 .order, r .0 .total)
+    (handed-for us d x k n (q .there) (w .wants))

@@ -1,26 +1,33 @@
--- Lists of calls: the lots that they bring to an issue, and the lots that its units are told to lack after a cutoff.
+-- Lists of calls: which of them are accepted, the lots that they bring to an issue, and the lots that its units are told to lack after a cutoff.
 use mathlib.Core.Path.{_≡_}
-use mathlib.Core.Bool.{Bool, true, false, not, cond}
-use mathlib.Core.List.{List, [], _∷_, map}
+use mathlib.Core.Bool.{Bool, true, false, not, cond, _&&_}
+use mathlib.Core.List.{List, [], _∷_}
 use Prim.Native.Nat.{ℕ, zero, suc, _+_, _-_, _≤_, _<_}
 use lib.Dec.{eqb}
+use lib.ListN.{length}
 use Rattle.rules.specs.declared.Book.{Book}
 use Rattle.rules.specs.Units.{AccountLots}
 use Rattle.rules.specs.Book.{orderOf}
 use Rattle.rules.specs.Calls.{Call, Trade, Close, Deliver, Ask, Commit, Cutoff, Resolve, PairOff, Roll, Mark, called}
+use Rattle.rules.specs.Tally.{State}
 use Rattle.status.specs.Status.{StatusAnswer, isHanded, waitsFor, failsPartly, failsWholly, statusRefused, status}
 
 -- the book after a list of calls
 abbrev pub after : Book → List Call → Book
 after b [] = b
 after b (c ∷ cs) = after (called b c .book) cs
 
--- every call of a list passes
-abbrev pub AllPass : (Call → Bool) → List Call → Type 0
-AllPass p [] = Unit {0}
-AllPass p (c ∷ cs) = (p c ≡ true) × AllPass p cs
+-- a refused call passes, whatever it is: it changes nothing
+abbrev pub unlessRefused : ℕ → Bool → Bool
+unlessRefused zero passes = passes
+unlessRefused (suc r) passes = true
 
--- no lift of the issue between, and no cutoff
+-- of a list of calls, made one after the other from a book, every accepted one passes
+abbrev pub acceptedPass : (Call → Bool) → Book → List Call → Bool
+acceptedPass p b [] = true
+acceptedPass p b (c ∷ cs) = unlessRefused (called b c .refusal) (p c) && acceptedPass p (called b c .book) cs
+
+-- no lift of the issue, and no cutoff
 abbrev pub noLift : ℕ → Call → Bool
 noLift i (Trade j f t x) = true
 noLift i Close = true
@@ -32,6 +39,10 @@ noLift i (Resolve j a x out) = true
 noLift i (PairOff j a) = true
 noLift i (Roll days rate prices) = true
 noLift i (Mark j m) = true
+
+-- 'no lift between': only an accepted commit is a lift, and only an accepted cutoff ends the day's deliveries
+abbrev pub noLiftBetween : ℕ → Book → List Call → Bool
+noLiftBetween i = acceptedPass (noLift i)
 
 -- the lots that a call brings to the issue, where it is accepted
 abbrev pub lotsIn : ℕ → Call → ℕ
@@ -62,25 +73,10 @@ pub record HandedFor (n x : ℕ) (s : StatusAnswer) : Type 0 where
   pub needed : s ≡ isHanded → n ≤ x
   pub fewer : x < n → s ≡ waitsFor (n - x)
 
--- a delivery: issue, account, lots, and the output lent to it
-pub record Delivery : Type 0 where
-  pub issue : ℕ
-  pub account : ℕ
-  pub lots : ℕ
-  pub out : List ℕ
-
-abbrev pub deliveries : List Delivery → List Call
-deliveries ds = map (λ d. Deliver (d .issue) (d .account) (d .lots) (d .out)) ds
-
--- all calls of a list are accepted
-abbrev pub AllAccepted : Book → List Call → Type 0
-AllAccepted b [] = Unit {0}
-AllAccepted b (c ∷ cs) = (called b c .refusal ≡ 0) × AllAccepted (called b c .book) cs
-
--- the lots that they bring to the issue
-abbrev pub lotsTo : ℕ → List Delivery → ℕ
-lotsTo i [] = 0
-lotsTo i (d ∷ ds) = cond (eqb (d .issue) i) (d .lots) 0 + lotsTo i ds
+-- said of the records: a unit is told to be handed exactly if the issue's row of today's 10s has one at its place
+pub record HandedByRow (s : State) (i k : ℕ) : Type 0 where
+  pub told : status (s .book) i k ≡ isHanded → k < length (s .tally .rows i)
+  pub recorded : k < length (s .tally .rows i) → status (s .book) i k ≡ isHanded
 
 -- no roll
 abbrev pub noRoll : Call → Bool
@@ -94,6 +90,10 @@ noRoll (Resolve j a x out) = true
 noRoll (PairOff j a) = true
 noRoll (Roll days rate prices) = false
 noRoll (Mark j m) = true
+
+-- none is accepted
+abbrev pub noRollSince : Book → List Call → Bool
+noRollSince = acceptedPass noRoll
 
 -- the lots that are lacking of a unit, by what is told of it
 abbrev pub lackingOf : AccountLots → StatusAnswer → ℕ

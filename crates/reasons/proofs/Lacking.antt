@@ -1,7 +1,7 @@
 -- After a cutoff, whatever is resolved later, the lots lacking over all units of an account are the fails that this
 -- cutoff made to it.
 use mathlib.Core.Path.{_≡_, refl, sym, ap, _∙_}
-use mathlib.Core.Bool.{true, false, cond, false≢true}
+use mathlib.Core.Bool.{true, false, cond}
 use mathlib.Core.List.{List, [], _∷_, _++_}
 use Prim.Native.Nat.{ℕ, suc, _+_, _-_, _≤_, _<_}
 use native.Mathlib.Omega.{arith}
@@ -15,9 +15,9 @@ use Rattle.rules.specs.Units.{AccountLots, accountLots, sumLots, ofAccount}
 use Rattle.rules.specs.Handover.{covered, handed, partials}
 use Rattle.rules.specs.Ledger.{isTo, lotsOf}
 use Rattle.rules.specs.Book.{isCut, row, deliveredTotal, orderOf, ledgerOf, sound}
-use Rattle.rules.specs.Calls.{Call, Trade, Close, Deliver, Ask, Commit, Cutoff, Resolve, PairOff, Roll, Mark, asks, effect, called, issueFails, newEntries}
+use Rattle.rules.specs.Calls.{Call, Cutoff, effect, called, issueFails, newEntries}
 use Rattle.laws.proofs.Basics.{byTest, either, total-append}
-use Rattle.laws.proofs.Answers.{AllYes, by-answer}
+use Rattle.laws.proofs.Answers.{by-answer}
 use Rattle.laws.proofs.Overlaps.{additive-zero}
 use Rattle.laws.proofs.Fails.{additive-account}
 use Rattle.laws.proofs.Handover.{total-partials}
@@ -26,11 +26,12 @@ use Rattle.laws.proofs.SoundRows.{order-in, sound-row}
 use Rattle.laws.proofs.Issue.{delivered-units}
 use Rattle.laws.proofs.Ledger.{ledger-written}
 use Rattle.laws.proofs.Sound.{SoundBook, sound-parts, parts-sound}
-use Rattle.laws.proofs.Called.{Sizes, Standing, stands}
+use Rattle.laws.proofs.Called.{Sizes, stands}
 use Rattle.tally.proofs.Cutting.{new-to}
 use Rattle.status.specs.Status.{StatusAnswer, failsWholly, afterCutoff, status}
-use Rattle.status.specs.Lists.{after, AllPass, noRoll, lackingOf, lackingOver, lacking}
-use Rattle.status.proofs.Phases.{cut-not-taking, cut-not-settling}
+use Rattle.reasons.specs.Lists.{after, noRollSince, lackingOf, lackingOver, lacking}
+use Rattle.reasons.proofs.Phases.{cut-not-taking}
+use Rattle.reasons.proofs.Staying.{stays-all}
 
 -- Units of which d lots are delivered
 
@@ -41,17 +42,22 @@ lacking-same a s t (u ∷ us) e =
 
 -- what is told of the units behind one that is handed, and behind one that is not
 module _ (u : AccountLots) (us : List AccountLots) (d k : ℕ) where
-  behind-handed : leb (u .lots) d ≡ true → afterCutoff (u ∷ us) d (suc k) ≡ afterCutoff us (d - u .lots) k
+  pub behind-handed : leb (u .lots) d ≡ true → afterCutoff (u ∷ us) d (suc k) ≡ afterCutoff us (d - u .lots) k
   unfolding afterCutoff
   behind-handed e =
       simp (e, leb·suc-suc (suc k) (covered us (d - u .lots)), eqb·suc-suc k (covered us (d - u .lots)))
 
-  behind-waiting : leb (u .lots) d ≡ false → afterCutoff (u ∷ us) d (suc k) ≡ failsWholly
+  pub behind-waiting : leb (u .lots) d ≡ false → afterCutoff (u ∷ us) d (suc k) ≡ failsWholly
   unfolding afterCutoff
   behind-waiting e = simp (e, le-ltb (suc k) 0 (omega arith), ne-eqb (suc k) 0 (omega arith))
 
+-- of the first one, where it is handed, nothing
+pub first-none : (u : AccountLots) (us : List AccountLots) (d : ℕ) → leb (u .lots) d ≡ true → lackingOf u (afterCutoff (u ∷ us) d 0) ≡ 0
+unfolding afterCutoff
+first-none u us d e = simp (e, lt-ltb 0 (suc (covered us (d - u .lots))) (omega arith))
+
 -- of the first one that waits, what the stock leaves of it
-first-lacks : (u : AccountLots) (us : List AccountLots) (d : ℕ) → leb (u .lots) d ≡ false → lackingOf u (afterCutoff (u ∷ us) d 0) ≡ u .lots - d
+pub first-lacks : (u : AccountLots) (us : List AccountLots) (d : ℕ) → leb (u .lots) d ≡ false → lackingOf u (afterCutoff (u ∷ us) d 0) ≡ u .lots - d
 unfolding afterCutoff
 first-lacks u us d e =
     simp e
@@ -76,9 +82,7 @@ module _ (a : ℕ) (u : AccountLots) (us : List AccountLots) (d : ℕ) where
   part-first e = total-partials (ofAccount a) (u ∷ us) d none ∙ simp e
 
   handed-none : leb (u .lots) d ≡ true → cond (eqb (u .account) a) (lackingOf u (afterCutoff (u ∷ us) d 0)) 0 ≡ 0
-  unfolding afterCutoff
-  handed-none e =
-      simp (e, lt-ltb 0 (suc (covered us (d - u .lots))) (omega arith)) (either (λ (x : ℕ). x ≡ 0) (eqb (u .account) a) refl refl)
+  handed-none e = simp (first-none u us d e) (either (λ (x : ℕ). x ≡ 0) (eqb (u .account) a) refl refl)
 
 -- handed, the stock's part and what is told to be lacking are the units
 pub lacking-rest : (a : ℕ) (us : List AccountLots) (d : ℕ) → d ≤ sumLots us →
@@ -118,46 +122,7 @@ lacking-rest a (u ∷ us) d h =
       ap (λ x. ofAccount a (accountLots (u .account) x)) l,
     ))
 
--- A call after the cutoff
-
--- the orders and the delivered lots stay
-pub record Stays (b b′ : Book) : Type 0 where
-  pub phase : isCut (b′ .phase) ≡ true
-  pub order : (i : ℕ) → orderOf b′ i ≡ orderOf b i
-  pub total : (i : ℕ) → deliveredTotal (b′ .delivered) i ≡ deliveredTotal (b .delivered) i
-
-module _ (b : Book) (p : isCut (b .phase) ≡ true) where
-  as-it-was : Stays b b
-  as-it-was = record { phase = p; order = λ i. refl; total = λ i. refl }
-
-  does : (c : Call) → noRoll c ≡ true → AllYes (asks b c) → Stays b (effect b c .book)
-  does (Trade j f t x) h y = absurd (false≢true (sym (cut-not-taking (b .phase) p) ∙ y .1 .0))
-  does Close h y = absurd (false≢true (sym (cut-not-taking (b .phase) p) ∙ y .1 .0))
-  does (Deliver j a x out) h y = absurd (false≢true (sym (cut-not-settling (b .phase) p) ∙ y .1 .1 .0))
-  does (Ask j k) h y = as-it-was
-  does (Commit t out) h y = absurd (false≢true (sym (cut-not-settling (b .phase) p) ∙ y .1 .1 .0))
-  does (Cutoff out) h y = absurd (false≢true (sym (cut-not-settling (b .phase) p) ∙ y .1 .1 .0))
-  does (Resolve j a x out) h y = record { phase = p; order = λ i. refl; total = λ i. refl }
-  does (PairOff j a) h y = record { phase = p; order = λ i. refl; total = λ i. refl }
-  does (Roll days rate prices) h y = absurd (false≢true h)
-  does (Mark j m) h y = record { phase = p; order = λ i. refl; total = λ i. refl }
-
-  stays : (c : Call) → noRoll c ≡ true → Stays b (called b c .book)
-  stays c h = by-answer (λ r. Stays b (r .book)) b c (does c h) (λ r. as-it-was)
-
-pub stays-all : (cs : List Call) (b : Book) → Standing b → isCut (b .phase) ≡ true → AllPass noRoll cs → Stays b (after b cs) × Standing (after b cs)
-stays-all [] b s p h = (as-it-was b p, s)
-stays-all (c ∷ cs) b s p h =
-    let b′ = called b c .book in
-    let q = stays b p c (h .0) in
-    let r = stays-all cs b′ (stands b c s) (q .phase) (h .1) in (
-      record {
-        phase = r .0 .phase;
-        order = λ i. r .0 .order i ∙ q .order i;
-        total = λ i. r .0 .total i ∙ q .total i;
-      },
-      r .1,
-    )
+-- A book in Cut
 
 -- what is told of a unit of a sound book in Cut
 pub in-cut : (b : Book) (i k : ℕ) → sound b ≡ true → isCut (b .phase) ≡ true → i ≤ 15 → k < length (orderOf b i) →
@@ -199,24 +164,25 @@ fails-lack b z g i a h =
       new-to b i a h,
     )
 
--- after a cutoff and any calls but a roll: the lots lacking over all units of an account are the fails made to it
+-- after a cutoff and any calls of which no roll is accepted: the lots lacking over all units of an account are the fails made to it
 module _ (b : Book) (z : Sizes b) (out : List ℕ) (h : called b (Cutoff out) .refusal ≡ 0) (i a : ℕ) (hi : i < 16) where
   abbrev cut : Book
   cut = called b (Cutoff out) .book
 
-  pub cutoff-lacks : (cs : List Call) → AllPass noRoll cs →
+  pub cutoff-lacks : (cs : List Call) → noRollSince cut cs ≡ true →
       lacking (after cut cs) i a ≡ lotsOf (isTo i a) (newEntries (b .day) (orderOf b) (b .nets) (b .delivered))
   cutoff-lacks cs r =
       let c = cuts b out h in
       let g = sound-parts b (c .0) in
-      let q = stays-all cs cut (stands b (Cutoff out) (record { sizes = z; parts = g })) (ap (λ x. isCut (x .phase)) (c .1)) r in
+      let p : isCut (cut .phase) ≡ true = ap (λ x. isCut (x .phase)) (c .1) in
+      let q = stays-all cs cut (stands b (Cutoff out) (record { sizes = z; parts = g })) p r in
       let e : orderOf (after cut cs) i ≡ orderOf b i = q .0 .order i ∙ ap (λ x. orderOf x i) (c .1) in
       let f : deliveredTotal (after cut cs .delivered) i ≡ deliveredTotal (b .delivered) i = q .0 .total i ∙ ap (λ x. deliveredTotal (x .delivered) i) (c .1) in
-      lacking-in-cut (after cut cs) i a (parts-sound (after cut cs) (q .1 .parts)) (q .0 .phase) (omega arith)
+      lacking-in-cut (after cut cs) i a (parts-sound (after cut cs) (q .1 .parts)) (ap isCut (q .0 .phase) ∙ p) (omega arith)
       ∙ rw (e, f) (fails-lack b z g i a hi)
 
   -- by so many lots the fails to the account rose in the ledger
-  pub cutoff-raised : (cs : List Call) → AllPass noRoll cs →
+  pub cutoff-raised : (cs : List Call) → noRollSince cut cs ≡ true →
       lotsOf (isTo i a) (ledgerOf cut) ≡ lotsOf (isTo i a) (ledgerOf b) + lacking (after cut cs) i a
   cutoff-raised cs r =
       let new = newEntries (b .day) (orderOf b) (b .nets) (b .delivered) in
