@@ -144,10 +144,11 @@ mod tests {
     #[test]
     fn numbers_are_those_of_the_papers_in_order() {
         let numbers: Vec<u32> = Refusal::ALL.into_iter().map(Refusal::number).collect();
-        assert_eq!(numbers, (1..=23).collect::<Vec<u32>>());
+        assert_eq!(numbers, (1..=23).chain([26]).collect::<Vec<u32>>());
         assert_eq!(Refusal::of(9), Some(Refusal::Owed));
         assert_eq!(Refusal::of(23), Some(Refusal::Eligible));
-        assert_eq!([0, 24, u32::MAX].map(Refusal::of), [None; 3]);
+        assert_eq!(Refusal::of(26), Some(Refusal::ChangeOver));
+        assert_eq!([0, 27, u32::MAX].map(Refusal::of), [None; 3]);
     }
 
     #[test]
