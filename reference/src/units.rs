@@ -45,10 +45,19 @@ pub fn dealt(nets: &[i32]) -> Vec<Unit> {
     order
 }
 
+/// The units of an issue in the order of the day, nothing lifted.
+pub fn order_of(book: &Book, issue: usize) -> Vec<Unit> {
+    let nets = book.nets_of(issue);
+    if book.deals_in_turn() {
+        dealt(nets)
+    } else {
+        units(nets)
+    }
+}
+
 /// The units of an issue in the order of the day: each lift moves a unit of the order before it.
 pub fn units_of(book: &Book, issue: usize) -> Vec<Unit> {
-    let nets = book.nets_of(issue);
-    let mut units = if book.deals_in_turn() { dealt(nets) } else { units(nets) };
+    let mut units = order_of(book, issue);
     for lift in book.lifts[issue].standing() {
         move_unit(&mut units, lift);
     }

@@ -187,12 +187,14 @@ mod tests {
     #[test]
     fn a_difference_in_any_field_is_seen() {
         let fresh = book::Book::fresh();
-        let changes: [fn(&mut library::Book); 16] = [
+        let changes: [fn(&mut library::Book); 18] = [
             |book| book.day = 1,
             |book| book.phase = library::Phase(3),
             |book| book.entries = 1,
             |book| book.marks[0] = 1,
             |book| book.marks[15] = 255,
+            |book| book.turn = 1,
+            |book| book.turn = 1 << 31,
             |book| book.nets[1_023] = 1,
             |book| book.delivered[1_023] = 1,
             |book| book.lifts[0] = 1,
