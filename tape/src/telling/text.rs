@@ -1,6 +1,6 @@
 //! The facts as sentences: a line for each instruction, and below it what it did.
 
-use crate::dealt::Turn;
+use crate::dealt::{Rounds, Turn};
 use crate::facts::{Fact, Told};
 use crate::input::Stands;
 use crate::measure::{counted, Face, Grouped, Line, Lots, Price, Rate};
@@ -145,22 +145,8 @@ fn order(out: &mut impl Write, fact: &Fact) -> io::Result<()> {
             write!(out, "of {due} due")
         }
         Fact::Rounds { issue, rounds } => {
-            let (units, are) = units_text(rounds.first, rounds.last);
-            let (s, accounts) =
-                (if rounds.accounts.len() == 1 { "" } else { "s" }, listed(&rounds.accounts));
-            let until = format!(" to {}", rounds.until);
-            let (of, until) =
-                if rounds.round == rounds.until { ("round", "") } else { ("rounds", &until[..]) };
-            write!(
-                out,
-                "issue {issue}: {units} {are} {of} {}{until}: one full unit a round ",
-                rounds.round
-            )?;
-            write!(
-                out,
-                "to account{s} {accounts}{}",
-                if s.is_empty() { "" } else { ", in this order" }
-            )
+            write!(out, "issue {issue}: ")?;
+            rounds_text(out, rounds)
         }
         Fact::Owes { issue, account, lots: 0 } => {
             write!(out, "account {account} owes nothing more of issue {issue} today")
@@ -169,6 +155,21 @@ fn order(out: &mut impl Write, fact: &Fact) -> io::Result<()> {
             write!(out, "account {account} still owes {} of issue {issue} today", Lots(*lots))
         }
         _ => Ok(()),
+    }
+}
+
+/// Units dealt in turn: their rounds, and the accounts that take part in each.
+fn rounds_text(out: &mut impl Write, rounds: &Rounds) -> io::Result<()> {
+    let Rounds { first, last, round, until, accounts } = rounds;
+    let (units, are) = units_text(*first, *last);
+    if round == until {
+        write!(out, "{units} {are} round {round}: one full unit ")?;
+    } else {
+        write!(out, "{units} {are} rounds {round} to {until}: in each one full unit ")?;
+    }
+    match accounts.len() {
+        1 => write!(out, "to account {}", listed(accounts)),
+        _ => write!(out, "each to accounts {}, in this order", listed(accounts)),
     }
 }
 

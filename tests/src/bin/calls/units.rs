@@ -13,6 +13,8 @@ use tests::steps::{steps_to, text_of, Call, Step};
 
 /// What is asked beyond the number of units.
 pub const BEYOND: [u32; 6] = [255, 256, 65_535, 65_536, 1 << 31, u32::MAX];
+/// Of orders that have more units than this not every unit is asked.
+const ALL_ASKED: usize = 600;
 /// One of so many books has full units of many rounds.
 const MANY_ROUNDS: u32 = 30;
 
@@ -65,11 +67,13 @@ fn many_rounds(rng: &mut Rng, book: &mut Book, issue: u32) {
     }
 }
 
-/// Asks every k up to the number of units, two more, and some far beyond.
+/// Asks every k up to the number of units, two more, and some far beyond; of very many units some.
 fn ask_all(book: &Book, issue: u32) -> Result<u64, Mismatch> {
     let asked_book = library_book(book);
     let units = units_of(book, issue as usize);
-    let asked = (0..units.len() as u32 + 2).chain(BEYOND);
+    let step = 1 + units.len() / ALL_ASKED;
+    let edges = units.len().saturating_sub(1)..units.len() + 2;
+    let asked = (0..units.len()).step_by(step).chain(edges).map(|k| k as u32).chain(BEYOND);
     let mut compared = 0;
     for k in asked {
         let expected = units.get(k as usize).map_or(none(), |unit| UnitAnswer {
