@@ -15,7 +15,7 @@ use Rattle.rules.specs.declared.Phase.the-variants.{Taking}
 use Rattle.rules.specs.declared.Ticket.{Ticket}
 use Rattle.rules.specs.Book.{orderOf, sound, withLifts}
 use Rattle.rules.specs.Questions.{Question, ask, firstNo}
-use Rattle.rules.specs.Calls.{Call, Trade, Close, Deliver, Ask, Commit, Cutoff, Resolve, PairOff, Roll, Mark, Answer, Effect, answer, lentTo, outputAsks, ownAsks, effect, called, ticketAnswer, ticketOf, asked, asks as allAsks}
+use Rattle.rules.specs.Calls.{Call, Trade, Close, Deliver, Ask, Commit, Cutoff, Resolve, PairOff, Roll, Mark, Turn as NameTurn, Answer, Effect, answer, lentTo, outputAsks, ownAsks, effect, called, ticketAnswer, ticketOf, asked, asks as allAsks}
 use Rattle.rules.specs.Run.{callOf}
 use Rattle.rules.specs.Tally.{State, Demand3}
 use Rattle.laws.proofs.Basics.{byTest, cond-true, and-left, and-right}
@@ -35,24 +35,24 @@ use Rattle.exports.proofs.Hosting.{of-kind}
 
 -- the numbers of a host's answer
 abbrev numbers : ℕ → ℕ → ℕ → Turn
-numbers n k x = record { refusal = n; count = k; cancelled = x; state = stateOf 0 Taking 0 [] }
+numbers n k x = record { refusal = n; count = k; cancelled = x; state = stateOf 0 Taking 0 0 [] }
 
 -- a call made through one of the three functions, in columns and with a phase's number that hold the book b, and what that
 -- gave, as their contracts say it; a kind that is none is fed as a call that was refused
 pub data ByHost (b : Book) : Call → Answer → Type 0 where
-  told : (kind a₁ a₂ a₃ a₄ : ℕ) (quotes out : Column ℕ) (day phase entries : Place) (marks : Column ℕ) (c : Columns) (n : ℕ) (count cancelled : Place) →
-      host day phase entries marks c .before ≡ b →
-      DayCalled kind (instructionOf kind a₁ a₂ a₃ a₄) quotes out n count cancelled (host day phase entries marks c) →
+  told : (kind a₁ a₂ a₃ a₄ : ℕ) (quotes out : Column ℕ) (day phase entries turn : Place) (marks : Column ℕ) (c : Columns) (n : ℕ) (count cancelled : Place) →
+      host day phase entries turn marks c .before ≡ b →
+      DayCalled kind (instructionOf kind a₁ a₂ a₃ a₄) quotes out n count cancelled (host day phase entries turn marks c) →
       ByHost b (callOf (instructionOf kind a₁ a₂ a₃ a₄) (now (quotes .entry)) (now (out .entry)))
       (gave (callOf (instructionOf kind a₁ a₂ a₃ a₄) (now (quotes .entry)) (now (out .entry)))
-      (numbers n (now (count .exit)) (now (cancelled .exit))) (host day phase entries marks c .after) (now (out .exit)))
-  asks : (day phase entries : ℕ) (marks : List ℕ) (c : Columns) (issue unit n : ℕ) (ticket : List ℕ) →
-      bookAt day phase entries marks c ≡ b →
-      AskIs (dayAsked phase (bookAt day phase entries marks c) issue unit) n ticket →
+      (numbers n (now (count .exit)) (now (cancelled .exit))) (host day phase entries turn marks c .after) (now (out .exit)))
+  asks : (day phase entries turn : ℕ) (marks : List ℕ) (c : Columns) (issue unit n : ℕ) (ticket : List ℕ) →
+      bookAt day phase entries turn marks c ≡ b →
+      AskIs (dayAsked phase (bookAt day phase entries turn marks c) issue unit) n ticket →
       ByHost b (Ask issue unit) (record { refusal = n; count = 0; cancelled = 0; book = b; out = [] })
-  commits : (day phase entries : ℕ) (marks : List ℕ) (c : Columns) (ticket : List ℕ) (out lifts : Column ℕ) (n : ℕ) (count : Place) →
-      bookAt day phase entries marks c ≡ b →
-      DayCommitted phase (bookAt day phase entries marks c) ticket out lifts n count →
+  commits : (day phase entries turn : ℕ) (marks : List ℕ) (c : Columns) (ticket : List ℕ) (out lifts : Column ℕ) (n : ℕ) (count : Place) →
+      bookAt day phase entries turn marks c ≡ b →
+      DayCommitted phase (bookAt day phase entries turn marks c) ticket out lifts n count →
       ByHost b (Commit (ticketIn ticket) (now (out .entry)))
       (record { refusal = n; count = now (count .exit); cancelled = 0; book = withLifts b (now (lifts .exit)); out = now (out .exit) })
 
@@ -119,6 +119,7 @@ numbered (Resolve i a x out) = omega arith
 numbered (PairOff i a) = tt
 numbered (Roll days rate quotes) = tt
 numbered (Mark i m) = tt
+numbered (NameTurn d) = tt
 
 -- an answer with a number leaves the book
 module _ (b : Book) (c : Call) (r : Answer) (out : List ℕ) (e : Effect) where
@@ -185,15 +186,15 @@ step-committed phase b t out n k lifts words u =
     answers c = λ j. record { refusal = c .refusal j; count = c .count j; cancelled = c .cancelled j; book = c .book j; out = c .out j }
 
 step : (b : Book) (c : Call) (r : Answer) → ByHost b c r → Step b c r
-step b _ _ (told kind a₁ a₂ a₃ a₄ quotes out day phase entries marks c n count cancelled e t) =
+step b _ _ (told kind a₁ a₂ a₃ a₄ quotes out day phase entries turn marks c n count cancelled e t) =
     rw (← e)
-    (step-called kind (instructionOf kind a₁ a₂ a₃ a₄) (now (quotes .entry)) (now (out .entry)) (host day phase entries marks c) n
+    (step-called kind (instructionOf kind a₁ a₂ a₃ a₄) (now (quotes .entry)) (now (out .entry)) (host day phase entries turn marks c) n
     (now (count .exit)) (now (cancelled .exit)) (now (out .exit)) t)
-step b _ _ (asks day phase entries marks c issue unit n ticket e t) =
-    rw (← e) (step-asked phase (bookAt day phase entries marks c) issue unit n ticket t)
-step b _ _ (commits day phase entries marks c ticket out lifts n count e t) =
+step b _ _ (asks day phase entries turn marks c issue unit n ticket e t) =
+    rw (← e) (step-asked phase (bookAt day phase entries turn marks c) issue unit n ticket t)
+step b _ _ (commits day phase entries turn marks c ticket out lifts n count e t) =
     rw (← e)
-    (step-committed phase (bookAt day phase entries marks c) (ticketIn ticket) (now (out .entry)) n (now (count .exit)) (now (lifts .exit)) (now (out .exit)) t)
+    (step-committed phase (bookAt day phase entries turn marks c) (ticketIn ticket) (now (out .entry)) n (now (count .exit)) (now (lifts .exit)) (now (out .exit)) t)
 
 -- so demand 3 holds after every list of calls that a host makes
 pub demand3-of-hosts : {s : State} → Made ByHost s → Demand3 s
