@@ -134,13 +134,13 @@ extern "C" {
 
 /* ---- the libraries' functions
  *
- * A book goes in as three numbers, sixteen marks, the change-over day and nine columns. An issue's mark
- * is 0 where it takes any lots, and any other number where it takes even lots only; the call stores 1
- * or 0. The change-over day (turn) is the first day on which full units are dealt in turn, 0 where none
- * is named. A column, the
- * quotes, the words and an output are a pointer and a length in this order: nets and delivered 1,024
- * each, lifts 288, charges 64, the ledger's five columns 2,048 each. A column of another length is a
- * damaged book. The number returned, but for day_sound's, is the refusal's, 0 where it is done. */
+ * A book goes in as three numbers, the change-over day, sixteen marks and nine columns. The change-over
+ * day (turn) is the first day on which full units are dealt in turn, 0 where none is named. An issue's
+ * mark is 0 where it takes any lots, and any other number where it takes even lots only; the call
+ * stores 1 or 0. A column, the quotes, the words and an output are a pointer and a length in this
+ * order: nets and delivered 1,024 each, lifts 288, charges 64, the ledger's five columns 2,048 each. A
+ * column of another length is a damaged book. The number returned, but for day_sound's, is the
+ * refusal's, 0 where it is done. */
 
 /* 1 where the book is sound, else 0. */
 uint32_t day_sound(uint16_t day, uint32_t phase, size_t entries, uint32_t turn, const uint8_t marks[16],
@@ -203,7 +203,7 @@ uint32_t day_simulate(uint16_t day, uint32_t phase, size_t entries, uint32_t tur
                       const uint32_t *inventories, size_t inventories_length, uint32_t size,
                       uint64_t *deliveries, uint64_t *rounds, uint32_t owed[16]);
 
-/* The call of an instruction, made in place on any book. A kind that is none of 1..7, 13 is refused by
+/* The call of an instruction, made in place on any book. A kind that is none of 1..7, 13, 14 is refused by
  * 14 before anything else is asked, the output (1) and the book (2) too. Only deliver, cutoff and
  * resolve use the output, and only roll the quotes. count is that of the records written (for pair-off,
  * of the steps), cancelled pair-off's lots; both are 0 on a refusal. */

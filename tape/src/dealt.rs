@@ -39,6 +39,7 @@ pub struct Rounds {
 pub struct Dealt {
     /// The full units of each receiver as a run; `first` is the unit of the first round.
     receivers: Vec<Run>,
+    rounds: Vec<Rounds>,
     small: Vec<Run>,
 }
 
@@ -62,12 +63,12 @@ impl Dealt {
         }
         let full: u32 = receivers.iter().map(|run| run.count).sum();
         let small = (full..).map_while(|first| asked(first, |_| 1)).collect();
-        Dealt { receivers, small }
+        Dealt { rounds: rounds_of(&receivers), receivers, small }
     }
 
     /// How many full units there are.
     pub fn full(&self) -> u32 {
-        self.receivers.iter().map(|run| run.count).sum()
+        self.rounds.last().map_or(0, |rounds| rounds.last + 1)
     }
 
     /// The receivers as runs, and behind them the small units.
@@ -80,25 +81,14 @@ impl Dealt {
         &self.small
     }
 
-    /// The rounds, those with the same receivers together; receivers with fewer units drop out.
-    pub fn rounds(&self) -> Vec<Rounds> {
-        let mut all = Vec::new();
-        let (mut first, mut round) = (0, 1);
-        let mut wide = self.receivers.len();
-        while wide > 0 {
-            let until = self.receivers[wide - 1].count;
-            let last = first + wide as u32 * (until + 1 - round) - 1;
-            let accounts = self.receivers[..wide].iter().map(|run| run.account).collect();
-            all.push(Rounds { first, last, round, until, accounts });
-            (first, round) = (last + 1, until + 1);
-            wide = self.receivers[..wide].partition_point(|run| run.count > until);
-        }
-        all
+    /// The rounds, those with the same receivers together.
+    pub fn rounds(&self) -> &[Rounds] {
+        &self.rounds
     }
 
     /// The account of a full unit, and where it stands; none where it is small or there is none.
     pub fn turn_of(&self, unit: u32) -> Option<(u32, Turn)> {
-        let rounds = self.rounds().into_iter().find(|rounds| unit <= rounds.last)?;
+        let rounds = self.rounds.get(self.rounds.partition_point(|one| one.last < unit))?;
         let (of, inside) = (rounds.accounts.len() as u32, unit - rounds.first);
         let (round, at) = (rounds.round + inside / of, inside % of);
         let turn = Turn { round, until: round, receiver: at + 1, of };
@@ -109,7 +99,7 @@ impl Dealt {
     /// first of them; then the small ones.
     pub fn waiting(&self, from: u32) -> Vec<Run> {
         let mut order: Vec<(u32, Vec<Run>)> = Vec::new();
-        for rounds in self.rounds() {
+        for rounds in &self.rounds {
             let of = rounds.accounts.len() as u32;
             for unit in rounds.first.max(from)..=rounds.last {
                 let account = rounds.accounts[((unit - rounds.first) % of) as usize];
@@ -123,6 +113,22 @@ impl Dealt {
         let full = order.into_iter().flat_map(|(_, runs)| runs);
         full.chain(self.small.iter().copied().filter(|run| run.first >= from)).collect()
     }
+}
+
+/// The rounds of receivers; those with fewer units drop out of the later ones.
+fn rounds_of(receivers: &[Run]) -> Vec<Rounds> {
+    let mut all = Vec::new();
+    let (mut first, mut round) = (0, 1);
+    let mut wide = receivers.len();
+    while wide > 0 {
+        let until = receivers[wide - 1].count;
+        let last = first + wide as u32 * (until + 1 - round) - 1;
+        let accounts = receivers[..wide].iter().map(|run| run.account).collect();
+        all.push(Rounds { first, last, round, until, accounts });
+        (first, round) = (last + 1, until + 1);
+        wide = receivers[..wide].partition_point(|run| run.count > until);
+    }
+    all
 }
 
 #[cfg(test)]

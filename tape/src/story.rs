@@ -155,7 +155,7 @@ impl Story<'_> {
     fn dealt_in_turn(&mut self, issue: u32) -> io::Result<()> {
         let dealt = Dealt::of(&self.book, issue);
         for rounds in dealt.rounds() {
-            self.fact(&Fact::Rounds { issue, rounds })?;
+            self.fact(&Fact::Rounds { issue, rounds: rounds.clone() })?;
         }
         dealt.small().iter().try_for_each(|run| self.units(issue, run))?;
         for group in close(&dealt.ranked()) {

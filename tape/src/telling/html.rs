@@ -125,9 +125,10 @@ impl Page {
     fn at(&mut self, day: u16, issue: u32, unit: u32, change: impl FnOnce(&mut Units)) {
         let bar = self.bars.get_mut(&(day, issue));
         let found = bar.and_then(|bar| {
-            bar.iter_mut().find(|units| (units.first..=units.last).contains(&unit))
+            let at = bar.partition_point(|units| units.last < unit);
+            bar.get_mut(at)
         });
-        if let Some(units) = found {
+        if let Some(units) = found.filter(|units| units.first <= unit) {
             change(units);
         }
     }
@@ -135,13 +136,13 @@ impl Page {
     /// Fails lots of the account's units from the first to the last, each as far as it lacks them.
     fn failed(&mut self, day: u16, issue: u32, account: u32, units: (u32, u32), lots: u64) {
         let mut left = lots;
-        let bar = self.bars.get_mut(&(day, issue)).into_iter().flatten();
-        for of_bar in bar.filter(|one| one.account == account) {
-            if of_bar.first <= units.1 && units.0 <= of_bar.last {
-                let lacks = of_bar.all().saturating_sub(of_bar.handed + of_bar.failed);
-                of_bar.failed += left.min(lacks);
-                left -= left.min(lacks);
-            }
+        let Some(bar) = self.bars.get_mut(&(day, issue)) else { return };
+        let begin = bar.partition_point(|one| one.last < units.0);
+        let those = bar[begin..].iter_mut().take_while(|one| one.first <= units.1);
+        for one in those.filter(|one| one.account == account) {
+            let lacks = one.all().saturating_sub(one.handed + one.failed);
+            one.failed += left.min(lacks);
+            left -= left.min(lacks);
         }
     }
 

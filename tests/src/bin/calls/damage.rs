@@ -357,8 +357,8 @@ fn lifted() -> Book {
     book
 }
 
-/// A sound book in Settling with two lifts in issue 7 and full units that lie apart: 1 2 3 (full, two
-/// rounds and one of 1 alone), of which a unit of each of the last two stands first.
+/// A sound book in Settling with two lifts in issue 7 and full units of 1, 2 and 3 that lie apart: three,
+/// two and two of them. The fifth stands first now, the last at the fourth place; three are handed.
 fn apart() -> Book {
     let mut book = Book { day: 300, phase: Phase::Settling, ..Book::fresh() };
     for (account, net) in [(1, 330_000), (2, 250_000), (3, 200_000), (9, -780_000)] {
