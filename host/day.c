@@ -1,8 +1,9 @@
 /* day: the settled day P5 to P9 run through the library, as a host in C runs its book. Prints the
  * units in their order, each delivery with what was handed over, a refused delivery, why units have
  * not come, a lift of unit 7 on a copy of the book with the cutoff that follows from it, then the fails
- * of the day's own cutoff and the charges of the roll; last, in a book of its own, an issue in
- * multiples of 100,000 yen. */
+ * of the day's own cutoff and the charges of the roll; then, in a book of its own, an issue in
+ * multiples of 100,000 yen; last, in another, the same market on the first day on which full units are
+ * dealt in turn. */
 #include <inttypes.h>
 #include <stdio.h>
 
@@ -12,10 +13,11 @@ enum status { DONE = 0, NOT_AS_EXPECTED = 1, NOT_WRITTEN = 3 };
 
 static const uint32_t ISSUE = 0;
 
-/* The books and the output are static: together they are 101 kilobytes. */
+/* The books and the output are static. */
 static struct day_book book;
 static struct day_book lifted;
 static struct day_book marked;
+static struct day_book dealt;
 static uint32_t out[DAY_OUT_WORDS];
 
 /* Tells a call that was not done. */
@@ -38,19 +40,19 @@ static int refused(const char *call, struct day_answer answer, uint32_t by)
 }
 
 /* P5: the trades that make the nets. */
-static int take_trades(void)
+static int take_trades(struct day_book *of)
 {
-    return done("trade", day_book_trade(&book, ISSUE, 4, 1, 230000)) &&
-           done("trade", day_book_trade(&book, ISSUE, 5, 2, 250000)) &&
-           done("trade", day_book_trade(&book, ISSUE, 5, 3, 150000)) &&
-           done("close", day_book_close(&book));
+    return done("trade", day_book_trade(of, ISSUE, 4, 1, 230000)) &&
+           done("trade", day_book_trade(of, ISSUE, 5, 2, 250000)) &&
+           done("trade", day_book_trade(of, ISSUE, 5, 3, 150000)) &&
+           done("close", day_book_close(of));
 }
 
 /* P5: the units of the issue in their order. */
-static int show_units(void)
+static int show_units(const struct day_book *of)
 {
     for (uint32_t k = 0;; k++) {
-        struct day_unit_answer unit = day_book_unit(&book, ISSUE, k);
+        struct day_unit_answer unit = day_book_unit(of, ISSUE, k);
         if (unit.refusal != DAY_DONE) {
             return 0;
         }
@@ -77,9 +79,9 @@ static void show_records(size_t count)
 }
 
 /* P6, P7: a delivery and what it hands over. */
-static int deliver(uint32_t account, uint32_t lots)
+static int deliver(struct day_book *of, uint32_t account, uint32_t lots)
 {
-    struct day_answer answer = day_book_deliver(&book, ISSUE, account, lots, out);
+    struct day_answer answer = day_book_deliver(of, ISSUE, account, lots, out);
     if (!done("deliver", answer)) {
         return 0;
     }
@@ -216,12 +218,33 @@ static int mark(uint32_t issue)
            marked.marks[issue] == 1 && day_book_sound(&marked) == 1;
 }
 
+/* The change-over: named on day 0 for day 5, then for day 1 instead; on day 1 the units of P5 are dealt
+ * in turn, and no other day can be named any more. */
+static int change_over(void)
+{
+    uint32_t quotes[DAY_QUOTES] = {0};
+    for (size_t issue = 0; issue < DAY_ISSUES; issue++) {
+        quotes[issue] = 100000;
+    }
+    day_book_fresh(&dealt);
+    if (!done("turn", day_book_turn(&dealt, 5)) || !done("turn", day_book_turn(&dealt, 1)) ||
+        !done("close", day_book_close(&dealt)) || !done("cutoff", day_book_cutoff(&dealt, out)) ||
+        !done("roll", day_book_roll(&dealt, 1, 300, quotes)) || !take_trades(&dealt)) {
+        return 0;
+    }
+    printf("in another book, full units dealt in turn from day %" PRIu32 " on:\n", dealt.turn);
+    return show_units(&dealt) && deliver(&dealt, 5, 150000) && cut(&dealt) &&
+           refused("another day for it", day_book_turn(&dealt, 2), DAY_REFUSED_CHANGE_OVER) &&
+           dealt.turn == 1 && day_book_sound(&dealt) == 1;
+}
+
 int main(void)
 {
     day_book_fresh(&book);
-    int as_expected = take_trades() && show_units() && deliver(5, 345000) && tell(2) && tell(3) &&
-                      deliver(4, 200000) && deliver_too_much() && lift() && cut(&book) && tell(5) &&
-                      tell(6) && tell(8) && roll(1, 300, 100000, 0) && mark(1);
+    int as_expected = take_trades(&book) && show_units(&book) && deliver(&book, 5, 345000) &&
+                      tell(2) && tell(3) && deliver(&book, 4, 200000) && deliver_too_much() &&
+                      lift() && cut(&book) && tell(5) && tell(6) && tell(8) &&
+                      roll(1, 300, 100000, 0) && mark(1) && change_over();
     if (fflush(stdout) != 0 || ferror(stdout)) {
         perror("day: the lines could not be written");
         return NOT_WRITTEN;

@@ -83,6 +83,7 @@ extern "C" {
 #define DAY_CUTOFF 6u   /* what has not come is failed; Settling to Cut */
 #define DAY_ROLL 7u     /* days, rate (quotes beside it): fails are charged; Cut to the next Taking */
 #define DAY_MARK 13u    /* issue, mark: it takes even lots only (0: any lots); any phase */
+#define DAY_TURN 14u    /* day: from it on full units are dealt in turn; any phase */
 
 /* ---- kinds of the records in an output; each record is two words (day_record_at reads one) */
 
@@ -121,6 +122,8 @@ extern "C" {
                                       * average, factor or funds above 1,000,000 */
 #define DAY_REFUSED_BASES 25u   /* the funds are above all bases together */
 
+#define DAY_REFUSED_CHANGE_OVER 26u /* the day is not after today, or the new order is in force (turn) */
+
 /* ---- why a unit has not come: the cases of day_status */
 
 #define DAY_STATUS_NONE 0u    /* it is refused */
@@ -131,14 +134,16 @@ extern "C" {
 
 /* ---- the libraries' functions
  *
- * A book goes in as three numbers, sixteen marks and nine columns. An issue's mark is 0 where it takes
- * any lots, and any other number where it takes even lots only; the call stores 1 or 0. A column, the
- * quotes, the words and an output are a pointer and a length in this order: nets and delivered 1,024
- * each, lifts 288, charges 64, the ledger's five columns 2,048 each. A column of another length is a
- * damaged book. The number returned, but for day_sound's, is the refusal's, 0 where it is done. */
+ * A book goes in as three numbers, the change-over day, sixteen marks and nine columns. The change-over
+ * day (turn) is the first day on which full units are dealt in turn, 0 where none is named. An issue's
+ * mark is 0 where it takes any lots, and any other number where it takes even lots only; the call
+ * stores 1 or 0. A column, the quotes, the words and an output are a pointer and a length in this
+ * order: nets and delivered 1,024 each, lifts 288, charges 64, the ledger's five columns 2,048 each. A
+ * column of another length is a damaged book. The number returned, but for day_sound's, is the
+ * refusal's, 0 where it is done. */
 
 /* 1 where the book is sound, else 0. */
-uint32_t day_sound(uint16_t day, uint32_t phase, size_t entries, const uint8_t marks[16],
+uint32_t day_sound(uint16_t day, uint32_t phase, size_t entries, uint32_t turn, const uint8_t marks[16],
                    const int32_t *nets, size_t nets_length,
                    const uint32_t *delivered, size_t delivered_length,
                    const uint32_t *lifts, size_t lifts_length,
@@ -150,7 +155,7 @@ uint32_t day_sound(uint16_t day, uint32_t phase, size_t entries, const uint8_t m
                    const uint16_t *days, size_t days_length);
 
 /* The k-th unit of an issue, k from 0: 1, account, lots; or 0, 0, 0 where there is none. */
-uint32_t day_unit(uint16_t day, uint32_t phase, size_t entries, const uint8_t marks[16],
+uint32_t day_unit(uint16_t day, uint32_t phase, size_t entries, uint32_t turn, const uint8_t marks[16],
                   const int32_t *nets, size_t nets_length,
                   const uint32_t *delivered, size_t delivered_length,
                   const uint32_t *lifts, size_t lifts_length,
@@ -164,7 +169,7 @@ uint32_t day_unit(uint16_t day, uint32_t phase, size_t entries, const uint8_t ma
 
 /* Why the k-th unit of an issue, k from 0, has not come, in Settling and in Cut: the case and its lots
  * (0 where it is handed or wholly failed); twice 0 on a refusal (2, 3 in Taking, 4, 16). */
-uint32_t day_status(uint16_t day, uint32_t phase, size_t entries, const uint8_t marks[16],
+uint32_t day_status(uint16_t day, uint32_t phase, size_t entries, uint32_t turn, const uint8_t marks[16],
                     const int32_t *nets, size_t nets_length,
                     const uint32_t *delivered, size_t delivered_length,
                     const uint32_t *lifts, size_t lifts_length,
@@ -184,7 +189,7 @@ uint32_t day_status(uint16_t day, uint32_t phase, size_t entries, const uint8_t 
  * the first round without a delivery, which is counted. deliveries, rounds and the lots still owed of
  * each issue are all 0 on a refusal (2; 5, also for other than 64 settlement accounts; 7, also for
  * other than 256 inventories). */
-uint32_t day_simulate(uint16_t day, uint32_t phase, size_t entries, const uint8_t marks[16],
+uint32_t day_simulate(uint16_t day, uint32_t phase, size_t entries, uint32_t turn, const uint8_t marks[16],
                       const int32_t *nets, size_t nets_length,
                       const uint32_t *delivered, size_t delivered_length,
                       const uint32_t *lifts, size_t lifts_length,
@@ -198,13 +203,13 @@ uint32_t day_simulate(uint16_t day, uint32_t phase, size_t entries, const uint8_
                       const uint32_t *inventories, size_t inventories_length, uint32_t size,
                       uint64_t *deliveries, uint64_t *rounds, uint32_t owed[16]);
 
-/* The call of an instruction, made in place on any book. A kind that is none of 1..7, 13 is refused by
+/* The call of an instruction, made in place on any book. A kind that is none of 1..7, 13, 14 is refused by
  * 14 before anything else is asked, the output (1) and the book (2) too. Only deliver, cutoff and
  * resolve use the output, and only roll the quotes. count is that of the records written (for pair-off,
  * of the steps), cancelled pair-off's lots; both are 0 on a refusal. */
 uint32_t day_call(uint32_t kind, uint32_t a, uint32_t b, uint32_t c, uint32_t d,
                   const uint32_t *quotes, size_t quotes_length,
-                  uint16_t *day, uint32_t *phase, size_t *entries, uint8_t marks[16],
+                  uint16_t *day, uint32_t *phase, size_t *entries, uint32_t *turn, uint8_t marks[16],
                   int32_t *nets, size_t nets_length,
                   uint32_t *delivered, size_t delivered_length,
                   uint32_t *lifts, size_t lifts_length,
@@ -218,7 +223,7 @@ uint32_t day_call(uint32_t kind, uint32_t a, uint32_t b, uint32_t c, uint32_t d,
 
 /* Asks for a lift of an issue's unit, by its number, in Settling; changes nothing. The ticket is
  * issue, unit, account, lots, day, count; six times 0 on a refusal. */
-uint32_t day_ask(uint16_t day, uint32_t phase, size_t entries, const uint8_t marks[16],
+uint32_t day_ask(uint16_t day, uint32_t phase, size_t entries, uint32_t turn, const uint8_t marks[16],
                  const int32_t *nets, size_t nets_length,
                  const uint32_t *delivered, size_t delivered_length,
                  const uint32_t *lifts, size_t lifts_length,
@@ -233,7 +238,7 @@ uint32_t day_ask(uint16_t day, uint32_t phase, size_t entries, const uint8_t mar
 /* Lifts the ticket's unit before all unhanded ones, in Settling, and hands on as far as stock covers.
  * Only the lifts and the output are changed; count is that of the records written, 0 on a refusal. */
 uint32_t day_commit(const uint32_t ticket[6], uint16_t day, uint32_t phase, size_t entries,
-                    const uint8_t marks[16],
+                    uint32_t turn, const uint8_t marks[16],
                     const int32_t *nets, size_t nets_length,
                     const uint32_t *delivered, size_t delivered_length,
                     uint32_t *lifts, size_t lifts_length,
@@ -324,6 +329,7 @@ struct day_book {
     uint32_t phase;
     size_t entries; /* of the ledger's columns, so many are used */
     uint8_t marks[DAY_ISSUES]; /* 0: the issue takes any lots; else even lots only */
+    uint32_t turn; /* the first day on which full units are dealt in turn; 0: none is named */
     int32_t nets[DAY_PLACES];
     uint32_t delivered[DAY_PLACES];
     uint32_t lifts[DAY_LIFT_PLACES];
@@ -400,7 +406,7 @@ static inline void day_book_fresh(struct day_book *book)
 /* 1 where the book is sound, else 0. */
 static inline uint32_t day_book_sound(const struct day_book *book)
 {
-    return day_sound(book->day, book->phase, book->entries, book->marks, book->nets, DAY_PLACES,
+    return day_sound(book->day, book->phase, book->entries, book->turn, book->marks, book->nets, DAY_PLACES,
                      book->delivered, DAY_PLACES, book->lifts, DAY_LIFT_PLACES,
                      book->charges, DAY_ACCOUNTS, book->issues, DAY_ENTRIES,
                      book->froms, DAY_ENTRIES, book->tos, DAY_ENTRIES,
@@ -413,7 +419,7 @@ static inline struct day_unit_answer day_book_unit(const struct day_book *book, 
 {
     struct day_unit_answer unit;
     uint32_t answer[3] = {0, 0, 0};
-    unit.refusal = day_unit(book->day, book->phase, book->entries, book->marks,
+    unit.refusal = day_unit(book->day, book->phase, book->entries, book->turn, book->marks,
                             book->nets, DAY_PLACES, book->delivered, DAY_PLACES,
                             book->lifts, DAY_LIFT_PLACES,
                             book->charges, DAY_ACCOUNTS, book->issues, DAY_ENTRIES,
@@ -431,7 +437,7 @@ static inline struct day_status_answer day_book_status(const struct day_book *bo
 {
     struct day_status_answer told;
     uint32_t answer[2] = {0, 0};
-    told.refusal = day_status(book->day, book->phase, book->entries, book->marks,
+    told.refusal = day_status(book->day, book->phase, book->entries, book->turn, book->marks,
                               book->nets, DAY_PLACES, book->delivered, DAY_PLACES,
                               book->lifts, DAY_LIFT_PLACES,
                               book->charges, DAY_ACCOUNTS, book->issues, DAY_ENTRIES,
@@ -449,7 +455,7 @@ day_book_simulate(const struct day_book *book, const uint32_t settles[DAY_ACCOUN
 {
     struct day_simulated tried;
     memset(&tried, 0, sizeof tried);
-    tried.refusal = day_simulate(book->day, book->phase, book->entries, book->marks,
+    tried.refusal = day_simulate(book->day, book->phase, book->entries, book->turn, book->marks,
                                  book->nets, DAY_PLACES, book->delivered, DAY_PLACES,
                                  book->lifts, DAY_LIFT_PLACES,
                                  book->charges, DAY_ACCOUNTS, book->issues, DAY_ENTRIES,
@@ -470,7 +476,7 @@ static inline struct day_answer day_book_call(struct day_book *book, uint32_t ki
     answer.count = 0;
     answer.cancelled = 0;
     answer.refusal = day_call(kind, a, b, c, d, quotes, quotes_length, &book->day, &book->phase,
-                              &book->entries, book->marks, book->nets, DAY_PLACES,
+                              &book->entries, &book->turn, book->marks, book->nets, DAY_PLACES,
                               book->delivered, DAY_PLACES, book->lifts, DAY_LIFT_PLACES,
                               book->charges, DAY_ACCOUNTS, book->issues, DAY_ENTRIES,
                               book->froms, DAY_ENTRIES, book->tos, DAY_ENTRIES,
@@ -485,7 +491,7 @@ static inline struct day_ask_answer day_book_ask(const struct day_book *book, ui
 {
     struct day_ask_answer asked;
     uint32_t ticket[6] = {0, 0, 0, 0, 0, 0};
-    asked.refusal = day_ask(book->day, book->phase, book->entries, book->marks,
+    asked.refusal = day_ask(book->day, book->phase, book->entries, book->turn, book->marks,
                             book->nets, DAY_PLACES, book->delivered, DAY_PLACES,
                             book->lifts, DAY_LIFT_PLACES,
                             book->charges, DAY_ACCOUNTS, book->issues, DAY_ENTRIES,
@@ -514,7 +520,7 @@ static inline struct day_answer day_book_commit(struct day_book *book, struct da
     numbers[5] = ticket.count;
     answer.count = 0;
     answer.cancelled = 0;
-    answer.refusal = day_commit(numbers, book->day, book->phase, book->entries, book->marks,
+    answer.refusal = day_commit(numbers, book->day, book->phase, book->entries, book->turn, book->marks,
                                 book->nets, DAY_PLACES, book->delivered, DAY_PLACES,
                                 book->lifts, DAY_LIFT_PLACES, book->charges, DAY_ACCOUNTS,
                                 book->issues, DAY_ENTRIES, book->froms, DAY_ENTRIES,
@@ -590,6 +596,12 @@ static inline struct day_answer day_book_mark(struct day_book *book, uint32_t is
     return day_book_plain(book, DAY_MARK, issue, mark, 0, 0);
 }
 
+/* From this day on full units are dealt one to each receiver a round. */
+static inline struct day_answer day_book_turn(struct day_book *book, uint32_t day)
+{
+    return day_book_plain(book, DAY_TURN, day, 0, 0, 0);
+}
+
 /* The record at a place of an output, 0 the first. */
 static inline struct day_record day_record_at(const uint32_t *out, size_t at)
 {
@@ -633,6 +645,7 @@ static inline const char *day_refusal_text(uint32_t refusal)
     case DAY_REFUSED_ELIGIBLE: return "the fail is larger than the eligible lots";
     case DAY_REFUSED_PARTICIPANTS: return "more than 64 participants, or an amount above 1,000,000";
     case DAY_REFUSED_BASES: return "the funds are above all bases together";
+    case DAY_REFUSED_CHANGE_OVER: return "the day is not after today, or the new order is in force";
     default: return "no refusal of the rules";
     }
 }

@@ -1,7 +1,7 @@
 /* stack: how much stack each function of the library uses, measured on a thread whose stack was
  * painted before. Each call is made on a day with nets in all issues and accounts, all issues marked,
- * and a ledger of many fails, so that it goes its whole way. Fails where one uses more than
- * DAY_STACK_BYTES. */
+ * and a ledger of many fails, so that it goes its whole way; then on a day on which full units are
+ * dealt in turn. Fails where one uses more than DAY_STACK_BYTES. */
 #ifndef _GNU_SOURCE
 #define _POSIX_C_SOURCE 200809L
 #endif
@@ -76,6 +76,17 @@ static void make_cutoff(void) { refusal |= day_book_cutoff(&book, out).refusal; 
 static void make_resolve(void) { refusal |= day_book_resolve(&book, 15, 62, 400, out).refusal; }
 static void make_pair_off(void) { refusal |= day_book_pair_off(&book, 15, 0).count < 63; }
 static void make_roll(void) { refusal |= day_book_roll(&book, 12, 10000, quotes).refusal; }
+
+/* A book of its own, on the first day on which full units are dealt in turn. */
+static void make_turn(void)
+{
+    day_book_fresh(&book);
+    refusal |= day_book_turn(&book, 2).refusal | day_book_turn(&book, 1).refusal;
+    refusal |= day_book_close(&book).refusal | day_book_cutoff(&book, out).refusal;
+    refusal |= day_book_roll(&book, 12, 10000, quotes).refusal;
+    make_marks();
+    make_next_trades();
+}
 
 static void make_write(void)
 {
@@ -158,6 +169,10 @@ static const struct measured measures[] = {
     {"cutoff, lifted", make_cutoff},     {"status, cut", make_status},
     {"pair-off", make_pair_off},  {"write", make_write},           {"read", make_read},
     {"value and charge", make_charge},   {"trust", make_trust},
+    {"turn", make_turn},          {"ask, dealt", make_ask},        {"commit, dealt", make_commits},
+    {"unit, dealt", make_unit_lifted},   {"status, dealt", make_status},
+    {"deliver, dealt", make_lifted},     {"sound, dealt", make_sound},
+    {"cutoff, dealt", make_cutoff},      {"status, dealt", make_status},
     {"funds", make_funds},
     {"simulated desk", make_simulation},
 };

@@ -1,5 +1,5 @@
-//! The book: day, phase, marks, nets, delivered lots, lifts, charges and the ledger of fails, in plain
-//! columns.
+//! The book: day, phase, marks, change-over day, nets, delivered lots, lifts, charges and the ledger of
+//! fails, in plain columns.
 
 use crate::raw::{Columns, ColumnsMut};
 use crate::{Entry, ACCOUNTS, ENTRIES, ISSUES, LIFTS, LIFT_PLACES, LIFT_WORDS, PLACES};
@@ -44,6 +44,8 @@ pub struct Book {
     pub entries: usize,
     /// The issues' marks: 0 where it takes any lots, any other number where it takes even ones only.
     pub marks: [u8; ISSUES],
+    /// The first day on which full units are dealt in turn; 0 where none is named.
+    pub turn: u32,
     pub nets: [i32; PLACES],
     pub delivered: [u32; PLACES],
     pub lifts: [u32; LIFT_PLACES],
@@ -62,13 +64,14 @@ pub fn place(issue: u32, account: u32) -> Option<usize> {
 }
 
 impl Book {
-    /// A fresh book: day 0, Taking, all zero, no issue marked, ledger empty.
+    /// A fresh book: day 0, Taking, all zero, no issue marked, no change-over day, ledger empty.
     pub fn fresh() -> Book {
         Book {
             day: 0,
             phase: Phase::TAKING,
             entries: 0,
             marks: [0; ISSUES],
+            turn: 0,
             nets: [0; PLACES],
             delivered: [0; PLACES],
             lifts: [0; LIFT_PLACES],
@@ -79,6 +82,11 @@ impl Book {
             lots: [0; ENTRIES],
             days: [0; ENTRIES],
         }
+    }
+
+    /// Are full units dealt in turn today?
+    pub fn deals_in_turn(&self) -> bool {
+        self.turn != 0 && self.turn <= u32::from(self.day)
     }
 
     /// Does the issue take even lots only? An issue above 15 does not.
@@ -144,6 +152,7 @@ impl Book {
             phase: self.phase.0,
             entries: self.entries,
             marks: &self.marks,
+            turn: self.turn,
             nets: &self.nets,
             delivered: &self.delivered,
             lifts: &self.lifts,
@@ -163,6 +172,7 @@ impl Book {
             phase: &mut self.phase.0,
             entries: &mut self.entries,
             marks: &mut self.marks,
+            turn: &mut self.turn,
             nets: &mut self.nets,
             delivered: &mut self.delivered,
             lifts: &mut self.lifts,
@@ -194,6 +204,7 @@ mod tests {
             phase: Phase(u32::MAX),
             entries: usize::MAX,
             marks: [u8::MAX; ISSUES],
+            turn: u32::MAX,
             nets: [i32::MIN; PLACES],
             delivered: [u32::MAX; PLACES],
             lifts: [u32::MAX; LIFT_PLACES],
@@ -239,6 +250,7 @@ mod tests {
             calls::pair_off(&mut book, 0, 1),
             calls::roll(&mut book, 1, 300, &[100_000; 16]),
             calls::mark(&mut book, 0, 0),
+            calls::turn(&mut book, 1),
         ];
         assert!(answers.iter().all(|answer| answer.refused() == Some(Refusal::Book)));
         assert!(book == damaged() && out == [7; crate::OUTPUT_WORDS]);
@@ -292,6 +304,30 @@ mod tests {
         assert_eq!(calls::trade(&mut book, 3, 1, 8, 8).refused(), None);
         assert_eq!(calls::mark(&mut book, 3, 0).refused(), None);
         assert!(book == Book::fresh());
+    }
+
+    #[test]
+    fn full_units_are_dealt_in_turn_from_the_named_day_on() {
+        let (mut book, mut out) = (Book::fresh(), [7; crate::OUTPUT_WORDS]);
+        assert_eq!(calls::turn(&mut book, 0).refused(), Some(Refusal::ChangeOver));
+        assert_eq!(calls::turn(&mut book, 5).refused(), None);
+        assert_eq!(calls::turn(&mut book, 1).refused(), None);
+        let accounts =
+            |book: &Book| [0, 1, 2].map(|k| calls::unit(book, 3, k).unit.map(|unit| unit.account));
+        let sell = |book: &mut Book| {
+            assert_eq!(calls::trade(book, 3, 8, 1, 200_000).refusal, 0);
+            assert_eq!(calls::trade(book, 3, 8, 2, 100_000).refusal, 0);
+        };
+        sell(&mut book);
+        assert_eq!((book.deals_in_turn(), accounts(&book)), (false, [Some(1), Some(1), Some(2)]));
+        assert_eq!(calls::close(&mut book).refusal, 0);
+        assert_eq!(calls::cutoff(&mut book, &mut out).refusal, 0);
+        let mut quotes = [0; 32];
+        quotes[..16].fill(100_000);
+        assert_eq!(calls::roll(&mut book, 1, 300, &quotes).refusal, 0);
+        sell(&mut book);
+        assert_eq!((book.deals_in_turn(), accounts(&book)), (true, [Some(1), Some(2), Some(1)]));
+        assert_eq!(calls::turn(&mut book, 9).refused(), Some(Refusal::ChangeOver));
     }
 
     #[test]

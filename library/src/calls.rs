@@ -165,6 +165,12 @@ pub fn mark(book: &mut Book, issue: u32, mark: u32) -> Answer {
     call(book, &Instruction::Mark { issue, mark }, &[], &mut [])
 }
 
+/// turn: from this day on full units are dealt one to each receiver a round; in any phase, while the day
+/// is after today and the new order is not in force.
+pub fn turn(book: &mut Book, day: u32) -> Answer {
+    call(book, &Instruction::Turn { day }, &[], &mut [])
+}
+
 /// pair-off: the account's first entry in and first entry out fall together; the count is of steps.
 pub fn pair_off(book: &mut Book, issue: u32, account: u32) -> Answer {
     call(book, &Instruction::PairOff { issue, account }, &[], &mut [])

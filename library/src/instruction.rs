@@ -1,7 +1,7 @@
 //! An instruction: a call with its numbers, and the fields in which the library takes it.
 
-/// An instruction as the library gives and takes it: kind 1 to 7 or 13, then its numbers, 0 where
-/// there is none.
+/// An instruction as the library gives and takes it: kind 1 to 7, 13 or 14, then its numbers, 0
+/// where there is none.
 pub type Fields = [u32; 5];
 
 /// A call with its numbers; a roll's sixteen prices and sixteen accrued amounts stand beside
@@ -16,6 +16,7 @@ pub enum Instruction {
     Cutoff,
     Roll { days: u32, rate: u32 },
     Mark { issue: u32, mark: u32 },
+    Turn { day: u32 },
 }
 
 impl Instruction {
@@ -30,10 +31,11 @@ impl Instruction {
             Instruction::Cutoff => [6, 0, 0, 0, 0],
             Instruction::Roll { days, rate } => [7, days, rate, 0, 0],
             Instruction::Mark { issue, mark } => [13, issue, mark, 0, 0],
+            Instruction::Turn { day } => [14, day, 0, 0, 0],
         }
     }
 
-    /// The instruction of fields; none where the kind is not 1 to 7 or 13.
+    /// The instruction of fields; none where the kind is not 1 to 7, 13 or 14.
     pub fn of_fields([kind, a, b, c, d]: Fields) -> Option<Instruction> {
         Some(match kind {
             1 => Instruction::Trade { issue: a, from: b, to: c, lots: d },
@@ -44,6 +46,7 @@ impl Instruction {
             6 => Instruction::Cutoff,
             7 => Instruction::Roll { days: a, rate: b },
             13 => Instruction::Mark { issue: a, mark: b },
+            14 => Instruction::Turn { day: a },
             _ => return None,
         })
     }
@@ -59,6 +62,7 @@ impl Instruction {
             Instruction::Cutoff => "cutoff",
             Instruction::Roll { .. } => "roll",
             Instruction::Mark { .. } => "mark",
+            Instruction::Turn { .. } => "turn",
         }
     }
 }
@@ -76,12 +80,13 @@ mod tests {
             [4, 5, 6, 0, 0],
             [7, 1, 2, 0, 0],
             [13, 15, 1, 0, 0],
+            [14, 65_535, 0, 0, 0],
         ] {
             assert_eq!(Instruction::of_fields(fields).map(|found| found.fields()), Some(fields));
         }
         assert_eq!(Instruction::of_fields([5, 0, 0, 0, 0]), Some(Instruction::Close));
         assert_eq!(Instruction::of_fields([6, 0, 0, 0, 0]), Some(Instruction::Cutoff));
-        for kind in [0, 8, 9, 12, 14, 15, 16, 29, u32::MAX] {
+        for kind in [0, 8, 9, 12, 15, 16, 29, u32::MAX] {
             assert_eq!(Instruction::of_fields([kind, 0, 0, 0, 0]), None);
         }
     }

@@ -12,13 +12,14 @@ use crate::{Fields, ISSUES, QUOTES};
 /// What stands in a count before the library writes it: no answer has it.
 const NOT_WRITTEN: usize = usize::MAX;
 
-/// A book as it is lent to a question: three numbers, the marks of the issues, any number but 0 being
-/// one, and nine columns, of any length.
+/// A book as it is lent to a question: four numbers, of them the change-over day 0 where none is
+/// named, the marks of the issues, any number but 0 being one, and nine columns, of any length.
 #[derive(Clone, Copy, Debug, PartialEq, Eq)]
 pub struct Columns<'a> {
     pub day: u16,
     pub phase: u32,
     pub entries: usize,
+    pub turn: u32,
     pub marks: &'a [u8; ISSUES],
     pub nets: &'a [i32],
     pub delivered: &'a [u32],
@@ -37,6 +38,7 @@ pub struct ColumnsMut<'a> {
     pub day: &'a mut u16,
     pub phase: &'a mut u32,
     pub entries: &'a mut usize,
+    pub turn: &'a mut u32,
     pub marks: &'a mut [u8; ISSUES],
     pub nets: &'a mut [i32],
     pub delivered: &'a mut [u32],
@@ -111,7 +113,7 @@ pub struct WriteAnswer {
     pub count: usize,
 }
 
-/// Calls a function that takes a book to be read: its numbers, its marks and each column with its
+/// Calls a function that takes a book to be read: its numbers and marks and each column with its
 /// length, then what else it takes.
 macro_rules! on_book {
     ($function:ident, $book:expr $(, $more:expr)*) => {
@@ -119,6 +121,7 @@ macro_rules! on_book {
             $book.day,
             $book.phase,
             $book.entries,
+            $book.turn,
             $book.marks,
             $book.nets.as_ptr(),
             $book.nets.len(),
@@ -179,6 +182,7 @@ pub fn call(book: &mut ColumnsMut, fields: &Fields, quotes: &[u32], out: &mut [u
             book.day,
             book.phase,
             book.entries,
+            book.turn,
             book.marks,
             book.nets.as_mut_ptr(),
             book.nets.len(),
@@ -262,6 +266,7 @@ pub fn commit(book: &mut ColumnsMut, ticket: &TicketNumbers, out: &mut [u32]) ->
             *book.day,
             *book.phase,
             *book.entries,
+            *book.turn,
             book.marks,
             book.nets.as_ptr(),
             book.nets.len(),

@@ -59,11 +59,13 @@ pub enum Refusal {
     Participants = 24,
     /// 25: the funds are above all bases together (funds).
     Bases = 25,
+    /// 26: the day is not after today, or full units are dealt in turn already (turn).
+    ChangeOver = 26,
 }
 
 impl Refusal {
     /// All refusals, by their numbers.
-    pub const ALL: [Refusal; 25] = [
+    pub const ALL: [Refusal; 26] = [
         Refusal::Output,
         Refusal::Book,
         Refusal::Phase,
@@ -89,6 +91,7 @@ impl Refusal {
         Refusal::Eligible,
         Refusal::Participants,
         Refusal::Bases,
+        Refusal::ChangeOver,
     ];
 
     /// The refusal of a number; none for 0, which is done, and for a number that none has.
@@ -135,6 +138,7 @@ impl Refusal {
                  funds are above 1,000,000"
             }
             Refusal::Bases => "the funds are above all bases together",
+            Refusal::ChangeOver => "the day is not after today, or the new order is in force",
         }
     }
 }
@@ -152,11 +156,12 @@ mod tests {
     #[test]
     fn numbers_are_those_of_the_papers_in_order() {
         let numbers: Vec<u32> = Refusal::ALL.into_iter().map(Refusal::number).collect();
-        assert_eq!(numbers, (1..=25).collect::<Vec<u32>>());
+        assert_eq!(numbers, (1..=26).collect::<Vec<u32>>());
         assert_eq!(Refusal::of(9), Some(Refusal::Owed));
         assert_eq!(Refusal::of(23), Some(Refusal::Eligible));
         assert_eq!(Refusal::of(25), Some(Refusal::Bases));
-        assert_eq!([0, 26, u32::MAX].map(Refusal::of), [None; 3]);
+        assert_eq!(Refusal::of(26), Some(Refusal::ChangeOver));
+        assert_eq!([0, 27, u32::MAX].map(Refusal::of), [None; 3]);
     }
 
     #[test]

@@ -1,4 +1,5 @@
-//! The book: day, phase, marks, nets, delivered lots, lifts, charges and the ledger of fails.
+//! The book: day, phase, marks, change-over day, nets, delivered lots, lifts, charges and the ledger of
+//! fails.
 
 /// Issues 0 to 15.
 pub const ISSUES: usize = 16;
@@ -46,12 +47,14 @@ pub struct Lifts {
 }
 
 /// The book in plain columns; nets and delivered lots stand at issue × 64 + account. An issue whose
-/// mark is any number but 0 is marked.
+/// mark is any number but 0 is marked; a change-over day of 0 is none.
 #[derive(Clone, Debug, PartialEq, Eq)]
 pub struct Book {
     pub day: u16,
     pub phase: Phase,
     pub marks: [u8; ISSUES],
+    /// The first day on which full units are dealt in turn.
+    pub turn: u32,
     pub nets: [i32; ISSUES * ACCOUNTS],
     pub delivered: [u32; ISSUES * ACCOUNTS],
     pub lifts: [Lifts; ISSUES],
@@ -70,12 +73,13 @@ pub fn place(issue: usize, account: usize) -> usize {
 }
 
 impl Book {
-    /// A fresh book: day 0, Taking, all zero, no issue marked, ledger empty.
+    /// A fresh book: day 0, Taking, all zero, no issue marked, no change-over day, ledger empty.
     pub fn fresh() -> Book {
         Book {
             day: 0,
             phase: Phase::Taking,
             marks: [0; ISSUES],
+            turn: 0,
             nets: [0; ISSUES * ACCOUNTS],
             delivered: [0; ISSUES * ACCOUNTS],
             lifts: [Lifts::default(); ISSUES],
@@ -92,6 +96,11 @@ impl Book {
     /// Is the issue marked, so that it takes even lots only? An issue above 15 is not.
     pub fn is_marked(&self, issue: usize) -> bool {
         self.marks.get(issue).is_some_and(|&mark| mark != 0)
+    }
+
+    /// Are full units dealt in turn today?
+    pub fn deals_in_turn(&self) -> bool {
+        self.turn != 0 && self.turn <= u32::from(self.day)
     }
 
     /// The nets of an issue, by account.

@@ -168,3 +168,8 @@ pub fn issue_is_empty(book: &Book, issue: usize) -> Result<(), u32> {
     let no_entry = book.entries().all(|entry| usize::from(entry.issue) != issue);
     ask(20, no_net && no_entry)
 }
+
+/// 26. Is the day after today, and is the new order not in force yet?
+pub fn day_can_be_named(book: &Book, day: u32) -> Result<(), u32> {
+    ask(26, day > u32::from(book.day) && !book.deals_in_turn())
+}

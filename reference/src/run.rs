@@ -61,6 +61,7 @@ fn obey(book: &mut Book, instruction: &Instruction, words: &[u32], output: &mut 
             calls::roll_on_sound(book, days, rate, &tape::quotes(words))
         }
         Instruction::Mark { issue, mark } => calls::mark_on_sound(book, issue, mark),
+        Instruction::Turn { day } => calls::turn_on_sound(book, day),
     }
 }
 
@@ -75,6 +76,7 @@ fn name(instruction: &Instruction) -> &'static str {
         Instruction::Cutoff => "cutoff",
         Instruction::Roll { .. } => "roll",
         Instruction::Mark { .. } => "mark",
+        Instruction::Turn { .. } => "turn",
     }
 }
 

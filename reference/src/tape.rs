@@ -22,6 +22,7 @@ pub const RESOLVED: u32 = 11;
 /// The record of a fail.
 pub const FAIL: u32 = 12;
 pub const MARK: u32 = 13;
+pub const TURN: u32 = 14;
 
 /// An instruction of the tape; a roll's sixteen prices and sixteen accrued amounts stand beside
 /// it.
@@ -35,6 +36,7 @@ pub enum Instruction {
     Cutoff,
     Roll { days: u32, rate: u32 },
     Mark { issue: u32, mark: u32 },
+    Turn { day: u32 },
 }
 
 /// A record that a call writes: a head and a lots word.
@@ -84,6 +86,10 @@ pub fn read(words: &[u32]) -> Result<(Instruction, usize), u32> {
         CUTOFF => unused(head, 27, 0).map(|()| (Instruction::Cutoff, 1)),
         ROLL => read_roll(words, head),
         MARK => read_mark(head),
+        TURN => {
+            unused(head, 27, 16)?;
+            Ok((Instruction::Turn { day: field(head, 15, 0) }, 1))
+        }
         _ => Err(14),
     }
 }
@@ -163,6 +169,7 @@ fn instruction_words(instruction: &Instruction, quotes: &[u32]) -> Result<Vec<u3
         Instruction::Mark { issue, mark } => {
             Ok(vec![MARK << 28 | put(issue, 27, 24)? | put(mark, 0, 0)?])
         }
+        Instruction::Turn { day } => Ok(vec![TURN << 28 | put(day, 15, 0)?]),
     }
 }
 

@@ -3,6 +3,7 @@
 use crate::book::{Book, Lift};
 use crate::measures::UNIT_LOTS;
 use std::cmp::Ordering;
+use std::collections::VecDeque;
 
 /// One unit of a receiver, with the receiver's net.
 #[derive(Clone, Copy, Debug, PartialEq, Eq)]
@@ -25,9 +26,38 @@ pub fn units(nets: &[i32]) -> Vec<Unit> {
     units
 }
 
+/// The same units with the full ones dealt in turn: one to each receiver in each round, receivers as
+/// they stand in the other order, until all are dealt. Small units keep their order.
+pub fn dealt(nets: &[i32]) -> Vec<Unit> {
+    let (full, small): (Vec<Unit>, Vec<Unit>) = units(nets).into_iter().partition(|unit| unit.full);
+    let mut hands: Vec<VecDeque<Unit>> = Vec::new();
+    for unit in full {
+        match hands.last_mut() {
+            Some(hand) if hand[0].account == unit.account => hand.push_back(unit),
+            _ => hands.push(VecDeque::from([unit])),
+        }
+    }
+    let mut order = Vec::new();
+    while hands.iter().any(|hand| !hand.is_empty()) {
+        order.extend(hands.iter_mut().filter_map(VecDeque::pop_front));
+    }
+    order.extend(small);
+    order
+}
+
+/// The units of an issue in the order of the day, nothing lifted.
+pub fn order_of(book: &Book, issue: usize) -> Vec<Unit> {
+    let nets = book.nets_of(issue);
+    if book.deals_in_turn() {
+        dealt(nets)
+    } else {
+        units(nets)
+    }
+}
+
 /// The units of an issue in the order of the day: each lift moves a unit of the order before it.
 pub fn units_of(book: &Book, issue: usize) -> Vec<Unit> {
-    let mut units = units(book.nets_of(issue));
+    let mut units = order_of(book, issue);
     for lift in book.lifts[issue].standing() {
         move_unit(&mut units, lift);
     }

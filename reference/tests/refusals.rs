@@ -244,6 +244,23 @@ fn mark_asks_2_4_20() {
 }
 
 #[test]
+fn turn_asks_2_26() {
+    let today = Book { day: 7, turn: 9, ..book_of_nets(Phase::Settling, &[(62, 1), (63, -1)]) };
+    let in_force = Book { turn: 7, ..today.clone() };
+    let turn = |day| move |book: &mut Book, _: &mut [u32]| calls::turn(book, day);
+    for day in [0, 7, 8, 9, u32::MAX] {
+        refused(&damaged(&today), 0, 2, turn(day));
+        refused(&damaged(&in_force), 0, 2, turn(day));
+        refused(&in_force, 0, 26, turn(day));
+    }
+    refused(&today, 0, 26, turn(0));
+    refused(&today, 0, 26, turn(7));
+    assert_eq!(calls::turn(&mut today.clone(), 8).number, 0);
+    assert_eq!(calls::turn_on_sound(&mut damaged(&today), 8).number, 0);
+    assert_eq!(calls::turn_on_sound(&mut damaged(&in_force), 8).number, 26);
+}
+
+#[test]
 fn the_unit_question_asks_2_4() {
     let book = p5_book(0);
     let refusal = |number| UnitAnswer { number, found: false, account: 0, lots: 0 };

@@ -87,6 +87,18 @@ fn the_book_is_only_read_for_its_nets() {
 }
 
 #[test]
+fn the_order_is_that_of_document_001_also_where_full_units_are_dealt_in_turn() {
+    let old = Book { day: 9, ..book(&[-3, 2, 2, -1]) };
+    let new = Book { turn: 9, ..old.clone() };
+    let mut plan = plan(1);
+    plan.settlement[..4].copy_from_slice(&[0, 1, 2, 2]);
+    plan.inventories[0] = 2;
+    assert!(new.deals_in_turn());
+    // Dealt in turn, account 2 would be handed a lot, which account 3 would deliver.
+    assert_eq!((tried(&new, &plan), tried(&old, &plan)), ((1, 2, 2), (1, 2, 2)));
+}
+
+#[test]
 fn every_refusal_in_its_order() {
     let sound = book(&[-5, 5]);
     let unsound = book(&[-5, 4]);

@@ -174,6 +174,7 @@ fn any_book_whatever_is_asked_without_fault() {
         book.nets.fill(net);
         book.delivered.fill(u32::MAX);
         book.marks.fill(u8::MAX);
+        book.turn = u32::MAX;
         book.charges.fill(yen);
         for lifts in &mut book.lifts {
             (lifts.number, lifts.count) = (u32::MAX, u32::MAX);
@@ -276,6 +277,7 @@ fn random_call(state: &mut u64, book: &mut Book, out: &mut [u32]) -> u32 {
                 .number
         }
         3 => calls::pair_off(book, issue, from).number,
+        4 if below(state, 30) == 0 => calls::turn(book, below(state, 40)).number,
         4 => calls::mark(book, below(state, 4), below(state, 2)).number,
         5..=7 => calls::resolve(book, issue, from, lots, out).number,
         8..=23 => calls::deliver(book, issue, from, lots, out).number,
@@ -294,7 +296,7 @@ fn lists_of_calls_keep_the_book_sound() {
     assert_eq!(calls::mark(&mut book, 1, 1).number, 0);
     let mut out = output();
     let mut most_lifts = 0;
-    let mut met = [0; 21];
+    let mut met = [0; 27];
     for _ in 0..20_000 {
         let before = book.clone();
         let number = random_call(&mut state, &mut book, &mut out);
@@ -306,5 +308,6 @@ fn lists_of_calls_keep_the_book_sound() {
     }
     assert!(book.day > 20);
     assert_eq!(most_lifts, 8);
-    assert!(met[19] > 50 && met[20] > 50, "{met:?}");
+    assert!(met[19] > 50 && met[20] > 50 && met[26] > 3, "{met:?}");
+    assert!(book.deals_in_turn());
 }

@@ -22,6 +22,8 @@ fn examples() -> Vec<(Instruction, Vec<u32>)> {
         (Instruction::Mark { issue: 0, mark: 0 }, vec![0xd000_0000]),
         (Instruction::Mark { issue: 5, mark: 1 }, vec![0xd500_0001]),
         (Instruction::Mark { issue: 15, mark: 1 }, vec![0xdf00_0001]),
+        (Instruction::Turn { day: 0 }, vec![0xe000_0000]),
+        (Instruction::Turn { day: 65_535 }, vec![0xe000_ffff]),
     ]
 }
 
@@ -47,7 +49,7 @@ fn the_reader_takes_the_instruction_and_counts_its_words() {
 
 #[test]
 fn a_head_of_another_kind_is_wrong() {
-    for kind in [0, 8, 9, 10, 11, 12, 14, 15] {
+    for kind in [0, 8, 9, 10, 11, 12, 15] {
         assert_eq!(read(&[kind << 28]), Err(14));
         assert_eq!(read(&[kind << 28, 0x8000_0001]), Err(14));
     }
@@ -61,6 +63,7 @@ fn each_unused_bit_of_a_head_is_asked() {
             Instruction::Close | Instruction::Cutoff => 0xf000_0000,
             Instruction::Roll { .. } => 0xffff_fc00,
             Instruction::Mark { .. } => 0xff00_0001,
+            Instruction::Turn { .. } => 0xf000_ffff,
             _ => 0xfffc_0000,
         };
         for bit in (0..32).map(|place| 1_u32 << place).filter(|bit| used & bit == 0) {
@@ -146,4 +149,7 @@ fn the_writer_asks_1_and_15() {
     refused(15, Instruction::Mark { issue: 16, mark: 1 }, &[], 33);
     refused(15, Instruction::Mark { issue: 0, mark: 2 }, &[], 33);
     refused(15, Instruction::Mark { issue: 0, mark: u32::MAX }, &[], 33);
+    refused(1, Instruction::Turn { day: 65_536 }, &[], 32);
+    refused(15, Instruction::Turn { day: 65_536 }, &[], 33);
+    refused(15, Instruction::Turn { day: u32::MAX }, &[], 33);
 }

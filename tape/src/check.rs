@@ -152,6 +152,19 @@ mod tests {
     }
 
     #[test]
+    fn refusals_of_a_turn_say_which_half() {
+        let found =
+            checked("turn 0\nturn 1\nclose\ncutoff\nroll 1 0 1 accrued 0\nturn 1\nturn 5\n");
+        let said = "turn: refused by 26: the day is not after today, or the new order is in force";
+        let expected = [
+            format!("day.txt:1:1: {said}; today is day 0"),
+            format!("day.txt:6:1: {said}; full units are dealt in turn since day 1"),
+            format!("day.txt:7:1: {said}; full units are dealt in turn since day 1"),
+        ];
+        assert_eq!((found.refusals, found.instructions), (expected.to_vec(), 7));
+    }
+
+    #[test]
     fn a_good_day_has_nothing_to_tell() {
         let found = checked("trade 0 1 2 5\nclose\ncutoff\nroll 1 300 100000\n");
         assert_eq!((found.refusals.len(), found.instructions), (0, 4));

@@ -1,5 +1,6 @@
 //! The facts of a tape: what each instruction did to the book, in the order in which it came.
 
+use crate::dealt::{Rounds, Turn};
 use crate::units::Case;
 use library::{Instruction, Refusal};
 
@@ -7,12 +8,14 @@ use library::{Instruction, Refusal};
 /// alike: of one account and of so many lots each.
 #[derive(Clone, Debug, PartialEq, Eq)]
 pub enum Fact {
-    /// A day begins.
-    Day { day: u16 },
+    /// A day begins. From day `turn` on full units are dealt in turn; 0 where no day is named.
+    Day { day: u16, turn: u32 },
     /// An instruction, and why it was refused, if it was.
     Instruction { instruction: Instruction, refusal: Option<(Refusal, String)> },
     /// Units of an account, which is due this many lots in all.
     Units { issue: u32, first: u32, last: u32, account: u32, lots: u32, due: u32 },
+    /// Full units dealt in turn, one to each of these accounts a round.
+    Rounds { issue: u32, rounds: Rounds },
     /// Accounts with equal nets (both full) or equal small units (both small): the lower number comes
     /// first.
     Tie { issue: u32, case: Case, lots: u32, accounts: Vec<u32> },
@@ -21,14 +24,15 @@ pub enum Fact {
     SmallAfterFull { issue: u32, unit: u32, account: u32, next: u32, follower: u32 },
     /// What an account still owes today.
     Owes { issue: u32, account: u32, lots: u64 },
-    /// Units handed over whole.
-    Handed { issue: u32, first: u32, last: u32, account: u32, lots: u32 },
+    /// Units handed over whole; where they stand, if they were dealt in turn.
+    Handed { issue: u32, first: u32, last: u32, account: u32, lots: u32, turn: Option<Turn> },
     /// Stock that does not cover the next unit.
-    Waits { issue: u32, stock: u64, unit: u32, account: u32, lots: u32 },
+    Waits { issue: u32, stock: u64, unit: u32, account: u32, lots: u32, turn: Option<Turn> },
     /// The remaining stock that goes to a unit at cutoff, which lacks the rest.
     Partly { issue: u32, unit: u32, account: u32, lots: u32, lacks: u32 },
-    /// A fail of the cutoff, and the units that it belongs to.
-    Fails { issue: u32, from: u32, to: u32, lots: u32, first: u32, last: u32 },
+    /// A fail of the cutoff, and the units that it belongs to, so many of the account's from the first
+    /// to the last.
+    Fails { issue: u32, from: u32, to: u32, lots: u32, first: u32, last: u32, units: u32 },
     /// A cutoff with no fail.
     NothingFails,
     /// Lots handed over in a resolve.
@@ -43,6 +47,8 @@ pub enum Fact {
     ReadingEnds { refusal: Refusal, why: String },
     /// The book at the end.
     End { phase: &'static str, entries: usize, charged: usize },
+    /// The first day on which full units are dealt in turn, as it is named at the end.
+    ChangeOver { turn: u32 },
     /// An issue that is marked at the end: it takes even lots only.
     Marked { issue: u32 },
     /// A fail entry of the ledger at the end.
@@ -77,6 +83,7 @@ impl Fact {
         match self {
             Fact::Instruction { instruction, .. } => issue_of(instruction),
             Fact::Units { issue, .. }
+            | Fact::Rounds { issue, .. }
             | Fact::Tie { issue, .. }
             | Fact::SmallAfterFull { issue, .. }
             | Fact::Owes { issue, .. }
@@ -99,6 +106,7 @@ impl Fact {
         match self {
             Fact::Instruction { instruction, .. } => accounts_of(instruction),
             Fact::Tie { accounts, .. } => accounts.clone(),
+            Fact::Rounds { rounds, .. } => rounds.accounts.clone(),
             Fact::SmallAfterFull { account, follower, .. } => vec![*account, *follower],
             Fact::Units { account, .. }
             | Fact::Owes { account, .. }
@@ -125,7 +133,10 @@ fn issue_of(instruction: &Instruction) -> Option<u32> {
         | Instruction::Resolve { issue, .. }
         | Instruction::PairOff { issue, .. }
         | Instruction::Mark { issue, .. } => Some(issue),
-        Instruction::Close | Instruction::Cutoff | Instruction::Roll { .. } => None,
+        Instruction::Close
+        | Instruction::Cutoff
+        | Instruction::Roll { .. }
+        | Instruction::Turn { .. } => None,
     }
 }
 
@@ -139,6 +150,7 @@ fn accounts_of(instruction: &Instruction) -> Vec<u32> {
         Instruction::Close
         | Instruction::Cutoff
         | Instruction::Roll { .. }
-        | Instruction::Mark { .. } => Vec::new(),
+        | Instruction::Mark { .. }
+        | Instruction::Turn { .. } => Vec::new(),
     }
 }

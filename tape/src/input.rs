@@ -7,7 +7,7 @@ use crate::text::{self, Parsed, Place};
 
 /// The kinds of words with which an instruction begins, the bits of each that are unused, and the kind
 /// of the word behind it, if the instruction has one.
-const HEADS: [(u32, u32, Option<u32>); 8] = [
+const HEADS: [(u32, u32, Option<u32>); 9] = [
     (1, 0x0000_0fff, Some(8)),
     (2, 0x0003_ffff, Some(8)),
     (3, 0x0003_ffff, Some(8)),
@@ -16,6 +16,7 @@ const HEADS: [(u32, u32, Option<u32>); 8] = [
     (6, 0x0fff_ffff, None),
     (7, 0x0000_03ff, Some(9)),
     (13, 0x00ff_fffe, None),
+    (14, 0x0fff_0000, None),
 ];
 /// The bytes that are looked at to find a text in UTF-16.
 const LOOKED_AT: usize = 1_024;
@@ -42,8 +43,8 @@ pub enum Taken {
 }
 
 /// Tells text from words. Words begin with an instruction: the first word has the kind of one and no
-/// unused bits, so that the first byte of the file is 0, or 1 where a mark is set, which no text has; the
-/// second word, where the instruction has one, has its kind. Text is UTF-8 without control characters
+/// unused bits, so that the first byte of the file is 0, or 1 where a mark is set, or the third is 0 (of
+/// a turn), which no text has; the second word, where the instruction has one, has its kind. Text is UTF-8 without control characters
 /// but tabs and line ends.
 pub fn kind_of(bytes: &[u8]) -> Kind {
     if begins_as_words(bytes) {
@@ -56,12 +57,12 @@ pub fn kind_of(bytes: &[u8]) -> Kind {
 }
 
 /// Do the bytes begin with an instruction? A tape of no words has none, and one that is cut inside its
-/// first word is known by the lowest byte.
+/// first word is known by the lowest byte, or by the third.
 fn begins_as_words(bytes: &[u8]) -> bool {
     let mut words =
         bytes.chunks_exact(4).map(|word| u32::from_le_bytes([word[0], word[1], word[2], word[3]]));
     let Some(first) = words.next() else {
-        return bytes.first().is_none_or(|lowest| *lowest <= 1);
+        return bytes.first().is_none_or(|lowest| *lowest <= 1) || bytes.get(2) == Some(&0);
     };
     let second = words.next().map(|word| word >> 28);
     HEADS.iter().any(|&(kind, unused, behind)| {
@@ -273,9 +274,15 @@ mod tests {
         for text in ["close\n", "# a note: 円\r\ntrade 0 1 2 3\r\n", "\u{feff}close", "\n", "a"] {
             assert_eq!(kind_of(text.as_bytes()), Kind::Text, "{text}");
         }
-        for line in
-            ["trade 2 8 8 8", "deliver 2 2 9", "resolve 3 3 3", "pair-off 4 4", "close", "mark 2 1"]
-        {
+        for line in [
+            "trade 2 8 8 8",
+            "deliver 2 2 9",
+            "resolve 3 3 3",
+            "pair-off 4 4",
+            "close",
+            "mark 2 1",
+            "turn 25443",
+        ] {
             let tape = text::to_tape(line).unwrap();
             assert_eq!(kind_of(&tape), Kind::Words, "{line}");
             let day = Day::of("x", tape.clone(), Taken::Apart).unwrap();
@@ -284,7 +291,7 @@ mod tests {
         for roll in ["roll 2 8224 139264", "roll 1 8 100000", "roll 15 16383 262143"] {
             assert_eq!(kind_of(&text::to_tape(roll).unwrap()), Kind::Words);
         }
-        for cut in [&[][..], &[0], &[0, 0], &[1, 0, 0], &[0, 0x20, 4]] {
+        for cut in [&[][..], &[0], &[0, 0], &[1, 0, 0], &[0, 0x20, 4], &[0x63, 0x6c, 0]] {
             assert_eq!(kind_of(cut), Kind::Words, "{cut:?}");
         }
     }
@@ -295,7 +302,8 @@ mod tests {
         for _ in 0..200_000 {
             word = word.wrapping_mul(0x9e37_79b1).rotate_left(7) ^ 0x5bd1_e995;
             for shift in [0, 10, 12, 18, 28] {
-                let head = word >> shift << shift | word & u32::from(shift == 18);
+                let low = if shift == 28 { 0xffff } else { u32::from(shift == 18) };
+                let head = word >> shift << shift | word & low;
                 let rest: &[u32] = match head >> 28 {
                     1..=3 => &[0x8000_0001],
                     7 => &[0x9000_0000; 32],

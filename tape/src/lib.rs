@@ -3,6 +3,7 @@
 
 pub mod bytes;
 pub mod check;
+pub mod dealt;
 pub mod facts;
 pub mod fault;
 pub mod input;

@@ -1,6 +1,7 @@
 //! Why a unit has not come: the tape is run up to a word, and the book is asked.
 
 use crate::bytes::split;
+use crate::dealt::{Dealt, Turn};
 use crate::measure::{counted, Face, Lots};
 use crate::story::traded;
 use library::calls::{self, Unit};
@@ -25,6 +26,8 @@ pub struct Told {
     /// Did reading end there by a refusal?
     ended: bool,
     answer: Result<(Unit, Status), (Refusal, String)>,
+    /// Where the unit stands, if it is a full one dealt in turn.
+    turn: Option<Turn>,
 }
 
 /// Runs a tape on a fresh book and asks; an error is that no instruction begins at the word.
@@ -41,7 +44,9 @@ pub fn ask(tape: &[u8], question: Question) -> Result<Told, String> {
         }
     };
     let phase = book.phase.name().unwrap_or("no phase");
-    Ok(Told { question, day: book.day, phase, word, ended, answer })
+    let dealt = book.deals_in_turn().then(|| Dealt::of(&book, issue));
+    let turn = dealt.and_then(|dealt| dealt.turn_of(k)).map(|(_, turn)| turn);
+    Ok(Told { question, day: book.day, phase, word, ended, answer, turn })
 }
 
 /// The book after the instructions before a word, or after all that can be read; where that is, and
@@ -114,9 +119,10 @@ impl Told {
             }
         };
         let of = format!(
-            "unit {k} of issue {issue}, {} for account {}",
+            "unit {k} of issue {issue}, {} for account {}{}",
             Face(unit.lots.into()),
-            unit.account
+            unit.account,
+            self.turn.map_or(String::new(), |turn| format!(" ({})", turn.words()))
         );
         let told = match status {
             Status::Handed => "is handed".to_string(),
@@ -154,7 +160,11 @@ impl Told {
             Status::PartlyFailed { lots } => format!("\"partly failed\",\"lacks\":{lots}"),
             Status::WhollyFailed => format!("\"wholly failed\",\"lacks\":{lots}"),
         };
-        format!("{head},\"refusal\":0,\"account\":{account},\"lots\":{lots},\"status\":{told}}}\n")
+        let turn = self.turn.map_or(String::new(), |Turn { round, receiver, of, .. }| {
+            format!(",\"round\":{round},\"receiver\":{receiver},\"of\":{of}")
+        });
+        let unit = format!("\"account\":{account},\"lots\":{lots}{turn}");
+        format!("{head},\"refusal\":0,{unit},\"status\":{told}}}\n")
     }
 }
 
@@ -210,6 +220,20 @@ mod tests {
             + "\"unit\":8,\"refusal\":16,\
             \"why\":\"issue 0 has no unit 8, its units are 0 to 7\"}\n";
         assert_eq!(told(8, None).json(), missing);
+    }
+
+    #[test]
+    fn a_dealt_unit_has_its_round_and_receiver() {
+        let lines = "turn 1\nclose\ncutoff\nroll 1 300 100000\ntrade 0 4 1 230000\n\
+            trade 0 5 2 250000\ntrade 0 5 3 150000\nclose\ndeliver 0 5 345000\n";
+        let tape = text::to_tape(lines).unwrap();
+        let of = |unit| ask(&tape, Question { issue: 0, unit, at: None }).unwrap();
+        let waits = "for account 2 (round 2, receiver 1 of 2), waits: with 55,000 lots more";
+        assert!(of(3).sentence().contains(waits), "{}", of(3).sentence());
+        assert!(of(2).sentence().ends_with("account 3 (round 1, receiver 3 of 3), is handed\n"));
+        assert!(of(5).sentence().contains("for account 2, waits"), "{}", of(5).sentence());
+        let json = of(4).json();
+        assert!(json.contains("\"lots\":100000,\"round\":2,\"receiver\":2,\"of\":2,"), "{json}");
     }
 
     #[test]

@@ -5,9 +5,10 @@
 //! takes no longer than it must; every other instruction is put to the library, refused trades too.
 
 use crate::bytes::split;
+use crate::dealt::{Dealt, Turn};
 use crate::facts::{Fact, Terms, Told};
 use crate::text::why_ended;
-use crate::units::{close, runs, Case, Run, Walk};
+use crate::units::{close, runs, waiting, Case, Run, Walk};
 use crate::why::{owed_today, why};
 use library::calls::{self, Answer};
 use library::{
@@ -29,6 +30,8 @@ struct Story<'a> {
     output: Vec<u32>,
     /// For each issue, today's handovers from the house: their number and lots.
     handed: [(u32, u64); ISSUES],
+    /// For each issue, today's units where full ones are dealt in turn.
+    dealt: Vec<Dealt>,
     /// The first word of the instruction that is at work.
     word: Option<usize>,
     sink: &'a mut Sink<'a>,
@@ -51,10 +54,11 @@ pub fn tell<'a>(tape: &[u8], sink: &'a mut Sink<'a>) -> io::Result<u16> {
         book: Book::fresh(),
         output: vec![0; OUTPUT_WORDS],
         handed: [(0, 0); ISSUES],
+        dealt: Vec::new(),
         word: None,
         sink,
     };
-    story.fact(&Fact::Day { day: 0 })?;
+    story.fact(&Fact::Day { day: 0, turn: 0 })?;
     let mut at = 0;
     while at < words.len() || !stray.is_empty() {
         story.word = Some(at);
@@ -110,9 +114,10 @@ impl Story<'_> {
             Instruction::Cutoff => self.cut(answer.count),
             Instruction::Resolve { .. } => self.resolved(answer.count),
             Instruction::PairOff { issue, account } => self.paired(&answer, issue, account),
-            Instruction::Trade { .. } | Instruction::Roll { .. } | Instruction::Mark { .. } => {
-                Ok(())
-            }
+            Instruction::Trade { .. }
+            | Instruction::Roll { .. }
+            | Instruction::Mark { .. }
+            | Instruction::Turn { .. } => Ok(()),
         }
     }
 
@@ -125,20 +130,57 @@ impl Story<'_> {
     /// deliverer owes.
     fn closed(&mut self) -> io::Result<()> {
         self.handed = [(0, 0); ISSUES];
+        self.dealt.clear();
         for issue in 0..ISSUES as u32 {
-            let runs = runs(&self.book, issue);
-            for run in &runs {
-                let Run { first, account, lots, due, .. } = *run;
-                self.fact(&Fact::Units { issue, first, last: run.last(), account, lots, due })?;
-            }
-            for group in close(&runs) {
-                self.fact(&decided(issue, group))?;
+            if self.book.deals_in_turn() {
+                self.dealt_in_turn(issue)?;
+            } else {
+                self.account_by_account(issue)?;
             }
             for account in 0..ACCOUNTS as u32 {
                 self.owes(issue, account, 1)?;
             }
         }
         Ok(())
+    }
+
+    /// An issue's units in the old order.
+    fn account_by_account(&mut self, issue: u32) -> io::Result<()> {
+        let runs = runs(&self.book, issue);
+        runs.iter().try_for_each(|run| self.units(issue, run))?;
+        close(&runs).into_iter().try_for_each(|group| self.fact(&decided(issue, group)))
+    }
+
+    /// An issue's units in the new order: the rounds, then the small units.
+    fn dealt_in_turn(&mut self, issue: u32) -> io::Result<()> {
+        let dealt = Dealt::of(&self.book, issue);
+        for rounds in dealt.rounds() {
+            self.fact(&Fact::Rounds { issue, rounds: rounds.clone() })?;
+        }
+        dealt.small().iter().try_for_each(|run| self.units(issue, run))?;
+        for group in close(&dealt.ranked()) {
+            let mut fact = decided(issue, group);
+            if let Fact::SmallAfterFull { unit, account, .. } = &mut fact {
+                // The last full unit is that of the last round.
+                *unit = dealt.full() - 1;
+                *account = dealt.turn_of(*unit).map_or(*account, |(account, _)| account);
+            }
+            self.fact(&fact)?;
+        }
+        self.dealt.push(dealt);
+        Ok(())
+    }
+
+    /// Like units of an account.
+    fn units(&mut self, issue: u32, run: &Run) -> io::Result<()> {
+        let Run { first, account, lots, due, .. } = *run;
+        self.fact(&Fact::Units { issue, first, last: run.last(), account, lots, due })
+    }
+
+    /// Where like units stand, if they are full ones dealt in turn today.
+    fn turn_of(&self, issue: u32, first: u32, last: u32) -> Option<Turn> {
+        let (_, turn) = self.dealt.get(issue as usize)?.turn_of(first)?;
+        Some(Turn { until: turn.round + last - first, ..turn })
     }
 
     /// What an account still owes, if it is at least so much.
@@ -158,14 +200,16 @@ impl Story<'_> {
             like.iter().for_each(|record| self.hand(record));
             let last = self.handed[issue as usize].0 - 1;
             let Record { to, lots, .. } = like[0];
-            self.fact(&Fact::Handed { issue, first, last, account: to, lots })?;
+            let turn = self.turn_of(issue, first, last);
+            self.fact(&Fact::Handed { issue, first, last, account: to, lots, turn })?;
         }
         let (unit, handed) = self.handed[issue as usize];
         let stock = self.book.delivered_total(issue).saturating_sub(handed);
         if stock > 0 {
             if let Some(next) = calls::unit(&self.book, issue, unit).unit {
                 let (account, lots) = (next.account, next.lots);
-                self.fact(&Fact::Waits { issue, stock, unit, account, lots })?;
+                let turn = self.turn_of(issue, unit, unit);
+                self.fact(&Fact::Waits { issue, stock, unit, account, lots, turn })?;
             }
         }
         self.owes(issue, account, 0)
@@ -183,11 +227,15 @@ impl Story<'_> {
         let records = self.records(count);
         for of_issue in records.chunk_by(|one, next| one.issue == next.issue) {
             let issue = of_issue[0].issue;
-            let mut walk = Walk::from(runs(&self.book, issue), self.handed[issue as usize].0);
+            let handed = self.handed[issue as usize].0;
+            let mut walk = Walk::along(match self.dealt.get(issue as usize) {
+                Some(dealt) => dealt.waiting(handed),
+                None => waiting(runs(&self.book, issue), handed),
+            });
             for &Record { kind, from, to, lots, .. } in of_issue {
-                let (first, last) = walk.take(lots);
+                let (first, last, units) = walk.take(lots);
                 let fact = if kind == FAIL {
-                    Fact::Fails { issue, from, to, lots, first, last }
+                    Fact::Fails { issue, from, to, lots, first, last, units }
                 } else {
                     Fact::Partly { issue, unit: first, account: to, lots, lacks: walk.lacks() }
                 };
@@ -241,7 +289,7 @@ impl Story<'_> {
             (self.sink)(&Told { day, word, fact: &fact })?;
         }
         self.word = None;
-        self.fact(&Fact::Day { day: self.book.day })
+        self.fact(&Fact::Day { day: self.book.day, turn: self.book.turn })
     }
 
     /// The phase, the marked issues, the ledger and the charges at the end.
@@ -252,6 +300,9 @@ impl Story<'_> {
         let charges: Vec<(u32, i64)> =
             (0..).zip(self.book.charges).filter(|(_, yen)| *yen != 0).collect();
         self.fact(&Fact::End { phase, entries: entries.len(), charged: charges.len() })?;
+        if self.book.turn != 0 {
+            self.fact(&Fact::ChangeOver { turn: self.book.turn })?;
+        }
         for issue in 0..ISSUES as u32 {
             if self.book.is_marked(issue) {
                 self.fact(&Fact::Marked { issue })?;

@@ -11,7 +11,8 @@ use library::{tape, Instruction, Refusal, ISSUES, WRITER_WORDS};
 /// The instructions' forms, for errors.
 const FORMS: &str = "trade ISSUE FROM TO LOTS, close, deliver ISSUE ACCOUNT LOTS, cutoff, \
     resolve ISSUE ACCOUNT LOTS, pair-off ISSUE ACCOUNT, roll DAYS RATE PRICE accrued ACCRUED (one \
-    price or sixteen, one accrued amount or sixteen), mark ISSUE MARK (1: even lots only, 0: any lots), word HEX, byte HEX";
+    price or sixteen, one accrued amount or sixteen), mark ISSUE MARK (1: even lots only, 0: any lots), \
+    turn DAY (full units dealt in turn from that day on), word HEX, byte HEX";
 
 /// A field of an instruction: its name, the bits that it has on a tape, and the least and the highest
 /// number that the book takes.
@@ -37,6 +38,7 @@ const RATE: Field = field("rate", 14, (0, 10_000));
 const PRICE: Field = field("price", 18, (1, 200_000));
 const ACCRUED: Field = field("accrued", 18, (0, 10_000));
 const MARK: Field = field("mark", 1, (0, 1));
+const DAY: Field = field("day", 16, (1, 65_535));
 
 /// The most words that a line takes after its first: those of a roll.
 const MOST_WORDS: usize = 2 + ISSUES + 1 + ISSUES;
@@ -180,6 +182,7 @@ fn instruction_of(name: &Word, words: &[Word]) -> Result<(Instruction, Vec<u32>)
             let numbers = take(&[ISSUE, MARK])?;
             Instruction::Mark { issue: numbers[0], mark: numbers[1] }
         }
+        "turn" => Instruction::Turn { day: take(&[DAY])?[0] },
         "close" => take(&[]).map(|_| Instruction::Close)?,
         "cutoff" => take(&[]).map(|_| Instruction::Cutoff)?,
         "roll" => return roll_of(name, words),
@@ -344,6 +347,7 @@ pub fn line_of(instruction: &Instruction, quotes: &[u32]) -> String {
         }
         Instruction::PairOff { issue, account } => format!("pair-off {issue} {account}"),
         Instruction::Mark { issue, mark } => format!("mark {issue} {mark}"),
+        Instruction::Turn { day } => format!("turn {day}"),
         Instruction::Close => "close".to_string(),
         Instruction::Cutoff => "cutoff".to_string(),
         Instruction::Roll { days, rate } => {
@@ -375,6 +379,15 @@ mod tests {
     }
 
     #[test]
+    fn a_turn_is_one_word() {
+        let tape = to_tape("turn 3\nturn 65,535 # the last day\n").unwrap();
+        assert_eq!(tape, of_hex("e0000003 e000ffff").unwrap());
+        assert_eq!(of_tape(&tape), "turn 3\nturn 65535\n");
+        let text = of_tape(&join(&[0xe001_0003]));
+        assert!(text.starts_with("# reading ends at word 0, number 14"), "{text}");
+    }
+
+    #[test]
     fn the_example_of_the_paper() {
         let tape = to_tape("trade 0 1 2 3\nclose\ncutoff # to Cut\n").unwrap();
         assert_eq!(tape, of_hex("10042000 80000003 50000000 60000000").unwrap());
@@ -384,7 +397,7 @@ mod tests {
     #[test]
     fn every_line_is_read_back() {
         let text = "trade 15 63 0 268435455\nclose\ndeliver 0 63 0\ncutoff\nresolve 15 0 1\n\
-            pair-off 7 9\nmark 15 1\nmark 0 0\nroll 15 16383 262143 accrued 0\nroll 1 2 1 2 3 4 5 6 7 8 9 10 11 12 13 14 15 16 accrued 262143\n\
+            pair-off 7 9\nmark 15 1\nmark 0 0\nturn 0\nturn 65535\nroll 15 16383 262143 accrued 0\nroll 1 2 1 2 3 4 5 6 7 8 9 10 11 12 13 14 15 16 accrued 262143\n\
             roll 1 2 3 accrued 1 2 3 4 5 6 7 8 9 10 11 12 13 14 15 16\n";
         assert_eq!(of_tape(&to_tape(text).unwrap()), text);
     }
@@ -472,6 +485,9 @@ mod tests {
             ("mark 3", (1, 1), "mark takes issue, mark; here is 1 number"),
             ("mark 16 1", (1, 6), "issue \"16\" is too large: write a number from 0 to 15"),
             ("mark 3 2", (1, 8), "mark \"2\" is too large: write a number from 0 to 1"),
+            ("turn", (1, 1), "turn takes day; here are 0 numbers"),
+            ("turn 1 2", (1, 1), "turn takes day; here are 2 numbers"),
+            ("turn 65536", (1, 6), "day \"65536\" is too large: write a number from 1 to 65,535"),
             (
                 "roll 1 16384 3",
                 (1, 8),

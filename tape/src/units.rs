@@ -3,7 +3,7 @@
 use library::{calls, Book};
 
 /// The lots of a full unit.
-const FULL: u32 = 100_000;
+pub const FULL: u32 = 100_000;
 
 /// Like units one after another: of one account, of so many lots each.
 #[derive(Clone, Copy, Debug, PartialEq, Eq)]
@@ -96,7 +96,17 @@ pub fn close(runs: &[Run]) -> Vec<&[Run]> {
     close
 }
 
-/// A walk along the units of an issue: the unit that is reached, and what it still lacks.
+/// The runs from a unit on.
+pub fn waiting(runs: Vec<Run>, unit: u32) -> Vec<Run> {
+    let rest = runs.into_iter().filter(|run| run.last() >= unit);
+    let cut = |run: Run| {
+        let first = run.first.max(unit);
+        Run { first, count: run.last() + 1 - first, ..run }
+    };
+    rest.map(cut).collect()
+}
+
+/// A walk along units as they fail: the unit that is reached, and what it still lacks.
 pub struct Walk {
     runs: Vec<Run>,
     at: usize,
@@ -105,10 +115,10 @@ pub struct Walk {
 }
 
 impl Walk {
-    /// At the beginning of a unit.
-    pub fn from(runs: Vec<Run>, unit: u32) -> Walk {
-        let mut walk = Walk { runs, at: 0, unit, lacks: 0 };
-        walk.reach();
+    /// At the beginning of the first run.
+    pub fn along(runs: Vec<Run>) -> Walk {
+        let mut walk = Walk { runs, at: 0, unit: 0, lacks: 0 };
+        walk.begin();
         walk
     }
 
@@ -122,30 +132,42 @@ impl Walk {
         self.lacks
     }
 
-    /// Goes on by so many lots; gives the first and the last unit that they are of.
-    pub fn take(&mut self, lots: u32) -> (u32, u32) {
+    /// Goes on by so many lots; gives the first and the last unit that they are of, and how many they
+    /// are.
+    pub fn take(&mut self, lots: u32) -> (u32, u32, u32) {
         let first = self.unit;
-        let mut last = first;
+        let (mut last, mut units) = (first, 0);
         let mut left = lots;
         while left > 0 && self.at < self.runs.len() {
             let taken = left.min(self.lacks);
             left -= taken;
             self.lacks -= taken;
             last = self.unit;
+            units += 1;
             if self.lacks == 0 {
-                self.unit += 1;
-                self.reach();
+                self.pass();
             }
         }
-        (first, last)
+        (first, last, units)
     }
 
-    /// Finds the run of the unit, which lacks all its lots.
-    fn reach(&mut self) {
-        while self.runs.get(self.at).is_some_and(|run| run.last() < self.unit) {
+    /// Goes on to the next unit, which lacks all its lots.
+    fn pass(&mut self) {
+        let run = self.runs[self.at];
+        if self.unit < run.last() {
+            self.unit += 1;
+            self.lacks = run.lots;
+        } else {
             self.at += 1;
+            self.begin();
         }
-        self.lacks = self.runs.get(self.at).map_or(0, |run| run.lots);
+    }
+
+    /// At the first unit of the run, if there is one.
+    fn begin(&mut self) {
+        if let Some(run) = self.runs.get(self.at) {
+            (self.unit, self.lacks) = (run.first, run.lots);
+        }
     }
 }
 
@@ -226,14 +248,15 @@ mod tests {
 
     #[test]
     fn a_walk_along_p5_after_five_units() {
-        let mut walk = Walk::from(p5(), 5);
+        let mut walk = Walk::along(waiting(p5(), 5));
         assert_eq!(walk.unit(), Some((5, 2, 50_000)));
-        assert_eq!(walk.take(45_000), (5, 5));
+        assert_eq!(walk.take(45_000), (5, 5, 1));
         assert_eq!(walk.lacks(), 5_000);
-        assert_eq!(walk.take(5_000), (5, 5));
-        assert_eq!(walk.take(25_000), (6, 6));
-        assert_eq!(walk.take(25_000 + 30_000), (6, 7));
+        assert_eq!(walk.take(5_000), (5, 5, 1));
+        assert_eq!(walk.take(25_000), (6, 6, 1));
+        assert_eq!(walk.take(25_000 + 30_000), (6, 7, 2));
         assert_eq!(walk.unit(), None);
-        assert_eq!(Walk::from(p5(), 0).take(450_000), (0, 4));
+        assert_eq!(Walk::along(p5()).take(450_000), (0, 4, 5));
+        assert_eq!(Walk::along(waiting(p5(), 1)).take(100_001), (1, 2, 2));
     }
 }

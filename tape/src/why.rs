@@ -47,6 +47,10 @@ fn behind(book: &Book, instruction: &Instruction, refusal: Refusal) -> Option<St
             | Instruction::Resolve { issue, .. },
         ) => Some(format!("issue {issue} is in multiples of 100,000 yen face: give even lots")),
         (Refusal::InUse, Instruction::Mark { issue, .. }) => Some(in_use(book, issue)),
+        (Refusal::ChangeOver, _) if book.deals_in_turn() => {
+            Some(format!("full units are dealt in turn since day {}", book.turn))
+        }
+        (Refusal::ChangeOver, _) => Some(format!("today is day {}", book.day)),
         (Refusal::Room, _) => {
             let ies = if book.entries == 1 { "y" } else { "ies" };
             Some(format!("it has {} entr{ies} before the cutoff", book.entries))
@@ -85,9 +89,10 @@ fn phase_of(instruction: &Instruction) -> Option<&'static str> {
         Instruction::Trade { .. } | Instruction::Close => Some("Taking"),
         Instruction::Deliver { .. } | Instruction::Cutoff => Some("Settling"),
         Instruction::Roll { .. } => Some("Cut"),
-        Instruction::Resolve { .. } | Instruction::PairOff { .. } | Instruction::Mark { .. } => {
-            None
-        }
+        Instruction::Resolve { .. }
+        | Instruction::PairOff { .. }
+        | Instruction::Mark { .. }
+        | Instruction::Turn { .. } => None,
     }
 }
 

@@ -28,6 +28,13 @@ const DAYS: &str = "trade 0 4 1 230000\ntrade 0 5 2 250000\ntrade 0 5 3 150000\n
 const MARKED: &str = "mark 3 1\nmark 5 1\nmark 5 0\ntrade 3 4 1 7\ntrade 3 4 1 130000\nmark 3 1\n\
     close\ndeliver 3 4 110002\ncutoff\nroll 1 300 100000\nmark 3 0\nresolve 3 4 1\n";
 
+/// Two days, the second with full units dealt in turn: rounds of two receivers and of one, stock that
+/// waits, fails of units that lie apart.
+const CHANGED: &str = "turn 1\nclose\ncutoff\nroll 1 300 100000\ntrade 0 9 1 450000\n\
+    trade 0 9 2 230000\ntrade 1 9 5 100000\nclose\ndeliver 0 9 150000\ncutoff\nturn 7\n\
+    resolve 0 9 530000\nroll 1 300 100000\ntrade 0 9 1 450000\ntrade 0 9 2 230000\nclose\n\
+    deliver 0 9 680000\n";
+
 /// A day in its text form.
 fn day(text: &str) -> Day {
     Day::of("day.txt", text.as_bytes().to_vec(), Taken::Apart).expect("a text form")
@@ -114,11 +121,63 @@ fn named<'a>(objects: &'a [Object], name: &str) -> Vec<&'a Object> {
 }
 
 #[test]
-fn the_settled_days_are_told_as_stored() {
+fn the_settled_days_and_the_change_over_are_told_as_stored() {
     let folder = Path::new(env!("CARGO_MANIFEST_DIR")).join("../tapes");
-    let text = fs::read_to_string(folder.join("p5-to-p9.txt")).expect("the settled days");
-    let stored = fs::read_to_string(folder.join("p5-to-p9.told")).expect("what is told of them");
-    assert_eq!(explained(&day(&text)), stored);
+    for name in ["p5-to-p9", "change-over"] {
+        let read = |extension: &str| {
+            let file = folder.join(name).with_extension(extension);
+            fs::read_to_string(&file).unwrap_or_else(|error| panic!("{}: {error}", file.display()))
+        };
+        assert_eq!(explained(&day(&read("txt"))), read("told"));
+    }
+}
+
+#[test]
+fn full_units_dealt_in_turn_have_round_and_receiver() {
+    let text = told(Form::Text, Only::default(), CHANGED);
+    for line in [
+        "word 0, line 1: turn: full units dealt in turn from day 1 on\n",
+        "\nDay 1, the new order: full units are dealt in turn since day 1\n",
+        "issue 0: units 0 to 3 are rounds 1 to 2: in each one full unit each to accounts 1 and 2, in this order\n",
+        "issue 0: units 4 to 5 are rounds 3 to 4: in each one full unit to account 1\n",
+        "issue 1: unit 0 is round 1: one full unit to account 5\n",
+        "issue 0: unit 5 of account 1 is full, unit 6 of account 1 is small: the full one is first",
+        "unit 0 is handed to account 1: 100,000 lots (5,000,000,000 yen face), round 1, receiver 1 of 2\n",
+        "50,000 lots wait for unit 1 of account 2, 100,000 lots, round 1, receiver 2 of 2\n",
+        "issue 0: account 9 fails account 2: 150,000 lots (7,500,000,000 yen face), of units 1 and 3\n",
+        "issue 0: account 9 fails account 1: 300,000 lots (15,000,000,000 yen face), of 3 units from 2 to 5 that lie apart\n",
+        "turn: full units dealt in turn from day 7 on: refused by 26: the day is not after today, or the new \
+         order is in force; full units are dealt in turn since day 1\n",
+        "units 4 to 5 are handed to account 1: 100,000 lots (5,000,000,000 yen face) each, rounds 3 to 4, \
+         receiver 1 of 1\n",
+        "unit 7 is handed to account 2: 30,000 lots (1,500,000,000 yen face)\n",
+        "charges\n      full units are dealt in turn from day 1 on\n",
+    ] {
+        assert!(text.contains(line), "{line}\n{text}");
+    }
+    let json = told(Form::Json, Only::default(), CHANGED);
+    for part in [
+        "{\"fact\":\"day\",\"day\":0,\"order\":\"old\",\"turn\":0}\n",
+        "{\"fact\":\"day\",\"day\":1,\"order\":\"new\",\"turn\":1}\n",
+        "\"call\":\"turn\",\"turn\":1,\"refusal\":0}\n",
+        "\"first\":0,\"last\":3,\"round\":1,\"until\":2,\"accounts\":[1,2]}\n",
+        "\"first\":4,\"last\":5,\"account\":1,\"lots\":100000,\"round\":3,\"until\":4,\"receiver\":1,\"of\":1}\n",
+        "\"lots\":300000,\"first\":2,\"last\":5,\"units\":3}\n",
+    ] {
+        assert!(json.contains(part), "{part}\n{json}");
+    }
+    let page = told(Form::Html, Only::default(), CHANGED);
+    for part in [
+        "due in 8 units, full units dealt in turn (the new order)</p>",
+        "title=\"unit 3 of account 2, 100,000 lots, round 2, receiver 2 of 2: 0 lots handed, 100,000 lots failed, 0 lots open\"",
+        "title=\"unit 1 of account 2, 100,000 lots, round 1, receiver 2 of 2: 50,000 lots handed, 50,000 lots failed, 0 lots open\"",
+        "<p>Full units are dealt in turn from day 1 on.</p>",
+    ] {
+        assert!(page.contains(part), "{part}\n{page}");
+    }
+    let to_come = told(Form::Text, Only::default(), "turn 2\nclose\ncutoff\nroll 1 300 1\n");
+    let line = "\nDay 1, the old order: full units are dealt in turn from day 2 on\n";
+    assert!(to_come.contains(line), "{to_come}");
 }
 
 #[test]
@@ -234,14 +293,14 @@ fn every_fact_of_json_is_in_the_documents() {
     let path = Path::new(env!("CARGO_MANIFEST_DIR")).join("../docs/TAPE.md");
     let documents = fs::read_to_string(path).expect("docs/TAPE.md");
     let mut seen = objects(Only::default());
-    for day in ["close\ncutoff\n", MARKED] {
+    for day in ["close\ncutoff\n", MARKED, CHANGED] {
         let told = told(Form::Json, Only::default(), day);
         seen.extend(told.lines().map(|line| parse(line).expect("an object")));
     }
     let mut names: Vec<&Value> = seen.iter().map(|object| &object["fact"]).collect();
     names.sort_by_key(|name| format!("{name:?}"));
     names.dedup();
-    assert_eq!(names.len(), 20, "{names:?}");
+    assert_eq!(names.len(), 22, "{names:?}");
     for object in &seen {
         let Value::Text(name) = &object["fact"] else { panic!("{object:?}") };
         let row = documents.lines().find(|line| line.starts_with(&format!("| `{name}` |")));
@@ -309,7 +368,8 @@ fn a_narrowed_telling_keeps_the_instruction_that_an_effect_belongs_to() {
 
 #[test]
 fn every_fact_names_its_instruction() {
-    let of_book = ["day", "end", "marked", "entry", "charged"].map(|name| name.to_string());
+    let of_book =
+        ["day", "end", "change-over", "marked", "entry", "charged"].map(|name| name.to_string());
     let parsed = |text: String| -> Vec<Object> {
         text.lines().map(|line| parse(line).expect("an object")).collect()
     };

@@ -78,7 +78,8 @@ pub fn two_of(rng: &mut Rng, accounts: &[u32]) -> (u32, u32) {
 /// A random sound book of a shape, in any phase.
 pub fn random_book(rng: &mut Rng, shape: &Shape) -> Book {
     let phase = *rng.pick(&[Phase::Taking, Phase::Settling, Phase::Cut]);
-    let mut book = Book { day: shape.day, phase, ..Book::fresh() };
+    let turn = random_turn(rng, shape.day);
+    let mut book = Book { day: shape.day, phase, turn, ..Book::fresh() };
     for &issue in &shape.marked {
         book.marks[issue as usize] = *rng.pick(&[1, 1, 1, 2, 128, 255]);
     }
@@ -98,6 +99,19 @@ pub fn random_book(rng: &mut Rng, shape: &Shape) -> Book {
     book.set_ledger(&entries);
     assert!(book.sound(), "a random book is not sound");
     book
+}
+
+/// A change-over day: none, one that has come, one that comes soon, or any number.
+pub fn random_turn(rng: &mut Rng, today: u16) -> u32 {
+    let today = u32::from(today);
+    match rng.range(0, 9) {
+        0..=2 => 0,
+        3..=4 => today,
+        5 => rng.range(0, today),
+        6..=7 => today + 1,
+        8 => today + 2,
+        _ => rng.next_u32() >> rng.range(0, 31),
+    }
 }
 
 /// Lots that the issue takes: in a marked one the next even number.
@@ -222,6 +236,8 @@ mod tests {
             books.iter().filter(|b| of(b)).count() > 20
         };
         assert!(some(true, &has) && some(false, &has) && some(false, &odd) && !some(true, &odd));
+        let dealt = books.iter().filter(|book| book.deals_in_turn()).count();
+        assert!((40..160).contains(&dealt), "{dealt}");
         let lifts = |number| books.iter().any(|b| b.lifts.iter().any(|l| l.number == number));
         assert!((0..=8).filter(|&number| lifts(number)).count() > 5);
     }

@@ -21,6 +21,7 @@ pub fn library_book(book: &book::Book) -> library::Book {
         phase: phase_of(book.phase),
         entries: book.count,
         marks: book.marks,
+        turn: book.turn,
         nets: book.nets,
         delivered: book.delivered,
         lifts: lift_words(&book.lifts),
@@ -74,6 +75,7 @@ pub fn reference_book(book: &library::Book) -> Option<book::Book> {
             _ => return None,
         },
         marks: book.marks,
+        turn: book.turn,
         nets: book.nets,
         delivered: book.delivered,
         lifts: lifts_of_words(&book.lifts),
@@ -93,6 +95,7 @@ pub fn same_numbers(one: &book::Book, other: &library::Book) -> bool {
         && phase_of(one.phase) == other.phase
         && one.count == other.entries
         && one.marks == other.marks
+        && one.turn == other.turn
         && one.nets == other.nets
         && one.delivered == other.delivered
         && lift_words(&one.lifts) == other.lifts
@@ -121,6 +124,7 @@ pub fn library_instruction(instruction: &Instruction) -> library::Instruction {
         Instruction::Cutoff => library::Instruction::Cutoff,
         Instruction::Roll { days, rate } => library::Instruction::Roll { days, rate },
         Instruction::Mark { issue, mark } => library::Instruction::Mark { issue, mark },
+        Instruction::Turn { day } => library::Instruction::Turn { day },
     }
 }
 
@@ -141,6 +145,7 @@ pub fn reference_instruction(instruction: &library::Instruction) -> Instruction 
         library::Instruction::Cutoff => Instruction::Cutoff,
         library::Instruction::Roll { days, rate } => Instruction::Roll { days, rate },
         library::Instruction::Mark { issue, mark } => Instruction::Mark { issue, mark },
+        library::Instruction::Turn { day } => Instruction::Turn { day },
     }
 }
 
@@ -182,12 +187,14 @@ mod tests {
     #[test]
     fn a_difference_in_any_field_is_seen() {
         let fresh = book::Book::fresh();
-        let changes: [fn(&mut library::Book); 16] = [
+        let changes: [fn(&mut library::Book); 18] = [
             |book| book.day = 1,
             |book| book.phase = library::Phase(3),
             |book| book.entries = 1,
             |book| book.marks[0] = 1,
             |book| book.marks[15] = 255,
+            |book| book.turn = 1,
+            |book| book.turn = 1 << 31,
             |book| book.nets[1_023] = 1,
             |book| book.delivered[1_023] = 1,
             |book| book.lifts[0] = 1,

@@ -21,6 +21,11 @@ impl Trial {
         Trial { book: Book::fresh(), plan }
     }
 
+    /// On this day, the first on which full units of a book are dealt in turn.
+    pub fn turn(&mut self, day: u16) {
+        (self.book.day, self.book.turn) = (day, day.into());
+    }
+
     /// What a settlement account holds of an issue.
     pub fn hold(&mut self, issue: usize, settlement: usize, lots: u32) {
         self.plan.inventories[issue * SETTLEMENT_ACCOUNTS + settlement] = lots;
@@ -58,6 +63,7 @@ impl Trial {
             let mut next = |what| number::<i64>(what, words.next());
             match word.as_str() {
                 "size" => trial.plan.size = next("size")? as u32,
+                "turn" => trial.turn(next("a day")? as u16),
                 "settle" => {
                     let account = next("an account")? as usize;
                     let settlement = next("a settlement account")? as u32;
@@ -82,10 +88,13 @@ impl Trial {
 }
 
 impl fmt::Display for Trial {
-    /// The words that `--replay` takes: the size, and what is not 0 of settlement accounts,
-    /// inventories and nets, each with its place.
+    /// The words that `--replay` takes: the size, the day where full units are dealt in turn, and what
+    /// is not 0 of settlement accounts, inventories and nets, each with its place.
     fn fmt(&self, text: &mut fmt::Formatter) -> fmt::Result {
         write!(text, "size {}", self.plan.size)?;
+        if self.book.turn != 0 {
+            write!(text, " turn {}", self.book.turn)?;
+        }
         let mut put = |name: &str, at: usize, number: i64| match number {
             0 => Ok(()),
             _ => write!(text, " {name} {at} {number}"),

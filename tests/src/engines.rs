@@ -136,8 +136,9 @@ pub fn book_difference(one: &library::Book, other: &library::Book) -> [String; 2
     let both = |tell: &dyn Fn(&library::Book) -> String| [tell(one), tell(other)];
     let differs = |texts: &[String; 2]| texts[0] != texts[1];
     let header = both(&|book| {
-        let (entries, marks) = (book.entries, book.marks);
-        format!("day {}, {:?}, {entries} entries, marks {marks:?}", book.day, book.phase)
+        let (entries, turn, marks) = (book.entries, book.turn, book.marks);
+        let days = format!("day {}, {:?}, change-over day {turn}", book.day, book.phase);
+        format!("{days}, {entries} entries, marks {marks:?}")
     });
     if differs(&header) {
         return header;
@@ -197,6 +198,7 @@ pub fn by_reference(book: &mut Book, call: &Call, out: &mut [u32]) -> Answer {
         }
         Call::Roll { days, rate, ref quotes } => counted(calls::roll(book, days, rate, quotes)),
         Call::Mark { issue, mark } => counted(calls::mark(book, issue, mark)),
+        Call::Turn { day } => counted(calls::turn(book, day)),
     }
 }
 
@@ -230,6 +232,7 @@ pub fn by_reference_on_sound(book: &mut Book, call: &Call, out: &mut [u32]) -> A
             counted(calls::roll_on_sound(book, days, rate, quotes))
         }
         Call::Mark { issue, mark } => counted(calls::mark_on_sound(book, issue, mark)),
+        Call::Turn { day } => counted(calls::turn_on_sound(book, day)),
     }
 }
 
@@ -265,6 +268,7 @@ pub fn by_library(book: &mut library::Book, call: &Call, out: &mut [u32]) -> Ans
         Call::PairOff { issue, account } => library::calls::pair_off(book, issue, account),
         Call::Roll { days, rate, ref quotes } => library::calls::roll(book, days, rate, quotes),
         Call::Mark { issue, mark } => library::calls::mark(book, issue, mark),
+        Call::Turn { day } => library::calls::turn(book, day),
     };
     plain(answer.refusal, &[answer.count as u64, answer.cancelled])
 }

@@ -22,7 +22,8 @@ pub fn random_call(rng: &mut Rng, shape: &Shape, book: &Book) -> Call {
         (_, 13..=17) => {
             Call::PairOff { issue: *rng.pick(&shape.issues), account: *rng.pick(&shape.accounts) }
         }
-        (_, 18..=21) => random_mark(rng, shape, book),
+        (_, 18..=20) => random_mark(rng, shape, book),
+        (_, 21) => random_turn(rng, book),
         (Phase::Taking, 22..=91) => random_trade(rng, shape, book),
         (Phase::Taking, _) => Call::Close,
         (Phase::Settling, 22..=87) if !rng.chance(1, 6) || !deliverers(shape, book).is_empty() => {
@@ -153,6 +154,21 @@ fn random_mark(rng: &mut Rng, shape: &Shape, book: &Book) -> Call {
     Call::Mark { issue, mark }
 }
 
+/// A change-over day near today, so that it comes; now and then one that does not, or is refused.
+fn random_turn(rng: &mut Rng, book: &Book) -> Call {
+    let today = u32::from(book.day);
+    let day = match rng.range(0, 11) {
+        0..=4 => today + 1,
+        5..=6 => today + 2,
+        7 => today + 3,
+        8 => today,
+        9 => today.saturating_sub(1),
+        10 => rng.next_u32() >> rng.range(0, 31),
+        _ => *rng.pick(&[0, 65_535, 65_536, u32::MAX]),
+    };
+    Call::Turn { day }
+}
+
 /// The unit question, mostly of a unit that there is.
 fn random_unit(rng: &mut Rng, shape: &Shape, book: &Book) -> Call {
     let issue = *rng.pick(&shape.issues);
@@ -260,6 +276,7 @@ fn out_of_range(rng: &mut Rng, call: Call) -> Call {
         (Call::PairOff { account, .. }, 0) => Call::PairOff { issue: place, account },
         (Call::PairOff { issue, .. }, _) => Call::PairOff { issue, account: place },
         (Call::Mark { mark, .. }, _) => Call::Mark { issue: place, mark },
+        (Call::Turn { .. }, _) => Call::Turn { day: *rng.pick(&[0, 65_536, 1 << 31, u32::MAX]) },
         (Call::Roll { days, rate, quotes }, _) => wrong_roll(rng, days, rate, quotes),
         (call, _) => call,
     }

@@ -73,6 +73,7 @@ pub fn words_of(call: &Call) -> Option<Vec<u32>> {
         }
         Call::PairOff { issue, account } => (Instruction::PairOff { issue, account }, none),
         Call::Mark { issue, mark } => (Instruction::Mark { issue, mark }, none),
+        Call::Turn { day } => (Instruction::Turn { day }, none),
         Call::Roll { days, rate, ref quotes } => {
             (Instruction::Roll { days, rate }, quotes.as_slice())
         }
@@ -124,6 +125,8 @@ mod tests {
             "roll 0 0",
             "mark 0 0",
             "mark 20 0",
+            "turn 0 0",
+            "turn 26 0",
             "trade 19 0",
             "deliver 19 0",
             "resolve 19 0",

@@ -2,15 +2,15 @@
 
 use crate::engines::Answer;
 use crate::steps::Call;
-use reference::book::{place, Book, Entry, ENTRIES, ISSUES};
+use reference::book::{place, Book, Entry, ACCOUNTS, ENTRIES, ISSUES};
 use reference::calls::{ask_on_sound, Ticket};
 use reference::measures::{MOST_ACCRUED, MOST_DAYS, MOST_LOTS, MOST_PRICE, MOST_RATE, UNIT_LOTS};
-use reference::units::{handed, units, units_of, Unit};
+use reference::units::{handed, order_of, units_of, Unit};
 use std::cmp::Reverse;
 use std::collections::BTreeMap;
 
 /// The numbers that each call can answer, by the paper; 0 is done.
-pub const NUMBERS: [(&str, &[u32]); 12] = [
+pub const NUMBERS: [(&str, &[u32]); 13] = [
     ("unit", &[0, 2, 4]),
     ("status", &[0, 2, 3, 4, 16]),
     ("trade", &[0, 2, 3, 4, 5, 6, 7, 19, 8]),
@@ -23,10 +23,11 @@ pub const NUMBERS: [(&str, &[u32]); 12] = [
     ("pair-off", &[0, 2, 4, 5]),
     ("roll", &[0, 2, 3, 11, 12]),
     ("mark", &[0, 2, 4, 20]),
+    ("turn", &[0, 2, 26]),
 ];
 
 /// The situations that a run of random lists must meet.
-const SITUATIONS: [&str; 115] = [
+const SITUATIONS: [&str; 141] = [
     "trade: a net reaches 20,000,000",
     "trade: a net reaches -20,000,000",
     "trade: refused for from's net alone",
@@ -142,6 +143,32 @@ const SITUATIONS: [&str; 115] = [
     "resolve: part of an entry of a marked issue",
     "resolve: odd lots in a marked issue, more than is owed",
     "pair-off: steps in a marked issue",
+    "turn: accepted, no day named before",
+    "turn: replaced by an earlier day",
+    "turn: replaced by a later day",
+    "turn: the same day once more",
+    "turn: tomorrow",
+    "turn: a day that never comes",
+    "turn: in Taking",
+    "turn: in Settling",
+    "turn: in Cut",
+    "turn: refused for a day not after today alone",
+    "turn: refused for the order in force alone",
+    "turn: refused for both",
+    "turn: with lifts standing",
+    "roll: brings the change-over day",
+    "roll: brings the change-over day, with fails, charges and marks",
+    "roll: the change-over day is still to come",
+    "unit: full, in a later round",
+    "unit: small, behind units dealt in turn",
+    "status: of dealt units that lie apart, waiting",
+    "status: of dealt units that lie apart, failed",
+    "deliver: hands over units of two rounds",
+    "deliver: of a lifted order dealt in turn",
+    "ask: of dealt units that lie apart",
+    "commit: a dealt unit past units of its own round",
+    "cutoff: dealt units of one account lie apart",
+    "cutoff: dealt units lie apart in a lifted order",
 ];
 
 /// How often each number and situation was met.
@@ -177,7 +204,11 @@ impl Coverage {
             Call::Ask { issue, unit } => self.ask(made, issue, unit),
             Call::Commit { ref ticket, .. } => self.commit(made, ticket),
             Call::Mark { issue, mark } => self.mark(made, issue, mark),
+            Call::Turn { day } => self.turn(made, day),
             Call::Close | Call::Sound => {}
+        }
+        if made.before.deals_in_turn() && made.answer.number == 0 {
+            self.dealt_in_turn(made);
         }
         match made.answer.number {
             0 => self.marked_issues(made),
@@ -303,7 +334,8 @@ impl Coverage {
         self.meet("deliver: hands over among equal full units", among(equal_full));
         self.meet("deliver: hands over among equal small units", among(equal_small));
         let lifted = "deliver: hands over a lifted unit before one that stood before it";
-        self.meet(lifted, now.windows(2).any(|two| ranks_before(&two[1], &two[0])));
+        let passed = now.windows(2).any(|two| ranks_before(&two[1], &two[0]));
+        self.meet(lifted, passed && !made.after.deals_in_turn());
         let eight = made.after.lifts[issue].number == 8;
         self.meet("deliver: with eight lifts standing", eight);
     }
@@ -353,6 +385,7 @@ impl Coverage {
         self.meet("commit: a full unit past one of another account", unit.full && other);
         self.meet("commit: a small unit past a full one", !unit.full && other);
         let again = passed.iter().any(|one| ranks_before(&unit, one));
+        let again = again && !made.before.deals_in_turn();
         self.meet("commit: a unit that was passed by a lifted one before", again);
         let lifts = made.after.lifts[issue].standing();
         self.meet("commit: the first lift", lifts.len() == 1);
@@ -442,25 +475,21 @@ impl Coverage {
 
     /// The situations of full units that lie apart at cutoff.
     fn units_apart(&mut self, book: &Book, issue: usize) {
-        if book.lifts[issue].number == 0 {
+        let (dealt, lifted) = (book.deals_in_turn(), is_lifted(book, issue as u32));
+        if !dealt && !lifted {
             return;
         }
         let units = units_of(book, issue);
         let (count, stock) = handed(&units, book.delivered_total(issue));
         let lacking = &units[count..];
-        let full = |account: u32| {
-            let units = lacking
-                .iter()
-                .enumerate()
-                .filter(move |(_, one)| one.full && one.account == account);
-            units.map(|(at, _)| at).collect::<Vec<_>>()
-        };
-        let apart = |account: u32| full(account).windows(2).any(|two| two[0] + 1 < two[1]);
-        self.meet(
-            "cutoff: full units of one account lie apart",
-            lacking.iter().any(|one| apart(one.account)),
-        );
-        let first = lacking.first().is_some_and(|one| one.full && stock > 0 && apart(one.account));
+        let apart = lie_apart(lacking);
+        self.meet("cutoff: full units of one account lie apart", !dealt && apart);
+        self.meet("cutoff: dealt units of one account lie apart", dealt && apart);
+        self.meet("cutoff: dealt units lie apart in a lifted order", dealt && lifted && apart);
+        let first = lacking.first().is_some_and(|one| {
+            let own: Vec<usize> = full_places(lacking, one.account).collect();
+            one.full && stock > 0 && own.windows(2).any(|two| two[0] + 1 < two[1])
+        });
         self.meet(
             "cutoff: stock goes to a full unit, and full ones of its account lie apart",
             first,
@@ -532,6 +561,7 @@ impl Coverage {
         let lifted = made.before.lifts.iter().any(|lifts| lifts.number > 0 && lifts.count > 0);
         self.meet("roll: lifts and counts are cleared", lifted);
         self.meet("roll: marks stay", made.after.marks.iter().any(|&mark| mark != 0));
+        self.change_over(made);
     }
 
     /// The situations of a mark.
@@ -553,6 +583,88 @@ impl Coverage {
             let others = before.count > 0 && before.nets.iter().any(|&net| net != 0);
             self.meet("mark: beside nets and entries of other issues", others);
             self.meet("mark: a number above 1 is stored as 1", mark > 1);
+        }
+    }
+
+    /// The situations of a `turn`.
+    fn turn(&mut self, made: &Made, day: u32) {
+        let (before, today) = (made.before, u32::from(made.before.day));
+        let (named, in_force) = (before.turn, before.deals_in_turn());
+        if made.answer.number == 26 {
+            let passed = day <= today;
+            self.meet("turn: refused for a day not after today alone", passed && !in_force);
+            self.meet("turn: refused for the order in force alone", in_force && !passed);
+            self.meet("turn: refused for both", in_force && passed);
+        }
+        if made.answer.number == 0 {
+            self.meet("turn: accepted, no day named before", named == 0);
+            self.meet("turn: replaced by an earlier day", day < named);
+            self.meet("turn: replaced by a later day", named != 0 && named < day);
+            self.meet("turn: the same day once more", day == named);
+            self.meet("turn: tomorrow", day == today + 1);
+            self.meet("turn: a day that never comes", day > u32::from(u16::MAX));
+            self.meet(&format!("turn: in {:?}", before.phase), true);
+            let lifted = before.lifts.iter().any(|lifts| lifts.number > 0);
+            self.meet("turn: with lifts standing", lifted);
+        }
+    }
+
+    /// The situations of a roll before the change-over day and of the one that brings it.
+    fn change_over(&mut self, made: &Made) {
+        let (before, after) = (made.before, made.after);
+        let brings = after.deals_in_turn() && !before.deals_in_turn();
+        self.meet("roll: brings the change-over day", brings);
+        let charged = before.charges.iter().any(|&yen| yen != 0);
+        let kept = before.count > 0 && charged && before.marks.iter().any(|&mark| mark != 0);
+        let all = "roll: brings the change-over day, with fails, charges and marks";
+        self.meet(all, brings && kept);
+        let to_come = after.turn != 0 && !after.deals_in_turn();
+        self.meet("roll: the change-over day is still to come", to_come);
+    }
+
+    /// The situations of calls that are done, in an order dealt in turn.
+    fn dealt_in_turn(&mut self, made: &Made) {
+        let units = |issue: u32| units_of(made.before, issue as usize);
+        match *made.call {
+            Call::Unit { issue, k } => {
+                let units = units(issue);
+                let Some(unit) = units.get(k as usize) else { return };
+                let later =
+                    unit.full && full_places(&units[..k as usize], unit.account).count() > 0;
+                self.meet("unit: full, in a later round", later);
+                let behind = !unit.full && units[0].full;
+                self.meet("unit: small, behind units dealt in turn", behind);
+            }
+            Call::Status { issue, .. } => {
+                let (apart, case) = (lie_apart(&units(issue)), made.answer.others[0]);
+                self.meet("status: of dealt units that lie apart, waiting", apart && case == 2);
+                self.meet("status: of dealt units that lie apart, failed", apart && case > 2);
+            }
+            Call::Deliver { issue, .. } => {
+                let order = units(issue);
+                let total = |book: &Book| book.delivered_total(issue as usize);
+                let (first, count) =
+                    (handed(&order, total(made.before)).0, handed(&order, total(made.after)).0);
+                let two = order[first..count].iter().any(|unit| {
+                    unit.full && full_places(&order[first..count], unit.account).count() > 1
+                });
+                self.meet("deliver: hands over units of two rounds", two);
+                let lifted = is_lifted(made.before, issue) && count > first;
+                self.meet("deliver: of a lifted order dealt in turn", lifted);
+            }
+            Call::Ask { issue, .. } => {
+                self.meet("ask: of dealt units that lie apart", lie_apart(&units(issue)));
+            }
+            Call::Commit { ref ticket, .. } => {
+                let Some((order, count)) = units_and_handed(made.before, ticket.issue) else {
+                    return;
+                };
+                let (unit, passed) =
+                    (order[ticket.unit as usize], &order[count..ticket.unit as usize]);
+                let same = passed.last().is_some_and(|one| one.full && one.account != unit.account);
+                self.meet("commit: a dealt unit past units of its own round", unit.full && same);
+            }
+            _ => {}
         }
     }
 
@@ -634,7 +746,26 @@ fn units_and_handed(book: &Book, issue: u32) -> Option<(Vec<Unit>, usize)> {
 
 /// Is the issue's order another one by its lifts?
 fn is_lifted(book: &Book, issue: u32) -> bool {
-    units_of(book, issue as usize) != units(book.nets_of(issue as usize))
+    units_of(book, issue as usize) != order_of(book, issue as usize)
+}
+
+/// The places of an account's full units in an order.
+fn full_places(units: &[Unit], account: u32) -> impl Iterator<Item = usize> + '_ {
+    let own = move |one: &Unit| one.full && one.account == account;
+    units.iter().enumerate().filter(move |(_, one)| own(one)).map(|(at, _)| at)
+}
+
+/// Have the full units of some account one of another account between them?
+fn lie_apart(units: &[Unit]) -> bool {
+    let full = units.iter().enumerate().filter(|(_, one)| one.full);
+    let mut last = [None; ACCOUNTS];
+    for (at, unit) in full {
+        let before = last[unit.account as usize].replace(at);
+        if before.is_some_and(|before| before + 1 < at) {
+            return true;
+        }
+    }
+    false
 }
 
 /// Stands the one unit before the other where nothing is lifted?

@@ -43,6 +43,8 @@ pub enum Edit {
         issue: usize,
         mark: u8,
     },
+    /// The change-over day: 0 is none.
+    Turn(u32),
     Charge {
         account: usize,
         yen: i64,
@@ -72,6 +74,7 @@ pub enum Call {
     PairOff { issue: u32, account: u32 },
     Roll { days: u32, rate: u32, quotes: Vec<u32> },
     Mark { issue: u32, mark: u32 },
+    Turn { day: u32 },
 }
 
 impl Edit {
@@ -86,6 +89,7 @@ impl Edit {
             }
             Edit::Lifts { issue, word, number } => *lift_word(book, issue, word) = number,
             Edit::Mark { issue, mark } => book.marks[issue] = mark,
+            Edit::Turn(day) => book.turn = day,
             Edit::Charge { account, yen } => book.charges[account] = yen,
             Edit::Count(count) => book.count = count,
             Edit::Entries { first, end, entry } => {
@@ -132,6 +136,7 @@ pub fn steps_to(book: &Book) -> Vec<Step> {
     let mut edits = vec![Edit::Day(book.day), Edit::Phase(book.phase), Edit::Count(book.count)];
     let marked = (0..ISSUES).filter(|&issue| book.is_marked(issue));
     edits.extend(marked.map(|issue| Edit::Mark { issue, mark: book.marks[issue] }));
+    edits.extend((book.turn != 0).then_some(Edit::Turn(book.turn)));
     for (issue, account) in (0..ISSUES).flat_map(|i| (0..ACCOUNTS).map(move |a| (i, a))) {
         let at = place(issue, account);
         if book.nets[at] != 0 {
@@ -182,6 +187,7 @@ impl Call {
             Call::PairOff { .. } => "pair-off",
             Call::Roll { .. } => "roll",
             Call::Mark { .. } => "mark",
+            Call::Turn { .. } => "turn",
         }
     }
 }
@@ -206,6 +212,7 @@ impl fmt::Display for Edit {
             }
             Edit::Lifts { issue, word, number } => write!(text, "lifts {issue} {word} {number}"),
             Edit::Mark { issue, mark } => write!(text, "mark {issue} {mark}"),
+            Edit::Turn(day) => write!(text, "turn {day}"),
             Edit::Charge { account, yen } => write!(text, "charge {account} {yen}"),
             Edit::Count(count) => write!(text, "count {count}"),
             Edit::Entries { first, end, entry } => {
@@ -234,6 +241,7 @@ impl fmt::Display for Call {
             Call::Cutoff { out } => write!(text, " out {out}"),
             Call::PairOff { issue, account } => write!(text, " {issue} {account}"),
             Call::Mark { issue, mark } => write!(text, " {issue} {mark}"),
+            Call::Turn { day } => write!(text, " {day}"),
             Call::Roll { days, rate, quotes } => {
                 write!(text, " {days} {rate}")?;
                 quotes.iter().try_for_each(|quote| write!(text, " {quote}"))
@@ -286,6 +294,7 @@ fn edit_of(words: &mut Words) -> Result<Edit, String> {
             number: words.number()?,
         },
         "mark" => Edit::Mark { issue: words.below(ISSUES)?, mark: words.number()? },
+        "turn" => Edit::Turn(words.number()?),
         "charge" => Edit::Charge { account: words.below(ACCOUNTS)?, yen: words.number()? },
         "count" => Edit::Count(words.number()?),
         "entries" => Edit::Entries {
@@ -329,6 +338,7 @@ fn call_of(name: &str, words: &mut Words) -> Result<Call, String> {
         }
         "pair-off" => Call::PairOff { issue: words.number()?, account: words.number()? },
         "mark" => Call::Mark { issue: words.number()?, mark: words.number()? },
+        "turn" => Call::Turn { day: words.number()? },
         "roll" => {
             Call::Roll { days: words.number()?, rate: words.number()?, quotes: words.rest()? }
         }
@@ -416,10 +426,10 @@ mod tests {
     #[test]
     fn every_step_is_read_back() {
         let text = "set day 65535; set phase cut; set net 15 63 -20000001; \
-            set delivered 0 1 4294967295; set lifts 15 17 4294967295; set mark 15 255; set charge 63 -9223372036854775808; \
+            set delivered 0 1 4294967295; set lifts 15 17 4294967295; set mark 15 255; set turn 4294967295; set charge 63 -9223372036854775808; \
             set count 18446744073709551615; set entries 0 2048 255 255 255 4294967295 65535; \
             sound; unit 16 4294967295; status 15 3; trade 0 1 2 3; close; deliver 0 5 345000 out 4096; \
-            ask 0 7; commit 0 7 1 30000 0 2 out 4096; cutoff out 0; resolve 1 2 3 out 4095; pair-off 0 2; mark 16 4294967295; roll 1 300 1 2 3; roll 1 2";
+            ask 0 7; commit 0 7 1 30000 0 2 out 4096; cutoff out 0; resolve 1 2 3 out 4095; pair-off 0 2; mark 16 4294967295; turn 4294967295; roll 1 300 1 2 3; roll 1 2";
         assert_eq!(text_of(&parse(text).unwrap()), text);
     }
 
@@ -434,6 +444,9 @@ mod tests {
             "commit 0 7",
             "set mark 0 256",
             "mark 3",
+            "turn",
+            "turn 4294967296",
+            "set turn -1",
         ] {
             assert!(parse(text).unwrap_err().contains(text), "{text}");
         }
@@ -441,7 +454,7 @@ mod tests {
 
     #[test]
     fn a_book_is_made_by_its_steps() {
-        let steps = "set day 7; set phase settling; set count 3; set mark 0 1; set mark 15 128; set net 0 1 -5; \
+        let steps = "set day 7; set phase settling; set count 3; set mark 0 1; set mark 15 128; set turn 7; set net 0 1 -5; \
             set delivered 0 1 3; set net 0 2 5; set lifts 0 0 1; set lifts 0 1 2; \
             set lifts 15 16 3; set lifts 15 17 4; set charge 0 -4; set charge 1 4; set entries 0 2 0 1 2 3 4; \
             set entries 2 3 0 1 2 3 7";

@@ -1,6 +1,6 @@
 -- What a sound book gives of its nets, delivered lots and lifts.
 use mathlib.Core.Path.{_≡_}
-use mathlib.Core.Bool.{true}
+use mathlib.Core.Bool.{true, false}
 use mathlib.Core.List.{List}
 use Prim.Native.Nat.{ℕ, _≤_, _<_}
 use lib.ListN.{length}
@@ -29,6 +29,6 @@ pub record SoundCells (nets : List ℤ) (delivered lifts : List ℕ) : Type 0 wh
   pub owed : withinOwed nets delivered ≡ true
   -- each issue has at most eight lifts, at places of its units
   pub few : (i : ℕ) → i < 16 → liftNumber lifts i ≤ 8
-  pub places : (i : ℕ) → i < 16 → Every (Among (length (orderIn nets lifts i))) (liftsAt lifts i)
+  pub places : (i : ℕ) → i < 16 → Every (Among (length (orderIn false nets lifts i))) (liftsAt lifts i)
   -- one more delivery or lift can be counted
   pub counted : (i : ℕ) → i < 16 → countAt lifts i < 4294967295

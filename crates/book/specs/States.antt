@@ -16,25 +16,28 @@ use Rattle.book.specs.declared.State.{State}
 
 -- Setters: nobody else writes a state out field by field
 
-abbrev pub stateOf : ℕ → Phase → ℕ → List ℕ → State
-stateOf day phase n marks = record { day = day; phase = phase; entries = n; marks = marks }
+abbrev pub stateOf : ℕ → Phase → ℕ → ℕ → List ℕ → State
+stateOf day phase n turn marks = record { day = day; phase = phase; entries = n; turn = turn; marks = marks }
 
 abbrev pub withPhase : State → Phase → State
-withPhase s p = stateOf (s .day) p (s .entries) (s .marks)
+withPhase s p = stateOf (s .day) p (s .entries) (s .turn) (s .marks)
 
 abbrev pub withEntries : State → ℕ → State
-withEntries s n = stateOf (s .day) (s .phase) n (s .marks)
+withEntries s n = stateOf (s .day) (s .phase) n (s .turn) (s .marks)
 
 abbrev pub withMarks : State → List ℕ → State
-withMarks s ms = stateOf (s .day) (s .phase) (s .entries) ms
+withMarks s ms = stateOf (s .day) (s .phase) (s .entries) (s .turn) ms
+
+abbrev pub withTurn : State → ℕ → State
+withTurn s t = stateOf (s .day) (s .phase) (s .entries) t (s .marks)
 
 abbrev pub nextDay : State → State
-nextDay s = stateOf (s .day + 1) Taking (s .entries) (s .marks)
+nextDay s = stateOf (s .day + 1) Taking (s .entries) (s .turn) (s .marks)
 
 -- the book of a state and all columns
 abbrev pub bookIn : State → List ℤ → List ℕ → List ℕ → List ℤ → List ℕ → List ℕ → List ℕ → List ℕ → List ℕ → Book
 bookIn s nets delivered lifts charges issues froms tos lots days =
-    bookOf (s .day) (s .phase) (s .marks) nets delivered lifts charges (s .entries) issues froms tos lots days
+    bookOf (s .day) (s .phase) (s .turn) (s .marks) nets delivered lifts charges (s .entries) issues froms tos lots days
 
 -- columns of a book's lengths that are a sound book
 pub record SoundColumns (s : State) (nets : List ℤ) (delivered lifts : List ℕ) (charges : List ℤ) (issues froms tos lots days : List ℕ) : Type 0 where

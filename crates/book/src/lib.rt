@@ -9,9 +9,9 @@ ghost use Prim.Native.Nat.{_<_};
 ghost use lib.ListN.{length};
 ghost use Rattle.rules.specs.Measures.{mostLots, lastDay, sum, dueOf, owedOf};
 ghost use Rattle.rules.specs.Fails.{undelivered};
-ghost use Rattle.rules.specs.Book.{isTaking, isSettling, isCut, withinSize, lotsEven, fresh as freshOf};
+ghost use Rattle.rules.specs.Book.{inForce, isTaking, isSettling, isCut, withinSize, lotsEven, fresh as freshOf};
 ghost use Rattle.book.specs.Nets.{Small, Lowered, Raised};
-ghost use Rattle.book.specs.States.{stateOf, bookIn, withPhase, withEntries, withMarks, nextDay};
+ghost use Rattle.book.specs.States.{stateOf, bookIn, withPhase, withEntries, withMarks, withTurn, nextDay};
 ghost use Rattle.book.specs.Rows.{Owing};
 
 // The lots due to an account with this net, 0 where it is not positive.
@@ -137,23 +137,26 @@ pub fn cut(p: Phase) -> bool
     }
 }
 
-// What of a book stands beside its columns: day, phase, number of entries, marks. It is written by the
-// setters below and nowhere else field by field.
+// What of a book stands beside its columns: day, phase, number of entries, the first day on which full
+// units are dealt in turn (0: none is named), marks. It is written by the setters below and nowhere else
+// field by field.
 pub struct State {
     pub day: u16,
     pub phase: Phase,
     pub entries: usize,
+    pub turn: u32,
     pub marks: [u8; 16],
 }
 
 // The state of these numbers.
-pub fn state_of(day: u16, phase: Phase, entries: usize, marks: [u8; 16]) -> State
-    ensures { λ r. ⌜ r ≡ stateOf day phase entries marks ⌝ }
+pub fn state_of(day: u16, phase: Phase, entries: usize, turn: u32, marks: [u8; 16]) -> State
+    ensures { λ r. ⌜ r ≡ stateOf day phase entries turn marks ⌝ }
 {
     State {
         day,
         phase,
         entries,
+        turn,
         marks,
     }
 }
@@ -178,6 +181,7 @@ pub fn book_in(
     Book {
         day: s.day,
         phase,
+        turn: s.turn,
         marks,
         nets,
         delivered,
@@ -201,6 +205,7 @@ pub fn with_phase(s: State, phase: Phase) -> State
         day: s.day,
         phase,
         entries: s.entries,
+        turn: s.turn,
         marks,
     }
 }
@@ -223,6 +228,22 @@ pub fn with_marks(s: State, marks: [u8; 16]) -> State
     next
 }
 
+// The state with another first day on which full units are dealt in turn.
+pub fn with_turn(s: State, turn: u32) -> State
+    ensures { λ r. ⌜ r ≡ withTurn s turn ⌝ }
+{
+    let mut next = s;
+    next.turn = turn;
+    next
+}
+
+// Are full units dealt in turn today?
+pub fn dealt_today(s: State) -> bool
+    ensures { λ r. ⌜ r ≡ inForce (s .turn) (s .day) ⌝ }
+{
+    (0 < s.turn) & (s.turn <= s.day as u32)
+}
+
 // The state of the next day, in Taking.
 pub fn next_day(s: State) -> State
     requires { ⌜ s .day < lastDay ⌝ }
@@ -233,6 +254,7 @@ pub fn next_day(s: State) -> State
         day: s.day + 1,
         phase: Phase::Taking,
         entries: s.entries,
+        turn: s.turn,
         marks,
     }
 }
@@ -244,6 +266,7 @@ pub fn fresh() -> Book
     Book {
         day: 0,
         phase: Phase::Taking,
+        turn: 0,
         marks: [0; 16],
         nets: [0; 1024],
         delivered: [0; 1024],

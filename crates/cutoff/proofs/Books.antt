@@ -1,5 +1,6 @@
 -- What the cutoff in place asks of a sound book's columns.
 use mathlib.Core.Path.{_≡_}
+use mathlib.Core.Bool.{Bool}
 use mathlib.Core.List.{List, [], _∷_}
 use Prim.Native.Nat.{ℕ, _+_, _≤_}
 use lib.Dec.{leb}
@@ -21,13 +22,13 @@ use Rattle.cutoff.specs.All.{CanCutAll}
 abbrev pub columnsOf : Book → List ℕ → Lent
 columnsOf b o = lent (b .issues) (b .froms) (b .tos) (b .lots) (b .days) o
 
-module _ (b : Book) (s : SoundBook b) where
+module _ (new : Bool) (b : Book) (s : SoundBook b) where
   pub can-cut-all : (o : List ℕ) → SoundCells (b .nets) (b .delivered) (b .lifts) →
       LedgerLengths (b .issues) (b .froms) (b .tos) (b .lots) (b .days) → outputWords ≤ length o →
-      firstNo (cutoffAsks (b .phase) (b .count) (length (newEntries (b .day) (orderIn (b .nets) (b .lifts)) (b .nets) (b .delivered)))) ≡ 0 →
-      CanCutAll (b .nets) (b .delivered) (b .lifts) (b .day) (b .count) (columnsOf b o)
+      firstNo (cutoffAsks (b .phase) (b .count) (length (newEntries (b .day) (orderIn new (b .nets) (b .lifts)) (b .nets) (b .delivered)))) ≡ 0 →
+      CanCutAll new (b .nets) (b .delivered) (b .lifts) (b .day) (b .count) (columnsOf b o)
   can-cut-all o c f h q =
-      let n = length (newEntries (b .day) (orderIn (b .nets) (b .lifts)) (b .nets) (b .delivered)) in
+      let n = length (newEntries (b .day) (orderIn new (b .nets) (b .lifts)) (b .nets) (b .delivered)) in
       let y3 = yes 2 (isSettling (b .phase)) (askEntries (b .count) n ∷ []) q in
       record {
         sound = c;

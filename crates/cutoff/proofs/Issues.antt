@@ -1,5 +1,6 @@
 -- An issue at its cutoff: the cursor over its units and shortfalls stands for the fails of the definition.
 use mathlib.Core.Path.{_≡_, ap, sym, _∙_}
+use mathlib.Core.Bool.{Bool}
 use mathlib.Core.List.{List, []}
 use Prim.Native.Nat.{ℕ, _≤_, _<_}
 use native.Mathlib.Omega.{arith}
@@ -20,17 +21,11 @@ use Rattle.laws.proofs.SoundRows.{order-in}
 use Rattle.book.specs.Rows.{Owing}
 use Rattle.book.specs.Cells.{SoundCells}
 use Rattle.units.specs.declared.Position.{Position}
-use Rattle.units.specs.Runs.{unitsIn, Prepared}
 use Rattle.units.specs.Cursor.{overlapsFrom, Started}
 use Rattle.units.proofs.Cells.{owed-sized, sound-row, total-due}
 use Rattle.cutoff.specs.Issue.{IsReady}
 
 module _ (nets : List ℤ) (delivered lifts : List ℕ) (i : ℕ) (h : i < 16) (s : SoundCells nets delivered lifts) where
-  -- an issue has at most 126 fails
-  pub few : length (issueFails (orderIn nets lifts) nets delivered i) ≤ 126
-  unfolding issueFails
-  few = issue-fails (row i nets) (row i delivered) (orderIn nets lifts i) (order-in nets lifts i) (length-row nets i (s .cells) h) (sound-row nets delivered lifts s i h)
-
   pub owing : (out : List ℕ) → length out ≡ 64 → Owing (row i nets) (row i delivered) out
   owing out l =
       let r = sound-row nets delivered lifts s i h in
@@ -40,20 +35,26 @@ module _ (nets : List ℤ) (delivered lifts : List ℕ) (i : ℕ) (h : i < 16) (
         most = λ a. within-at (row i nets) (row i delivered) a (r .lengths) (r .owed);
       }
 
-  module _ (runs after out : List ℕ) (n d : ℕ) (r : Position) (p : Prepared nets lifts i runs n) (t : d ≡ deliveredTotal delivered i)
-      (o : out ≡ undelivered (obligationsOf nets i) (row i delivered)) (l : length out ≡ 64) (w : n ≤ length after) (st : Started runs after n d r) where
-    issue-cursor : overlapsFrom after n out (r .cursor) ≡ issueFails (orderIn nets lifts) nets delivered i
+module _ (new : Bool) (nets : List ℤ) (delivered lifts : List ℕ) (i : ℕ) (h : i < 16) (s : SoundCells nets delivered lifts) where
+  -- an issue has at most 126 fails
+  pub few : length (issueFails (orderIn new nets lifts) nets delivered i) ≤ 126
+  unfolding issueFails
+  few = issue-fails (row i nets) (row i delivered) (orderIn new nets lifts i) (order-in new nets lifts i) (length-row nets i (s .cells) h) (sound-row nets delivered lifts s i h)
+
+  -- the cursor after a delivered total of its units
+  module _ (after out : List ℕ) (n d : ℕ) (r : Position) (t : d ≡ deliveredTotal delivered i) (o : out ≡ undelivered (obligationsOf nets i) (row i delivered))
+      (l : length out ≡ 64) (w : n ≤ length after) (st : Started (orderIn new nets lifts i) after n d r) where
+    issue-cursor : overlapsFrom after n out (r .cursor) ≡ issueFails (orderIn new nets lifts) nets delivered i
     unfolding issueFails fails
     issue-cursor =
-        st .lacking out ∙ ap (λ l. overlaps (byAccount 0 l) (lacks unitLots (unitsIn runs n) d)) o
-        ∙ ap (λ us. overlaps (byAccount 0 (undelivered (obligationsOf nets i) (row i delivered))) (lacks unitLots us d)) (p .units)
-        ∙ ap (λ k. overlaps (byAccount 0 (undelivered (obligationsOf nets i) (row i delivered))) (lacks unitLots (orderIn nets lifts i) k)) t
+        st .lacking out ∙ ap (λ l. overlaps (byAccount 0 l) (lacks unitLots (orderIn new nets lifts i) d)) o
+        ∙ ap (λ k. overlaps (byAccount 0 (undelivered (obligationsOf nets i) (row i delivered))) (lacks unitLots (orderIn new nets lifts i) k)) t
 
-    issue-stock : prepend (r .cursor .to) (r .stock) [] ≡ issuePartials (orderIn nets lifts) delivered i
+    issue-stock : prepend (r .cursor .to) (r .stock) [] ≡ issuePartials (orderIn new nets lifts) delivered i
     unfolding issuePartials partials
-    issue-stock = rw (st .next, st .left, p .units, t)
+    issue-stock = rw (st .next, st .left, t)
 
-    pub ready : IsReady nets delivered lifts i after out (record { n = n; cursor = r .cursor; stock = r .stock })
+    pub ready : IsReady new nets delivered lifts i after out (record { n = n; cursor = r .cursor; stock = r .stock })
     ready =
         record {
           advance = record {
@@ -68,8 +69,8 @@ module _ (nets : List ℤ) (delivered lifts : List ℕ) (i : ℕ) (h : i < 16) (
           range = st .range;
           stock = omega (
             arith,
-            rw (p .units, t) at (st .left),
-            order-stock (duesOf nets i) (orderIn nets lifts i) (deliveredTotal delivered i) (order-in nets lifts i) (total-due nets delivered lifts s i h),
+            rw t at (st .left),
+            order-stock (duesOf nets i) (orderIn new nets lifts i) (deliveredTotal delivered i) (order-in new nets lifts i) (total-due nets delivered lifts s i h),
           );
           fails = issue-cursor;
           partials = issue-stock;

@@ -1,5 +1,6 @@
 -- The cutoff of all issues.
 use mathlib.Core.Path.{_≡_}
+use mathlib.Core.Bool.{Bool}
 use mathlib.Core.List.{List, _++_}
 use Prim.Native.Nat.{ℕ, _+_, _≤_}
 use lib.ListN.{length}
@@ -16,24 +17,24 @@ use Rattle.cutoff.specs.declared.Counts.{Counts}
 use Rattle.cutoff.specs.Write.{Lent, ledgerIn, HeldIn}
 
 -- how many entries a cutoff makes, whatever the day
-pub record Counted (nets : List ℤ) (delivered lifts : List ℕ) (r : ℕ) : Type 0 where
-  pub count : (today : ℕ) → r ≡ length (newEntries today (orderIn nets lifts) nets delivered)
+pub record Counted (new : Bool) (nets : List ℤ) (delivered lifts : List ℕ) (r : ℕ) : Type 0 where
+  pub count : (today : ℕ) → r ≡ length (newEntries today (orderIn new nets lifts) nets delivered)
   pub few : r ≤ 2016
 
 -- the first 'no' of a cutoff's questions, whatever the day
-abbrev pub Asked : Phase → ℕ → List ℤ → List ℕ → List ℕ → ℕ → Type 0
-Asked phase old nets delivered lifts r = (today : ℕ) → r ≡ firstNo (cutoffAsks phase old (length (newEntries today (orderIn nets lifts) nets delivered)))
+abbrev pub Asked : Bool → Phase → ℕ → List ℤ → List ℕ → List ℕ → ℕ → Type 0
+Asked new phase old nets delivered lifts r = (today : ℕ) → r ≡ firstNo (cutoffAsks phase old (length (newEntries today (orderIn new nets lifts) nets delivered)))
 
 -- what a sound book and the answered questions give
-pub record CanCutAll (nets : List ℤ) (delivered lifts : List ℕ) (day n : ℕ) (a : Lent) : Type 0 where
+pub record CanCutAll (new : Bool) (nets : List ℤ) (delivered lifts : List ℕ) (day n : ℕ) (a : Lent) : Type 0 where
   pub sound : SoundCells nets delivered lifts
   pub held : HeldIn n a
-  pub most : n + length (newEntries day (orderIn nets lifts) nets delivered) ≤ mostEntries
+  pub most : n + length (newEntries day (orderIn new nets lifts) nets delivered) ≤ mostEntries
   pub room : outputWords ≤ length (a .out)
 
 -- the ledger with the new entries, in its columns, and the output with the records over it
-pub record WasCutAll (nets : List ℤ) (delivered lifts : List ℕ) (day n : ℕ) (a : Lent) (r : Counts) (b : Lent) : Type 0 where
-  pub entries : r .entries ≡ length (ledgerIn n a ++ newEntries day (orderIn nets lifts) nets delivered)
-  pub columns : Columns (ledgerIn n a ++ newEntries day (orderIn nets lifts) nets delivered) (b .issues) (b .froms) (b .tos) (b .lots) (b .days)
-  pub records : r .records ≡ length (cutoffRecords day (orderIn nets lifts) nets delivered)
-  pub out : b .out ≡ over (words (cutoffRecords day (orderIn nets lifts) nets delivered)) (a .out)
+pub record WasCutAll (new : Bool) (nets : List ℤ) (delivered lifts : List ℕ) (day n : ℕ) (a : Lent) (r : Counts) (b : Lent) : Type 0 where
+  pub entries : r .entries ≡ length (ledgerIn n a ++ newEntries day (orderIn new nets lifts) nets delivered)
+  pub columns : Columns (ledgerIn n a ++ newEntries day (orderIn new nets lifts) nets delivered) (b .issues) (b .froms) (b .tos) (b .lots) (b .days)
+  pub records : r .records ≡ length (cutoffRecords day (orderIn new nets lifts) nets delivered)
+  pub out : b .out ≡ over (words (cutoffRecords day (orderIn new nets lifts) nets delivered)) (a .out)

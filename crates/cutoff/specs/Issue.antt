@@ -1,5 +1,6 @@
 -- The cutoff of one issue: where its delivered total ends, the stock's record, the fails' entries and records.
 use mathlib.Core.Path.{_≡_}
+use mathlib.Core.Bool.{Bool}
 use mathlib.Core.List.{List, [], _∷_, map}
 use Prim.Native.Nat.{ℕ, _+_, _*_, _≤_, _<_, min}
 use lib.ListN.{length}
@@ -56,22 +57,22 @@ pub record WasHanded (i a x v : ℕ) (before after : List ℕ) : Type 0 where
 pub record CanReady (nets : List ℤ) (delivered lifts : List ℕ) (i : ℕ) (runs missing : List ℕ) : Type 0 where
   pub sound : SoundCells nets delivered lifts
   pub issue : i < 16
-  pub held : 144 ≤ length runs
+  pub held : length runs ≡ 144
   pub accounts : length missing ≡ 64
 
 -- an issue's units and shortfalls: the cursor stands for its fails, and the stock for its partial fail
-pub record IsReady (nets : List ℤ) (delivered lifts : List ℕ) (i : ℕ) (runs missing : List ℕ) (r : Ready) : Type 0 where
+pub record IsReady (new : Bool) (nets : List ℤ) (delivered lifts : List ℕ) (i : ℕ) (runs missing : List ℕ) (r : Ready) : Type 0 where
   pub advance : CanAdvance runs (r .n) missing
   pub range : InRange (r .cursor)
   pub stock : r .stock ≤ 99999
-  pub fails : overlapsFrom runs (r .n) missing (r .cursor) ≡ issueFails (orderIn nets lifts) nets delivered i
-  pub partials : prepend (r .cursor .to) (r .stock) [] ≡ issuePartials (orderIn nets lifts) delivered i
+  pub fails : overlapsFrom runs (r .n) missing (r .cursor) ≡ issueFails (orderIn new nets lifts) nets delivered i
+  pub partials : prepend (r .cursor .to) (r .stock) [] ≡ issuePartials (orderIn new nets lifts) delivered i
 
-pub record CanCut (nets : List ℤ) (delivered lifts : List ℕ) (day i n : ℕ) (a : Lent) : Type 0 where
+pub record CanCut (new : Bool) (nets : List ℤ) (delivered lifts : List ℕ) (day i n : ℕ) (a : Lent) : Type 0 where
   pub sound : SoundCells nets delivered lifts
   pub issue : i < 16
-  pub write : CanWrite (issueEntries day (orderIn nets lifts) nets delivered i) (issueRecords day (orderIn nets lifts) nets delivered i) n a
+  pub write : CanWrite (issueEntries day (orderIn new nets lifts) nets delivered i) (issueRecords day (orderIn new nets lifts) nets delivered i) n a
 
-pub record WasCut (nets : List ℤ) (delivered lifts : List ℕ) (day i n : ℕ) (a : Lent) (r : Counts) (b : Lent) : Type 0 where
-  pub wrote : Wrote (issueEntries day (orderIn nets lifts) nets delivered i) (issueRecords day (orderIn nets lifts) nets delivered i) n a (r .entries) b
-  pub records : r .records ≡ length (issueRecords day (orderIn nets lifts) nets delivered i)
+pub record WasCut (new : Bool) (nets : List ℤ) (delivered lifts : List ℕ) (day i n : ℕ) (a : Lent) (r : Counts) (b : Lent) : Type 0 where
+  pub wrote : Wrote (issueEntries day (orderIn new nets lifts) nets delivered i) (issueRecords day (orderIn new nets lifts) nets delivered i) n a (r .entries) b
+  pub records : r .records ≡ length (issueRecords day (orderIn new nets lifts) nets delivered i)

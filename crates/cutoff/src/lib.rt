@@ -5,6 +5,7 @@ use rules::Phase;
 use units::Cursor;
 use units::Next;
 ghost use mathlib.Core.Path.{_≡_};
+ghost use mathlib.Core.Bool.{true, false};
 ghost use mathlib.Core.List.{_∷_, []};
 ghost use Prim.Native.Nat.{_+_, _≤_, _<_};
 ghost use lib.ListN.{length};
@@ -120,7 +121,7 @@ fn hand_stock(out: &mut [u32], i: u32, to: u32, lots: u32) -> usize
     1
 }
 
-// An issue's units and shortfalls into lent arrays, and where its delivered total ends.
+// An issue's units and shortfalls into lent arrays, and where its delivered total ends: in the order of old.
 fn prepare(
     nets: &[i32],
     delivered: &[u32],
@@ -130,7 +131,7 @@ fn prepare(
     missing: &mut [u32],
 ) -> Ready
     requires { ⌜ CanReady (now nets) (now delivered) (now lifts) i (now runs) (now missing) ⌝ }
-    ensures { λ r. ⌜ IsReady (now (nets .entry)) (now (delivered .entry)) (now (lifts .entry)) i (now (runs .exit)) (now (missing .exit)) r ⌝ }
+    ensures { λ r. ⌜ IsReady false (now (nets .entry)) (now (delivered .entry)) (now (lifts .entry)) i (now (runs .exit)) (now (missing .exit)) r ⌝ }
 {
     let s = i * 64;
     let e = s + 64;
@@ -144,6 +145,51 @@ fn prepare(
         cursor: c,
         stock: p.stock,
     }
+}
+
+// The same where full units are dealt in turn.
+fn prepare_dealt(
+    nets: &[i32],
+    delivered: &[u32],
+    lifts: &[u32],
+    i: usize,
+    runs: &mut [u32],
+    missing: &mut [u32],
+) -> Ready
+    requires { ⌜ CanReady (now nets) (now delivered) (now lifts) i (now runs) (now missing) ⌝ }
+    ensures { λ r. ⌜ IsReady true (now (nets .entry)) (now (delivered .entry)) (now (lifts .entry)) i (now (runs .exit)) (now (missing .exit)) r ⌝ }
+{
+    let s = i * 64;
+    let e = s + 64;
+    let d = book::total(&delivered[s..e]);
+    book::missing_of(&nets[s..e], &delivered[s..e], missing);
+    let b = stretching::start(nets, lifts, i, d, runs);
+    let p = b.position;
+    let c = p.cursor;
+    Ready {
+        n: b.n,
+        cursor: c,
+        stock: p.stock,
+    }
+}
+
+// The same in the order of the day.
+fn prepare_for(
+    dealt: bool,
+    nets: &[i32],
+    delivered: &[u32],
+    lifts: &[u32],
+    i: usize,
+    runs: &mut [u32],
+    missing: &mut [u32],
+) -> Ready
+    requires { ⌜ CanReady (now nets) (now delivered) (now lifts) i (now runs) (now missing) ⌝ }
+    ensures { λ r. ⌜ IsReady dealt (now (nets .entry)) (now (delivered .entry)) (now (lifts .entry)) i (now (runs .exit)) (now (missing .exit)) r ⌝ }
+{
+    if dealt {
+        return prepare_dealt(nets, delivered, lifts, i, runs, missing);
+    }
+    prepare(nets, delivered, lifts, i, runs, missing)
 }
 
 // How many entries the ledger has, and how many records were written.
@@ -160,6 +206,7 @@ fn numbers(entries: usize, records: usize) -> Counts
 
 // The cutoff of one issue, its entries behind n others, its records at the front of the lent part.
 fn cut_issue(
+    dealt: bool,
     nets: &[i32],
     delivered: &[u32],
     lifts: &[u32],
@@ -173,12 +220,12 @@ fn cut_issue(
     days: &mut [u16],
     out: &mut [u32],
 ) -> Counts
-    requires { ⌜ CanCut (now nets) (now delivered) (now lifts) day i n (lending issues froms tos lots days out) ⌝ }
-    ensures { λ r. ⌜ WasCut (now (nets .entry)) (now (delivered .entry)) (now (lifts .entry)) day i n (lentBefore issues froms tos lots days out) r (lentAfter issues froms tos lots days out) ⌝ }
+    requires { ⌜ CanCut dealt (now nets) (now delivered) (now lifts) day i n (lending issues froms tos lots days out) ⌝ }
+    ensures { λ r. ⌜ WasCut dealt (now (nets .entry)) (now (delivered .entry)) (now (lifts .entry)) day i n (lentBefore issues froms tos lots days out) r (lentAfter issues froms tos lots days out) ⌝ }
 {
     let mut runs = [0u32; 144];
     let mut missing = [0u32; 64];
-    let p = prepare(nets, delivered, lifts, i, &mut runs, &mut missing);
+    let p = prepare_for(dealt, nets, delivered, lifts, i, &mut runs, &mut missing);
     let c = p.cursor;
     let v = hand_stock(out, i as u32, c.to, p.stock);
     let m = lay(
@@ -199,27 +246,27 @@ fn cut_issue(
 }
 
 // How many fails an issue has.
-fn count_issue(nets: &[i32], delivered: &[u32], lifts: &[u32], i: usize) -> usize
+fn count_issue(dealt: bool, nets: &[i32], delivered: &[u32], lifts: &[u32], i: usize) -> usize
     requires { ⌜ SoundCells (now nets) (now delivered) (now lifts) × (i < 16) ⌝ }
-    ensures { λ r. ⌜ r ≡ length (issueFails (orderIn (now (nets .entry)) (now (lifts .entry))) (now (nets .entry)) (now (delivered .entry)) i) ⌝ }
+    ensures { λ r. ⌜ r ≡ length (issueFails (orderIn dealt (now (nets .entry)) (now (lifts .entry))) (now (nets .entry)) (now (delivered .entry)) i) ⌝ }
 {
     let mut runs = [0u32; 144];
     let mut missing = [0u32; 64];
-    let p = prepare(nets, delivered, lifts, i, &mut runs, &mut missing);
+    let p = prepare_for(dealt, nets, delivered, lifts, i, &mut runs, &mut missing);
     let k = p.n;
     let c = p.cursor;
     units::count(&runs, k, &missing, c)
 }
 
 // How many entries a cutoff of all issues makes.
-fn count<'a>(nets: &'a [i32], delivered: &'a [u32], lifts: &'a [u32]) -> usize
+fn count<'a>(dealt: bool, nets: &'a [i32], delivered: &'a [u32], lifts: &'a [u32]) -> usize
     requires { ⌜ SoundCells (now nets) (now delivered) (now lifts) ⌝ }
-    ensures { λ r. ⌜ Counted (now (nets .entry)) (now (delivered .entry)) (now (lifts .entry)) r ⌝ }
+    ensures { λ r. ⌜ Counted dealt (now (nets .entry)) (now (delivered .entry)) (now (lifts .entry)) r ⌝ }
 {
     let mut i: usize = 0;
     let mut n: usize = 0;
     while i < 16 {
-        n += count_issue(nets, delivered, lifts, i);
+        n += count_issue(dealt, nets, delivered, lifts, i);
         i += 1;
     }
     n
@@ -227,6 +274,7 @@ fn count<'a>(nets: &'a [i32], delivered: &'a [u32], lifts: &'a [u32]) -> usize
 
 // Questions 3 and 10 of a cutoff, of a sound book: the number of the first 'no', or 0.
 pub fn cutoff_asks<'a>(
+    dealt: bool,
     phase: Phase,
     old: usize,
     nets: &'a [i32],
@@ -234,12 +282,12 @@ pub fn cutoff_asks<'a>(
     lifts: &'a [u32],
 ) -> u32
     requires { ⌜ SoundCells (now nets) (now delivered) (now lifts) × (old ≤ 2048) ⌝ }
-    ensures { λ r. ⌜ Asked phase old (now (nets .entry)) (now (delivered .entry)) (now (lifts .entry)) r ⌝ }
+    ensures { λ r. ⌜ Asked dealt phase old (now (nets .entry)) (now (delivered .entry)) (now (lifts .entry)) r ⌝ }
 {
     if !book::settling(phase) {
         return 3;
     }
-    if 2048 < old + count(nets, delivered, lifts) {
+    if 2048 < old + count(dealt, nets, delivered, lifts) {
         return 10;
     }
     0
@@ -248,6 +296,7 @@ pub fn cutoff_asks<'a>(
 // The cutoff of all issues, in place: entries behind the first `count`, records from the front of the
 // output; answers how many entries and records there are then.
 pub fn cutoff_in<'a>(
+    dealt: bool,
     nets: &'a [i32],
     delivered: &'a [u32],
     lifts: &'a [u32],
@@ -260,14 +309,15 @@ pub fn cutoff_in<'a>(
     days: &mut [u16],
     out: &mut [u32],
 ) -> Counts
-    requires { ⌜ CanCutAll (now nets) (now delivered) (now lifts) day count (lending issues froms tos lots days out) ⌝ }
-    ensures { λ r. ⌜ WasCutAll (now (nets .entry)) (now (delivered .entry)) (now (lifts .entry)) day count (lentBefore issues froms tos lots days out) r (lentAfter issues froms tos lots days out) ⌝ }
+    requires { ⌜ CanCutAll dealt (now nets) (now delivered) (now lifts) day count (lending issues froms tos lots days out) ⌝ }
+    ensures { λ r. ⌜ WasCutAll dealt (now (nets .entry)) (now (delivered .entry)) (now (lifts .entry)) day count (lentBefore issues froms tos lots days out) r (lentAfter issues froms tos lots days out) ⌝ }
 {
     let mut i: usize = 0;
     let mut n = count;
     let mut w: usize = 0;
     while i < 16 {
         let k = cut_issue(
+            dealt,
             nets,
             delivered,
             lifts,

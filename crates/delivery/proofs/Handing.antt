@@ -1,18 +1,25 @@
 -- Units handed over one by one. What a loop keeps is said of what is left: all records from the start are the records
 -- that are left from here.
 use mathlib.Core.Path.{_≡_, refl, sym, ap, _∙_}
-use mathlib.Core.List.{List, [], _∷_, map}
+use mathlib.Core.Bool.{true}
+use mathlib.Core.List.{List, [], _∷_, _++_, map}
 use Prim.Native.Nat.{ℕ, suc, _+_, _-_, _*_, _≤_, _<_}
 use native.Mathlib.Omega.{arith}
 use lib.ListN.{length, take, drop, length-map, length-drop}
-use lib.Seq.{sets, length-sets, length-take-le}
+use lib.Seq.{sets, length-sets, length-take-le, take-all, take-at, take-take}
+use lib.IntN.{ℤ}
 use Rattle.rules.specs.Units.{AccountLots, accountLots}
 use Rattle.rules.specs.Handover.{covered, handovers}
 use Rattle.rules.specs.Records.{handover, words, over}
-use Rattle.laws.proofs.Handover.{covered-grows, covered-le, handovers-length}
+use Rattle.rules.specs.Book.{orderIn}
+use Rattle.laws.proofs.Handover.{covered-le, handovers-length}
+use Rattle.laws.proofs.Dealt.{lotsIn, same-covered}
 use Rattle.laws.proofs.Records.{length-words}
 use Rattle.words.proofs.Stores.{sets-front}
-use Rattle.delivery.specs.Deliver.{handRecords, Served}
+use Rattle.units.specs.Runs.{partOf, unitsOfRuns, unitsIn}
+use Rattle.dealing.proofs.Dealer.{words-units}
+use Rattle.delivery.specs.declared.NextUnits.{NextUnits}
+use Rattle.delivery.specs.Deliver.{handRecords, NewlyCovered, Served}
 
 -- with `us` to come, `left` of them are still to be handed over, behind m records
 pub record Handing (i m left : ℕ) (us : List AccountLots) (all o out : List ℕ) : Type 0 where
@@ -46,29 +53,43 @@ module _ (i m left : ℕ) (us : List AccountLots) (all o out : List ℕ) (h : Ha
   pub handing-ends : left ≡ 0 → out ≡ over all o
   handing-ends e = sym (rw e at (h .output))
 
--- the units between two counts are those that the lots between two totals hand over
-pub record Counted (us vs : List AccountLots) (d x before after : ℕ) : Type 0 where
-  pub up : before ≤ after
-  pub there : after - before ≤ length (drop before us)
-  pub number : after - before ≡ length (handovers vs d x)
-  pub same : take (after - before) (drop before us) ≡ handovers vs d x
+-- the units that x more lots hand over
+module _ (us : List AccountLots) (d x : ℕ) (r : NextUnits) (c : NewlyCovered us d x r) where
+  pub newly-there : r .number ≤ length (drop (r .first) us)
+  newly-there = omega (arith, c .first, c .number, length-drop (r .first) us, covered-le us (d + x))
 
-pub counted : (us vs : List AccountLots) (d x before after : ℕ) → us ≡ vs → before ≡ covered us d → after ≡ covered us (d + x) →
-    Counted us vs d x before after
-unfolding handovers
-counted us vs d x before after e p q =
-    let grows = covered-grows us d x in
+  pub newly-number : r .number ≡ length (handovers us d x)
+  newly-number = c .number ∙ sym (handovers-length us d x)
+
+  newly-units : take (r .number) (drop (r .first) us) ≡ handovers us d x
+  unfolding handovers
+  newly-units = rw (c .first, c .number)
+
+  pub served : (i : ℕ) (o new : List ℕ) → new ≡ over (words (handRecords i (r .number) (drop (r .first) us))) o → Served us i d x o new (r .number)
+  served i o new e =
+      record {
+        count = newly-number ∙ sym (length-map (handovers us d x) (handover i));
+        output = e ∙ ap (λ l. over (words (map (handover i) l)) o) newly-units;
+      }
+
+-- in an order with the same lots they are the same places
+pub newly-same : (us vs : List AccountLots) (d x : ℕ) (r : NextUnits) → lotsIn us ≡ lotsIn vs → NewlyCovered us d x r → NewlyCovered vs d x r
+newly-same us vs d x r e c =
     record {
-      up = omega arith;
-      there = omega (arith, length-drop before us, covered-le us (d + x));
-      number = omega (arith, handovers-length us d x, ap (λ l. length (handovers l d x)) e);
-      same = rw (p, q) (ap (λ l. handovers l d x) e);
+      first = c .first ∙ same-covered us vs e d;
+      number = c .number ∙ rw (same-covered us vs e d, same-covered us vs e (d + x));
     }
 
-pub served : (us vs : List AccountLots) (i d x before after : ℕ) (o new : List ℕ) → Counted us vs d x before after →
-    new ≡ over (words (handRecords i (after - before) (drop before us))) o → Served vs i d x o new (after - before)
-served us vs i d x before after o new k e =
-    record {
-      count = k .number ∙ sym (length-map (handovers vs d x) (handover i));
-      output = e ∙ ap (λ l. over (words (map (handover i) l)) o) (k .same);
-    }
+-- Units dealt out in front of a longer array
+
+module _ (nets : List ℤ) (lifts : List ℕ) (i k n : ℕ) (ys rest : List ℕ) (l : length ys ≡ n) (e : map partOf ys ≡ take n (drop k (orderIn true nets lifts i))) where
+  pub dealt-units : unitsIn (ys ++ rest) n ≡ take n (drop k (orderIn true nets lifts i))
+  unfolding unitsIn
+  dealt-units =
+      ap (λ ws. unitsOfRuns (map partOf ws)) (take-at ys rest n l ∙ sym (take-all n ys (omega arith))) ∙ words-units true nets lifts i k n ys l e
+
+  pub dealt-number : n ≤ length (drop 0 (unitsIn (ys ++ rest) n))
+  dealt-number = omega (arith, ap length dealt-units, ap length e, length-map ys partOf)
+
+  pub dealt-records : (j : ℕ) → handRecords j n (drop 0 (unitsIn (ys ++ rest) n)) ≡ handRecords j n (drop k (orderIn true nets lifts i))
+  dealt-records j = ap (λ us. handRecords j n us) dealt-units ∙ ap (map (handover j)) (take-take n n (drop k (orderIn true nets lifts i)) (omega arith))

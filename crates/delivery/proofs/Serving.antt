@@ -1,5 +1,6 @@
 -- What a delivery may assume gives what its issue's part may: room for the records of at most 264 units.
 use mathlib.Core.Path.{_≡_, sym, ap, _∙_}
+use mathlib.Core.Bool.{Bool}
 use mathlib.Core.List.{List}
 use Prim.Native.Nat.{ℕ, _+_, _*_, _≤_, _<_}
 use native.Mathlib.Omega.{arith}
@@ -36,7 +37,17 @@ pub served-after : (us : List AccountLots) (i d e x : ℕ) (before after : List 
     Served us i d x before after r → Served us i e x before after r
 served-after us i d e x before after r q s = rw (← q) s
 
-module _ (nets : List ℤ) (delivered lifts out : List ℕ) (i a x : ℕ) (can : CanDeliver nets delivered lifts i a x out) where
+-- of units that are others by name
+pub served-as : (us vs : List AccountLots) (i d x : ℕ) (before after : List ℕ) (r : ℕ) → us ≡ vs →
+    Served us i d x before after r → Served vs i d x before after r
+served-as us vs i d x before after r e s = rw (← e) s
+
+-- and what can be served in an order that the test chose
+pub serve-as : (new new′ : Bool) (nets : List ℤ) (lifts : List ℕ) (i d x : ℕ) (out : List ℕ) → new ≡ new′ →
+    CanServe new nets lifts i d x out → CanServe new′ nets lifts i d x out
+serve-as new new′ nets lifts i d x out e c = rw (← e) c
+
+module _ (new : Bool) (nets : List ℤ) (delivered lifts out : List ℕ) (i a x : ℕ) (can : CanDeliver nets delivered lifts i a x out) where
   -- the account's lots raised, the issue is one of a sound book
   raised : SoundRow (row i nets) (row i (raisedDelivered delivered i a x))
   raised =
@@ -56,17 +67,14 @@ module _ (nets : List ℤ) (delivered lifts out : List ℕ) (i a x : ℕ) (can :
         delivered-due (row i nets) (row i (raisedDelivered delivered i a x)) raised,
       )
 
-  pub can-serve : (d : ℕ) → d ≡ deliveredTotal delivered i → CanServe nets lifts i d x out
+  pub can-serve : (d : ℕ) → d ≡ deliveredTotal delivered i → CanServe new nets lifts i d x out
   can-serve d e =
       let s = can .sound in
       record {
         order = can-order nets delivered lifts i s (can .issue);
         small = omega (arith, due, dues-sum nets i (s .size) (s .cells) (can .issue));
-        room =
-            omega (
-              arith,
-              can .room,
-              handovers-few (duesOf nets i) (orderIn nets lifts i) d x (order-in nets lifts i) (length-dues nets i (s .cells) (can .issue)) (can .lots)
-                  (omega (arith, due)),
-            );
+        few =
+            handovers-few (duesOf nets i) (orderIn new nets lifts i) d x (order-in new nets lifts i) (length-dues nets i (s .cells) (can .issue)) (can .lots)
+            (omega (arith, due));
+        room = omega (arith, can .room);
       }

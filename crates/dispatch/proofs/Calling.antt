@@ -12,7 +12,7 @@ use Rattle.rules.specs.declared.Instruction.the-variants as instruction
 use Rattle.rules.specs.Measures.{outputWords}
 use Rattle.rules.specs.Book.{sound}
 use Rattle.rules.specs.Questions.{Question, ask, firstNo}
-use Rattle.rules.specs.Calls.{Call, Trade, Close, Deliver, Ask, Commit, Cutoff, Resolve, PairOff, Roll, Mark, Effect, answer, lentTo, outputAsks, HasRoom, ownAsks, effect, called}
+use Rattle.rules.specs.Calls.{Call, Trade, Close, Deliver, Ask, Commit, Cutoff, Resolve, PairOff, Roll, Mark, Turn as NameTurn, Effect, answer, lentTo, outputAsks, HasRoom, ownAsks, effect, called}
 use Rattle.rules.specs.Run.{callOf}
 use Rattle.laws.proofs.Answers.{said-yes, said-no, yes}
 use Rattle.book.specs.declared.State.{State}
@@ -33,6 +33,7 @@ room-of instruction.Close quotes out = refl
 room-of instruction.Cutoff quotes out = refl
 room-of (instruction.Roll days rate) quotes out = refl
 room-of (instruction.Mark i m) quotes out = refl
+room-of (instruction.Turn d) quotes out = refl
 
 -- a 'no' among the first questions is the first 'no' of all
 no-first : (ps qs : List Question) (n : ℕ) → firstNo ps ≡ suc n → firstNo (ps ++ qs) ≡ suc n
@@ -52,6 +53,7 @@ others (Resolve i a x out) qs h = said-yes 1 (leb outputWords (length out)) qs (
 others (PairOff i a) qs h = refl
 others (Roll days rate quotes) qs h = refl
 others (Mark i m) qs h = refl
+others (NameTurn d) qs h = refl
 
 -- Refusals
 
@@ -66,6 +68,7 @@ as-came instruction.Close quotes out n b e = refl
 as-came instruction.Cutoff quotes out n b e = refl
 as-came (instruction.Roll days rate) quotes out n b e = refl
 as-came (instruction.Mark i m) quotes out n b e = refl
+as-came (instruction.Turn d) quotes out n b e = refl
 
 -- a refusal by its number
 pub unchanged : (b : Book) (x : Instruction) (quotes out : List ℕ) (s : State) (k n : ℕ) → k ≡ suc n →

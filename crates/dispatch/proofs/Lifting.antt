@@ -1,5 +1,5 @@
 -- Asking for a lift and committing it: refused by 1 or 2, or answered as in place.
-use mathlib.Core.Path.{_≡_, refl, sym, ap, _∙_}
+use mathlib.Core.Path.{_≡_, refl, sym, ap, subst, _∙_}
 use mathlib.Core.Bool.{Bool, true, false}
 use mathlib.Core.List.{List, _∷_}
 use Prim.Native.Nat.{ℕ, zero, suc, _≤_, _<_}
@@ -12,7 +12,7 @@ use Rattle.rules.specs.declared.Asked.the-variants as asked
 use Rattle.rules.specs.declared.Book.{Book}
 use Rattle.rules.specs.declared.Ticket.{Ticket}
 use Rattle.rules.specs.Measures.{outputWords}
-use Rattle.rules.specs.Book.{withLifts}
+use Rattle.rules.specs.Book.{dealtToday, withLifts}
 use Rattle.rules.specs.Questions.{Question, firstNo, ask}
 use Rattle.rules.specs.Calls.{Ask, Commit, AskAnswer, askedAnswer, ticketAnswer, ticketOf, noTicket, answer, effect, ownAsks}
 use Rattle.laws.proofs.Answers.{said-yes, said-no}
@@ -38,9 +38,11 @@ pub ask-unsound : (good : Bool) (b : Book) (i k : ℕ) → good ≡ false → no
 unfolding askedWhere
 ask-unsound good b i k h = rw h
 
-pub ask-sound : (good : Bool) (b : Book) (i k : ℕ) → good ≡ true → askedOf (b .phase) (b .day) (b .nets) (b .delivered) (b .lifts) i k ≡ askedWhere good b i k
+-- a sound book: the ask in place, in the order of the day
+pub ask-sound : (good new : Bool) (b : Book) (i k : ℕ) → good ≡ true → new ≡ dealtToday b →
+    askedOf new (b .phase) (b .day) (b .nets) (b .delivered) (b .lifts) i k ≡ askedWhere good b i k
 unfolding askedWhere askedOf
-ask-sound good b i k h = rw h
+ask-sound good new b i k h e = rw (h, e)
 
 -- Commit
 
@@ -66,13 +68,16 @@ module _ (good : Bool) (b : Book) (t : Ticket) (out : List ℕ) where
     commit-unsound r e h =
         refused 1 r e (said-yes 1 (leb outputWords (length out)) own-asks long ∙ said-no 2 good (ownAsks b (Commit t out)) h)
 
-    -- a sound book: the commit in place
-    pub commit-sound : (r : Committed) (lifts out′ : List ℕ) → good ≡ true →
-        Commits (b .phase) (b .day) (b .nets) (b .delivered) (b .lifts) lifts t out out′ r →
+    -- a sound book: the commit in place, in the order of the day
+    pub commit-sound : (new : Bool) (r : Committed) (lifts out′ : List ℕ) → good ≡ true → new ≡ dealtToday b →
+        Commits new (b .phase) (b .day) (b .nets) (b .delivered) (b .lifts) lifts t out out′ r →
         CommitIs b (calledWhere good b (Commit t out)) r lifts out′
     unfolding calledWhere
-    commit-sound r lifts out′ h c = by-number (r .refusal) refl
+    commit-sound new r lifts out′ h e k = by-number (r .refusal) refl
       where
+        c : Commits (dealtToday b) (b .phase) (b .day) (b .nets) (b .delivered) (b .lifts) lifts t out out′ r
+        c = subst (λ (o : Bool). Commits o (b .phase) (b .day) (b .nets) (b .delivered) (b .lifts) lifts t out out′ r) e k
+
         own : r .refusal ≡ number
         own =
             c .refusal

@@ -1,4 +1,4 @@
-// One function for the eight calls of a tape: an instruction made in place on any columns whatever.
+// One function for the nine calls of a tape: an instruction made in place on any columns whatever.
 pub mod lifts;
 
 use book::State;
@@ -28,6 +28,7 @@ pub fn output_asks(x: Instruction, out: &[u32]) -> u32
         Instruction::Cutoff => 1,
         Instruction::Roll(_, _) => 0,
         Instruction::Mark(_, _) => 0,
+        Instruction::Turn(_) => 0,
     }
 }
 

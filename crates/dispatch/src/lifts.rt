@@ -40,7 +40,8 @@ pub fn ask<'a>(
         return Asked::Refused(2);
     }
     let phase = s.phase;
-    lifting::ask_in(phase, s.day, nets, delivered, lifts, i, k)
+    let dealt = book::dealt_today(s);
+    lifting::ask_in(dealt, phase, s.day, nets, delivered, lifts, i, k)
 }
 
 // Commits a ticket: of the book only the lifts change, and the records go to the output.
@@ -78,5 +79,6 @@ pub fn commit<'a>(
         return lifting::refused(2);
     }
     let phase = s.phase;
-    lifting::commit_in(phase, s.day, nets, delivered, lifts, t, out)
+    let dealt = book::dealt_today(s);
+    lifting::commit_in(dealt, phase, s.day, nets, delivered, lifts, t, out)
 }

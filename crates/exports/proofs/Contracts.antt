@@ -30,15 +30,16 @@ use Rattle.exports.proofs.lifts.day_commit.Reads as commit-reads
 abbrev both : {A : Type 0} → A → A → Both A A
 both x y = record { entry = x; exit = y }
 
--- `day_call`: kind, a, b, c, d, quotes, day, phase, entries, marks, nine columns, out, count, cancelled
-module _ (κs : Lfts 17) (a : Dens κs call-kinds.ps) (n : ℕ) (e : AtExit (endedOf 17 call-kinds.ps call-kinds.r) κs) where
+-- `day_call`: kind, a, b, c, d, quotes, day, phase, entries, turn, marks, nine columns, out, count, cancelled
+module _ (κs : Lfts 18) (a : Dens κs call-kinds.ps) (n : ℕ) (e : AtExit (endedOf 18 call-kinds.ps call-kinds.r) κs) where
   abbrev callHost : Host
   callHost =
       let x = a .1 .1 .1 .1 .1 .1 in
       let y = e .1 .1 .1 .1 .1 .1 in
-      let u = x .1 .1 .1 .1 in
-      let v = y .1 .1 .1 .1 in
+      let u = x .1 .1 .1 .1 .1 in
+      let v = y .1 .1 .1 .1 .1 in
       host (both (x .0) (y .0)) (both (x .1 .0) (y .1 .0)) (both (x .1 .1 .0) (y .1 .1 .0)) (both (x .1 .1 .1 .0) (y .1 .1 .1 .0))
+      (both (x .1 .1 .1 .1 .0) (y .1 .1 .1 .1 .0))
       (columns (both (u .0) (v .0)) (both (u .1 .0) (v .1 .0)) (both (u .1 .1 .0) (v .1 .1 .0)) (both (u .1 .1 .1 .0) (v .1 .1 .1 .0))
       (both (u .1 .1 .1 .1 .0) (v .1 .1 .1 .1 .0)) (both (u .1 .1 .1 .1 .1 .0) (v .1 .1 .1 .1 .1 .0)) (both (u .1 .1 .1 .1 .1 .1 .0) (v .1 .1 .1 .1 .1 .1 .0))
       (both (u .1 .1 .1 .1 .1 .1 .1 .0) (v .1 .1 .1 .1 .1 .1 .1 .0)) (both (u .1 .1 .1 .1 .1 .1 .1 .1 .0) (v .1 .1 .1 .1 .1 .1 .1 .1 .0)))
@@ -47,56 +48,56 @@ module _ (κs : Lfts 17) (a : Dens κs call-kinds.ps) (n : ℕ) (e : AtExit (end
   instruction = instructionOf (a .0) (a .1 .0) (a .1 .1 .0) (a .1 .1 .1 .0) (a .1 .1 .1 .1 .0)
 
   pub call-by-host : call-reads.Learnt κs a n e →
-      (let x = a .1 .1 .1 .1 .1 .1 .1 .1 .1 .1 .1 .1 .1 .1 .1 .1 .1 .1 .1 in
-      let y = e .1 .1 .1 .1 .1 .1 .1 .1 .1 .1 .1 .1 .1 .1 .1 .1 .1 .1 .1 in
+      (let x = a .1 .1 .1 .1 .1 .1 .1 .1 .1 .1 .1 .1 .1 .1 .1 .1 .1 .1 .1 .1 in
+      let y = e .1 .1 .1 .1 .1 .1 .1 .1 .1 .1 .1 .1 .1 .1 .1 .1 .1 .1 .1 .1 in
       let c = callOf instruction (now (a .1 .1 .1 .1 .1 .0)) (now (x .0)) in
       ByHost (callHost .before) c (gave c (numbers n (now (y .1 .0)) (now (y .1 .1 .0))) (callHost .after) (now (y .0))))
   call-by-host p =
-      let x = a .1 .1 .1 .1 .1 .1 .1 .1 .1 .1 .1 .1 .1 .1 .1 .1 .1 .1 .1 in
-      let y = e .1 .1 .1 .1 .1 .1 .1 .1 .1 .1 .1 .1 .1 .1 .1 .1 .1 .1 .1 in
+      let x = a .1 .1 .1 .1 .1 .1 .1 .1 .1 .1 .1 .1 .1 .1 .1 .1 .1 .1 .1 .1 in
+      let y = e .1 .1 .1 .1 .1 .1 .1 .1 .1 .1 .1 .1 .1 .1 .1 .1 .1 .1 .1 .1 in
       told (a .0) instruction (both (a .1 .1 .1 .1 .1 .0) (e .1 .1 .1 .1 .1 .0)) (both (x .0) (y .0)) callHost n (both (x .1 .0) (y .1 .0))
       (both (x .1 .1 .0) (y .1 .1 .0)) p
 
--- `day_ask`: day, phase, entries, marks, nine columns, issue, unit, ticket
+-- `day_ask`: day, phase, entries, turn, marks, nine columns, issue, unit, ticket
 module _ (κs : Lfts 2) (a : Dens κs ask-kinds.ps) (n : ℕ) (e : AtExit (endedOf 2 ask-kinds.ps ask-kinds.r) κs) where
   abbrev askColumns : Columns
   askColumns =
-      let u = a .1 .1 .1 .1 in
-      let v = e .1 .1 .1 .1 in
-      columns (both (u .0) (v .0)) (both (u .1 .0) (v .1 .0)) (both (u .1 .1 .0) (v .1 .1 .0)) (both (u .1 .1 .1 .0) (v .1 .1 .1 .0))
-      (both (u .1 .1 .1 .1 .0) (v .1 .1 .1 .1 .0)) (both (u .1 .1 .1 .1 .1 .0) (v .1 .1 .1 .1 .1 .0)) (both (u .1 .1 .1 .1 .1 .1 .0) (v .1 .1 .1 .1 .1 .1 .0))
-      (both (u .1 .1 .1 .1 .1 .1 .1 .0) (v .1 .1 .1 .1 .1 .1 .1 .0)) (both (u .1 .1 .1 .1 .1 .1 .1 .1 .0) (v .1 .1 .1 .1 .1 .1 .1 .1 .0))
-
-  abbrev askBook : Book
-  askBook = bookAt (a .0) (a .1 .0) (a .1 .1 .0) (now (a .1 .1 .1 .0)) askColumns
-
-  pub ask-by-host : ask-reads.Learnt κs a n e →
-      (let x = a .1 .1 .1 .1 .1 .1 .1 .1 .1 .1 .1 .1 .1 in
-      ByHost askBook (Ask (x .0) (x .1 .0)) (record { refusal = n; count = 0; cancelled = 0; book = askBook; out = [] }))
-  ask-by-host p =
-      let x = a .1 .1 .1 .1 .1 .1 .1 .1 .1 .1 .1 .1 .1 in
-      asks (a .1 .0) askBook (x .0) (x .1 .0) n (now (e .1 .1 .1 .1 .1 .1 .1 .1 .1 .1 .1 .1 .1 .1 .1 .0)) p
-
--- `day_commit`: ticket, day, phase, entries, marks, nine columns, out, count
-module _ (κs : Lfts 5) (a : Dens κs commit-kinds.ps) (n : ℕ) (e : AtExit (endedOf 5 commit-kinds.ps commit-kinds.r) κs) where
-  abbrev commitColumns : Columns
-  commitColumns =
       let u = a .1 .1 .1 .1 .1 in
       let v = e .1 .1 .1 .1 .1 in
       columns (both (u .0) (v .0)) (both (u .1 .0) (v .1 .0)) (both (u .1 .1 .0) (v .1 .1 .0)) (both (u .1 .1 .1 .0) (v .1 .1 .1 .0))
       (both (u .1 .1 .1 .1 .0) (v .1 .1 .1 .1 .0)) (both (u .1 .1 .1 .1 .1 .0) (v .1 .1 .1 .1 .1 .0)) (both (u .1 .1 .1 .1 .1 .1 .0) (v .1 .1 .1 .1 .1 .1 .0))
       (both (u .1 .1 .1 .1 .1 .1 .1 .0) (v .1 .1 .1 .1 .1 .1 .1 .0)) (both (u .1 .1 .1 .1 .1 .1 .1 .1 .0) (v .1 .1 .1 .1 .1 .1 .1 .1 .0))
 
+  abbrev askBook : Book
+  askBook = bookAt (a .0) (a .1 .0) (a .1 .1 .0) (a .1 .1 .1 .0) (now (a .1 .1 .1 .1 .0)) askColumns
+
+  pub ask-by-host : ask-reads.Learnt κs a n e →
+      (let x = a .1 .1 .1 .1 .1 .1 .1 .1 .1 .1 .1 .1 .1 .1 in
+      ByHost askBook (Ask (x .0) (x .1 .0)) (record { refusal = n; count = 0; cancelled = 0; book = askBook; out = [] }))
+  ask-by-host p =
+      let x = a .1 .1 .1 .1 .1 .1 .1 .1 .1 .1 .1 .1 .1 .1 in
+      asks (a .1 .0) askBook (x .0) (x .1 .0) n (now (e .1 .1 .1 .1 .1 .1 .1 .1 .1 .1 .1 .1 .1 .1 .1 .1 .0)) p
+
+-- `day_commit`: ticket, day, phase, entries, turn, marks, nine columns, out, count
+module _ (κs : Lfts 5) (a : Dens κs commit-kinds.ps) (n : ℕ) (e : AtExit (endedOf 5 commit-kinds.ps commit-kinds.r) κs) where
+  abbrev commitColumns : Columns
+  commitColumns =
+      let u = a .1 .1 .1 .1 .1 .1 in
+      let v = e .1 .1 .1 .1 .1 .1 in
+      columns (both (u .0) (v .0)) (both (u .1 .0) (v .1 .0)) (both (u .1 .1 .0) (v .1 .1 .0)) (both (u .1 .1 .1 .0) (v .1 .1 .1 .0))
+      (both (u .1 .1 .1 .1 .0) (v .1 .1 .1 .1 .0)) (both (u .1 .1 .1 .1 .1 .0) (v .1 .1 .1 .1 .1 .0)) (both (u .1 .1 .1 .1 .1 .1 .0) (v .1 .1 .1 .1 .1 .1 .0))
+      (both (u .1 .1 .1 .1 .1 .1 .1 .0) (v .1 .1 .1 .1 .1 .1 .1 .0)) (both (u .1 .1 .1 .1 .1 .1 .1 .1 .0) (v .1 .1 .1 .1 .1 .1 .1 .1 .0))
+
   abbrev commitBook : Book
-  commitBook = bookAt (a .1 .0) (a .1 .1 .0) (a .1 .1 .1 .0) (now (a .1 .1 .1 .1 .0)) commitColumns
+  commitBook = bookAt (a .1 .0) (a .1 .1 .0) (a .1 .1 .1 .0) (a .1 .1 .1 .1 .0) (now (a .1 .1 .1 .1 .1 .0)) commitColumns
 
   pub commit-by-host : commit-reads.Learnt κs a n e →
-      (let x = a .1 .1 .1 .1 .1 .1 .1 .1 .1 .1 .1 .1 .1 .1 in
-      let y = e .1 .1 .1 .1 .1 .1 .1 .1 .1 .1 .1 .1 .1 .1 in
+      (let x = a .1 .1 .1 .1 .1 .1 .1 .1 .1 .1 .1 .1 .1 .1 .1 in
+      let y = e .1 .1 .1 .1 .1 .1 .1 .1 .1 .1 .1 .1 .1 .1 .1 in
       ByHost commitBook (Commit (ticketIn (now (a .0))) (now (x .0)))
-      (record { refusal = n; count = now (y .1 .0); cancelled = 0; book = withLifts commitBook (now (e .1 .1 .1 .1 .1 .1 .1 .0)); out = now (y .0) }))
+      (record { refusal = n; count = now (y .1 .0); cancelled = 0; book = withLifts commitBook (now (e .1 .1 .1 .1 .1 .1 .1 .1 .0)); out = now (y .0) }))
   commit-by-host p =
-      let x = a .1 .1 .1 .1 .1 .1 .1 .1 .1 .1 .1 .1 .1 .1 in
-      let y = e .1 .1 .1 .1 .1 .1 .1 .1 .1 .1 .1 .1 .1 .1 in
-      commits (a .1 .1 .0) commitBook (now (a .0)) (both (x .0) (y .0)) (both (a .1 .1 .1 .1 .1 .1 .1 .0) (e .1 .1 .1 .1 .1 .1 .1 .0)) n
+      let x = a .1 .1 .1 .1 .1 .1 .1 .1 .1 .1 .1 .1 .1 .1 .1 in
+      let y = e .1 .1 .1 .1 .1 .1 .1 .1 .1 .1 .1 .1 .1 .1 .1 in
+      commits (a .1 .1 .0) commitBook (now (a .0)) (both (x .0) (y .0)) (both (a .1 .1 .1 .1 .1 .1 .1 .1 .0) (e .1 .1 .1 .1 .1 .1 .1 .1 .0)) n
       (both (x .1 .0) (y .1 .0)) p

@@ -15,7 +15,7 @@ use Rattle.rules.specs.declared.Phase.the-variants.{Taking}
 use Rattle.rules.specs.declared.Ticket.{Ticket}
 use Rattle.rules.specs.Book.{orderOf, sound, withLifts}
 use Rattle.rules.specs.Questions.{Question, ask, firstNo}
-use Rattle.rules.specs.Calls.{Call, Trade, Close, Deliver, Ask, Commit, Cutoff, Resolve, PairOff, Roll, Mark, Answer, Effect, answer, lentTo, outputAsks, ownAsks, effect, called, ticketAnswer, ticketOf, asked, asks as allAsks}
+use Rattle.rules.specs.Calls.{Call, Trade, Close, Deliver, Ask, Commit, Cutoff, Resolve, PairOff, Roll, Mark, Turn as NameTurn, Answer, Effect, answer, lentTo, outputAsks, ownAsks, effect, called, ticketAnswer, ticketOf, asked, asks as allAsks}
 use Rattle.rules.specs.Run.{callOf}
 use Rattle.rules.specs.Tally.{State, Demand3}
 use Rattle.laws.proofs.Basics.{byTest, cond-true, and-left, and-right}
@@ -35,7 +35,7 @@ use Rattle.exports.proofs.Hosting.{of-kind}
 
 -- the numbers of a host's answer
 abbrev pub numbers : ℕ → ℕ → ℕ → Turn
-numbers n k x = record { refusal = n; count = k; cancelled = x; state = stateOf 0 Taking 0 [] }
+numbers n k x = record { refusal = n; count = k; cancelled = x; state = stateOf 0 Taking 0 0 [] }
 
 -- a call made through one of the three functions on the book in the lent columns, and what that gave, as its contract says;
 -- a kind that is none is fed as a call that was refused
@@ -113,6 +113,7 @@ numbered (Resolve i a x out) = omega arith
 numbered (PairOff i a) = tt
 numbered (Roll days rate quotes) = tt
 numbered (Mark i m) = tt
+numbered (NameTurn d) = tt
 
 -- an answer with a number leaves the book
 module _ (b : Book) (c : Call) (r : Answer) (out : List ℕ) (e : Effect) where

@@ -94,7 +94,7 @@ pub as-turned : (d : Answer) (p q : ℕ) (b : Book) (nets : List ℤ) (delivered
       phase = p;
       before = b;
       phaseAfter = q;
-      after = bookIn (stateOf (r .state .day) (phaseOf q) (r .state .entries) (r .state .marks)) nets delivered lifts charges issues froms tos lots days;
+      after = bookIn (stateOf (r .state .day) (phaseOf q) (r .state .entries) (r .state .turn) (r .state .marks)) nets delivered lifts charges issues froms tos lots days;
     })
     (r .refusal) (r .count) (r .cancelled) out
 as-turned d p q b nets delivered lifts charges issues froms tos lots days r out h e t =
@@ -103,7 +103,7 @@ as-turned d p q b nets delivered lifts charges issues froms tos lots days r out 
       count = t .count;
       cancelled = t .cancelled;
       book =
-          ap (λ u. bookIn (stateOf (r .state .day) u (r .state .entries) (r .state .marks)) nets delivered lifts charges issues froms tos lots days)
+          ap (λ u. bookIn (stateOf (r .state .day) u (r .state .entries) (r .state .turn) (r .state .marks)) nets delivered lifts charges issues froms tos lots days)
           (ap phaseOf e ∙ back (r .state .phase))
           ∙ t .book;
       stage = rw (le-leb p 2 h) (e ∙ ap (λ c. numberOf (c .phase)) (t .book));

@@ -1,4 +1,4 @@
--- A host's book is three numbers, sixteen marks and nine columns, and its answers are plain numbers.
+-- A host's book is four numbers, sixteen marks and nine columns, and its answers are plain numbers.
 use mathlib.Core.Path.{_≡_}
 use mathlib.Core.Bool.{Bool, cond, _&&_}
 use mathlib.Core.List.{List, [], _∷_}
@@ -17,9 +17,9 @@ use Rattle.inquiry.specs.Units.{unitWhere}
 use Rattle.dispatch.specs.Dispatch.{asksWhere, beside}
 use Rattle.exports.specs.Fields.{phaseOf, numberOf, isKind}
 
--- the book of three numbers, marks and columns
-abbrev pub bookAt : ℕ → ℕ → ℕ → List ℕ → Columns → Book
-bookAt day phase entries marks c = c .before (stateOf day (phaseOf phase) entries marks)
+-- the book of four numbers, marks and columns
+abbrev pub bookAt : ℕ → ℕ → ℕ → ℕ → List ℕ → Columns → Book
+bookAt day phase entries turn marks c = c .before (stateOf day (phaseOf phase) entries turn marks)
 
 -- a number above 2 is no phase: a book with it is damaged
 abbrev pub soundAt : ℕ → Book → Bool
@@ -62,16 +62,16 @@ pub record Host : Type 0 where
   pub phaseAfter : ℕ
   pub after : Book
 
-abbrev pub host : Place → Place → Place → Column ℕ → Columns → Host
-host day phase entries marks c =
+abbrev pub host : Place → Place → Place → Place → Column ℕ → Columns → Host
+host day phase entries turn marks c =
     record {
       phase = now (phase .entry);
-      before = c .before (stateOf (now (day .entry)) (phaseOf (now (phase .entry))) (now (entries .entry)) (now (marks .entry)));
+      before = c .before (stateOf (now (day .entry)) (phaseOf (now (phase .entry))) (now (entries .entry)) (now (turn .entry)) (now (marks .entry)));
       phaseAfter = now (phase .exit);
-      after = c .after (stateOf (now (day .exit)) (phaseOf (now (phase .exit))) (now (entries .exit)) (now (marks .exit)));
+      after = c .after (stateOf (now (day .exit)) (phaseOf (now (phase .exit))) (now (entries .exit)) (now (turn .exit)) (now (marks .exit)));
     }
 
--- a call of a kind: one that is none of 1 to 7 nor 13 is refused by 14; then come the call's questions
+-- a call of a kind: one that is none of 1 to 7, 13 and 14 is refused by 14; then come the call's questions
 unfoldable pub dayCalled : ℕ → ℕ → Book → Call → Answer
 dayCalled kind phase b c =
     answer (firstNo (ask 14 (isKind kind) ∷ asksWhere (soundAt phase b) b c)) b (lentTo c) (effect b c)

@@ -21,7 +21,7 @@ pub record ReadIs (d : ReadAnswer) (number : ℕ) (fields : List ℕ) (words : �
   pub instruction : fields ≡ fieldsIn (d .instruction)
   pub count : words ≡ d .count
 
--- an instruction of a kind, written: a kind that is none of 1 to 7 nor 13 fits no bits
+-- an instruction of a kind, written: a kind that is none of 1 to 7, 13 and 14 fits no bits
 unfoldable pub dayWritten : ℕ → Instruction → List ℕ → List ℕ → WriteAnswer
 dayWritten kind x quotes out =
     writeAnswer (firstNo (askOutput tapeWords out ∷ ask 15 (isKind kind && fieldsFit x quotes) ∷ [])) (wordsOf x quotes) out

@@ -16,6 +16,7 @@ pub extern "C" fn day_sound<'a>(
     day: u16,
     phase: u32,
     entries: usize,
+    turn: u32,
     marks: &'a [u8; 16],
     nets: &'a [i32],
     delivered: &'a [u32],
@@ -27,12 +28,12 @@ pub extern "C" fn day_sound<'a>(
     lots: &'a [u32],
     days: &'a [u16],
 ) -> u32
-    ensures { λ r. ⌜ r ≡ soundNumber phase (bookAt day phase entries (now (marks .entry)) (columns nets delivered lifts charges issues froms tos lots days)) ⌝ }
+    ensures { λ r. ⌜ r ≡ soundNumber phase (bookAt day phase entries turn (now (marks .entry)) (columns nets delivered lifts charges issues froms tos lots days)) ⌝ }
 {
     if 2 < phase {
         return 0;
     }
-    let s = state_of(day, phase, entries, *marks);
+    let s = state_of(day, phase, entries, turn, *marks);
     if soundness::sound(
         s,
         nets,
@@ -76,6 +77,7 @@ pub extern "C" fn day_unit<'a>(
     day: u16,
     phase: u32,
     entries: usize,
+    turn: u32,
     marks: &'a [u8; 16],
     nets: &'a [i32],
     delivered: &'a [u32],
@@ -90,12 +92,12 @@ pub extern "C" fn day_unit<'a>(
     k: u32,
     answer: &mut [u32; 3],
 ) -> u32
-    ensures { λ r. ⌜ UnitIs (dayUnit phase (bookAt day phase entries (now (marks .entry)) (columns nets delivered lifts charges issues froms tos lots days)) issue k) r (now (answer .exit)) ⌝ }
+    ensures { λ r. ⌜ UnitIs (dayUnit phase (bookAt day phase entries turn (now (marks .entry)) (columns nets delivered lifts charges issues froms tos lots days)) issue k) r (now (answer .exit)) ⌝ }
 {
     if 2 < phase {
         return told(Found::Refused(2), answer);
     }
-    let s = state_of(day, phase, entries, *marks);
+    let s = state_of(day, phase, entries, turn, *marks);
     let found = inquiry::unit(
         s,
         nets,
@@ -125,6 +127,7 @@ pub extern "C" fn day_call(
     day: &mut u16,
     phase: &mut u32,
     entries: &mut usize,
+    turn: &mut u32,
     marks: &mut [u8; 16],
     nets: &mut [i32],
     delivered: &mut [u32],
@@ -139,7 +142,7 @@ pub extern "C" fn day_call(
     count: &mut usize,
     cancelled: &mut u64,
 ) -> u32
-    ensures { λ r. ⌜ DayCalled kind (instructionOf kind a b c d) quotes out r count cancelled (host day phase entries marks (columns nets delivered lifts charges issues froms tos lots days)) ⌝ }
+    ensures { λ r. ⌜ DayCalled kind (instructionOf kind a b c d) quotes out r count cancelled (host day phase entries turn marks (columns nets delivered lifts charges issues froms tos lots days)) ⌝ }
 {
     *count = 0;
     *cancelled = 0;
@@ -155,7 +158,7 @@ pub extern "C" fn day_call(
     if 2 < stage {
         return 2;
     }
-    let s = state_of(*day, stage, *entries, *marks);
+    let s = state_of(*day, stage, *entries, *turn, *marks);
     let r = dispatch::call(
         x,
         quotes,
@@ -176,6 +179,7 @@ pub extern "C" fn day_call(
     let after = next.phase;
     *phase = number_of(after);
     *entries = next.entries;
+    *turn = next.turn;
     let marked = next.marks;
     *marks = marked;
     *count = r.count;

@@ -28,24 +28,24 @@ pub fn number_of(p: Phase) -> u32
     }
 }
 
-// The state of a host's three numbers and its marks.
-pub fn state_of(day: u16, phase: u32, entries: usize, marks: [u8; 16]) -> State
-    ensures { λ r. ⌜ r ≡ stateOf day (phaseOf phase) entries marks ⌝ }
+// The state of a host's four numbers and its marks.
+pub fn state_of(day: u16, phase: u32, entries: usize, turn: u32, marks: [u8; 16]) -> State
+    ensures { λ r. ⌜ r ≡ stateOf day (phaseOf phase) entries turn marks ⌝ }
 {
-    book::state_of(day, phase_of(phase), entries, marks)
+    book::state_of(day, phase_of(phase), entries, turn, marks)
 }
 
 // Is there an instruction of this kind?
 pub fn is_kind(kind: u32) -> bool
     ensures { λ r. ⌜ r ≡ isKind kind ⌝ }
 {
-    if kind == 13 {
+    if (13 <= kind) & (kind <= 14) {
         return true;
     }
     (1 <= kind) & (kind <= 7)
 }
 
-// The instruction of a kind of 1 to 7 or 13 and its fields.
+// The instruction of a kind of 1 to 7, 13 or 14 and its fields.
 pub fn instruction_of(kind: u32, a: u32, b: u32, c: u32, d: u32) -> Instruction
     ensures { λ r. ⌜ r ≡ instructionOf kind a b c d ⌝ }
 {
@@ -57,7 +57,8 @@ pub fn instruction_of(kind: u32, a: u32, b: u32, c: u32, d: u32) -> Instruction
         5 => Instruction::Close,
         6 => Instruction::Cutoff,
         7 => Instruction::Roll(a, b),
-        _ => Instruction::Mark(a, b),
+        13 => Instruction::Mark(a, b),
+        _ => Instruction::Turn(a),
     }
 }
 
@@ -74,5 +75,6 @@ pub fn fields(x: Instruction) -> [u32; 5]
         Instruction::Cutoff => [6, 0, 0, 0, 0],
         Instruction::Roll(days, rate) => [7, days, rate, 0, 0],
         Instruction::Mark(i, m) => [13, i, m, 0, 0],
+        Instruction::Turn(day) => [14, day, 0, 0, 0],
     }
 }

@@ -30,6 +30,7 @@ pub extern "C" fn day_ask<'a>(
     day: u16,
     phase: u32,
     entries: usize,
+    turn: u32,
     marks: &'a [u8; 16],
     nets: &'a [i32],
     delivered: &'a [u32],
@@ -44,12 +45,12 @@ pub extern "C" fn day_ask<'a>(
     unit: u32,
     ticket: &mut [u32; 6],
 ) -> u32
-    ensures { λ r. ⌜ AskIs (dayAsked phase (bookAt day phase entries (now (marks .entry)) (columns nets delivered lifts charges issues froms tos lots days)) issue unit) r (now (ticket .exit)) ⌝ }
+    ensures { λ r. ⌜ AskIs (dayAsked phase (bookAt day phase entries turn (now (marks .entry)) (columns nets delivered lifts charges issues froms tos lots days)) issue unit) r (now (ticket .exit)) ⌝ }
 {
     if 2 < phase {
         return ticket_out(Asked::Refused(2), ticket);
     }
-    let s = state_of(day, phase, entries, *marks);
+    let s = state_of(day, phase, entries, turn, *marks);
     let asked = dispatch::lifts::ask(
         s,
         nets,
@@ -88,6 +89,7 @@ pub extern "C" fn day_commit<'a>(
     day: u16,
     phase: u32,
     entries: usize,
+    turn: u32,
     marks: &'a [u8; 16],
     nets: &'a [i32],
     delivered: &'a [u32],
@@ -101,7 +103,7 @@ pub extern "C" fn day_commit<'a>(
     out: &mut [u32],
     count: &mut usize,
 ) -> u32
-    ensures { λ r. ⌜ DayCommitted phase (bookAt day phase entries (now (marks .entry)) (columns nets delivered lifts charges issues froms tos lots days)) (now (ticket .entry)) out lifts r count ⌝ }
+    ensures { λ r. ⌜ DayCommitted phase (bookAt day phase entries turn (now (marks .entry)) (columns nets delivered lifts charges issues froms tos lots days)) (now (ticket .entry)) out lifts r count ⌝ }
 {
     *count = 0;
     let t = ticket_in(ticket);
@@ -111,7 +113,7 @@ pub extern "C" fn day_commit<'a>(
     if 2 < phase {
         return 2;
     }
-    let s = state_of(day, phase, entries, *marks);
+    let s = state_of(day, phase, entries, turn, *marks);
     let r = dispatch::lifts::commit(
         t,
         s,

@@ -9,7 +9,7 @@ use Rattle.rules.specs.declared.Book.{Book}
 use Rattle.rules.specs.declared.Found.{Found}
 use Rattle.rules.specs.declared.Found.the-variants as found
 use Rattle.rules.specs.Units.{AccountLots}
-use Rattle.rules.specs.Book.{orderIn}
+use Rattle.rules.specs.Book.{orderIn, dealtToday}
 use Rattle.rules.specs.Calls.{foundAnswer, firstAnswer, unit}
 use Rattle.soundness.specs.Sound.{lengthsRight, soundIn}
 use Rattle.units.specs.Runs.{foundOf}
@@ -28,10 +28,10 @@ module _ (good : Bool) (b : Book) (i k : ℕ) where
   unfolding unitWhere
   refused-issue e h = rw (e, lt-leb i 15 h)
 
-  pub answered : (r : Found) → good ≡ true → i ≤ 15 → r ≡ foundOf (drop k (orderIn (b .nets) (b .lifts) i)) →
+  pub answered : (r : Found) (new : Bool) → good ≡ true → i ≤ 15 → new ≡ dealtToday b → r ≡ foundOf (drop k (orderIn new (b .nets) (b .lifts) i)) →
       foundAnswer r ≡ unitWhere good b i k
   unfolding unitWhere
-  answered r e h f = rw (e, le-leb i 15 h, f) (found-first (drop k (orderIn (b .nets) (b .lifts) i)))
+  answered r new e h t f = rw (e, le-leb i 15 h, f, t) (found-first (drop k (orderIn (dealtToday b) (b .nets) (b .lifts) i)))
 
 -- on columns of the right lengths it is the unit question of the book in them
 pub unit-in : (b : Book) (i k : ℕ) → lengthsRight b ≡ true → unitIn b i k ≡ unit b i k

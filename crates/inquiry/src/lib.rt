@@ -1,8 +1,9 @@
-// The unit question, on columns of any length and content.
+// The unit question in the order of the day, on columns of any length and content.
 use book::State;
 use rules::Found;
 use units::NextUnit;
 ghost use mathlib.Core.Path.{_≡_};
+ghost use mathlib.Core.Bool.{false};
 ghost use lib.ListN.{drop};
 ghost use Rattle.rules.specs.Book.{orderIn};
 ghost use Rattle.rules.specs.Calls.{foundAnswer};
@@ -10,10 +11,10 @@ ghost use Rattle.book.specs.States.{columns};
 ghost use Rattle.units.specs.Runs.{foundOf, CanOrder};
 ghost use Rattle.inquiry.specs.Units.{unitIn};
 
-// The k-th unit of an issue, from all nets and lifts.
+// The k-th unit of an issue in the order of old, from all nets and lifts.
 fn unit_of(nets: &[i32], lifts: &[u32], i: usize, k: u32) -> Found
     requires { ⌜ CanOrder (now nets) (now lifts) i ⌝ }
-    ensures { λ r. ⌜ r ≡ foundOf (drop k (orderIn (now (nets .entry)) (now (lifts .entry)) i)) ⌝ }
+    ensures { λ r. ⌜ r ≡ foundOf (drop k (orderIn false (now (nets .entry)) (now (lifts .entry)) i)) ⌝ }
 {
     let mut runs = [0u32; 144];
     let n = units::prepare(nets, lifts, i, &mut runs);
@@ -22,6 +23,17 @@ fn unit_of(nets: &[i32], lifts: &[u32], i: usize, k: u32) -> Found
         return Found::Nothing;
     };
     Found::Unit(a, x)
+}
+
+// The k-th unit of an issue, full units dealt in turn or not.
+fn unit_in(dealt: bool, nets: &[i32], lifts: &[u32], i: usize, k: u32) -> Found
+    requires { ⌜ CanOrder (now nets) (now lifts) i ⌝ }
+    ensures { λ r. ⌜ r ≡ foundOf (drop k (orderIn dealt (now (nets .entry)) (now (lifts .entry)) i)) ⌝ }
+{
+    if dealt {
+        return dealing::unit(nets, lifts, i, k);
+    }
+    unit_of(nets, lifts, i, k)
 }
 
 // The unit question, in any phase: the k-th unit of an issue, k from 0, or 'Nothing' exactly when k is
@@ -59,5 +71,5 @@ pub fn unit<'a>(
     if 15 < i {
         return Found::Refused(4);
     }
-    unit_of(nets, lifts, i as usize, k)
+    unit_in(book::dealt_today(s), nets, lifts, i as usize, k)
 }

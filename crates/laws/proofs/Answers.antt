@@ -14,7 +14,7 @@ use Rattle.rules.specs.declared.Instruction.the-variants as instruction
 use Rattle.rules.specs.Measures.{outputWords}
 use Rattle.rules.specs.Book.{sound}
 use Rattle.rules.specs.Questions.{Question, ask, firstNo, askOutput, askSound}
-use Rattle.rules.specs.Calls.{Call, Trade, Close, Deliver, Ask, Commit, Cutoff, Resolve, PairOff, Roll, Mark, Answer, Effect, answer, lentTo, HasRoom, ownAsks, asks, effect, called}
+use Rattle.rules.specs.Calls.{Call, Trade, Close, Deliver, Ask, Commit, Cutoff, Resolve, PairOff, Roll, Mark, Turn, Answer, Effect, answer, lentTo, HasRoom, ownAsks, asks, effect, called}
 use Rattle.rules.specs.Run.{callOf}
 
 -- The first 'no' of a list
@@ -91,6 +91,7 @@ numbered b (Resolve i a x out) = omega arith
 numbered b (PairOff i a) = omega arith
 numbered b (Roll days rate quotes) = omega arith
 numbered b (Mark i m) = omega arith
+numbered b (Turn d) = omega arith
 
 -- a property of a call's answer: of what it does where all is answered 'yes', and of every refusal
 pub by-answer : (P : Answer → Type 0) (b : Book) (c : Call) → (AllYes (asks b c) → P (answer 0 b (lentTo c) (effect b c))) →
@@ -110,6 +111,7 @@ has-room instruction.Close quotes out h = refl
 has-room instruction.Cutoff quotes out h = said-yes 1 (leb outputWords (length out)) [] (le-leb outputWords (length out) h)
 has-room (instruction.Roll days rate) quotes out h = refl
 has-room (instruction.Mark i m) quotes out h = refl
+has-room (instruction.Turn d) quotes out h = refl
 
 -- and a call that is lent one had room in it
 pub room-in : (out : List ℕ) → firstNo (askOutput outputWords out ∷ []) ≡ 0 → outputWords ≤ length out
@@ -126,6 +128,7 @@ room b (Resolve i a x out) h = said-yes 1 (leb outputWords (length out)) (askSou
 room b (PairOff i a) h = refl
 room b (Roll days rate quotes) h = refl
 room b (Mark i m) h = refl
+room b (Turn d) h = refl
 
 -- a sound book and enough room leave the call's own questions
 pub own-first : (b : Book) (c : Call) → HasRoom c → sound b ≡ true → firstNo (asks b c) ≡ firstNo (ownAsks b c)

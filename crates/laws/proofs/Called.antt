@@ -15,12 +15,12 @@ use Rattle.rules.specs.Measures.{quoteCount, mostLots, mostDays, mostRate, betw
 use Rattle.rules.specs.Handover.{covered}
 use Rattle.rules.specs.Book.{deliveredTotal, orderOf, ledgerOf, liftConditions, liftsSound, cellsEven, sound, conditions, withNets, withPhase, fresh}
 use Rattle.rules.specs.Questions.{quotesRight, noNet, noEntry}
-use Rattle.rules.specs.Calls.{Call, Trade, Close, Deliver, Ask, Commit, Cutoff, Resolve, PairOff, Roll, Mark, Answer, tradedNets, lentTo, asks, effect, called}
+use Rattle.rules.specs.Calls.{Call, Trade, Close, Deliver, Ask, Commit, Cutoff, Resolve, PairOff, Roll, Mark, Turn, Answer, tradedNets, lentTo, asks, effect, called}
 use Rattle.laws.proofs.Basics.{and-left, and-right}
 use Rattle.laws.proofs.Sound.{SoundBook, lots-parts, sound-parts, parts-sound}
 use Rattle.laws.proofs.Answers.{AllYes, by-answer}
 use Rattle.laws.proofs.Charges.{charged-length, quotes-most}
-use Rattle.laws.proofs.Kept.{trade-kept, close-kept, deliver-kept, commit-kept, cutoff-kept, resolve-kept, pair-off-kept, roll-kept, mark-kept}
+use Rattle.laws.proofs.Kept.{trade-kept, close-kept, deliver-kept, commit-kept, cutoff-kept, resolve-kept, pair-off-kept, roll-kept, mark-kept, turn-kept}
 
 -- as a book's fields are
 pub record Sizes (b : Book) : Type 0 where
@@ -109,6 +109,7 @@ keeps b (Mark i m) y s =
     as-before b (effect b (Mark i m) .book) s (refl, refl, refl, refl)
     (mark-kept b (s .sizes .nets) (s .sizes .delivered) (s .parts) i m (omega (arith, leb-true i 15 (y .1 .0)))
     (and-left c₁ c₂ (y .1 .1 .0)) (and-right c₁ c₂ (y .1 .1 .0)))
+keeps b (Turn d) y s = as-before b (effect b (Turn d) .book) s (refl, refl, refl, refl) (turn-kept b (s .parts) d (y .1 .0))
 
 pub stands : (b : Book) (c : Call) → Standing b → Standing (called b c .book)
 stands b c s = by-answer (λ r. Standing (r .book)) b c (λ y. keeps b c y s) (λ r. s)

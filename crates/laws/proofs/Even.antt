@@ -1,17 +1,20 @@
 -- Even lots: of even nets and delivered lots the units, the stock and the fails of an issue are even, in any order.
-use mathlib.Core.Path.{refl}
+use mathlib.Core.Path.{refl, sym}
+use mathlib.Core.Bool.{Bool}
 use mathlib.Core.List.{List, [], _∷_, map}
 use Prim.Native.Nat.{ℕ, suc, _-_, min}
 use native.Mathlib.Omega.{arith}
 use lib.Dec.{leb}
 use lib.IntN.{ℤ, pos, negsuc, natAbs, _+ℤ_, _-ℤ_}
 use Rattle.rules.specs.Measures.{total, sum, dueOf, owedOf, unitLots}
-use Rattle.rules.specs.Units.{AccountLots, byAccount, largestFirst, receivers, units, unitsOfNets}
+use Rattle.rules.specs.Units.{AccountLots, byAccount, largestFirst, receivers, units}
 use Rattle.rules.specs.Handover.{covered, stock, waiting}
 use Rattle.rules.specs.Lifts.{Lift, lift, lifted}
 use Rattle.rules.specs.Fails.{Fail, isFullOf, fullLots, withoutFulls, stretches, takeLots, dropLots, lacks, undelivered, shortfalls, failOf, overlaps, fails}
-use Rattle.rules.specs.Book.{row, liftsAt, orderIn}
+use Rattle.rules.specs.Dealt.{dealt}
+use Rattle.rules.specs.Book.{row, liftsAt, unitsBy, orderIn}
 use Rattle.laws.proofs.Basics.{either, Every, every-of, each-map, each-append, each-drop, each-put}
+use Rattle.laws.proofs.Dealt.{dealt-lots, each-by-lots}
 use Rattle.laws.proofs.Units.{each-fulls, each-smalls, each-units}
 use Rattle.laws.proofs.Lifts.{each-lift}
 use Rattle.laws.proofs.Fails.{each-of-map}
@@ -77,11 +80,13 @@ lifted-even : (ls : List Lift) (us : List AccountLots) → Every EvenLots us →
 lifted-even [] us h = h
 lifted-even (l ∷ ls) us h = lifted-even ls (lift l us) (each-lift EvenLots l us h)
 
-pub order-even : (nets : List ℤ) (lifts : List ℕ) (i : ℕ) → Every EvenNet (row i nets) → Every EvenLots (orderIn nets lifts i)
+pub order-even : (new : Bool) (nets : List ℤ) (lifts : List ℕ) (i : ℕ) → Every EvenNet (row i nets) → Every EvenLots (orderIn new nets lifts i)
 unfolding orderIn
-order-even nets lifts i h =
-    lifted-even (liftsAt lifts i) (unitsOfNets unitLots (row i nets))
-    (units-even (map dueOf (row i nets)) (each-of-map Even dueOf (row i nets) (each-map EvenNet (λ n. Even (dueOf n)) due-even (row i nets) h)))
+order-even new nets lifts i h =
+    let dues = map dueOf (row i nets) in
+    let es = units-even dues (each-of-map Even dueOf (row i nets) (each-map EvenNet (λ n. Even (dueOf n)) due-even (row i nets) h)) in
+    lifted-even (liftsAt lifts i) (unitsBy new (row i nets))
+    (either (Every EvenLots) new (each-by-lots Even (units unitLots dues) (dealt unitLots dues) (sym (dealt-lots dues)) es) es)
 
 -- Stock, what units lack, and fails
 

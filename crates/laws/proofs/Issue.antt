@@ -2,7 +2,7 @@
 -- and what was delivered and is failed exactly what each deliverer owes; each fail is a sound entry, and
 -- each record fits its words.
 use mathlib.Core.Path.{_≡_, sym, _∙_}
-use mathlib.Core.Bool.{true}
+use mathlib.Core.Bool.{Bool, true}
 use mathlib.Core.List.{List, [], _∷_, map}
 use Prim.Native.Nat.{ℕ, _+_, _-_, _≤_, _<_}
 use native.Mathlib.Omega.{arith}
@@ -14,7 +14,7 @@ use Rattle.rules.specs.Measures.{unitLots, mostLots, total, dueOf, owedOf}
 use Rattle.rules.specs.Units.{AccountLots, sumLots, ofAccount}
 use Rattle.rules.specs.Handover.{covered, handed, waiting, firstUnit}
 use Rattle.rules.specs.Fails.{Fail}
-use Rattle.rules.specs.Book.{row, cell, netAt, deliveredAt, duesOf, deliveredTotal, orderIn, orderOf, withinOwed}
+use Rattle.rules.specs.Book.{row, cell, netAt, deliveredAt, duesOf, deliveredTotal, orderIn, orderOf, withinOwed, dealtToday}
 use Rattle.rules.specs.Records.{handover, recordOf}
 use Rattle.rules.specs.Calls.{issuePartials, issueFails, failEntry, issueEntries, issueRecords}
 use Rattle.laws.proofs.Basics.{Every, each-append, each-map, each-zip, each-drop}
@@ -32,11 +32,11 @@ unit-fits : (i n : ℕ) → i < 16 → n ≡ 64 → (u : AccountLots) → UnitSi
 unit-fits i n hi e u s a =
     record { kind = lit< tt; issue = hi; from = lit< tt; to = omega arith; lots = omega (arith, s .1) }
 
-pub units-fit : (nets : List ℤ) (lifts : List ℕ) (i : ℕ) → i < 16 → length nets ≡ 1024 → Every (λ u. Fits (handover i u)) (orderIn nets lifts i)
-units-fit nets lifts i hi n =
-    let k = order-in nets lifts i in
+pub units-fit : (new : Bool) (nets : List ℤ) (lifts : List ℕ) (i : ℕ) → i < 16 → length nets ≡ 1024 → Every (λ u. Fits (handover i u)) (orderIn new nets lifts i)
+units-fit new nets lifts i hi n =
+    let k = order-in new nets lifts i in
     each-zip UnitSized (λ u. u .account < length (duesOf nets i)) (λ u. Fits (handover i u))
-    (unit-fits i (length (duesOf nets i)) hi (length-dues nets i n hi)) (orderIn nets lifts i) (k .sized) (k .accounts)
+    (unit-fits i (length (duesOf nets i)) hi (length-dues nets i n hi)) (orderIn new nets lifts i) (k .sized) (k .accounts)
 
 -- delivered lots within what is owed sum to at most the units
 pub within-units : (b : Book) → SoundBook b → (i : ℕ) → i < 16 → length (b .nets) ≡ 1024 →
@@ -48,7 +48,7 @@ within-units b g i hi n ds m w =
       balance = parts-balanced (row i (b .nets)) (g .rows i hi);
       owed = within-row i (b .nets) ds w;
     } in
-    omega (arith, delivered-due (row i (b .nets)) (row i ds) r, order-in (b .nets) (b .lifts) i .whole)
+    omega (arith, delivered-due (row i (b .nets)) (row i ds) r, order-in (dealtToday b) (b .nets) (b .lifts) i .whole)
 
 module _ (b : Book) (g : SoundBook b) (n : length (b .nets) ≡ 1024) (m : length (b .delivered) ≡ 1024) (i : ℕ) (hi : i < 16) where
   abbrev us : List AccountLots
@@ -58,10 +58,10 @@ module _ (b : Book) (g : SoundBook b) (n : length (b .nets) ≡ 1024) (m : lengt
   d = deliveredTotal (b .delivered) i
 
   abbrev fs : List Fail
-  fs = issueFails (orderIn (b .nets) (b .lifts)) (b .nets) (b .delivered) i
+  fs = issueFails (orderOf b) (b .nets) (b .delivered) i
 
   pub delivered-units : d ≤ sumLots us
-  delivered-units = omega (arith, total-due b g n m i hi, order-in (b .nets) (b .lifts) i .whole)
+  delivered-units = omega (arith, total-due b g n m i hi, order-in (dealtToday b) (b .nets) (b .lifts) i .whole)
 
   -- delivered and failed by an account are what it owes
   pub owed-out : (a : ℕ) → a < 64 → deliveredAt (b .delivered) i a + total (lotsFrom a) fs ≡ owedOf (netAt (b .nets) i a)
@@ -69,7 +69,7 @@ module _ (b : Book) (g : SoundBook b) (n : length (b .nets) ≡ 1024) (m : lengt
   owed-out a ha =
       omega (
         arith,
-        fails-from (row i (b .nets)) (row i (b .delivered)) us (order-in (b .nets) (b .lifts) i) (sound-row b g n m i hi) unitLots a,
+        fails-from (row i (b .nets)) (row i (b .delivered)) us (order-in (dealtToday b) (b .nets) (b .lifts) i) (sound-row b g n m i hi) unitLots a,
         owed-at (b .nets) i a ha,
         getD-row (b .delivered) i a 0 ha,
         within-at (b .nets) (b .delivered) (cell i a) (n ∙ sym m) (g .owed),
@@ -77,15 +77,15 @@ module _ (b : Book) (g : SoundBook b) (n : length (b .nets) ≡ 1024) (m : lengt
 
   -- handed and failed to an account are its due
   pub due-in : (a : ℕ) → a < 64 →
-      total (ofAccount a) (handed us d) + total (ofAccount a) (issuePartials (orderIn (b .nets) (b .lifts)) (b .delivered) i) + total (lotsTo a) fs
+      total (ofAccount a) (handed us d) + total (ofAccount a) (issuePartials (orderOf b) (b .delivered) i) + total (lotsTo a) fs
       ≡ dueOf (netAt (b .nets) i a)
   unfolding issueFails issuePartials
   due-in a ha =
-      fails-to (row i (b .nets)) (row i (b .delivered)) us (order-in (b .nets) (b .lifts) i) (sound-row b g n m i hi) unitLots a
+      fails-to (row i (b .nets)) (row i (b .delivered)) us (order-in (dealtToday b) (b .nets) (b .lifts) i) (sound-row b g n m i hi) unitLots a
       ∙ due-at (b .nets) i a ha
 
   -- each fail is a sound entry
-  pub entries-sound : (today : ℕ) → Every SoundEntry (issueEntries today (orderIn (b .nets) (b .lifts)) (b .nets) (b .delivered) i)
+  pub entries-sound : (today : ℕ) → Every SoundEntry (issueEntries today (orderOf b) (b .nets) (b .delivered) i)
   entries-sound today =
       let ns = row i (b .nets) in
       let l = length-row (b .nets) i n hi in
@@ -105,7 +105,7 @@ module _ (b : Book) (g : SoundBook b) (n : length (b .nets) ≡ 1024) (m : lengt
   first-account [] q = lit< tt
   first-account (w ∷ ws) q = q .0 .to
 
-  partials-fit : Every (λ u. Fits (handover i u)) (issuePartials (orderIn (b .nets) (b .lifts)) (b .delivered) i)
+  partials-fit : Every (λ u. Fits (handover i u)) (issuePartials (orderOf b) (b .delivered) i)
   unfolding issuePartials
   partials-fit =
       let q = stock-small b g n m i hi in
@@ -114,15 +114,15 @@ module _ (b : Book) (g : SoundBook b) (n : length (b .nets) ≡ 1024) (m : lengt
         kind = lit< tt;
         issue = hi;
         from = lit< tt;
-        to = first-account (waiting us d) (each-drop (λ u. Fits (handover i u)) (covered us d) us (units-fit (b .nets) (b .lifts) i hi n));
+        to = first-account (waiting us d) (each-drop (λ u. Fits (handover i u)) (covered us d) us (units-fit (dealtToday b) (b .nets) (b .lifts) i hi n));
         lots = omega arith;
       })
 
   -- the issue's records fit their words
-  pub records-fit : (today : ℕ) → Every Fits (issueRecords today (orderIn (b .nets) (b .lifts)) (b .nets) (b .delivered) i)
+  pub records-fit : (today : ℕ) → Every Fits (issueRecords today (orderOf b) (b .nets) (b .delivered) i)
   records-fit today =
-      let es = issueEntries today (orderIn (b .nets) (b .lifts)) (b .nets) (b .delivered) i in
-      each-append Fits (map (handover i) (issuePartials (orderIn (b .nets) (b .lifts)) (b .delivered) i)) (map (recordOf 12) es)
-      (each-of-map Fits (handover i) (issuePartials (orderIn (b .nets) (b .lifts)) (b .delivered) i) partials-fit)
+      let es = issueEntries today (orderOf b) (b .nets) (b .delivered) i in
+      each-append Fits (map (handover i) (issuePartials (orderOf b) (b .delivered) i)) (map (recordOf 12) es)
+      (each-of-map Fits (handover i) (issuePartials (orderOf b) (b .delivered) i) partials-fit)
       (each-of-map Fits (recordOf 12) es
       (each-map SoundEntry (λ e. Fits (recordOf 12 e)) (entry-fits 12 (lit< tt)) es (entries-sound today)))

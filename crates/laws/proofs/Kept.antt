@@ -1,16 +1,16 @@
 -- Each accepted call keeps the book sound. What a call changes is shown sound anew; the rest is as it
 -- was, and the ledger's part goes by its columns alone.
-use mathlib.Core.Path.{_≡_, refl, ap}
-use mathlib.Core.Bool.{true, _&&_, false≢true}
+use mathlib.Core.Path.{_≡_, refl, ap, sym, _∙_, subst}
+use mathlib.Core.Bool.{true, _&&_, false≢true, not, false}
 use mathlib.Core.List.{List, [], _∷_, _++_, map}
 use Prim.Native.Nat.{ℕ, _+_, _*_, _≤_, _<_}
 use native.Mathlib.Omega.{arith}
 use native.Mathlib.Nat.{le-trans}
-use lib.Dec.{eqb}
+use lib.Dec.{eqb, ltb}
 use lib.ListN.{length, getD, set, drop, replicate, length-append, length-set}
 use lib.Seq.{getD-set-other}
 use lib.IntN.{ℤ, pos, natAbs, _+ℤ_, _-ℤ_}
-use borrow.Author.Tests.{leb-true, eqb-true, eqb-false}
+use borrow.Author.Tests.{leb-true, eqb-true, eqb-false, lt-leb, ltb-true, not-true}
 use Rattle.rules.specs.declared.Book.{Book}
 use Rattle.rules.specs.declared.Phase.{Phase}
 use Rattle.rules.specs.declared.Phase.the-variants.{Taking, Settling, Cut}
@@ -19,13 +19,13 @@ use Rattle.rules.specs.Measures.{mostLots, mostEntries, mostCharge, mostDays, m
 use Rattle.rules.specs.Handover.{covered}
 use Rattle.rules.specs.Fails.{Fail}
 use Rattle.rules.specs.Ledger.{isFrom, meet, pairing, charged}
-use Rattle.rules.specs.Book.{isTaking, isSettling, isZero, row, cell, netAt, deliveredAt, deliveredTotal, liftNumber, orderIn, orderOf, ledgerOf, withinSize, isMarked, withPhase, withMarks, withNets, withDelivered, withLifts, withLedger}
+use Rattle.rules.specs.Book.{isTaking, isSettling, isZero, row, cell, netAt, deliveredAt, deliveredTotal, liftNumber, orderIn, orderOf, dealtToday, ledgerOf, withinSize, isMarked, withPhase, withMarks, withNets, withDelivered, withLifts, withLedger, inForce, withTurn}
 use Rattle.rules.specs.Questions.{noNet, noEntry}
 use Rattle.rules.specs.Calls.{tradedNets, raisedDelivered, raisedCount, commitLift, withLift, failEntry, issueEntries, issueFails, newEntries, rolled, markedAs}
 use Rattle.laws.proofs.Basics.{byTest, and-left, and-right, all-replicate, Every, each-append, each-map, each-take, each-drop, each-replicate}
 use Rattle.laws.proofs.Signed.{rises, falls}
 use Rattle.laws.proofs.Cells.{length-row, total-set, each-set, within-set, within-zeros}
-use Rattle.laws.proofs.Sound.{SoundEntry, Even, EvenEntry, SoundBook}
+use Rattle.laws.proofs.Sound.{SoundEntry, Even, EvenEntry, SoundBook, SoundLifts}
 use Rattle.laws.proofs.LiftsKept.{lifts-taking, lifts-later, lifts-delivered, lifts-committed, lifts-none}
 use Rattle.laws.proofs.MarksKept.{traded-row, traded-other, even-traded, even-delivered, even-none, meet-even, pairing-even, new-even, even-marked, entries-marked}
 use Rattle.laws.proofs.Lowering.{issue-from}
@@ -84,7 +84,7 @@ trade-kept b n g i f c x hi hf hc ne ph hx sm =
       ledger = g .ledger;
       balance = g .balance;
       bounded = g .bounded;
-      lifts = λ j hj. lifts-taking (b .phase) (orderOf b j) (orderIn (tradedNets ns i f c x) (b .lifts) j) (deliveredTotal (b .delivered) j) (b .lifts) j ph (g .lifts j hj);
+      lifts = λ j hj. lifts-taking (b .phase) (orderOf b j) (orderIn (dealtToday b) (tradedNets ns i f c x) (b .lifts) j) (deliveredTotal (b .delivered) j) (b .lifts) j ph (g .lifts j hj);
       even = λ j hj. even-traded (b .marks) ns (b .delivered) i f c x hf hc hx j (g .even j hj);
       evenEntries = g .evenEntries;
     }
@@ -121,7 +121,7 @@ deliver-kept b m n g i a x hi ha hx ph hv o = record {
   ledger = g .ledger;
   balance = g .balance;
   bounded = g .bounded;
-  lifts = λ j hj. lifts-delivered (b .phase) (b .nets) (b .delivered) (b .lifts) i a x m n hi ha hx j (g .lifts j hj);
+  lifts = λ j hj. lifts-delivered (dealtToday b) (b .phase) (b .nets) (b .delivered) (b .lifts) i a x m n hi ha hx j (g .lifts j hj);
   even = λ j hj. even-delivered (b .marks) (b .nets) (b .delivered) i a x ha hv j (g .even j hj);
   evenEntries = g .evenEntries;
 }
@@ -141,7 +141,7 @@ commit-kept b n g t hi ph h l few = record {
   balance = g .balance;
   bounded = g .bounded;
   lifts = λ j hj.
-      lifts-committed (b .phase) (b .nets) (b .delivered) (b .lifts) (t .issue) (t .unit) n hi few h l (not-taking (b .phase) ph) j (g .lifts j hj);
+      lifts-committed (dealtToday b) (b .phase) (b .nets) (b .delivered) (b .lifts) (t .issue) (t .unit) n hi few h l (not-taking (b .phase) ph) j (g .lifts j hj);
   even = g .even;
   evenEntries = g .evenEntries;
 }
@@ -187,7 +187,7 @@ module _ (b : Book) (n : length (b .nets) ≡ 1024) (m : length (b .delivered) �
       (rw (length-append (ledgerOf b) new, length-ledger b) few)
       (each-append SoundEntry (ledgerOf b) new (g .ledger .each) new-sound)
       (days-append 0 (b .day) (ledgerOf b) new (g .ledger .days) new-today)
-      (each-append (EvenEntry (b .marks)) (ledgerOf b) new (g .evenEntries) (new-even (b .marks) (b .day) (b .nets) (b .delivered) (b .lifts) (g .even))) in
+      (each-append (EvenEntry (b .marks)) (ledgerOf b) new (g .evenEntries) (new-even (b .marks) (dealtToday b) (b .day) (b .nets) (b .delivered) (b .lifts) (g .even))) in
       record {
         size = r .size;
         rows = r .rows;
@@ -234,7 +234,7 @@ roll-kept b n g days rate quotes hd hr hp =
           (λ c. natAbs c ≤ mostCharge * (b .day + 1)) (λ c q. omega (arith, q, l, f .count))
           (charged days rate quotes (ledgerOf b) (b .charges))
           (charged-most days rate quotes (ledgerOf b) (b .charges) (mostCharge * b .day) hd hr hp (f .each) (g .bounded));
-      lifts = λ j hj. lifts-none Taking (orderIn (replicate 1024 (pos 0)) (replicate 288 0) j) (deliveredTotal (replicate 1024 0) j) j 288;
+      lifts = λ j hj. lifts-none Taking (orderIn _ (replicate 1024 (pos 0)) (replicate 288 0) j) (deliveredTotal (replicate 1024 0) j) j 288;
       even = λ j hj. even-none (b .marks) 1024 1024 j;
       evenEntries = g .evenEntries;
     }
@@ -254,4 +254,30 @@ mark-kept b n d g i m hi h k = record {
   lifts = g .lifts;
   even = λ j hj. even-marked (b .marks) (b .nets) (b .delivered) i m hi n d (g .owed) h j (g .even j hj);
   evenEntries = entries-marked (b .marks) i m (ledgerOf b) k (g .evenEntries);
+}
+
+-- Turn: a day that has not come changes no order today
+
+not-yet : (d today : ℕ) → today < d → inForce d today ≡ false
+not-yet d today h = byTest (ltb 0 d) (λ e. simp (e, lt-leb d today h)) (λ e. simp e)
+
+pub turn-same : (turn today d : ℕ) → ltb today d && not (inForce turn today) ≡ true → inForce d today ≡ inForce turn today
+turn-same turn today d h =
+    not-yet d today (ltb-true today d (and-left (ltb today d) (not (inForce turn today)) h))
+    ∙ sym (not-true (inForce turn today) (and-right (ltb today d) (not (inForce turn today)) h))
+
+pub turn-kept : (b : Book) → SoundBook b → (d : ℕ) → ltb (b .day) d && not (dealtToday b) ≡ true → SoundBook (withTurn b d)
+turn-kept b g d h = record {
+  size = g .size;
+  rows = g .rows;
+  owed = g .owed;
+  taking = g .taking;
+  ledger = g .ledger;
+  balance = g .balance;
+  bounded = g .bounded;
+  lifts = λ j hj.
+      subst (λ new. SoundLifts (b .phase) (orderIn new (b .nets) (b .lifts) j) (deliveredTotal (b .delivered) j) (b .lifts) j)
+      (sym (turn-same (b .turn) (b .day) d h)) (g .lifts j hj);
+  even = g .even;
+  evenEntries = g .evenEntries;
 }

@@ -12,6 +12,8 @@ pub mod Ranking
 pub mod Cutoff
 pub mod Orders
 pub mod Lifts
+pub mod Dealt
+pub mod DealtStretches
 pub mod Room
 pub mod Signed
 pub mod Cells
@@ -33,4 +35,5 @@ pub mod LiftsKept
 pub mod MarksKept
 pub mod Kept
 pub mod Called
+pub mod Carried
 pub mod Scans

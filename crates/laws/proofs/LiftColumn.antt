@@ -1,6 +1,7 @@
 -- The column of lifts: what a delivery's count and a commit's lift do to an issue's words and to others', and so to the
 -- lifts that stand and to the order.
 use mathlib.Core.Path.{_≡_, refl, ap, _∙_}
+use mathlib.Core.Bool.{Bool}
 use mathlib.Core.List.{List, [], _∷_, _++_}
 use Prim.Native.Nat.{ℕ, zero, suc, _+_, _*_, _<_}
 use native.Mathlib.Omega.{arith}
@@ -10,9 +11,9 @@ use lib.ListN.{length, getD, set, drop, replicate, length-set, length-drop}
 use lib.Seq.{drop-set-add, drop-set-lt, getD-set-other, getD-set-same}
 use borrow.Author.Tests.{eqb-true, eqb-false}
 use Rattle.rules.specs.Measures.{unitLots}
-use Rattle.rules.specs.Units.{AccountLots, unitsOfNets}
+use Rattle.rules.specs.Units.{AccountLots}
 use Rattle.rules.specs.Lifts.{Lift, liftOf, lift, lifted}
-use Rattle.rules.specs.Book.{block, row, liftCell, liftNumber, countAt, placesIn, liftsAt, orderIn}
+use Rattle.rules.specs.Book.{block, row, liftCell, liftNumber, countAt, placesIn, liftsAt, unitsBy, orderIn}
 use Rattle.rules.specs.Calls.{raisedCount, withLift}
 use Rattle.laws.proofs.Basics.{byTest, Every, each-take, each-drop, each-replicate}
 use Rattle.laws.proofs.Cells.{length-block, block-same, block-other}
@@ -32,15 +33,15 @@ pub length-lift-words : (lifts : List ℕ) (i : ℕ) → length lifts ≡ 288 �
 length-lift-words lifts i h k = length-block 18 lifts i (omega arith)
 
 -- an issue's words alone say its lifts, and so its order
-pub same-words : (lifts lifts′ : List ℕ) (j : ℕ) (nets : List ℤ) → block 18 j lifts′ ≡ block 18 j lifts → orderIn nets lifts′ j ≡ orderIn nets lifts j
+pub same-words : (new : Bool) (lifts lifts′ : List ℕ) (j : ℕ) (nets : List ℤ) → block 18 j lifts′ ≡ block 18 j lifts → orderIn new nets lifts′ j ≡ orderIn new nets lifts j
 unfolding orderIn
-same-words lifts lifts′ j nets e =
-    ap (λ ws. lifted (placesIn (getD ws 0 0) (drop 2 ws)) (unitsOfNets unitLots (row j nets))) e
+same-words new lifts lifts′ j nets e =
+    ap (λ ws. lifted (placesIn (getD ws 0 0) (drop 2 ws)) (unitsBy new (row j nets))) e
 
 -- and with the same lifts the order is the same
-pub same-lifts : (lifts lifts′ : List ℕ) (j : ℕ) (nets : List ℤ) → liftsAt lifts′ j ≡ liftsAt lifts j → orderIn nets lifts′ j ≡ orderIn nets lifts j
+pub same-lifts : (new : Bool) (lifts lifts′ : List ℕ) (j : ℕ) (nets : List ℤ) → liftsAt lifts′ j ≡ liftsAt lifts j → orderIn new nets lifts′ j ≡ orderIn new nets lifts j
 unfolding orderIn
-same-lifts lifts lifts′ j nets e = ap (λ ls. lifted ls (unitsOfNets unitLots (row j nets))) e
+same-lifts new lifts lifts′ j nets e = ap (λ ls. lifted ls (unitsBy new (row j nets))) e
 
 -- A delivery's count
 
@@ -76,8 +77,8 @@ module _ (lifts : List ℕ) (i : ℕ) where
       ))
       (λ e. ap (λ ws. placesIn (getD ws 0 0) (drop 2 ws)) (raised-other j (eqb-false j i e)))
 
-  pub raised-order : (nets : List ℤ) (j : ℕ) → orderIn nets (raisedCount lifts i) j ≡ orderIn nets lifts j
-  raised-order nets j = same-lifts lifts (raisedCount lifts i) j nets (raised-lifts j)
+  pub raised-order : (new : Bool) (nets : List ℤ) (j : ℕ) → orderIn new nets (raisedCount lifts i) j ≡ orderIn new nets lifts j
+  raised-order new nets j = same-lifts new lifts (raisedCount lifts i) j nets (raised-lifts j)
 
 -- A commit's lift
 
@@ -172,11 +173,11 @@ module _ (lifts : List ℕ) (i : ℕ) (l : Lift) (few : liftNumber lifts i < 8) 
         ∙ places-more n (drop 2 words) (l .old) (l .new) (rw length-drop (omega (arith, long)))
 
     -- so the order is lifted once more
-    pub lift-in-order : (nets : List ℤ) → orderIn nets (withLift lifts i l) i ≡ lift l (orderIn nets lifts i)
+    pub lift-in-order : (new : Bool) (nets : List ℤ) → orderIn new nets (withLift lifts i l) i ≡ lift l (orderIn new nets lifts i)
     unfolding orderIn
-    lift-in-order nets =
-        ap (λ ls. lifted ls (unitsOfNets unitLots (row i nets))) lift-lifts
-        ∙ lifted-last (liftsAt lifts i) l (unitsOfNets unitLots (row i nets))
+    lift-in-order new nets =
+        ap (λ ls. lifted ls (unitsBy new (row i nets))) lift-lifts
+        ∙ lifted-last (liftsAt lifts i) l (unitsBy new (row i nets))
 
 -- A column of zeros has no lift, and counts none
 

@@ -1,6 +1,6 @@
 -- Each accepted call keeps an issue's lifts sound, beside its order and its delivered total.
 use mathlib.Core.Path.{_≡_, refl}
-use mathlib.Core.Bool.{true}
+use mathlib.Core.Bool.{Bool, true}
 use mathlib.Core.List.{List, [], _∷_, _++_}
 use Prim.Native.Nat.{ℕ, _+_, _≤_, _<_}
 use native.Mathlib.Omega.{arith}
@@ -51,20 +51,20 @@ lifts-more p us d x lifts i n hi hx s =
       count = rw (e, raised-count lifts i n hi) (omega (arith, s .count));
     }
 
-pub lifts-delivered : (p : Phase) (nets : List ℤ) (delivered lifts : List ℕ) (i a x : ℕ) → length delivered ≡ 1024 → length lifts ≡ 288 →
-    i < 16 → a < 64 → 1 ≤ x → (j : ℕ) → SoundLifts p (orderIn nets lifts j) (deliveredTotal delivered j) lifts j →
-    SoundLifts p (orderIn nets (raisedCount lifts i) j) (deliveredTotal (raisedDelivered delivered i a x) j) (raisedCount lifts i) j
-lifts-delivered p nets delivered lifts i a x m n hi ha hx j s =
-    rw (raised-order lifts i nets j)
+pub lifts-delivered : (new : Bool) (p : Phase) (nets : List ℤ) (delivered lifts : List ℕ) (i a x : ℕ) → length delivered ≡ 1024 → length lifts ≡ 288 →
+    i < 16 → a < 64 → 1 ≤ x → (j : ℕ) → SoundLifts p (orderIn new nets lifts j) (deliveredTotal delivered j) lifts j →
+    SoundLifts p (orderIn new nets (raisedCount lifts i) j) (deliveredTotal (raisedDelivered delivered i a x) j) (raisedCount lifts i) j
+lifts-delivered new p nets delivered lifts i a x m n hi ha hx j s =
+    rw (raised-order lifts i new nets j)
     (byTest (eqb j i)
     (λ e.
     let q = eqb-true j i e in
     rw (q, delivered-rises delivered i a x m hi ha)
-    (lifts-more p (orderIn nets lifts i) (deliveredTotal delivered i) x lifts i n hi hx (rw q at s)))
+    (lifts-more p (orderIn new nets lifts i) (deliveredTotal delivered i) x lifts i n hi hx (rw q at s)))
     (λ e.
     let ne = eqb-false j i e in
     rw (row-other delivered i a j (deliveredAt delivered i a + x) ha ne)
-    (lifts-same p (orderIn nets lifts j) (deliveredTotal delivered j) lifts (raisedCount lifts i) j (raised-other lifts i j ne) s)))
+    (lifts-same p (orderIn new nets lifts j) (deliveredTotal delivered j) lifts (raisedCount lifts i) j (raised-other lifts i j ne) s)))
 
 -- a unit that waits is lifted to the place of the first one that does
 lifts-one : (p : Phase) (us : List AccountLots) (d k : ℕ) (lifts : List ℕ) (i : ℕ) → length lifts ≡ 288 → i < 16 →
@@ -81,23 +81,23 @@ lifts-one p us d k lifts i n hi few h l t s =
       count = rw (lift-number lifts i v few n hi, lift-count lifts i v few n hi) (omega (arith, s .count));
     }
 
-pub lifts-committed : (p : Phase) (nets : List ℤ) (delivered lifts : List ℕ) (i k : ℕ) → length lifts ≡ 288 → i < 16 →
-    liftNumber lifts i < 8 → covered (orderIn nets lifts i) (deliveredTotal delivered i) ≤ k → k < length (orderIn nets lifts i) →
-    (isTaking p ≡ true → ⊥) → (j : ℕ) → SoundLifts p (orderIn nets lifts j) (deliveredTotal delivered j) lifts j →
-    SoundLifts p (orderIn nets (withLift lifts i (liftOf k (covered (orderIn nets lifts i) (deliveredTotal delivered i)))) j)
-    (deliveredTotal delivered j) (withLift lifts i (liftOf k (covered (orderIn nets lifts i) (deliveredTotal delivered i)))) j
-lifts-committed p nets delivered lifts i k n hi few h l t j s =
-    let us = orderIn nets lifts i in
+pub lifts-committed : (new : Bool) (p : Phase) (nets : List ℤ) (delivered lifts : List ℕ) (i k : ℕ) → length lifts ≡ 288 → i < 16 →
+    liftNumber lifts i < 8 → covered (orderIn new nets lifts i) (deliveredTotal delivered i) ≤ k → k < length (orderIn new nets lifts i) →
+    (isTaking p ≡ true → ⊥) → (j : ℕ) → SoundLifts p (orderIn new nets lifts j) (deliveredTotal delivered j) lifts j →
+    SoundLifts p (orderIn new nets (withLift lifts i (liftOf k (covered (orderIn new nets lifts i) (deliveredTotal delivered i)))) j)
+    (deliveredTotal delivered j) (withLift lifts i (liftOf k (covered (orderIn new nets lifts i) (deliveredTotal delivered i)))) j
+lifts-committed new p nets delivered lifts i k n hi few h l t j s =
+    let us = orderIn new nets lifts i in
     let d = deliveredTotal delivered i in
     let v = liftOf k (covered us d) in
     byTest (eqb j i)
     (λ e.
     let q = eqb-true j i e in
-    rw (q, lift-in-order lifts i v few n hi nets) (lifts-one p us d k lifts i n hi few h l t (rw q at s)))
+    rw (q, lift-in-order lifts i v few n hi new nets) (lifts-one p us d k lifts i n hi few h l t (rw q at s)))
     (λ e.
     let w = lift-other lifts i v few j (eqb-false j i e) in
-    rw (same-words lifts (withLift lifts i v) j nets w)
-    (lifts-same p (orderIn nets lifts j) (deliveredTotal delivered j) lifts (withLift lifts i v) j w s))
+    rw (same-words new lifts (withLift lifts i v) j nets w)
+    (lifts-same p (orderIn new nets lifts j) (deliveredTotal delivered j) lifts (withLift lifts i v) j w s))
 
 -- no lift, and none counted
 pub lifts-none : (p : Phase) (us : List AccountLots) (d : ℕ) (i n : ℕ) → SoundLifts p us d (replicate n 0) i

@@ -155,23 +155,23 @@ module _ (marks : List ℕ) where
 
   -- Cutoff
 
-  issue-even : (today : ℕ) (ns : List ℤ) (ds lifts : List ℕ) (i : ℕ) → EvenCells marks ns ds i →
-      Every (EvenEntry marks) (issueEntries today (orderIn ns lifts) ns ds i)
+  issue-even : (new : Bool) (today : ℕ) (ns : List ℤ) (ds lifts : List ℕ) (i : ℕ) → EvenCells marks ns ds i →
+      Every (EvenEntry marks) (issueEntries today (orderIn new ns lifts) ns ds i)
   unfolding issueFails
-  issue-even today ns ds lifts i s =
+  issue-even new today ns ds lifts i s =
       byTest (isMarked marks i)
       (λ m.
-      each-of-map (EvenEntry marks) (failEntry today i) (issueFails (orderIn ns lifts) ns ds i)
-      (each-map EvenFail (λ f. EvenEntry marks (failEntry today i f)) (λ f h k. h) (issueFails (orderIn ns lifts) ns ds i)
-      (fails-even unitLots (orderIn ns lifts i) (row i ns) (row i ds) (order-even ns lifts i (s .nets m)) (s .nets m) (s .delivered m))))
+      each-of-map (EvenEntry marks) (failEntry today i) (issueFails (orderIn new ns lifts) ns ds i)
+      (each-map EvenFail (λ f. EvenEntry marks (failEntry today i f)) (λ f h k. h) (issueFails (orderIn new ns lifts) ns ds i)
+      (fails-even unitLots (orderIn new ns lifts i) (row i ns) (row i ds) (order-even new ns lifts i (s .nets m)) (s .nets m) (s .delivered m))))
       (λ m.
-      each-of-map (EvenEntry marks) (failEntry today i) (issueFails (orderIn ns lifts) ns ds i)
-      (every-of _ (issueFails (orderIn ns lifts) ns ds i) (λ f k. absurd (false≢true (sym m ∙ k)))))
+      each-of-map (EvenEntry marks) (failEntry today i) (issueFails (orderIn new ns lifts) ns ds i)
+      (every-of _ (issueFails (orderIn new ns lifts) ns ds i) (λ f k. absurd (false≢true (sym m ∙ k)))))
 
-  pub new-even : (today : ℕ) (ns : List ℤ) (ds lifts : List ℕ) → ((i : ℕ) → i < 16 → EvenCells marks ns ds i) →
-      Every (EvenEntry marks) (newEntries today (orderIn ns lifts) ns ds)
-  new-even today ns ds lifts s =
-      each-joined (EvenEntry marks) (issueEntries today (orderIn ns lifts) ns ds) 0 16 (λ i h. issue-even today ns ds lifts i (s i (omega arith)))
+  pub new-even : (new : Bool) (today : ℕ) (ns : List ℤ) (ds lifts : List ℕ) → ((i : ℕ) → i < 16 → EvenCells marks ns ds i) →
+      Every (EvenEntry marks) (newEntries today (orderIn new ns lifts) ns ds)
+  new-even new today ns ds lifts s =
+      each-joined (EvenEntry marks) (issueEntries today (orderIn new ns lifts) ns ds) 0 16 (λ i h. issue-even new today ns ds lifts i (s i (omega arith)))
 
 -- Mark: an issue with no net and no entry has no lots at all
 

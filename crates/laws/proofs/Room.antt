@@ -2,13 +2,14 @@
 -- stretches, of its full units and of its small one; an issue's fails are fewer than its shortfalls and stretches
 -- together, and an account is deliverer or receiver, not both. A delivery's units are full but for one an account.
 use mathlib.Core.Path.{_≡_, refl, sym, ap, _∙_}
+use mathlib.Core.Bool.{Bool}
 use mathlib.Core.List.{List, [], _∷_, map}
 use Prim.Native.Nat.{ℕ, zero, suc, _+_, _-_, _*_, _≤_, _<_, min}
 use native.Mathlib.Omega.{arith}
 use native.Mathlib.Nat.{zero-add}
 use lib.Dec.{leb, eqb}
 use lib.IntN.{ℤ, pos, negsuc}
-use lib.ListN.{length, getD, length-map, length-append, List·getD-map}
+use lib.ListN.{length, getD, take, drop, length-map, length-append, take-append-drop, List·getD-map}
 use borrow.Author.Tests.{leb-true, eqb-true, eqb-false}
 use Rattle.rules.specs.declared.Ticket.{Ticket}
 use Rattle.rules.specs.Measures.{total, sum, dueOf, owedOf, unitLots, mostLots, issueCount, outputWords}
@@ -19,11 +20,12 @@ use Rattle.rules.specs.Fails.{stretches, lacks, undelivered, shortfalls, fails}
 use Rattle.rules.specs.Book.{tabulate, row, duesOf, obligationsOf, deliveredTotal, orderIn}
 use Rattle.rules.specs.Records.{handover, recordOf}
 use Rattle.rules.specs.Calls.{deliverRecords, commitLift, commitRecords, issuePartials, issueFails, failEntry, issueRecords, cutoffRecords, joined}
-use Rattle.laws.proofs.Basics.{byTest, Every, count-one, total-take-le, total-drop-le, length-put}
+use Rattle.laws.proofs.Basics.{byTest, Every, count-one, total-take-le, total-drop-le, length-put, length-parts}
 use Rattle.laws.proofs.Units.{UnitSized, Order, ofSmall, isOf}
 use Rattle.laws.proofs.Handover.{partials-length, order-stock, handovers-sum, waits-short}
 use Rattle.laws.proofs.Fails.{nonzero, nonzero-le, overlaps-count}
-use Rattle.laws.proofs.Stretches.{every-stretches, account-stretches, lacks-length}
+use Rattle.laws.proofs.Stretches.{every-stretches, account-stretches, stretches-drop, lacks-length}
+use Rattle.laws.proofs.DealtStretches.{stretches-front}
 use Rattle.laws.proofs.Cutoff.{SoundRow, dues, obligations, delivered-due, shorts-lacks, order-due}
 use Rattle.laws.proofs.Lifts.{lift-few}
 use Rattle.laws.proofs.Orders.{onAccount, tab-add, by-accounts, sum-tab}
@@ -111,6 +113,19 @@ module _ (xs : List ℕ) (us : List AccountLots) (o : Order xs us) where
       ones k zero = refl
       ones k (suc n) = omega (arith, ones (suc k) n)
 
+-- any part of an order has at most two stretches an account
+pub part-stretches : (xs : List ℕ) (us : List AccountLots) → Order xs us → (k n : ℕ) → length (stretches unitLots (take n (drop k us))) ≤ 2 * length xs
+part-stretches xs us o k n =
+    let vs = drop k us in
+    omega (
+      arith,
+      stretches-front unitLots (take n vs) (drop n vs),
+      ap (λ l. length (stretches unitLots l)) (take-append-drop n vs),
+      stretches-drop unitLots k us,
+      order-stretches xs us o,
+      length-parts 0 xs,
+    )
+
 -- Fails of an issue
 
 -- receivers and deliverers with a shortfall are no more than the accounts
@@ -179,12 +194,12 @@ length-joined g m k (suc n) h =
     )
 
 -- of the issues' orders
-module _ (today : ℕ) (nets : List ℤ) (delivered lifts : List ℕ) (o : (i : ℕ) → Order (duesOf nets i) (orderIn nets lifts i)) where
+module _ (new : Bool) (today : ℕ) (nets : List ℤ) (delivered lifts : List ℕ) (o : (i : ℕ) → Order (duesOf nets i) (orderIn new nets lifts i)) where
   pub issue-records : (i : ℕ) → length (row i nets) ≡ 64 → SoundRow (row i nets) (row i delivered) →
-      length (issueRecords today (orderIn nets lifts) nets delivered i) ≤ 127
+      length (issueRecords today (orderIn new nets lifts) nets delivered i) ≤ 127
   unfolding issuePartials issueFails
   issue-records i n r =
-      let us = orderIn nets lifts i in
+      let us = orderIn new nets lifts i in
       let d = deliveredTotal delivered i in
       let fs = fails unitLots us (obligationsOf nets i) (row i delivered) in
       omega (
@@ -199,11 +214,11 @@ module _ (today : ℕ) (nets : List ℤ) (delivered lifts : List ℕ) (o : (i : 
 
   -- 16 issues have at most 16 × 127 records
   pub cutoff-room : ((i : ℕ) → i < 16 → length (row i nets) ≡ 64) → ((i : ℕ) → i < 16 → SoundRow (row i nets) (row i delivered)) →
-      2 * length (cutoffRecords today (orderIn nets lifts) nets delivered) ≤ outputWords
+      2 * length (cutoffRecords today (orderIn new nets lifts) nets delivered) ≤ outputWords
   cutoff-room n r =
       omega (
         arith,
-        length-joined (issueRecords today (orderIn nets lifts) nets delivered) 127 0 issueCount
+        length-joined (issueRecords today (orderIn new nets lifts) nets delivered) 127 0 issueCount
             (λ i h. issue-records i (n i (omega arith)) (r i (omega arith))),
       )
 
@@ -231,13 +246,13 @@ handovers-few xs us d x o n h g =
       order-gaps xs us o,
     )
 
-pub deliver-room : (nets : List ℤ) (delivered lifts : List ℕ) (i x : ℕ) → Order (duesOf nets i) (orderIn nets lifts i) → length (row i nets) ≡ 64 →
-    SoundRow (row i nets) (row i delivered) → x ≤ mostLots → 2 * length (deliverRecords (orderIn nets lifts) delivered i x) ≤ outputWords
-deliver-room nets delivered lifts i x o n r h =
+pub deliver-room : (new : Bool) (nets : List ℤ) (delivered lifts : List ℕ) (i x : ℕ) → Order (duesOf nets i) (orderIn new nets lifts i) → length (row i nets) ≡ 64 →
+    SoundRow (row i nets) (row i delivered) → x ≤ mostLots → 2 * length (deliverRecords (orderIn new nets lifts) delivered i x) ≤ outputWords
+deliver-room new nets delivered lifts i x o n r h =
     omega (
       arith,
-      length-map (handovers (orderIn nets lifts i) (deliveredTotal delivered i) x) (handover i),
-      handovers-few (duesOf nets i) (orderIn nets lifts i) (deliveredTotal delivered i) x o (length-map (row i nets) dueOf ∙ n) h
+      length-map (handovers (orderIn new nets lifts i) (deliveredTotal delivered i) x) (handover i),
+      handovers-few (duesOf nets i) (orderIn new nets lifts i) (deliveredTotal delivered i) x o (length-map (row i nets) dueOf ∙ n) h
           (delivered-due (row i nets) (row i delivered) r),
     )
 

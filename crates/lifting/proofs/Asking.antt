@@ -9,10 +9,13 @@ use lib.ListN.{length, drop, length-drop}
 use lib.IntN.{ℤ}
 use borrow.Author.Tests.{le-leb, lt-leb, lt-ltb, le-ltb}
 use Rattle.rules.specs.declared.Phase.{Phase}
+use Rattle.rules.specs.declared.Found.{Found}
+use Rattle.rules.specs.declared.Found.the-variants as found
 use Rattle.rules.specs.Units.{AccountLots, accountLots}
 use Rattle.rules.specs.Handover.{covered}
 use Rattle.rules.specs.Book.{isSettling, deliveredTotal, countAt, orderIn}
 use Rattle.rules.specs.Calls.{AskAnswer, ticketFor, someTicket, noTicket}
+use Rattle.units.specs.Runs.{foundOf}
 use Rattle.lifting.specs.Lifting.{unhandedTicket, askedOf}
 
 module _ (us : List AccountLots) (h today n i k : ℕ) where
@@ -32,16 +35,34 @@ module _ (us : List AccountLots) (h today n i k : ℕ) where
   unfolding unhandedTicket
   is-waiting a x vs l e = simp (le-leb h k l, lt-ltb k (length us) (omega (arith, length-drop k us, ap length e)), e)
 
-module _ (phase : Phase) (today : ℕ) (nets : List ℤ) (delivered lifts : List ℕ) (i k : ℕ) where
-  pub not-settling : isSettling phase ≡ false → noTicket 3 ≡ askedOf phase today nets delivered lifts i k
+-- of units and a count that are others by name
+pub ticket-as : (us vs : List AccountLots) (h today n m i k : ℕ) → us ≡ vs → n ≡ m → unhandedTicket us h today n i k ≡ unhandedTicket vs h today m i k
+ticket-as us vs h today n m i k e f = ap (λ ws. unhandedTicket ws h today n i k) e ∙ ap (λ c. unhandedTicket vs h today c i k) f
+
+-- the ticket of what the unit question finds
+abbrev pub foundTicket : ℕ → ℕ → ℕ → ℕ → Found → AskAnswer
+foundTicket today n i k (found.Unit a x) = someTicket (ticketFor i k (accountLots a x) today n)
+foundTicket today n i k found.Nothing = noTicket 16
+foundTicket today n i k (found.Refused r) = noTicket r
+
+pub of-found : (us : List AccountLots) (h today n i k : ℕ) (f : Found) → h ≤ k → f ≡ foundOf (drop k us) →
+    foundTicket today n i k f ≡ unhandedTicket us h today n i k
+of-found us h today n i k f l e = ap (foundTicket today n i k) e ∙ by-list (drop k us) refl
+  where
+    by-list : (vs : List AccountLots) → drop k us ≡ vs → foundTicket today n i k (foundOf vs) ≡ unhandedTicket us h today n i k
+    by-list [] e = is-missing us h today n i k l e
+    by-list (v ∷ vs) e = is-waiting us h today n i k (v .account) (v .lots) vs l e
+
+module _ (new : Bool) (phase : Phase) (today : ℕ) (nets : List ℤ) (delivered lifts : List ℕ) (i k : ℕ) where
+  pub not-settling : isSettling phase ≡ false → noTicket 3 ≡ askedOf new phase today nets delivered lifts i k
   unfolding askedOf
   not-settling e = simp e
 
-  pub no-issue : isSettling phase ≡ true → 15 < i → noTicket 4 ≡ askedOf phase today nets delivered lifts i k
+  pub no-issue : isSettling phase ≡ true → 15 < i → noTicket 4 ≡ askedOf new phase today nets delivered lifts i k
   unfolding askedOf
   no-issue e l = simp (e, lt-leb i 15 l)
 
-  pub asked-unit : (us : List AccountLots) (h n : ℕ) → us ≡ orderIn nets lifts i → h ≡ covered (orderIn nets lifts i) (deliveredTotal delivered i) →
-      n ≡ countAt lifts i → isSettling phase ≡ true → i ≤ 15 → unhandedTicket us h today n i k ≡ askedOf phase today nets delivered lifts i k
+  pub asked-unit : (h : ℕ) → h ≡ covered (orderIn new nets lifts i) (deliveredTotal delivered i) → isSettling phase ≡ true → i ≤ 15 →
+      unhandedTicket (orderIn new nets lifts i) h today (countAt lifts i) i k ≡ askedOf new phase today nets delivered lifts i k
   unfolding askedOf unhandedTicket
-  asked-unit us h n p q r e l = rw (p, q, r, e, le-leb i 15 l)
+  asked-unit h q e l = rw (q, e, le-leb i 15 l)

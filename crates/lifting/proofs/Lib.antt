@@ -1,3 +1,4 @@
 pub mod Places
+pub mod Standing
 pub mod Asking
 pub mod Committing

@@ -1,6 +1,6 @@
 -- What asking for a lift and committing it may assume, and what they do.
 use mathlib.Core.Path.{_≡_}
-use mathlib.Core.Bool.{cond, _&&_}
+use mathlib.Core.Bool.{Bool, false, cond, _&&_}
 use mathlib.Core.List.{List, [], _∷_, map}
 use Prim.Native.Nat.{ℕ, _+_, _*_, _≤_, _<_}
 use lib.Dec.{leb, ltb}
@@ -8,16 +8,15 @@ use lib.ListN.{length, drop}
 use lib.IntN.{ℤ}
 use Rattle.rules.specs.declared.Phase.{Phase}
 use Rattle.rules.specs.declared.Ticket.{Ticket}
-use Rattle.rules.specs.Measures.{mostLifts, liftCells}
-use Rattle.rules.specs.Units.{AccountLots}
-use Rattle.rules.specs.Handover.{covered, firstUnit}
-use Rattle.rules.specs.Lifts.{liftOf, lift, handedFrom}
+use Rattle.rules.specs.Measures.{unitLots, mostLifts, liftCells}
+use Rattle.rules.specs.Units.{AccountLots, accountLots}
+use Rattle.rules.specs.Handover.{covered, stock, firstUnit}
 use Rattle.rules.specs.Book.{deliveredTotal, liftNumber, countAt, orderIn}
 use Rattle.rules.specs.Records.{handover, words, over}
 use Rattle.rules.specs.Questions.{ask, firstNo, askTicket, askLifts}
 use Rattle.rules.specs.Calls.{AskAnswer, ticketAnswer, ticketFor, ticketOf, liftAsks, commitAsks, commitLift, commitRecords, withLift}
 use Rattle.book.specs.Cells.{SoundCells}
-use Rattle.units.specs.Runs.{unitsIn, Held}
+use Rattle.units.specs.Runs.{unitsIn, CanOrder}
 use Rattle.lifting.specs.declared.Stand.{Stand}
 use Rattle.lifting.specs.declared.Committed.{Committed}
 
@@ -27,43 +26,51 @@ pub record CanStand (nets : List ℤ) (delivered lifts : List ℕ) (i : ℕ) (ru
   pub issue : i < 16
   pub room : 144 ≤ length runs
 
--- the array holds the issue's units, and so many are handed
+-- the array holds the issue's units in the order of old; in either order so many are handed and so many lots are left
 pub record Stands (nets : List ℤ) (delivered lifts : List ℕ) (i : ℕ) (runs : List ℕ) (r : Stand) : Type 0 where
-  pub held : Held runs (r .n)
-  pub few : r .n ≤ 128 + 2 * liftNumber lifts i
-  pub units : unitsIn runs (r .n) ≡ orderIn nets lifts i
-  pub delivers : r .total ≡ deliveredTotal delivered i
-  pub covers : r .handed ≡ covered (orderIn nets lifts i) (deliveredTotal delivered i)
+  pub there : r .n ≤ length runs
+  pub units : unitsIn runs (r .n) ≡ orderIn false nets lifts i
+  pub covers : (new : Bool) → r .handed ≡ covered (orderIn new nets lifts i) (deliveredTotal delivered i)
+  pub left : (new : Bool) → r .stock ≡ stock (orderIn new nets lifts i) (deliveredTotal delivered i)
+
+-- an issue's units in the order of old, of which a ticket can be made
+pub record CanTicket (nets : List ℤ) (lifts : List ℕ) (i : ℕ) (runs : List ℕ) (p : Stand) : Type 0 where
+  pub order : CanOrder nets lifts i
+  pub there : p .n ≤ length runs
+  pub units : unitsIn runs (p .n) ≡ orderIn false nets lifts i
 
 -- question 16 of unit k, of units of which h are handed, and its ticket
 unfoldable pub unhandedTicket : List AccountLots → ℕ → ℕ → ℕ → ℕ → ℕ → AskAnswer
 unhandedTicket us h today n i k =
     ticketAnswer (firstNo (ask 16 (leb h k && ltb k (length us)) ∷ [])) (ticketFor i k (firstUnit (drop k us)) today n)
 
--- an ask's questions after soundness, and its ticket
-unfoldable pub askedOf : Phase → ℕ → List ℤ → List ℕ → List ℕ → ℕ → ℕ → AskAnswer
-askedOf phase today nets delivered lifts i k =
-    ticketAnswer (firstNo (liftAsks phase (orderIn nets lifts) delivered i k)) (ticketOf today (orderIn nets lifts) lifts i k)
+-- an ask's questions after soundness, and its ticket, in the new order or the old
+unfoldable pub askedOf : Bool → Phase → ℕ → List ℤ → List ℕ → List ℕ → ℕ → ℕ → AskAnswer
+askedOf new phase today nets delivered lifts i k =
+    ticketAnswer (firstNo (liftAsks phase (orderIn new nets lifts) delivered i k)) (ticketOf today (orderIn new nets lifts) lifts i k)
 
 -- questions 17 and 18, where asking now gives a ticket
 abbrev pub commitNo : Ticket → AskAnswer → ℕ → ℕ
 commitNo t a n = cond (a .some) (firstNo (askTicket t (a .ticket) ∷ askLifts n ∷ [])) (a .refusal)
 
--- a unit that can be lifted before the unhanded ones, and room for what is handed over then
-pub record CanHandOn (runs : List ℕ) (p : Stand) (i k : ℕ) (out : List ℕ) : Type 0 where
-  pub issue : i < 16
-  pub held : Held runs (p .n)
-  pub few : p .n ≤ 142
-  pub long : 144 ≤ length runs
-  pub covers : p .handed ≡ covered (unitsIn runs (p .n)) (p .total)
-  pub unhanded : p .handed ≤ k
-  pub there : k < length (unitsIn runs (p .n))
-  pub room : 2 * length (handedFrom (lift (liftOf k (p .handed)) (unitsIn runs (p .n))) (p .handed) (p .total)) ≤ length out
+-- a ticket whose unit fits a record, and room for it
+pub record CanHandOn (t : Ticket) (out : List ℕ) : Type 0 where
+  pub issue : t .issue < 16
+  pub account : t .account < 64
+  pub lots : t .lots ≤ unitLots
+  pub room : 2 ≤ length out
 
--- the records of the units that the total covers then and did not before stand in front of the output
-pub record HandedOn (us : List AccountLots) (p : Stand) (i k : ℕ) (before after : List ℕ) (r : ℕ) : Type 0 where
-  pub count : r ≡ length (map (handover i) (handedFrom (lift (liftOf k (p .handed)) us) (p .handed) (p .total)))
-  pub output : after ≡ over (words (map (handover i) (handedFrom (lift (liftOf k (p .handed)) us) (p .handed) (p .total)))) before
+-- the ticket's unit, where the stock covers it
+abbrev pub ifCovered : AccountLots → ℕ → List AccountLots
+ifCovered u left = cond (leb (u .lots) left) (u ∷ []) []
+
+abbrev pub unitOf : Ticket → AccountLots
+unitOf t = accountLots (t .account) (t .lots)
+
+-- its record stands in front of the output
+pub record HandedOn (t : Ticket) (left : ℕ) (before after : List ℕ) (r : ℕ) : Type 0 where
+  pub count : r ≡ length (map (handover (t .issue)) (ifCovered (unitOf t) left))
+  pub output : after ≡ over (words (map (handover (t .issue)) (ifCovered (unitOf t) left))) before
 
 -- a column in which one more lift can stand
 pub record CanPut (lifts : List ℕ) (i : ℕ) : Type 0 where
@@ -82,12 +89,13 @@ pub record Refuses (lifts lifts′ out out′ : List ℕ) (r : Committed) : Type
   pub output : out′ ≡ out
 
 -- an accepted one lifts the unit and writes its records
-pub record Lifts (nets : List ℤ) (delivered lifts lifts′ : List ℕ) (t : Ticket) (out out′ : List ℕ) (r : Committed) : Type 0 where
-  pub count : r .count ≡ length (commitRecords (orderIn nets lifts) delivered t)
-  pub column : lifts′ ≡ withLift lifts (t .issue) (commitLift (orderIn nets lifts) delivered t)
-  pub output : out′ ≡ over (words (commitRecords (orderIn nets lifts) delivered t)) out
+pub record Lifts (new : Bool) (nets : List ℤ) (delivered lifts lifts′ : List ℕ) (t : Ticket) (out out′ : List ℕ) (r : Committed) : Type 0 where
+  pub count : r .count ≡ length (commitRecords (orderIn new nets lifts) delivered t)
+  pub column : lifts′ ≡ withLift lifts (t .issue) (commitLift (orderIn new nets lifts) delivered t)
+  pub output : out′ ≡ over (words (commitRecords (orderIn new nets lifts) delivered t)) out
 
-pub record Commits (phase : Phase) (today : ℕ) (nets : List ℤ) (delivered lifts lifts′ : List ℕ) (t : Ticket) (out out′ : List ℕ) (r : Committed) : Type 0 where
-  pub refusal : r .refusal ≡ firstNo (commitAsks phase today (orderIn nets lifts) delivered lifts t)
+-- in the new order or the old
+pub record Commits (new : Bool) (phase : Phase) (today : ℕ) (nets : List ℤ) (delivered lifts lifts′ : List ℕ) (t : Ticket) (out out′ : List ℕ) (r : Committed) : Type 0 where
+  pub refusal : r .refusal ≡ firstNo (commitAsks phase today (orderIn new nets lifts) delivered lifts t)
   pub refuses : (r .refusal ≡ 0 → ⊥) → Refuses lifts lifts′ out out′ r
-  pub accepts : r .refusal ≡ 0 → Lifts nets delivered lifts lifts′ t out out′ r
+  pub accepts : r .refusal ≡ 0 → Lifts new nets delivered lifts lifts′ t out out′ r

@@ -1,30 +1,32 @@
 // Lifts: asking for an unhanded unit gives a ticket; committing it moves the unit before all unhanded
-// ones and hands on as far as stock covers.
+// ones and hands on as far as stock covers. The units are those of the order of the day.
 use rules::Asked;
+use rules::Found;
 use rules::Phase;
 use rules::Ticket;
 use units::NextUnit;
 ghost use mathlib.Core.Path.{_≡_};
+ghost use mathlib.Core.Bool.{true};
 ghost use Prim.Native.Nat.{_≤_};
 ghost use lib.ListN.{length};
 ghost use Rattle.rules.specs.Measures.{outputWords};
 ghost use Rattle.rules.specs.Lifts.{liftOf};
-ghost use Rattle.rules.specs.Book.{orderIn};
+ghost use Rattle.rules.specs.Book.{countAt, orderIn};
 ghost use Rattle.rules.specs.Questions.{sameTicket};
 ghost use Rattle.rules.specs.Calls.{withLift, askedAnswer};
 ghost use Rattle.book.specs.Cells.{SoundCells};
-ghost use Rattle.units.specs.Runs.{unitsIn};
-ghost use Rattle.lifting.specs.Lifting.{CanStand, Stands, unhandedTicket, askedOf, commitNo, CanHandOn, HandedOn, CanPut, refusedBy, Commits};
+ghost use Rattle.units.specs.Runs.{unitsIn, CanOrder};
+ghost use Rattle.lifting.specs.Lifting.{CanStand, Stands, unhandedTicket, CanTicket, askedOf, commitNo, CanHandOn, HandedOn, CanPut, refusedBy, Commits};
 
-// An issue's units in a lent array: how many words they take; the delivered total, and how many units it
-// covers.
+// An issue's units, in the order of old, in a lent array: how many words they take. And how many units the
+// delivered total covers, and the stock, which are the same in both orders.
 pub struct Stand {
     pub n: usize,
-    pub total: u32,
     pub handed: u32,
+    pub stock: u32,
 }
 
-// An issue's units into a lent array, and what its delivered total covers of them.
+// An issue's units into a lent array, and what its delivered total covers of them and leaves.
 fn stand_of<'a>(
     nets: &'a [i32],
     delivered: &'a [u32],
@@ -42,12 +44,12 @@ fn stand_of<'a>(
     let h = units::handover(runs, n, total);
     Stand {
         n,
-        total,
         handed: h.count,
+        stock: h.stock,
     }
 }
 
-// The ticket of unit k; 16 where it is handed or there is no such unit.
+// The ticket of unit k of units in a lent array; 16 where it is handed or there is no such unit.
 fn ticket_at(runs: &[u32], p: Stand, day: u16, count: u32, i: u32, k: u32) -> Asked
     requires { ⌜ p .n ≤ length (now runs) ⌝ }
     ensures { λ r. ⌜ askedAnswer r ≡ unhandedTicket (unitsIn (now (runs .entry)) (p .n)) (p .handed) day count i k ⌝ }
@@ -69,8 +71,62 @@ fn ticket_at(runs: &[u32], p: Stand, day: u16, count: u32, i: u32, k: u32) -> As
     })
 }
 
+// The same of an issue's units where full ones are dealt in turn and so many units are handed.
+fn ticket_dealt(
+    nets: &[i32],
+    lifts: &[u32],
+    handed: u32,
+    day: u16,
+    count: u32,
+    i: u32,
+    k: u32,
+) -> Asked
+    requires { ⌜ CanOrder (now nets) (now lifts) i ⌝ }
+    ensures { λ r. ⌜ askedAnswer r ≡ unhandedTicket (orderIn true (now (nets .entry)) (now (lifts .entry)) i) handed day count i k ⌝ }
+{
+    if k < handed {
+        return Asked::Refused(16);
+    }
+    let found = dealing::unit(nets, lifts, i as usize, k);
+    match found {
+        Found::Unit(account, lots) => Asked::Ticket(Ticket {
+            issue: i,
+            unit: k,
+            account,
+            lots,
+            day: day as u32,
+            count,
+        }),
+        Found::Nothing => Asked::Refused(16),
+        Found::Refused(no) => Asked::Refused(no),
+    }
+}
+
+// The ticket of unit k of an issue, full units dealt in turn or not.
+fn ticket_in<'a>(
+    dealt: bool,
+    nets: &'a [i32],
+    lifts: &'a [u32],
+    runs: &'a [u32],
+    p: Stand,
+    day: u16,
+    i: u32,
+    k: u32,
+) -> Asked
+    requires { ⌜ CanTicket (now nets) (now lifts) i (now runs) p ⌝ }
+    ensures { λ r. ⌜ askedAnswer r ≡ unhandedTicket (orderIn dealt (now (nets .entry)) (now (lifts .entry)) i) (p .handed) day (countAt (now (lifts .entry)) i) i k ⌝ }
+{
+    let at = i as usize * 18 + 1;
+    let count = lifts[at];
+    if dealt {
+        return ticket_dealt(nets, lifts, p.handed, day, count, i, k);
+    }
+    ticket_at(runs, p, day, count, i, k)
+}
+
 // Questions 3, 4 and 16 of an ask, of a sound book; then the ticket.
 pub fn ask_in<'a>(
+    dealt: bool,
     phase: Phase,
     day: u16,
     nets: &'a [i32],
@@ -80,7 +136,7 @@ pub fn ask_in<'a>(
     k: u32,
 ) -> Asked
     requires { ⌜ SoundCells (now nets) (now delivered) (now lifts) ⌝ }
-    ensures { λ r. ⌜ askedAnswer r ≡ askedOf phase day (now (nets .entry)) (now (delivered .entry)) (now (lifts .entry)) i k ⌝ }
+    ensures { λ r. ⌜ askedAnswer r ≡ askedOf dealt phase day (now (nets .entry)) (now (delivered .entry)) (now (lifts .entry)) i k ⌝ }
 {
     if !book::settling(phase) {
         return Asked::Refused(3);
@@ -90,8 +146,7 @@ pub fn ask_in<'a>(
     }
     let mut runs = [0u32; 144];
     let p = stand_of(nets, delivered, lifts, i as usize, &mut runs);
-    let at = i as usize * 18 + 1;
-    ticket_at(&runs, p, day, lifts[at], i, k)
+    ticket_in(dealt, nets, lifts, &runs, p, day, i, k)
 }
 
 // Are the ticket's account, lots, day and count those of the other?
@@ -119,18 +174,17 @@ fn ticket_asks(t: Ticket, asked: Asked, number: u32) -> u32
     }
 }
 
-// Unit k moved before all unhanded ones, and what the total then covers handed over: one record a unit;
-// answers their number.
-fn hand_on(runs: &mut [u32], p: Stand, i: u32, k: u32, out: &mut [u32]) -> usize
-    requires { ⌜ CanHandOn (now runs) p i k (now out) ⌝ }
-    ensures { λ r. ⌜ HandedOn (unitsIn (now (runs .entry)) (p .n)) p i k (now (out .entry)) (now (out .exit)) r ⌝ }
+// The ticket's unit, before all unhanded ones now, handed over where the stock covers it. No second one is:
+// the stock is less than the unit that was to be the next. Answers the number of records.
+fn hand_on(t: Ticket, stock: u32, out: &mut [u32]) -> usize
+    requires { ⌜ CanHandOn t (now out) ⌝ }
+    ensures { λ r. ⌜ HandedOn t stock (now (out .entry)) (now (out .exit)) r ⌝ }
 {
-    let m = units::lifting::lift(runs, p.n, k, p.handed);
-    let after = units::handover(runs, m, p.total);
-    let c = p.handed;
-    let new = (after.count - c) as usize;
-    delivery::hand(runs, m, i, c, new, out);
-    new
+    if stock < t.lots {
+        return 0;
+    }
+    words::record(out, 10, t.issue, 0, t.account, t.lots);
+    1
 }
 
 // One lift more stands for an issue, and its count rises.
@@ -163,6 +217,7 @@ pub fn refused(refusal: u32) -> Committed
 // A commit in place, of a sound book: questions 3, 4, 16, 17 and 18; then the lift stands, and the records
 // go to the output.
 pub fn commit_in<'a>(
+    dealt: bool,
     phase: Phase,
     day: u16,
     nets: &'a [i32],
@@ -172,7 +227,7 @@ pub fn commit_in<'a>(
     out: &mut [u32],
 ) -> Committed
     requires { ⌜ SoundCells (now nets) (now delivered) (now lifts) × (outputWords ≤ length (now out)) ⌝ }
-    ensures { λ r. ⌜ Commits phase day (now (nets .entry)) (now (delivered .entry)) (now (lifts .entry)) (now (lifts .exit)) t (now (out .entry)) (now (out .exit)) r ⌝ }
+    ensures { λ r. ⌜ Commits dealt phase day (now (nets .entry)) (now (delivered .entry)) (now (lifts .entry)) (now (lifts .exit)) t (now (out .entry)) (now (out .exit)) r ⌝ }
 {
     if !book::settling(phase) {
         return refused(3);
@@ -183,13 +238,13 @@ pub fn commit_in<'a>(
     let i = t.issue as usize;
     let mut runs = [0u32; 144];
     let p = stand_of(nets, delivered, lifts, i, &mut runs);
+    let asked = ticket_in(dealt, nets, lifts, &runs, p, day, t.issue, t.unit);
     let s = i * 18;
-    let asked = ticket_at(&runs, p, day, lifts[s + 1], t.issue, t.unit);
     let no = ticket_asks(t, asked, lifts[s]);
     if no != 0 {
         return refused(no);
     }
-    let count = hand_on(&mut runs, p, t.issue, t.unit, out);
+    let count = hand_on(t, p.stock, out);
     put_lift(lifts, i, t.unit, p.handed);
     Committed { refusal: 0, count }
 }

@@ -46,7 +46,7 @@ fn run_on(
 {
     let phase = b.phase;
     let marks = b.marks;
-    let s = book::state_of(b.day, phase, b.count, marks);
+    let s = book::state_of(b.day, phase, b.count, b.turn, marks);
     let mut nets = b.nets;
     let mut delivered = b.delivered;
     let mut lifts = b.lifts;

@@ -1,7 +1,7 @@
 -- In Settling, after any list of calls of which no accepted one is a lift of the issue or a cutoff, a unit that waits for
 -- n lots is handed exactly if n or more were delivered, and else waits for the rest.
 use mathlib.Core.Path.{_≡_, refl, sym, ap, _∙_}
-use mathlib.Core.Bool.{Bool, true, false, cond, not, false≢true}
+use mathlib.Core.Bool.{Bool, true, false, cond, not, _&&_, false≢true}
 use mathlib.Core.List.{List, [], _∷_}
 use Prim.Native.Nat.{ℕ, _+_, _-_, _≤_, _<_}
 use native.Mathlib.Omega.{arith}
@@ -13,14 +13,15 @@ use Rattle.rules.specs.declared.Book.{Book}
 use Rattle.rules.specs.Measures.{sum}
 use Rattle.rules.specs.Units.{AccountLots}
 use Rattle.rules.specs.Handover.{covered, stock, firstUnit}
-use Rattle.rules.specs.Book.{isTaking, isSettling, isCut, deliveredAt, deliveredTotal, orderOf, sound}
+use Rattle.rules.specs.Book.{isTaking, isSettling, isCut, deliveredAt, deliveredTotal, orderIn, orderOf, dealtToday, sound, withTurn}
 use Rattle.rules.specs.Questions.{ask, firstNo}
-use Rattle.rules.specs.Calls.{Call, Trade, Close, Deliver, Ask, Commit, Cutoff, Resolve, PairOff, Roll, Mark, asks, effect, called, commitLift}
+use Rattle.rules.specs.Calls.{Call, Trade, Close, Deliver, Ask, Commit, Cutoff, Resolve, PairOff, Roll, Mark, Turn, asks, effect, called, commitLift}
 use Rattle.laws.proofs.Basics.{byTest, and-left, and-right}
 use Rattle.laws.proofs.Answers.{AllYes, by-answer}
 use Rattle.laws.proofs.Cells.{row-other, delivered-rises}
 use Rattle.laws.proofs.LiftColumn.{raised-order, lift-other, same-words}
 use Rattle.laws.proofs.Sound.{sound-parts, parts-sound}
+use Rattle.laws.proofs.Kept.{turn-same}
 use Rattle.laws.proofs.Called.{Sizes, Standing, stands}
 use Rattle.status.specs.Status.{StatusAnswer, isHanded, waitsFor, failsPartly, failsWholly, statusRefused, covers, wanted, takesStock, inSettling, afterCutoff, reason, statusAnswer, status}
 use Rattle.status.proofs.Telling.{exactly}
@@ -132,12 +133,16 @@ pub record Brings (b b′ : Book) (i x : ℕ) : Type 0 where
 nothing : (b : Book) (i : ℕ) → isSettling (b .phase) ≡ true → Brings b b i 0
 nothing b i p = record { phase = p; order = refl; total = sym (add-zero (deliveredTotal (b .delivered) i)) }
 
+-- a day after today is named, and the new order is not in force: today's order stays
+pub turn-order : (b : Book) (d : ℕ) → ltb (b .day) d && not (dealtToday b) ≡ true → (i : ℕ) → orderOf (withTurn b d) i ≡ orderOf b i
+turn-order b d h i = ap (λ new. orderIn new (b .nets) (b .lifts) i) (turn-same (b .turn) (b .day) d h)
+
 module _ (b : Book) (z : Sizes b) (i : ℕ) (p : isSettling (b .phase) ≡ true) where
   delivers : (j a x : ℕ) (out : List ℕ) → j < 16 → a < 64 → Brings b (effect b (Deliver j a x out) .book) i (cond (eqb j i) x 0)
   delivers j a x out hj ha =
       record {
         phase = p;
-        order = raised-order (b .lifts) j (b .nets) i;
+        order = raised-order (b .lifts) j (dealtToday b) (b .nets) i;
         total =
             byTest (eqb j i)
             (λ e. let q = eqb-true j i e in simp e (rw (sym q) (delivered-rises (b .delivered) j a x (z .delivered) hj ha)))
@@ -158,7 +163,7 @@ module _ (b : Book) (z : Sizes b) (i : ℕ) (p : isSettling (b .phase) ≡ true)
       record {
         phase = p;
         order =
-            same-words (b .lifts) _ i (b .nets)
+            same-words (dealtToday b) (b .lifts) _ i (b .nets)
             (lift-other (b .lifts) (t .issue) (commitLift (orderOf b) (b .delivered) t) (ltb-true _ _ (y .1 .1 .1 .1 .1 .1 .0)) i
             (λ q. eqb-false (t .issue) i (not-true (eqb (t .issue) i) h) (sym q)));
         total = sym (add-zero (deliveredTotal (b .delivered) i));
@@ -168,6 +173,7 @@ module _ (b : Book) (z : Sizes b) (i : ℕ) (p : isSettling (b .phase) ≡ true)
   does (PairOff j a) h y = record { phase = p; order = refl; total = sym (add-zero (deliveredTotal (b .delivered) i)) }
   does (Roll days rate prices) h y = absurd (false≢true (sym (settling-not-cut (b .phase) p) ∙ y .1 .0))
   does (Mark j m) h y = record { phase = p; order = refl; total = sym (add-zero (deliveredTotal (b .delivered) i)) }
+  does (Turn d) h y = record { phase = p; order = turn-order b d (y .1 .0) i; total = sym (add-zero (deliveredTotal (b .delivered) i)) }
 
   brings : (c : Call) → unlessRefused (called b c .refusal) (noLift i c) ≡ true →
       Brings b (called b c .book) i (ifAccepted (called b c .refusal) (lotsIn i c))

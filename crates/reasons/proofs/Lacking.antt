@@ -14,7 +14,7 @@ use Rattle.rules.specs.Measures.{total, unitLots}
 use Rattle.rules.specs.Units.{AccountLots, accountLots, sumLots, ofAccount}
 use Rattle.rules.specs.Handover.{covered, handed, partials}
 use Rattle.rules.specs.Ledger.{isTo, lotsOf}
-use Rattle.rules.specs.Book.{isCut, row, deliveredTotal, orderOf, ledgerOf, sound}
+use Rattle.rules.specs.Book.{isCut, row, deliveredTotal, orderOf, dealtToday, ledgerOf, sound}
 use Rattle.rules.specs.Calls.{Call, Cutoff, effect, called, issueFails, newEntries}
 use Rattle.laws.proofs.Basics.{byTest, either, total-append}
 use Rattle.laws.proofs.Answers.{by-answer}
@@ -159,8 +159,8 @@ fails-lack b z g i a h =
     omega (
       arith,
       lacking-rest a us d (delivered-units b g (z .nets) (z .delivered) i h),
-      fails-to (row i (b .nets)) (row i (b .delivered)) us (order-in (b .nets) (b .lifts) i) (sound-row b g (z .nets) (z .delivered) i h) unitLots a,
-      order-in (b .nets) (b .lifts) i .due a,
+      fails-to (row i (b .nets)) (row i (b .delivered)) us (order-in (dealtToday b) (b .nets) (b .lifts) i) (sound-row b g (z .nets) (z .delivered) i h) unitLots a,
+      order-in (dealtToday b) (b .nets) (b .lifts) i .due a,
       new-to b i a h,
     )
 

@@ -6,7 +6,7 @@ use mathlib.Core.List.{List, [], _∷_}
 use Prim.Native.Nat.{ℕ}
 use Rattle.rules.specs.declared.Book.{Book}
 use Rattle.rules.specs.Book.{isCut, deliveredTotal, orderOf, sound}
-use Rattle.rules.specs.Calls.{Call, Trade, Close, Deliver, Ask, Commit, Cutoff, Resolve, PairOff, Roll, Mark, asks, effect, called}
+use Rattle.rules.specs.Calls.{Call, Trade, Close, Deliver, Ask, Commit, Cutoff, Resolve, PairOff, Roll, Mark, Turn, asks, effect, called}
 use Rattle.laws.proofs.Basics.{byTest, and-left, and-right}
 use Rattle.laws.proofs.Answers.{AllYes, by-answer}
 use Rattle.laws.proofs.Sound.{sound-parts, parts-sound}
@@ -14,6 +14,7 @@ use Rattle.laws.proofs.Called.{Sizes, Standing, stands}
 use Rattle.status.specs.Status.{status}
 use Rattle.reasons.specs.Lists.{after, unlessRefused, noRoll, noRollSince}
 use Rattle.reasons.proofs.Phases.{cut-not-taking, cut-not-settling}
+use Rattle.reasons.proofs.Between.{turn-order}
 
 -- A call after the cutoff
 
@@ -38,6 +39,7 @@ module _ (b : Book) (p : isCut (b .phase) ≡ true) where
   does (PairOff j a) h y = record { phase = refl; order = λ i. refl; total = λ i. refl }
   does (Roll days rate prices) h y = absurd (false≢true h)
   does (Mark j m) h y = record { phase = refl; order = λ i. refl; total = λ i. refl }
+  does (Turn d) h y = record { phase = refl; order = turn-order b d (y .1 .0); total = λ i. refl }
 
   stays : (c : Call) → unlessRefused (called b c .refusal) (noRoll c) ≡ true → Stays b (called b c .book)
   stays c = by-answer (λ r. unlessRefused (r .refusal) (noRoll c) ≡ true → Stays b (r .book)) b c (λ y h. does c h y) (λ r h. as-it-was b)
@@ -71,6 +73,7 @@ asked-sound b (Resolve j a x out) y = y .1 .0
 asked-sound b (PairOff j a) y = y .0
 asked-sound b (Roll days rate prices) y = y .0
 asked-sound b (Mark j m) y = y .0
+asked-sound b (Turn d) y = y .0
 
 unsound-stays : (cs : List Call) (b : Book) → sound b ≡ false → after b cs ≡ b
 unsound-stays [] b g = refl

@@ -13,7 +13,7 @@ use Rattle.rules.specs.Fails.{lacks, fails}
 use Rattle.rules.specs.Ledger.{pairing}
 use Rattle.rules.specs.Book.{liftConditions, liftsSound, cellsEven, conditions, sound, orderIn}
 use Rattle.rules.specs.Questions.{quotesRight}
-use Rattle.rules.specs.Calls.{Call, Deliver, Commit, Cutoff, Resolve, PairOff, Roll, Mark, Answer, ticketFor, called, issuePartials, issueFails}
+use Rattle.rules.specs.Calls.{Call, Deliver, Commit, Cutoff, Resolve, PairOff, Roll, Mark, Turn, Answer, ticketFor, called, issuePartials, issueFails}
 use Rattle.rules.specs.Tally.{inIssue}
 use Rattle.rules.specs.Days.{Case, case, Holds}
 use Rattle.days.specs.Books.{lent, traded1, traded2, traded3, closed, delivered1, delivered2, cut, ticket7, committed7, tallied}
@@ -48,9 +48,10 @@ liftDays =
     ∷ case (status (liftedCut .book) 0 7) failsWholly
     ∷ []
 
--- after P6 a commit with an old ticket (its count was 0) and a cutoff without an output are refused, 17 and 1; then 4 delivers x lots
+-- after P6 a commit with an old ticket (its count was 0) and a cutoff without an output are refused, 17 and 1; the new order is named for
+-- day 2; then 4 delivers x lots
 abbrev pub refusedThen : ℕ → List Call
-refusedThen x = Commit (ticketFor 0 3 (accountLots 1 100000) 0 0) lent ∷ Cutoff [] ∷ Deliver 0 4 x lent ∷ []
+refusedThen x = Commit (ticketFor 0 3 (accountLots 1 100000) 0 0) lent ∷ Cutoff [] ∷ Turn 2 ∷ Deliver 0 4 x lent ∷ []
 
 abbrev pub betweenDays : List Case
 betweenDays =
@@ -73,10 +74,10 @@ rowDays =
     ∷ case (status (tallied .book) 0 5) (waitsFor 5000)
     ∷ []
 
--- after P8 a delivery and a roll without prices are refused; 4 resolves 6,000 lots, so that the fail to account 2 is met; 3 is paired off and
--- issue 5 is marked: unit 5 lacked 5,000 at the cutoff
+-- after P8 a delivery and a roll without prices are refused; 4 resolves 6,000 lots, so that the fail to account 2 is met; 3 is paired off,
+-- issue 5 is marked and the new order is named for the next day: unit 5 lacked 5,000 at the cutoff
 abbrev pub later : List Call
-later = Deliver 0 4 1 lent ∷ Roll 1 300 [] ∷ Resolve 0 4 6000 lent ∷ PairOff 0 3 ∷ Mark 5 1 ∷ []
+later = Deliver 0 4 1 lent ∷ Roll 1 300 [] ∷ Resolve 0 4 6000 lent ∷ PairOff 0 3 ∷ Mark 5 1 ∷ Turn 1 ∷ []
 
 abbrev pub laterDays : List Case
 laterDays =

@@ -8,7 +8,7 @@ use lib.ListN.{length}
 use Rattle.rules.specs.declared.Book.{Book}
 use Rattle.rules.specs.Units.{AccountLots}
 use Rattle.rules.specs.Book.{orderOf}
-use Rattle.rules.specs.Calls.{Call, Trade, Close, Deliver, Ask, Commit, Cutoff, Resolve, PairOff, Roll, Mark, called}
+use Rattle.rules.specs.Calls.{Call, Trade, Close, Deliver, Ask, Commit, Cutoff, Resolve, PairOff, Roll, Mark, Turn, called}
 use Rattle.rules.specs.Tally.{State}
 use Rattle.status.specs.Status.{StatusAnswer, isHanded, waitsFor, failsPartly, failsWholly, statusRefused, status}
 
@@ -39,6 +39,7 @@ noLift i (Resolve j a x out) = true
 noLift i (PairOff j a) = true
 noLift i (Roll days rate prices) = true
 noLift i (Mark j m) = true
+noLift i (Turn d) = true
 
 -- 'no lift between': only an accepted commit is a lift, and only an accepted cutoff ends the day's deliveries
 abbrev pub noLiftBetween : ℕ → Book → List Call → Bool
@@ -56,6 +57,7 @@ lotsIn i (Resolve j a x out) = 0
 lotsIn i (PairOff j a) = 0
 lotsIn i (Roll days rate prices) = 0
 lotsIn i (Mark j m) = 0
+lotsIn i (Turn d) = 0
 
 -- 0 where it is refused
 abbrev pub ifAccepted : ℕ → ℕ → ℕ
@@ -90,6 +92,7 @@ noRoll (Resolve j a x out) = true
 noRoll (PairOff j a) = true
 noRoll (Roll days rate prices) = false
 noRoll (Mark j m) = true
+noRoll (Turn d) = true
 
 -- none is accepted
 abbrev pub noRollSince : Book → List Call → Bool

@@ -71,6 +71,7 @@ fn name(text: &mut [u8], at: usize, n: Name) -> usize
         Name::Cutoff => put(text, at, b"cutoff"),
         Name::Roll => put(text, at, b"roll"),
         Name::Mark => put(text, at, b"mark"),
+        Name::Turn => put(text, at, b"turn"),
         Name::Tape => put(text, at, b"tape"),
     }
 }

@@ -13,6 +13,7 @@ use Rattle.rules.specs.declared.Phase.the-variants.{Taking, Settling, Cu
 use Rattle.rules.specs.Measures.{issueCount, lastIssue, accountCount, lastAccount, cellCount, unitLots, mostLots, mostEntries, mostLifts, liftWords, liftCells, mostCharge, between, sum, dueOf, owedOf}
 use Rattle.rules.specs.Units.{AccountLots, unitsOfNets}
 use Rattle.rules.specs.Handover.{covered, stock}
+use Rattle.rules.specs.Dealt.{dealt}
 use Rattle.rules.specs.Lifts.{Lift, liftOf, lifted}
 use Rattle.rules.specs.Ledger.{entry}
 
@@ -87,16 +88,27 @@ placesIn (suc n) ws = liftOf (getD ws 0 0) (getD ws 1 0) ∷ placesIn n (drop 2 
 abbrev pub liftsAt : List ℕ → ℕ → List Lift
 liftsAt lifts i = placesIn (liftNumber lifts i) (drop 2 (block liftWords i lifts))
 
+-- from a named day on full units are dealt in turn; 0 names none
+abbrev pub inForce : ℕ → ℕ → Bool
+inForce turn day = ltb 0 turn && leb turn day
+
+abbrev pub dealtToday : Book → Bool
+dealtToday b = inForce (b .turn) (b .day)
+
+-- the units of accounts with these nets, in the new order or the old
+abbrev pub unitsBy : Bool → List ℤ → List AccountLots
+unitsBy new ns = cond new (dealt unitLots (map dueOf ns)) (unitsOfNets unitLots ns)
+
 -- the issue's units in the order of the day: the order without lifts, as lifted so far
-unfoldable pub orderIn : List ℤ → List ℕ → ℕ → List AccountLots
-orderIn nets lifts i = lifted (liftsAt lifts i) (unitsOfNets unitLots (row i nets))
+unfoldable pub orderIn : Bool → List ℤ → List ℕ → ℕ → List AccountLots
+orderIn new nets lifts i = lifted (liftsAt lifts i) (unitsBy new (row i nets))
 
 -- of each issue; the calls take a book's orders from here
 abbrev pub Orders : Type 0
 Orders = ℕ → List AccountLots
 
 abbrev pub orderOf : Book → Orders
-orderOf b = orderIn (b .nets) (b .lifts)
+orderOf b = orderIn (dealtToday b) (b .nets) (b .lifts)
 
 abbrev pub stockOf : Book → ℕ → ℕ
 stockOf b i = stock (orderOf b i) (deliveredTotal (b .delivered) i)
@@ -229,11 +241,12 @@ sound b = all (λ c. c) (conditions b)
 
 -- a book of all its columns
 abbrev pub bookOf :
-    ℕ → Phase → List ℕ → List ℤ → List ℕ → List ℕ → List ℤ → ℕ → List ℕ → List ℕ → List ℕ → List ℕ → List ℕ → Book
-bookOf day phase marks nets delivered lifts charges count issues froms tos lots days =
+    ℕ → Phase → ℕ → List ℕ → List ℤ → List ℕ → List ℕ → List ℤ → ℕ → List ℕ → List ℕ → List ℕ → List ℕ → List ℕ → Book
+bookOf day phase turn marks nets delivered lifts charges count issues froms tos lots days =
     record {
       day = day;
       phase = phase;
+      turn = turn;
       marks = marks;
       nets = nets;
       delivered = delivered;
@@ -249,30 +262,35 @@ bookOf day phase marks nets delivered lifts charges count issues froms tos lots 
 
 abbrev pub withDay : Book → ℕ → Phase → Book
 withDay b d p =
-    bookOf d p (b .marks) (b .nets) (b .delivered) (b .lifts) (b .charges) (b .count) (b .issues) (b .froms) (b .tos) (b .lots) (b .days)
+    bookOf d p (b .turn) (b .marks) (b .nets) (b .delivered) (b .lifts) (b .charges) (b .count) (b .issues) (b .froms) (b .tos) (b .lots) (b .days)
 
 abbrev pub withPhase : Book → Phase → Book
 withPhase b p = withDay b (b .day) p
 
 abbrev pub withMarks : Book → List ℕ → Book
 withMarks b ms =
-    bookOf (b .day) (b .phase) ms (b .nets) (b .delivered) (b .lifts) (b .charges) (b .count) (b .issues) (b .froms) (b .tos) (b .lots) (b .days)
+    bookOf (b .day) (b .phase) (b .turn) ms (b .nets) (b .delivered) (b .lifts) (b .charges) (b .count) (b .issues) (b .froms) (b .tos) (b .lots) (b .days)
 
 abbrev pub withNets : Book → List ℤ → Book
 withNets b ns =
-    bookOf (b .day) (b .phase) (b .marks) ns (b .delivered) (b .lifts) (b .charges) (b .count) (b .issues) (b .froms) (b .tos) (b .lots) (b .days)
+    bookOf (b .day) (b .phase) (b .turn) (b .marks) ns (b .delivered) (b .lifts) (b .charges) (b .count) (b .issues) (b .froms) (b .tos) (b .lots) (b .days)
 
 abbrev pub withDelivered : Book → List ℕ → Book
 withDelivered b ds =
-    bookOf (b .day) (b .phase) (b .marks) (b .nets) ds (b .lifts) (b .charges) (b .count) (b .issues) (b .froms) (b .tos) (b .lots) (b .days)
+    bookOf (b .day) (b .phase) (b .turn) (b .marks) (b .nets) ds (b .lifts) (b .charges) (b .count) (b .issues) (b .froms) (b .tos) (b .lots) (b .days)
 
 abbrev pub withLifts : Book → List ℕ → Book
 withLifts b ls =
-    bookOf (b .day) (b .phase) (b .marks) (b .nets) (b .delivered) ls (b .charges) (b .count) (b .issues) (b .froms) (b .tos) (b .lots) (b .days)
+    bookOf (b .day) (b .phase) (b .turn) (b .marks) (b .nets) (b .delivered) ls (b .charges) (b .count) (b .issues) (b .froms) (b .tos) (b .lots) (b .days)
 
 abbrev pub withCharges : Book → List ℤ → Book
 withCharges b cs =
-    bookOf (b .day) (b .phase) (b .marks) (b .nets) (b .delivered) (b .lifts) cs (b .count) (b .issues) (b .froms) (b .tos) (b .lots) (b .days)
+    bookOf (b .day) (b .phase) (b .turn) (b .marks) (b .nets) (b .delivered) (b .lifts) cs (b .count) (b .issues) (b .froms) (b .tos) (b .lots) (b .days)
+
+-- the first day of the new order
+abbrev pub withTurn : Book → ℕ → Book
+withTurn b t =
+    bookOf (b .day) (b .phase) t (b .marks) (b .nets) (b .delivered) (b .lifts) (b .charges) (b .count) (b .issues) (b .froms) (b .tos) (b .lots) (b .days)
 
 -- a column of a ledger, 0 where it is not used
 abbrev pub column : (Entry → ℕ) → List Entry → List ℕ
@@ -280,7 +298,7 @@ column f es = map f es ++ replicate (mostEntries - length es) 0
 
 abbrev pub withLedger : Book → List Entry → Book
 withLedger b es =
-    bookOf (b .day) (b .phase) (b .marks) (b .nets) (b .delivered) (b .lifts) (b .charges) (length es)
+    bookOf (b .day) (b .phase) (b .turn) (b .marks) (b .nets) (b .delivered) (b .lifts) (b .charges) (length es)
     (column (λ e. e .issue) es) (column (λ e. e .from) es) (column (λ e. e .to) es) (column (λ e. e .lots) es)
     (column (λ e. e .day) es)
 
@@ -306,5 +324,5 @@ pub record Lengths (ns : List ℤ) (ds ls : List ℕ) (cs : List ℤ) (is fs ts 
 -- a fresh book is day 0, Taking, all zero, ledger empty, no issue marked
 abbrev pub fresh : Book
 fresh =
-    bookOf 0 Taking (replicate issueCount 0) (replicate cellCount (pos 0)) (replicate cellCount 0) (replicate liftCells 0) (replicate accountCount (pos 0)) 0
+    bookOf 0 Taking 0 (replicate issueCount 0) (replicate cellCount (pos 0)) (replicate cellCount 0) (replicate liftCells 0) (replicate accountCount (pos 0)) 0
     (replicate mostEntries 0) (replicate mostEntries 0) (replicate mostEntries 0) (replicate mostEntries 0) (replicate mostEntries 0)

@@ -22,9 +22,9 @@ use Rattle.rules.specs.Handover.{covered, firstUnit, handovers, partials
 use Rattle.rules.specs.Lifts.{Lift, liftOf, lift, handedFrom}
 use Rattle.rules.specs.Fails.{Fail, fails}
 use Rattle.rules.specs.Ledger.{entry, isFrom, meet, met, Pairing, pairing, charged}
-use Rattle.rules.specs.Book.{tabulate, row, cell, netAt, deliveredAt, obligationsOf, deliveredTotal, liftCell, liftNumber, countAt, Orders, orderOf, ledgerOf, withDay, withPhase, withMarks, withNets, withDelivered, withLifts, withCharges, withLedger}
+use Rattle.rules.specs.Book.{tabulate, row, cell, netAt, deliveredAt, obligationsOf, deliveredTotal, liftCell, liftNumber, countAt, Orders, orderOf, ledgerOf, withDay, withPhase, withMarks, withTurn, withNets, withDelivered, withLifts, withCharges, withLedger}
 use Rattle.rules.specs.Records.{Rec, handover, recordOf, words, over}
-use Rattle.rules.specs.Questions.{Question, firstNo, askOutput, askSound, askTaking, askSettling, askCut, askIssue, askAccount, askAccounts, askDiffer, askLots, askNets, askOwedToday, askOwedInLedger, askEntries, askRoll, askQuote, askTerm, askDay, askUnhanded, askTicket, askLifts, askEven, askUnused}
+use Rattle.rules.specs.Questions.{Question, firstNo, askOutput, askSound, askTaking, askSettling, askCut, askIssue, askAccount, askAccounts, askDiffer, askLots, askNets, askOwedToday, askOwedInLedger, askEntries, askRoll, askQuote, askTerm, askDay, askUnhanded, askTicket, askLifts, askEven, askUnused, askTurn}
 
 -- a call with its arguments and the output lent to it
 pub data Call : Type 0 where
@@ -38,6 +38,7 @@ pub data Call : Type 0 where
   PairOff : ℕ → ℕ → Call
   Roll : ℕ → ℕ → List ℕ → Call
   Mark : ℕ → ℕ → Call
+  Turn : ℕ → Call
 
 -- what a call answers: number, count (for pair-off, steps), lots cancelled, book, output words
 pub record Answer : Type 0 where
@@ -193,6 +194,10 @@ markAsks nets es i = askIssue i ∷ askUnused nets es i ∷ []
 abbrev pub markedAs : List ℕ → ℕ → ℕ → List ℕ
 markedAs marks i m = set marks i (min m 1)
 
+-- turn day (any phase): names the first day of the new order; before that day a later one replaces it
+abbrev pub turnAsks : ℕ → ℕ → ℕ → List Question
+turnAsks turn today d = askTurn turn today d ∷ []
+
 -- The calls
 
 -- the output lent to a call
@@ -207,6 +212,7 @@ lentTo (Resolve i a x out) = out
 lentTo (PairOff i a) = []
 lentTo (Roll days rate quotes) = []
 lentTo (Mark i m) = []
+lentTo (Turn d) = []
 
 -- question 1 is asked of deliver, commit, cutoff and resolve
 abbrev pub outputAsks : Call → List Question
@@ -220,6 +226,7 @@ outputAsks (Resolve i a x out) = askOutput outputWords out ∷ []
 outputAsks (PairOff i a) = []
 outputAsks (Roll days rate quotes) = []
 outputAsks (Mark i m) = []
+outputAsks (Turn d) = []
 
 -- and is answered 'yes'
 abbrev pub HasRoom : Call → Type 0
@@ -237,6 +244,7 @@ ownAsks b (Resolve i a x out) = resolveAsks (b .marks) (ledgerOf b) i a x
 ownAsks b (PairOff i a) = pairOffAsks i a
 ownAsks b (Roll days rate quotes) = rollAsks (b .phase) (b .day) days rate quotes
 ownAsks b (Mark i m) = markAsks (b .nets) (ledgerOf b) i
+ownAsks b (Turn d) = turnAsks (b .turn) (b .day) d
 
 abbrev pub asks : Book → Call → List Question
 asks b c = outputAsks c ++ (askSound b ∷ ownAsks b c)
@@ -263,6 +271,7 @@ effect b (Resolve i a x out) = writes (withLedger b (meet (isFrom i a) x (ledger
 effect b (PairOff i a) = pairedOff b (pairing (b .day) i a (ledgerOf b))
 effect b (Roll days rate quotes) = changes (rolled b days rate quotes)
 effect b (Mark i m) = changes (withMarks b (markedAs (b .marks) i m))
+effect b (Turn d) = changes (withTurn b d)
 
 -- a call's answer, on any book and any output
 unfoldable pub called : Book → Call → Answer

@@ -3,6 +3,7 @@ pub mod Measures
 pub mod Units
 pub mod Ranking
 pub mod Handover
+pub mod Dealt
 pub mod Lifts
 pub mod Fails
 pub mod Ledger
@@ -16,3 +17,4 @@ pub mod Run
 pub mod Text
 pub mod Tally
 pub mod Days
+pub mod TurnCases

@@ -13,7 +13,7 @@ use Rattle.rules.specs.Measures.{issueCount, lastIssue, lastAccount, mos
 use Rattle.rules.specs.Units.{AccountLots}
 use Rattle.rules.specs.Handover.{covered}
 use Rattle.rules.specs.Ledger.{isFrom, lotsOf}
-use Rattle.rules.specs.Book.{isTaking, isSettling, isCut, tabulate, all, isZero, row, withinSize, netAt, deliveredAt, lotsEven, sound}
+use Rattle.rules.specs.Book.{isTaking, isSettling, isCut, tabulate, all, isZero, row, withinSize, netAt, deliveredAt, lotsEven, inForce, sound}
 
 pub data Question : Type 0 where
   ask : ℕ → Bool → Question
@@ -134,5 +134,9 @@ noEntry es i = all (λ e. not (eqb (e .issue) i)) es
 
 abbrev pub askUnused : List ℤ → List Entry → ℕ → Question
 askUnused nets es i = ask 20 (noNet nets i && noEntry es i)
+
+-- 26. Is the day after today, and the new order not yet in force?
+abbrev pub askTurn : ℕ → ℕ → ℕ → Question
+askTurn turn today d = ask 26 (ltb today d && not (inForce turn today))
 
 -- 13 and 14 are asked of a tape's words one by one, and 15 of the writer's fields: see Tape

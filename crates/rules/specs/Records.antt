@@ -42,6 +42,9 @@ rateBits = bits 10 14
 abbrev pub markBits : Field
 markBits = bits 0 1
 
+abbrev pub dayBits : Field
+dayBits = bits 0 16
+
 -- a kind 9 word has a price or an accrued amount in 17..0
 abbrev pub quoteBits : Field
 quoteBits = bits 0 18

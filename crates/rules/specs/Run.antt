@@ -16,7 +16,7 @@ use Rattle.rules.specs.declared.Read.{Read}
 use Rattle.rules.specs.declared.Read.the-variants.{Instr, Refused}
 use Rattle.rules.specs.Measures.{outputWords}
 use Rattle.rules.specs.Book.{ledgerOf, fresh}
-use Rattle.rules.specs.Calls.{Call, Trade, Close, Deliver, Cutoff, Resolve, PairOff, Roll, Mark, Answer, called}
+use Rattle.rules.specs.Calls.{Call, Trade, Close, Deliver, Cutoff, Resolve, PairOff, Roll, Mark, Turn, Answer, called}
 use Rattle.rules.specs.Tape.{readOf, quotesOf}
 
 -- an instruction, with roll's quotes and a lent output, as a call
@@ -29,6 +29,7 @@ callOf instruction.Close quotes out = Close
 callOf instruction.Cutoff quotes out = Cutoff out
 callOf (instruction.Roll days rate) quotes out = Roll days rate quotes
 callOf (instruction.Mark i m) quotes out = Mark i m
+callOf (instruction.Turn d) quotes out = Turn d
 
 abbrev pub nameOf : Instruction → Name
 nameOf (instruction.Trade i f t x) = name.Trade
@@ -39,6 +40,7 @@ nameOf instruction.Close = name.Close
 nameOf instruction.Cutoff = name.Cutoff
 nameOf (instruction.Roll days rate) = name.Roll
 nameOf (instruction.Mark i m) = name.Mark
+nameOf (instruction.Turn d) = name.Turn
 
 -- index of the first word, name, refusal number (0 if done), count of records (for pair-off, steps)
 abbrev pub line : ℕ → Name → ℕ → ℕ → Line

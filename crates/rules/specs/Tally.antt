@@ -12,9 +12,9 @@ use Rattle.rules.specs.Measures.{issueCount, accountCount, unitLots, tot
 use Rattle.rules.specs.Units.{AccountLots, accountLots, sumLots, ofAccount, unitsOfNets}
 use Rattle.rules.specs.Lifts.{Lift, liftOf, lifted}
 use Rattle.rules.specs.Ledger.{isFrom, isTo, lotsOf}
-use Rattle.rules.specs.Book.{tabulate, ledgerOf, fresh}
+use Rattle.rules.specs.Book.{tabulate, unitsBy, inForce, ledgerOf, fresh}
 use Rattle.rules.specs.Records.{Rec, recordsIn}
-use Rattle.rules.specs.Calls.{Call, Trade, Close, Deliver, Ask, Commit, Cutoff, Resolve, PairOff, Roll, Mark, Answer, called}
+use Rattle.rules.specs.Calls.{Call, Trade, Close, Deliver, Ask, Commit, Cutoff, Resolve, PairOff, Roll, Mark, Turn, Answer, called}
 
 -- the records of a kind in an issue: to whom, and how many lots
 abbrev pub recordsOf : ℕ → ℕ → List Rec → List AccountLots
@@ -65,10 +65,13 @@ pub record Tally : Type 0 where
   pub inAll : Counts
   pub rows : ℕ → List AccountLots
   pub lifts : ℕ → List Lift
+  -- the count of rolls accepted so far, and the day of the last accepted `turn`, 0 before there is one
+  pub day : ℕ
+  pub turn : ℕ
 
 -- a fresh tally is all 0, rows empty, no lift
 abbrev pub freshTally : Tally
-freshTally = record { today = noCounts; inAll = noCounts; rows = λ i. []; lifts = λ i. [] }
+freshTally = record { today = noCounts; inAll = noCounts; rows = λ i. []; lifts = λ i. []; day = 0; turn = 0 }
 
 -- sold of from and bought of to rise by the lots
 abbrev pub countTrade : ℕ → ℕ → ℕ → ℕ → Counts → Counts
@@ -95,25 +98,28 @@ joinLift t rows ls i = ls i ++ cond (eqb i (t .issue)) (liftOf (t .unit) (length
 
 -- what an accepted call does to the tally
 abbrev pub counted : Call → List Rec → Tally → Tally
-counted (Trade i f c x) rs t = record { today = countTrade i f c x (t .today); inAll = t .inAll; rows = t .rows; lifts = t .lifts }
+counted (Trade i f c x) rs t = record { today = countTrade i f c x (t .today); inAll = t .inAll; rows = t .rows; lifts = t .lifts; day = t .day; turn = t .turn }
 counted Close rs t = t
 counted (Deliver i a x out) rs t =
-    record { today = countHanded 10 rs (countGiven i a x (t .today)); inAll = t .inAll; rows = joinRows rs (t .rows); lifts = t .lifts }
+    record { today = countHanded 10 rs (countGiven i a x (t .today)); inAll = t .inAll; rows = joinRows rs (t .rows); lifts = t .lifts; day = t .day; turn = t .turn }
 counted (Ask i k) rs t = t
 counted (Commit w out) rs t =
-    record { today = countHanded 10 rs (t .today); inAll = t .inAll; rows = joinRows rs (t .rows); lifts = joinLift w (t .rows) (t .lifts) }
+    record { today = countHanded 10 rs (t .today); inAll = t .inAll; rows = joinRows rs (t .rows); lifts = joinLift w (t .rows) (t .lifts); day = t .day; turn = t .turn }
 counted (Cutoff out) rs t =
     record {
       today = countHanded 10 rs (t .today);
       inAll = bothCounts (t .inAll) (countHanded 10 rs (t .today));
       rows = joinRows rs (t .rows);
       lifts = t .lifts;
+      day = t .day;
+      turn = t .turn;
     }
 counted (Resolve i a x out) rs t =
-    record { today = t .today; inAll = countHanded 11 rs (countGiven i a x (t .inAll)); rows = t .rows; lifts = t .lifts }
+    record { today = t .today; inAll = countHanded 11 rs (countGiven i a x (t .inAll)); rows = t .rows; lifts = t .lifts; day = t .day; turn = t .turn }
 counted (PairOff i a) rs t = t
-counted (Roll days rate quotes) rs t = record { today = noCounts; inAll = t .inAll; rows = λ i. []; lifts = λ i. [] }
+counted (Roll days rate quotes) rs t = record { today = noCounts; inAll = t .inAll; rows = λ i. []; lifts = λ i. []; day = t .day + 1; turn = t .turn }
 counted (Mark i m) rs t = t
+counted (Turn d) rs t = record { today = t .today; inAll = t .inAll; rows = t .rows; lifts = t .lifts; day = t .day; turn = d }
 
 -- 'between close and cutoff': a close was accepted and no cutoff since
 abbrev pub settlingAfter : Call → Bool → Bool
@@ -127,6 +133,7 @@ settlingAfter (Resolve i a x out) s = s
 settlingAfter (PairOff i a) s = s
 settlingAfter (Roll days rate quotes) s = s
 settlingAfter (Mark i m) s = s
+settlingAfter (Turn d) s = s
 
 -- whether a call was accepted, from its number
 abbrev pub accepted : ℕ → Bool
@@ -178,9 +185,9 @@ inIssue g i = sum (tabulate (g i) 0 accountCount)
 abbrev pub netsToday : Tally → ℕ → List ℤ
 netsToday t i = tabulate (λ a. pos (t .today .bought i a) -ℤ pos (t .today .sold i a)) 0 accountCount
 
--- in the order as lifted so far
+-- in the order of the day, as lifted so far
 abbrev pub unitsToday : Tally → ℕ → List AccountLots
-unitsToday t i = lifted (t .lifts i) (unitsOfNets unitLots (netsToday t i))
+unitsToday t i = lifted (t .lifts i) (unitsBy (inForce (t .turn) (t .day)) (netsToday t i))
 
 -- 'delivered today less those handed on' is 0 to 99,999 lots, and 0 except between close and cutoff
 pub record StockHeld (given handed : ℕ) (settling : Bool) : Type 0 where

@@ -5,14 +5,14 @@ use Prim.Native.Nat.{ℕ, zero, suc, _+_, _-_, _^_}
 use lib.Dec.{ltb, eqb}
 use lib.ListN.{length, getD, take, drop}
 use Rattle.rules.specs.declared.Instruction.{Instruction}
-use Rattle.rules.specs.declared.Instruction.the-variants.{Trade, Deliver, Resolve, PairOff, Close, Cutoff, Roll, Mark}
+use Rattle.rules.specs.declared.Instruction.the-variants.{Trade, Deliver, Resolve, PairOff, Close, Cutoff, Roll, Mark, Turn}
 use Rattle.rules.specs.declared.Read.{Read}
 use Rattle.rules.specs.declared.Read.the-variants.{Instr, Refused}
 use Rattle.rules.specs.declared.Word.{Word}
 use Rattle.rules.specs.declared.Word.the-variants.{Head, After, Wrong}
 use Rattle.rules.specs.Measures.{quoteCount, tapeWords}
 use Rattle.rules.specs.Book.{all}
-use Rattle.rules.specs.Records.{Field, bits, kindBits, issueBits, fromBits, toBits, lotsBits, daysBits, rateBits, markBits, quoteBits, inField, ofField, headWord, lotsWord, over}
+use Rattle.rules.specs.Records.{Field, bits, kindBits, issueBits, fromBits, toBits, lotsBits, daysBits, rateBits, markBits, dayBits, quoteBits, inField, ofField, headWord, lotsWord, over}
 use Rattle.rules.specs.Questions.{ask, firstNo, askOutput}
 
 abbrev pub kindOf : ℕ → ℕ
@@ -48,6 +48,8 @@ kinds =
     ∷ kind 9 (after (bits 18 10))
     -- 13 mark: one word, bits 23..1 unused
     ∷ kind 13 (head (bits 1 23) 0 0 (λ w x. Mark (ofField issueBits w) (ofField markBits w)))
+    -- 14 turn: one word, bits 27..16 unused
+    ∷ kind 14 (head (bits 16 12) 0 0 (λ w x. Turn (ofField dayBits w)))
     ∷ []
 
 abbrev pub kindIn : List Line → ℕ → Kind
@@ -117,6 +119,9 @@ rollWord days rate = inField kindBits 7 + inField daysBits days + inField rateBi
 abbrev pub markWord : ℕ → ℕ → ℕ
 markWord i m = inField kindBits 13 + inField issueBits i + inField markBits m
 
+abbrev pub turnWord : ℕ → ℕ
+turnWord d = inField kindBits 14 + inField dayBits d
+
 abbrev pub quoteWord : ℕ → ℕ
 quoteWord quote = inField kindBits 9 + inField quoteBits quote
 
@@ -129,6 +134,7 @@ wordsOf Close quotes = headWord 5 0 0 0 ∷ []
 wordsOf Cutoff quotes = headWord 6 0 0 0 ∷ []
 wordsOf (Roll days rate) quotes = rollWord days rate ∷ map quoteWord quotes
 wordsOf (Mark i m) quotes = markWord i m ∷ []
+wordsOf (Turn d) quotes = turnWord d ∷ []
 
 -- 15. Does each field fit its bits? A roll has 32 quotes (house)
 abbrev pub fits : Field → ℕ → Bool
@@ -148,6 +154,7 @@ fieldsFit Cutoff quotes = true
 fieldsFit (Roll days rate) quotes =
     fits daysBits days && fits rateBits rate && eqb (length quotes) quoteCount && all (fits quoteBits) quotes
 fieldsFit (Mark i m) quotes = fits issueBits i && fits markBits m
+fieldsFit (Turn d) quotes = fits dayBits d
 
 -- what the writer answers: number, count of words, output words
 pub record WriteAnswer : Type 0 where

@@ -10,7 +10,7 @@ use Rattle.rules.specs.declared.Book.{Book}
 use Rattle.rules.specs.declared.Entry.{Entry}
 use Rattle.rules.specs.declared.Line.{Line}
 use Rattle.rules.specs.declared.Name.{Name}
-use Rattle.rules.specs.declared.Name.the-variants.{Trade, Deliver, Resolve, PairOff, Close, Cutoff, Roll, Mark, Tape}
+use Rattle.rules.specs.declared.Name.the-variants.{Trade, Deliver, Resolve, PairOff, Close, Cutoff, Roll, Mark, Turn, Tape}
 use Rattle.rules.specs.Bytes.{wordsIn, strayIn}
 use Rattle.rules.specs.Run.{Ran, ChargeLine, runOf, failLines, chargeLines}
 
@@ -28,7 +28,7 @@ abbrev pub signed : ℤ → List ℕ
 signed (pos n) = decimal n
 signed (negsuc n) = 45 ∷ decimal (suc n)
 
--- trade, deliver, resolve, pair-off, close, cutoff, roll, mark, tape
+-- trade, deliver, resolve, pair-off, close, cutoff, roll, mark, turn, tape
 abbrev pub nameText : Name → List ℕ
 nameText Trade = 116 ∷ 114 ∷ 97 ∷ 100 ∷ 101 ∷ []
 nameText Deliver = 100 ∷ 101 ∷ 108 ∷ 105 ∷ 118 ∷ 101 ∷ 114 ∷ []
@@ -38,6 +38,7 @@ nameText Close = 99 ∷ 108 ∷ 111 ∷ 115 ∷ 101 ∷ []
 nameText Cutoff = 99 ∷ 117 ∷ 116 ∷ 111 ∷ 102 ∷ 102 ∷ []
 nameText Roll = 114 ∷ 111 ∷ 108 ∷ 108 ∷ []
 nameText Mark = 109 ∷ 97 ∷ 114 ∷ 107 ∷ []
+nameText Turn = 116 ∷ 117 ∷ 114 ∷ 110 ∷ []
 nameText Tape = 116 ∷ 97 ∷ 112 ∷ 101 ∷ []
 
 -- a space and a number

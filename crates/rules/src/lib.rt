@@ -22,10 +22,12 @@ pub enum Phase {
 // The book. Nets and delivered lots of issue i and account a stand at i * 64 + a. Of issue i the words
 // of lifts from i * 18 on are: the number of lifts, the count of the day's accepted deliveries and lifts,
 // and of each lift its old and its new place. The ledger's entries are the first `count` of five columns:
-// issue, from, to, lots, day. An issue's mark is 0, or another number where it is marked.
+// issue, from, to, lots, day. An issue's mark is 0, or another number where it is marked. `turn` is the
+// first day on which full units are dealt in turn, 0 where none is named.
 pub struct Book {
     pub day: u16,
     pub phase: Phase,
+    pub turn: u32,
     pub marks: [u8; 16],
     pub nets: [i32; 1024],
     pub delivered: [u32; 1024],
@@ -96,6 +98,8 @@ pub enum Instruction {
     Roll(u32, u32),
     // issue, mark
     Mark(u32, u32),
+    // the first day on which full units are dealt in turn
+    Turn(u32),
 }
 
 // What a word of the tape is taken as: the head of an instruction, with the kind of the words that
@@ -128,6 +132,7 @@ pub enum Name {
     Cutoff,
     Roll,
     Mark,
+    Turn,
     Tape,
 }
 

@@ -4,7 +4,7 @@ use mathlib.Core.List.{List, []}
 use Prim.Native.Nat.{ℕ}
 use Rattle.rules.specs.declared.Book.{Book}
 use Rattle.rules.specs.declared.Instruction.{Instruction}
-use Rattle.rules.specs.Calls.{Call, Trade, Close, Deliver, Ask, Commit, Cutoff, Resolve, PairOff, Roll, Mark, Answer, called}
+use Rattle.rules.specs.Calls.{Call, Trade, Close, Deliver, Ask, Commit, Cutoff, Resolve, PairOff, Roll, Mark, Turn as NameTurn, Answer, called}
 use Rattle.rules.specs.Run.{callOf}
 use Rattle.rules.specs.Tally.{State, Demand3}
 use Rattle.laws.proofs.Answers.{by-answer}
@@ -24,6 +24,7 @@ wordsLent (Resolve i a x lent) out = out
 wordsLent (PairOff i a) out = []
 wordsLent (Roll days rate quotes) out = []
 wordsLent (Mark i m) out = []
+wordsLent (NameTurn day) out = []
 
 -- a turn, the book and the words that it left, as an answer
 abbrev pub gave : Call → Turn → Book → List ℕ → Answer
@@ -42,6 +43,7 @@ words-lent b (PairOff i a) r b′ out out′ g = by-answer (λ d. [] ≡ d .out)
 words-lent b (Roll days rate quotes) r b′ out out′ g =
     by-answer (λ d. [] ≡ d .out) b (Roll days rate quotes) (λ y. refl) (λ n. refl)
 words-lent b (Mark i m) r b′ out out′ g = by-answer (λ d. [] ≡ d .out) b (Mark i m) (λ y. refl) (λ n. refl)
+words-lent b (NameTurn day) r b′ out out′ g = by-answer (λ d. [] ≡ d .out) b (NameTurn day) (λ y. refl) (λ n. refl)
 
 -- what a turn gives is the call's answer
 pub gave-answer : (b : Book) (c : Call) (r : Turn) (b′ : Book) (out out′ : List ℕ) → Gives b c r b′ out out′ → gave c r b′ out′ ≡ called b c

@@ -1,7 +1,7 @@
 -- What a call in place answers, argued once for all: its number where one of its own questions is answered 'no', and what it
 -- does where none is. Then what each call's effect on its columns is, as a book.
-use mathlib.Core.Path.{_≡_, refl, sym, ap, _∙_}
-use mathlib.Core.Bool.{true}
+use mathlib.Core.Path.{_≡_, refl, sym, ap, subst, _∙_}
+use mathlib.Core.Bool.{Bool, true}
 use mathlib.Core.List.{List, [], _∷_}
 use Prim.Native.Nat.{ℕ, zero, suc, _≤_}
 use lib.Dec.{leb}
@@ -12,18 +12,18 @@ use Rattle.rules.specs.declared.Book.{Book}
 use Rattle.rules.specs.declared.Phase.the-variants.{Settling, Cut}
 use Rattle.rules.specs.Measures.{outputWords}
 use Rattle.rules.specs.Ledger.{pairing, charged}
-use Rattle.rules.specs.Book.{entries, sound, LedgerLengths}
+use Rattle.rules.specs.Book.{inForce, entries, sound, LedgerLengths}
 use Rattle.rules.specs.Records.{words, over}
 use Rattle.rules.specs.Questions.{firstNo, askOutput}
-use Rattle.rules.specs.Calls.{Call, Trade, Close, Deliver, Cutoff, Resolve, PairOff, Roll, Mark, Effect, lentTo, HasRoom, ownAsks, effect, called, tradedNets, markedAs}
+use Rattle.rules.specs.Calls.{Call, Trade, Close, Deliver, Cutoff, Resolve, PairOff, Roll, Mark, Turn as NameTurn, Effect, lentTo, HasRoom, ownAsks, effect, called, tradedNets, markedAs}
 use Rattle.laws.proofs.Answers.{said-yes, own-first, refused-as, accepted-as}
 use Rattle.ledger.specs.Columns.{Whole}
 use Rattle.book.specs.declared.State.{State}
-use Rattle.book.specs.States.{withPhase, withEntries, withMarks, nextDay}
+use Rattle.book.specs.States.{withPhase, withEntries, withMarks, withTurn, nextDay}
 use Rattle.delivery.specs.Deliver.{Delivered}
 use Rattle.cutoff.specs.declared.Counts.{Counts as CutCounts}
 use Rattle.cutoff.specs.Write.{lent}
-use Rattle.cutoff.specs.All.{WasCutAll}
+use Rattle.cutoff.specs.All.{Asked, WasCutAll}
 use Rattle.resolution.specs.declared.Counts.{Counts}
 use Rattle.pairing.specs.declared.Steps.{Steps}
 use Rattle.resolution.specs.Resolving.{Resolved}
@@ -74,17 +74,24 @@ traded s nets after i f t x b e =
 pub closed : (s s′ : State) (b : Book) → s′ ≡ withPhase s Settling → Does (effect (inState s b) Close) [] 0 0 (inState s′ b) []
 closed s s′ b e = record { count = refl; cancelled = refl; book = ap (λ (t : State). inState t b) e; out = refl }
 
-pub delivered-to : (s : State) (nets : List ℤ) (delivered after lifts raised : List ℕ) (i a x : ℕ) (lent out : List ℕ) (k : ℕ) (b : Book) →
-    Delivered nets delivered after lifts raised i a x lent out k →
+pub delivered-to : (s : State) (new : Bool) (nets : List ℤ) (delivered after lifts raised : List ℕ) (i a x : ℕ) (lent out : List ℕ) (k : ℕ) (b : Book) →
+    new ≡ inForce (s .turn) (s .day) → Delivered new nets delivered after lifts raised i a x lent out k →
     Does (effect (withinCells s nets delivered lifts b) (Deliver i a x lent)) lent k 0 (withinCells s nets after raised b) out
-delivered-to s nets delivered after lifts raised i a x lent out k b d =
+delivered-to s new nets delivered after lifts raised i a x lent out k b e c =
+    let d = subst (λ (o : Bool). Delivered o nets delivered after lifts raised i a x lent out k) e c in
     record { count = d .count; cancelled = refl; book = rw (d .column, d .counted); out = d .output }
 
-pub was-cut : (s s′ : State) (nets : List ℤ) (delivered lifts is fs ts xs ds out : List ℕ) (r : CutCounts) (is′ fs′ ts′ xs′ ds′ out′ : List ℕ) (b : Book) →
-    s′ ≡ withEntries (withPhase s Cut) (r .entries) →
-    WasCutAll nets delivered lifts (s .day) (s .entries) (lent is fs ts xs ds out) r (lent is′ fs′ ts′ xs′ ds′ out′) →
+-- a cutoff's questions, by the order of the day
+pub cut-asked : (s : State) (new : Bool) (nets : List ℤ) (delivered lifts : List ℕ) (r : ℕ) (b : Book) → new ≡ inForce (s .turn) (s .day) →
+    Asked new (s .phase) (s .entries) nets delivered lifts r → r ≡ firstNo (ownAsks (withinCells s nets delivered lifts b) (Cutoff []))
+cut-asked s new nets delivered lifts r b e k = subst (λ (o : Bool). Asked o (s .phase) (s .entries) nets delivered lifts r) e k (s .day)
+
+pub was-cut : (s s′ : State) (new : Bool) (nets : List ℤ) (delivered lifts is fs ts xs ds out : List ℕ) (r : CutCounts) (is′ fs′ ts′ xs′ ds′ out′ : List ℕ) (b : Book) →
+    s′ ≡ withEntries (withPhase s Cut) (r .entries) → new ≡ inForce (s .turn) (s .day) →
+    WasCutAll new nets delivered lifts (s .day) (s .entries) (lent is fs ts xs ds out) r (lent is′ fs′ ts′ xs′ ds′ out′) →
     Does (effect (butCharges s nets delivered lifts is fs ts xs ds b) (Cutoff out)) out (r .records) 0 (butCharges s′ nets delivered lifts is′ fs′ ts′ xs′ ds′ b) out′
-was-cut s s′ nets delivered lifts is fs ts xs ds out r is′ fs′ ts′ xs′ ds′ out′ b e w =
+was-cut s s′ new nets delivered lifts is fs ts xs ds out r is′ fs′ ts′ xs′ ds′ out′ b e o v =
+    let w = subst (λ (n : Bool). WasCutAll n nets delivered lifts (s .day) (s .entries) (lent is fs ts xs ds out) r (lent is′ fs′ ts′ xs′ ds′ out′)) o v in
     let c = w .columns in
     record {
       count = w .records;
@@ -128,6 +135,9 @@ rolled-on s s′ nets delivered lifts charges is fs ts xs days rate quotes nets�
 pub marked-on : (s s′ : State) (nets : List ℤ) (is ms : List ℕ) (i m : ℕ) (b : Book) → s′ ≡ withMarks s ms → ms ≡ markedAs (s .marks) i m →
     Does (effect (withinUse s nets is b) (Mark i m)) [] 0 0 (withinUse s′ nets is b) []
 marked-on s s′ nets is ms i m b e f = record { count = refl; cancelled = refl; book = rw (e, f); out = refl }
+
+pub turned-on : (s s′ : State) (day : ℕ) (b : Book) → s′ ≡ withTurn s day → Does (effect (inState s b) (NameTurn day)) [] 0 0 (inState s′ b) []
+turned-on s s′ day b e = record { count = refl; cancelled = refl; book = ap (λ (t : State). inState t b) e; out = refl }
 
 -- the lengths of the ledger's columns, as others ask for them
 pub whole : (is fs ts xs ds : List ℕ) → LedgerLengths is fs ts xs ds → Whole is fs ts xs ds

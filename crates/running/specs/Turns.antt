@@ -11,7 +11,7 @@ use Rattle.rules.specs.declared.Book.{Book}
 use Rattle.rules.specs.declared.Instruction.{Instruction}
 use Rattle.rules.specs.Measures.{liftCells, outputWords}
 use Rattle.rules.specs.Book.{sound, CellLengths, LedgerLengths}
-use Rattle.rules.specs.Calls.{Call, Trade, Close, Deliver, Ask, Commit, Cutoff, Resolve, PairOff, Roll, Mark, Answer, called}
+use Rattle.rules.specs.Calls.{Call, Trade, Close, Deliver, Ask, Commit, Cutoff, Resolve, PairOff, Roll, Mark, Turn as NameTurn, Answer, called}
 use Rattle.rules.specs.Run.{callOf}
 use Rattle.book.specs.declared.State.{State}
 use Rattle.book.specs.States.{bookIn, Lent, Column, Columns}
@@ -39,6 +39,7 @@ outAfter (Resolve i a x lent) out d = d .out
 outAfter (PairOff i a) out d = out
 outAfter (Roll days rate quotes) out d = out
 outAfter (Mark i m) out d = out
+outAfter (NameTurn day) out d = out
 
 -- a call made on a book: number, count, lots cancelled, book and output are the call's
 pub record Gives (b : Book) (c : Call) (r : Turn) (b′ : Book) (out out′ : List ℕ) : Type 0 where

@@ -6,7 +6,7 @@ ghost use mathlib.Core.List.{[]};
 ghost use Prim.Native.Nat.{_≤_};
 ghost use lib.ListN.{length};
 ghost use Rattle.rules.specs.Measures.{outputWords};
-ghost use Rattle.rules.specs.Calls.{Trade, Close, Deliver, Cutoff, Resolve, PairOff, Roll, Mark, HasRoom};
+ghost use Rattle.rules.specs.Calls.{Trade, Close, Deliver, Cutoff, Resolve, PairOff, Roll, Mark, Turn as NameTurn, HasRoom};
 ghost use Rattle.rules.specs.Run.{callOf};
 ghost use Rattle.book.specs.States.{soundColumns, columns};
 ghost use Rattle.running.specs.Turns.{Turns, Answered, onState, onNets, onDelivered, onLedger, onFails, onCharges, onMarks, tradeReady, deliverReady, ledgerReady, cutoffReady, rollReady, markReady};
@@ -94,7 +94,8 @@ fn deliver(
             state: s,
         };
     }
-    let count = delivery::deliver_in(nets, delivered, lifts, i, a, x, out);
+    let dealt = book::dealt_today(s);
+    let count = delivery::deliver_in(dealt, nets, delivered, lifts, i, a, x, out);
     Turn {
         refusal: 0,
         count,
@@ -123,7 +124,8 @@ fn cutoff<'a>(
     let day = s.day;
     let phase = s.phase;
     let old = s.entries;
-    let no = cutoff::cutoff_asks(phase, old, nets, delivered, lifts);
+    let dealt = book::dealt_today(s);
+    let no = cutoff::cutoff_asks(dealt, phase, old, nets, delivered, lifts);
     if no != 0 {
         return Turn {
             refusal: no,
@@ -133,6 +135,7 @@ fn cutoff<'a>(
         };
     }
     let k = cutoff::cutoff_in(
+        dealt,
         nets,
         delivered,
         lifts,
@@ -304,6 +307,30 @@ fn mark<'a>(s: State, nets: &'a [i32], issues: &'a [u8], i: u32, m: u32) -> Turn
     }
 }
 
+// turn: the first day on which full units are dealt in turn, unless it is refused.
+fn name_turn(s: State, d: u32) -> Turn
+    ensures { λ r. ⌜ Turns onState s (NameTurn d) r [] ⌝ }
+{
+    let turn = s.turn;
+    let today = s.day;
+    let no = settings::turn_asks(turn, today, d);
+    if no != 0 {
+        return Turn {
+            refusal: no,
+            count: 0,
+            cancelled: 0,
+            state: s,
+        };
+    }
+    let next = book::with_turn(s, d);
+    Turn {
+        refusal: 0,
+        count: 0,
+        cancelled: 0,
+        state: next,
+    }
+}
+
 // The answer to an instruction of a sound book in its columns: number, count, lots cancelled, book and
 // output are those of the call. Roll's quotes stand beside it.
 pub fn answer(
@@ -357,5 +384,6 @@ pub fn answer(
             quotes,
         ),
         Instruction::Mark(i, m) => mark(s, nets, issues, i, m),
+        Instruction::Turn(d) => name_turn(s, d),
     }
 }

@@ -1,12 +1,14 @@
-// mark: its questions over nets and ledger, and its effect on the marks.
+// mark: its questions over nets and ledger, and its effect on the marks. turn: its question.
 ghost use mathlib.Core.Path.{_≡_};
 ghost use mathlib.Core.List.{List};
 ghost use Prim.Native.Nat.{ℕ, _≤_, _<_, min};
 ghost use lib.IntN.{natAbs};
 ghost use lib.ListN.{length};
-ghost use Rattle.rules.specs.Book.{all, isZero, entries};
+ghost use mathlib.Core.Bool.{_&&_, not};
+ghost use lib.Dec.{ltb};
+ghost use Rattle.rules.specs.Book.{all, isZero, entries, inForce};
 ghost use Rattle.rules.specs.Questions.{firstNo, noEntry};
-ghost use Rattle.rules.specs.Calls.{markAsks, markedAs};
+ghost use Rattle.rules.specs.Calls.{markAsks, markedAs, turnAsks};
 
 // Is a net 0?
 fn is_none(n: i32) -> bool
@@ -79,4 +81,19 @@ pub fn mark_in(marks: [u8; 16], i: u32, m: u32) -> [u8; 16]
     let mut next = marks;
     next[i as usize] = bit(m);
     next
+}
+
+// Is a day after today, and is the new order not yet in force?
+fn can_be_named(turn: u32, today: u16, d: u32) -> bool
+    ensures { λ r. ⌜ r ≡ (ltb today d && not (inForce turn today)) ⌝ }
+{
+    let now = today as u32;
+    (now < d) & !((0 < turn) & (turn <= now))
+}
+
+// Question 26 of a turn: the number, or 0 where the day can be named.
+pub fn turn_asks(turn: u32, today: u16, d: u32) -> u32
+    ensures { λ r. ⌜ r ≡ firstNo (turnAsks turn today d) ⌝ }
+{
+    if can_be_named(turn, today, d) { 0 } else { 26 }
 }

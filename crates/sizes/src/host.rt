@@ -1,6 +1,6 @@
 // A simulated desk for a host in C:
 //
-// uint32_t day_simulate(uint16_t day, uint32_t phase, size_t entries, const uint8_t marks[16],
+// uint32_t day_simulate(uint16_t day, uint32_t phase, size_t entries, uint32_t turn, const uint8_t marks[16],
 //     <nine columns, each with its length>, <settlement accounts>, <inventories>, each with its length,
 //     uint32_t size, uint64_t *deliveries, uint64_t *rounds, uint32_t owed[16]);
 //   How a desk goes whose 64 netting accounts share 16 settlement accounts, with units of so many lots. Of the
@@ -35,6 +35,7 @@ fn sound_at<'a>(
     day: u16,
     phase: u32,
     entries: usize,
+    turn: u32,
     marks: &'a [u8; 16],
     nets: &'a [i32],
     delivered: &'a [u32],
@@ -46,12 +47,12 @@ fn sound_at<'a>(
     lots: &'a [u32],
     days: &'a [u16],
 ) -> bool
-    ensures { λ r. ⌜ r ≡ soundAt phase (bookAt day phase entries (now (marks .entry)) (columns nets delivered lifts charges issues froms tos lots days)) ⌝ }
+    ensures { λ r. ⌜ r ≡ soundAt phase (bookAt day phase entries turn (now (marks .entry)) (columns nets delivered lifts charges issues froms tos lots days)) ⌝ }
 {
     if 2 < phase {
         return false;
     }
-    let s = book::state_of(day, phase_of(phase), entries, *marks);
+    let s = book::state_of(day, phase_of(phase), entries, turn, *marks);
     soundness::sound(
         s,
         nets,
@@ -113,6 +114,7 @@ pub extern "C" fn day_simulate<'a>(
     day: u16,
     phase: u32,
     entries: usize,
+    turn: u32,
     marks: &'a [u8; 16],
     nets: &'a [i32],
     delivered: &'a [u32],
@@ -130,12 +132,13 @@ pub extern "C" fn day_simulate<'a>(
     rounds: &mut u64,
     owed: &mut [u32; 16],
 ) -> u32
-    ensures { λ r. ⌜ tried r (now (deliveries .exit)) (now (rounds .exit)) (now (owed .exit)) ≡ daySimulation phase (bookAt day phase entries (now (marks .entry)) (columns nets delivered lifts charges issues froms tos lots days)) (now (settles .entry)) (now (inventories .entry)) size ⌝ }
+    ensures { λ r. ⌜ tried r (now (deliveries .exit)) (now (rounds .exit)) (now (owed .exit)) ≡ daySimulation phase (bookAt day phase entries turn (now (marks .entry)) (columns nets delivered lifts charges issues froms tos lots days)) (now (settles .entry)) (now (inventories .entry)) size ⌝ }
 {
     let good = sound_at(
         day,
         phase,
         entries,
+        turn,
         marks,
         nets,
         delivered,

@@ -67,7 +67,7 @@ module _ (nets : List ℤ) (lifts : List ℕ) (i : ℕ) (runs : List ℕ) (n k :
   test h = placesSound k h 0 (placesIn (getD words 0 0) (drop 2 words))
 
   abbrev wanted : ℕ → Bool
-  wanted h = placesSound (length (orderIn nets lifts i)) h 0 (liftsAt lifts i)
+  wanted h = placesSound (length (orderIn false nets lifts i)) h 0 (liftsAt lifts i)
 
   same : (h : ℕ) → test h ≡ wanted h
   unfolding orderIn
@@ -75,7 +75,7 @@ module _ (nets : List ℤ) (lifts : List ℕ) (i : ℕ) (runs : List ℕ) (n k :
       rw (words-part lifts i)
       (ap (λ m. placesSound m h 0 (liftsAt lifts i)) (e ∙ ap length (p .units) ∙ sym (length-lifted (liftsAt lifts i) (unitsOfNets unitLots (row i nets)))))
 
-  number-order : k ≡ length (orderIn nets lifts i)
+  number-order : k ≡ length (orderIn false nets lifts i)
   unfolding orderIn
   number-order = e ∙ ap length (p .units) ∙ sym (length-lifted (liftsAt lifts i) (unitsOfNets unitLots (row i nets)))
 
@@ -97,7 +97,7 @@ module _ (nets : List ℤ) (lifts : List ℕ) (i : ℕ) (runs : List ℕ) (n k :
       }
 
   pub placed-is : (after : List ℕ) (m d h : ℕ) (r : Bool) → Prepared nets lifts i after m → h ≡ covered (unitsIn after m) d → r ≡ test h →
-      r ≡ wanted (covered (orderIn nets lifts i) d)
+      r ≡ wanted (covered (orderIn false nets lifts i) d)
   placed-is after m d h r q f t = t ∙ same h ∙ ap wanted (f ∙ ap (λ us. covered us d) (q .units))
 
 -- An issue
@@ -183,6 +183,6 @@ scan-sized ns ds ls c = and-left (all (withinSize mostLots) ns) _ (c .sound)
 
 -- All issues
 
-pub lifts-start : (phase : Phase) (ns : List ℤ) (ds ls : List ℕ) → restOfIssues (liftsSound phase (orderIn ns ls) ds ls) 0 ≡ allLifts phase ns ds ls
+pub lifts-start : (phase : Phase) (ns : List ℤ) (ds ls : List ℕ) → restOfIssues (liftsSound phase (orderIn false ns ls) ds ls) 0 ≡ allLifts phase ns ds ls
 unfolding allLifts
 lifts-start phase ns ds ls = refl

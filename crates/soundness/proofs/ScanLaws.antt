@@ -14,9 +14,10 @@ use Rattle.rules.specs.Measures.{issueCount, mostLots, mostEntries, mostCharge,
 use Rattle.rules.specs.declared.Book.{Book}
 use Rattle.rules.specs.declared.Entry.{Entry}
 use Rattle.rules.specs.Ledger.{entry}
-use Rattle.rules.specs.Book.{isTaking, tabulate, all, row, entries, ledgerOf, isZero, balanced, withinSize, withinOwed, entrySound, daysSound, liftsSound, orderOf, cellsEven, entryEven, conditions, sound}
+use Rattle.rules.specs.Book.{isTaking, tabulate, all, row, entries, ledgerOf, isZero, balanced, withinSize, withinOwed, entrySound, daysSound, liftsSound, orderOf, cellsEven, entryEven, conditions, sound, dealtToday}
 use Rattle.laws.proofs.Basics.{and-left, and-right}
 use Rattle.laws.proofs.Ledger.{noEntry, length-entries, entry-at}
+use Rattle.laws.proofs.Carried.{lifts-either}
 use Rattle.laws.proofs.Scans.{and-false, and-true, and-assoc, and-swap, and-turn}
 use Rattle.soundness.specs.Scan.{rowSound, netsSound, deliveredSound, entriesSound, unusedZero, ledgerSound, chargesSound}
 use Rattle.soundness.specs.LiftScan.{allLifts}
@@ -185,17 +186,23 @@ abbrev pub last : Book → Bool
 last b =
     (allLifts (b .phase) (b .nets) (b .delivered) (b .lifts) && allCells (b .marks) (b .nets) (b .delivered)) && all (entryEven (b .marks)) (ledgerOf b)
 
+-- places are right in the order of the day exactly if they are in the old one
+either-order : (b : Book) → allLifts (b .phase) (b .nets) (b .delivered) (b .lifts) ≡ all (liftsSound (b .phase) (orderOf b) (b .delivered) (b .lifts)) (tabulate (λ i. i) 0 issueCount)
+unfolding allLifts
+either-order b = sym (lifts-either (dealtToday b) (b .phase) (b .nets) (b .delivered) (b .lifts) (tabulate (λ i. i) 0 issueCount))
+
 sound-joined : (b : Book) → others b && last b ≡ sound b
-unfolding netsSound deliveredSound ledgerSound entriesSound unusedZero chargesSound allLifts allCells sound conditions
+unfolding netsSound deliveredSound ledgerSound entriesSound unusedZero chargesSound allCells sound conditions
 sound-joined b =
-    joined (all (withinSize mostLots) (b .nets)) (all (λ i. balanced (row i (b .nets))) (tabulate (λ i. i) 0 issueCount))
+    rw (either-order b)
+    (joined (all (withinSize mostLots) (b .nets)) (all (λ i. balanced (row i (b .nets))) (tabulate (λ i. i) 0 issueCount))
     (withinOwed (b .nets) (b .delivered)) (cond (isTaking (b .phase)) (all isZero (b .delivered)) true)
     (leb (b .count) mostEntries) (all entrySound (ledgerOf b)) (daysSound 0 (b .day) (ledgerOf b))
     (all isZero (drop (b .count) (b .issues))) (all isZero (drop (b .count) (b .froms)))
     (all isZero (drop (b .count) (b .tos))) (all isZero (drop (b .count) (b .lots)))
     (all isZero (drop (b .count) (b .days))) (balanced (b .charges)) (all (withinSize (mostCharge * b .day)) (b .charges))
     (all (liftsSound (b .phase) (orderOf b) (b .delivered) (b .lifts)) (tabulate (λ i. i) 0 issueCount))
-    (all (cellsEven (b .marks) (b .nets) (b .delivered)) (tabulate (λ i. i) 0 issueCount)) (all (entryEven (b .marks)) (ledgerOf b))
+    (all (cellsEven (b .marks) (b .nets) (b .delivered)) (tabulate (λ i. i) 0 issueCount)) (all (entryEven (b .marks)) (ledgerOf b)))
 
 module _ (b : Book) where
   pub others-as : (n d l c : Bool) → n ≡ netsSound (b .nets) (b .delivered) → d ≡ deliveredSound (b .phase) (b .delivered) →

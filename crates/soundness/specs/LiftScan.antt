@@ -1,6 +1,6 @@
 -- The scan of lifts, where nets and delivered lots are sound.
 use mathlib.Core.Path.{_≡_}
-use mathlib.Core.Bool.{Bool, true}
+use mathlib.Core.Bool.{Bool, true, false}
 use mathlib.Core.List.{List}
 use Prim.Native.Nat.{ℕ, _≤_, _<_}
 use lib.ListN.{length}
@@ -12,7 +12,7 @@ use Rattle.soundness.specs.Scan.{netsSound}
 
 -- each issue's lifts are sound
 unfoldable pub allLifts : Phase → List ℤ → List ℕ → List ℕ → Bool
-allLifts phase ns ds ls = all (liftsSound phase (orderIn ns ls) ds ls) (tabulate (λ i. i) 0 issueCount)
+allLifts phase ns ds ls = all (liftsSound phase (orderIn false ns ls) ds ls) (tabulate (λ i. i) 0 issueCount)
 
 pub record CanScan (ns : List ℤ) (ds ls : List ℕ) : Type 0 where
   pub nets : length ns ≡ 1024

@@ -36,6 +36,7 @@ pub fn sound<'a>(
     scan::sound_columns(
         day,
         phase,
+        s.turn,
         marks,
         nets,
         delivered,

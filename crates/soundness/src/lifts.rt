@@ -3,6 +3,7 @@
 use book::taking;
 use rules::Phase;
 ghost use mathlib.Core.Path.{_≡_};
+ghost use mathlib.Core.Bool.{false};
 ghost use Prim.Native.Nat.{_≤_, _<_};
 ghost use lib.ListN.{length, getD, drop};
 ghost use Rattle.rules.specs.Handover.{covered};
@@ -33,7 +34,7 @@ fn places_sound(words: &[u32], number: u32, handed: u32) -> bool
 // Are the places of an issue's lifts right, in the order as lifted and after a delivered total?
 fn placed(nets: &[i32], lifts: &[u32], i: usize, d: u32) -> bool
     requires { ⌜ CanPlace (now nets) (now lifts) i ⌝ }
-    ensures { λ r. ⌜ r ≡ placesSound (length (orderIn (now (nets .entry)) (now (lifts .entry)) i)) (covered (orderIn (now (nets .entry)) (now (lifts .entry)) i) d) 0 (liftsAt (now (lifts .entry)) i) ⌝ }
+    ensures { λ r. ⌜ r ≡ placesSound (length (orderIn false (now (nets .entry)) (now (lifts .entry)) i)) (covered (orderIn false (now (nets .entry)) (now (lifts .entry)) i) d) 0 (liftsAt (now (lifts .entry)) i) ⌝ }
 {
     let s = i * 18;
     let e = s + 18;
@@ -57,7 +58,7 @@ fn issue_lifts<'a>(
     i: usize,
 ) -> bool
     requires { ⌜ CanScan (now nets) (now delivered) (now lifts) × (i < 16) ⌝ }
-    ensures { λ r. ⌜ r ≡ liftsSound phase (orderIn (now (nets .entry)) (now (lifts .entry))) (now (delivered .entry)) (now (lifts .entry)) i ⌝ }
+    ensures { λ r. ⌜ r ≡ liftsSound phase (orderIn false (now (nets .entry)) (now (lifts .entry))) (now (delivered .entry)) (now (lifts .entry)) i ⌝ }
 {
     let w = i * 18;
     let m = lifts[w];

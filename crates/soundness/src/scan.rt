@@ -220,6 +220,7 @@ fn charges_sound(today: u16, charges: &[i64]) -> bool
 pub fn sound_columns<'a>(
     day: u16,
     phase: Phase,
+    turn: u32,
     marks: [u8; 16],
     nets: &'a [i32],
     delivered: &'a [u32],
@@ -233,7 +234,7 @@ pub fn sound_columns<'a>(
     days: &'a [u16],
 ) -> bool
     requires { ⌜ Lengths (now nets) (now delivered) (now lifts) (now charges) (now issues) (now froms) (now tos) (now lots) (now days) ⌝ }
-    ensures { λ r. ⌜ r ≡ soundOf (columns nets delivered lifts charges issues froms tos lots days .before (stateOf day phase count marks)) ⌝ }
+    ensures { λ r. ⌜ r ≡ soundOf (columns nets delivered lifts charges issues froms tos lots days .before (stateOf day phase count turn marks)) ⌝ }
 {
     let cells = nets_sound(nets, delivered);
     let taken = delivered_sound(phase, delivered);

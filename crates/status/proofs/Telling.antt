@@ -12,11 +12,15 @@ use Rattle.rules.specs.declared.Book.{Book}
 use Rattle.rules.specs.declared.Phase.{Phase}
 use Rattle.rules.specs.Units.{AccountLots, accountLots, sumLots}
 use Rattle.rules.specs.Handover.{covered, stock, firstUnit}
-use Rattle.rules.specs.Book.{isTaking, isCut, deliveredTotal, orderIn}
+use Rattle.rules.specs.Questions.{ask, firstNo, askIssue}
+use Rattle.rules.specs.Book.{isTaking, isCut, headOr0, deliveredTotal, inForce, orderIn, orderOf, dealtToday, sound, withTurn}
 use Rattle.laws.proofs.Basics.{byTest, either}
 use Rattle.laws.proofs.Handover.{stock-below, waits-short}
+use Rattle.laws.proofs.Dealt.{lotsIn, same-covered, same-stock, same-length, same-sum}
+use Rattle.laws.proofs.SoundRows.{order-lots}
+use Rattle.laws.proofs.Carried.{sound-turn}
 use Rattle.soundness.specs.Sound.{lengthsRight, soundIn}
-use Rattle.status.specs.Status.{isHanded, waitsFor, failsPartly, failsWholly, statusRefused, wanted, inSettling, afterCutoff, status}
+use Rattle.status.specs.Status.{StatusAnswer, isHanded, waitsFor, failsPartly, failsWholly, statusRefused, wanted, inSettling, afterCutoff, reason, askNotTaking, statusAsks, statusAnswer, status}
 use Rattle.status.specs.Columns.{reasonAt, statusOf, statusWhere, statusIn}
 
 -- a unit is handed exactly if the units up to it, it included, have no more lots than are delivered
@@ -83,20 +87,33 @@ module _ (phase : Phase) (us : List AccountLots) (d k : ℕ) where
       pub is-wholly : eqb k h && ltb 0 t ≡ false → failsWholly ≡ reasonAt phase us d k
       is-wholly n = sym (simp n) ∙ is-cut
 
--- Questions 3 and 4
-module _ (phase : Phase) (nets : List ℤ) (delivered lifts : List ℕ) (i k : ℕ) where
-  pub is-taking : isTaking phase ≡ true → statusRefused 3 ≡ statusOf phase nets delivered lifts i k
+-- what is told goes by lots alone
+first-lots : (k : ℕ) (us : List AccountLots) → firstUnit (drop k us) .lots ≡ headOr0 (drop k (lotsIn us))
+first-lots zero [] = refl
+first-lots zero (u ∷ us) = refl
+first-lots (suc k) [] = refl
+first-lots (suc k) (u ∷ us) = first-lots k us
+
+by-lots : (phase : Phase) (us vs : List AccountLots) (d k : ℕ) → lotsIn us ≡ lotsIn vs → reasonAt phase us d k ≡ reasonAt phase vs d k
+unfolding reasonAt afterCutoff inSettling
+by-lots phase us vs d k e =
+    rw (same-length us vs e, same-covered us vs e d, same-stock us vs e d, same-sum us vs e (suc k), first-lots k us, first-lots k vs, e)
+
+-- Questions 3 and 4, in either order
+module _ (new : Bool) (phase : Phase) (nets : List ℤ) (delivered lifts : List ℕ) (i k : ℕ) where
+  pub is-taking : isTaking phase ≡ true → statusRefused 3 ≡ statusOf new phase nets delivered lifts i k
   unfolding statusOf
   is-taking e = simp e
 
-  pub no-issue : isTaking phase ≡ false → 15 < i → statusRefused 4 ≡ statusOf phase nets delivered lifts i k
+  pub no-issue : isTaking phase ≡ false → 15 < i → statusRefused 4 ≡ statusOf new phase nets delivered lifts i k
   unfolding statusOf
   no-issue e l = simp (e, lt-leb i 15 l)
 
-  pub of-unit : (us : List AccountLots) (d : ℕ) → us ≡ orderIn nets lifts i → d ≡ deliveredTotal delivered i →
-      isTaking phase ≡ false → i ≤ 15 → reasonAt phase us d k ≡ statusOf phase nets delivered lifts i k
+  pub of-unit : (us : List AccountLots) (d : ℕ) → us ≡ orderIn false nets lifts i → d ≡ deliveredTotal delivered i →
+      isTaking phase ≡ false → i ≤ 15 → reasonAt phase us d k ≡ statusOf new phase nets delivered lifts i k
   unfolding statusOf reasonAt
-  of-unit us d p q e l = rw (p, q, e, le-leb i 15 l)
+  of-unit us d p q e l =
+      by-lots phase us (orderIn new nets lifts i) d k (ap lotsIn p ∙ sym (order-lots new nets lifts i)) ∙ simp (q, e, le-leb i 15 l)
 
 -- Question 2
 module _ (good : Bool) (b : Book) (i k : ℕ) where
@@ -104,7 +121,7 @@ module _ (good : Bool) (b : Book) (i k : ℕ) where
   unfolding statusWhere
   unsound e = rw e
 
-  pub told-sound : good ≡ true → statusOf (b .phase) (b .nets) (b .delivered) (b .lifts) i k ≡ statusWhere good b i k
+  pub told-sound : good ≡ true → statusOf (dealtToday b) (b .phase) (b .nets) (b .delivered) (b .lifts) i k ≡ statusWhere good b i k
   unfolding statusWhere statusOf
   told-sound e = rw e
 
@@ -112,3 +129,27 @@ module _ (good : Bool) (b : Book) (i k : ℕ) where
 pub status-in : (b : Book) (i k : ℕ) → lengthsRight b ≡ true → statusIn b i k ≡ status b i k
 unfolding statusWhere status soundIn
 status-in b i k h = rw h
+
+-- what is told is the same whatever day is named for the new order
+abbrev toldOf : Bool → Phase → List AccountLots → ℕ → ℕ → ℕ → StatusAnswer
+toldOf good phase us d i k = statusAnswer (firstNo (ask 2 good ∷ statusAsks phase (λ j. us) i k)) (reason phase us d k)
+
+same-reason : (phase : Phase) (us vs : List AccountLots) (d k : ℕ) → lotsIn us ≡ lotsIn vs → reason phase us d k ≡ reason phase vs d k
+unfolding afterCutoff inSettling
+same-reason phase us vs d k e =
+    rw (same-covered us vs e d, same-stock us vs e d, same-sum us vs e (suc k), first-lots k us, first-lots k vs, e)
+
+told-by-lots : (good : Bool) (phase : Phase) (us vs : List AccountLots) (d i k : ℕ) → lotsIn us ≡ lotsIn vs →
+    toldOf good phase us d i k ≡ toldOf good phase vs d i k
+told-by-lots good phase us vs d i k e =
+    ap (λ n. statusAnswer (firstNo (ask 2 good ∷ askNotTaking phase ∷ askIssue i ∷ ask 16 (ltb k n) ∷ [])) (reason phase us d k)) (same-length us vs e)
+    ∙ ap (statusAnswer (firstNo (ask 2 good ∷ statusAsks phase (λ j. vs) i k))) (same-reason phase us vs d k e)
+
+pub told-turned : (b : Book) (t i k : ℕ) → status (withTurn b t) i k ≡ status b i k
+unfolding status
+told-turned b t i k =
+    let us = orderIn (inForce t (b .day)) (b .nets) (b .lifts) i in
+    let d = deliveredTotal (b .delivered) i in
+    ap (λ good. toldOf good (b .phase) us d i k) (sound-turn b t)
+    ∙ told-by-lots (sound b) (b .phase) us (orderOf b i) d i k
+    (order-lots (inForce t (b .day)) (b .nets) (b .lifts) i ∙ sym (order-lots (dealtToday b) (b .nets) (b .lifts) i))

@@ -1,4 +1,5 @@
 -- What is told of a unit, from the columns of a sound book and from columns of any length.
+use mathlib.Core.Path.{_≡_}
 use mathlib.Core.Bool.{Bool}
 use mathlib.Core.List.{List, [], _∷_}
 use Prim.Native.Nat.{ℕ, _≤_, _<_}
@@ -26,11 +27,15 @@ pub record CanTell (runs : List ℕ) (n : ℕ) : Type 0 where
 unfoldable pub reasonAt : Phase → List AccountLots → ℕ → ℕ → StatusAnswer
 reasonAt phase us d k = statusAnswer (firstNo (askUnit us k ∷ [])) (reason phase us d k)
 
--- the questions after soundness, and the reason
-unfoldable pub statusOf : Phase → List ℤ → List ℕ → List ℕ → ℕ → ℕ → StatusAnswer
-statusOf phase nets delivered lifts i k =
-    statusAnswer (firstNo (statusAsks phase (orderIn nets lifts) i k))
-    (reason phase (orderIn nets lifts i) (deliveredTotal delivered i) k)
+-- the questions after soundness, and the reason, in the new order or the old
+unfoldable pub statusOf : Bool → Phase → List ℤ → List ℕ → List ℕ → ℕ → ℕ → StatusAnswer
+statusOf new phase nets delivered lifts i k =
+    statusAnswer (firstNo (statusAsks phase (orderIn new nets lifts) i k))
+    (reason phase (orderIn new nets lifts i) (deliveredTotal delivered i) k)
+
+-- what is told is the same in both, since it goes by lots alone
+abbrev pub InEither : (Bool → StatusAnswer) → StatusAnswer → Type 0
+InEither f s = (new : Bool) → s ≡ f new
 
 -- where question 2 is answered so
 unfoldable pub statusWhere : Bool → Book → ℕ → ℕ → StatusAnswer

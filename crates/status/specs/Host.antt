@@ -18,9 +18,9 @@ phaseOf zero = Taking
 phaseOf (suc zero) = Settling
 phaseOf (suc (suc n)) = Cut
 
--- the book of three numbers, marks and columns
-abbrev pub bookAt : ℕ → ℕ → ℕ → List ℕ → Columns → Book
-bookAt day phase entries marks c = c .before (stateOf day (phaseOf phase) entries marks)
+-- the book of four numbers, marks and columns
+abbrev pub bookAt : ℕ → ℕ → ℕ → ℕ → List ℕ → Columns → Book
+bookAt day phase entries turn marks c = c .before (stateOf day (phaseOf phase) entries turn marks)
 
 -- a number above 2 is no phase: a book with it is damaged
 abbrev pub soundAt : ℕ → Book → Bool

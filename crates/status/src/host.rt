@@ -1,6 +1,6 @@
 // The reason a unit has not come, for a host in C:
 //
-// uint32_t day_status(uint16_t day, uint32_t phase, size_t entries, const uint8_t marks[16],
+// uint32_t day_status(uint16_t day, uint32_t phase, size_t entries, uint32_t turn, const uint8_t marks[16],
 //     <nine columns, each with its length>, uint32_t issue, uint32_t k, uint32_t answer[2]);
 //   What is told of unit k of an issue, k from 0. Refused by 2, 3 (Taking), 4 and 16. The answer is the case
 //   and its lots: 1 handed, 2 waiting for so many lots, 3 partly failed with so many lots lacking, 4 wholly
@@ -57,6 +57,7 @@ pub extern "C" fn day_status<'a>(
     day: u16,
     phase: u32,
     entries: usize,
+    turn: u32,
     marks: &'a [u8; 16],
     nets: &'a [i32],
     delivered: &'a [u32],
@@ -71,12 +72,12 @@ pub extern "C" fn day_status<'a>(
     k: u32,
     answer: &mut [u32; 2],
 ) -> u32
-    ensures { λ r. ⌜ StatusIs (dayStatus phase (bookAt day phase entries (now (marks .entry)) (columns nets delivered lifts charges issues froms tos lots days)) issue k) r (now (answer .exit)) ⌝ }
+    ensures { λ r. ⌜ StatusIs (dayStatus phase (bookAt day phase entries turn (now (marks .entry)) (columns nets delivered lifts charges issues froms tos lots days)) issue k) r (now (answer .exit)) ⌝ }
 {
     if 2 < phase {
         return plain(Told::Refused(2), answer);
     }
-    let s = book::state_of(day, phase_of(phase), entries, *marks);
+    let s = book::state_of(day, phase_of(phase), entries, turn, *marks);
     let told = crate::status(
         s,
         nets,

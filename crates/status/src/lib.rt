@@ -1,5 +1,6 @@
 // The reason a unit has not come: for issue and unit number the book tells one of handed, waiting, partly
-// failed and wholly failed. The units are those of the order as lifted, in Settling and in Cut.
+// failed and wholly failed. The units are those of the order as lifted, in Settling and in Cut. It goes by
+// lots alone, and those are the same, place by place, whether full units are dealt in turn or not.
 use book::State;
 use rules::Phase;
 use units::NextUnit;
@@ -11,7 +12,7 @@ ghost use Rattle.book.specs.Cells.{SoundCells};
 ghost use Rattle.book.specs.States.{columns};
 ghost use Rattle.units.specs.Runs.{unitsIn};
 ghost use Rattle.status.specs.Status.{toldAnswer};
-ghost use Rattle.status.specs.Columns.{CanTell, CanSum, reasonAt, statusOf, statusIn};
+ghost use Rattle.status.specs.Columns.{CanTell, CanSum, reasonAt, statusOf, InEither, statusIn};
 
 pub mod host;
 
@@ -82,7 +83,7 @@ pub fn status_in<'a>(
     k: u32,
 ) -> Told
     requires { ⌜ SoundCells (now nets) (now delivered) (now lifts) ⌝ }
-    ensures { λ r. ⌜ toldAnswer r ≡ statusOf phase (now (nets .entry)) (now (delivered .entry)) (now (lifts .entry)) i k ⌝ }
+    ensures { λ r. ⌜ InEither (λ new. statusOf new phase (now (nets .entry)) (now (delivered .entry)) (now (lifts .entry)) i k) (toldAnswer r) ⌝ }
 {
     if book::taking(phase) {
         return Told::Refused(3);

@@ -14,7 +14,7 @@ use Rattle.rules.specs.declared.Ticket.{Ticket}
 use Rattle.rules.specs.Measures.{unitLots, total, dueOf, owedOf}
 use Rattle.rules.specs.Units.{AccountLots, ofAccount}
 use Rattle.rules.specs.Handover.{covered, handed, partials}
-use Rattle.rules.specs.Book.{cell, row, netAt, deliveredTotal, orderOf, stockOf, ledgerOf, isMarked, sound}
+use Rattle.rules.specs.Book.{cell, row, netAt, deliveredTotal, orderOf, stockOf, ledgerOf, isMarked, sound, dealtToday}
 use Rattle.rules.specs.Calls.{Call, Commit, Cutoff, called}
 use Rattle.rules.specs.Tally.{State, after, afterAll, start, noLots, unitsToday}
 use Rattle.laws.proofs.Basics.{byTest, and-left, and-right, total-append, Every, each-map}
@@ -51,7 +51,7 @@ a-marked-issue-is-even cs i h m =
     let g = reached-standing cs .parts in
     let ns = g .even i h .nets m in
     let ds = g .even i h .delivered m in
-    let us = order-even (b .nets) (b .lifts) i ns in
+    let us = order-even (dealtToday b) (b .nets) (b .lifts) i ns in
     record {
       nets = ns;
       delivered = ds;
@@ -94,7 +94,7 @@ module _ (cs : List Call) where
         arith,
         v .handed i a,
         row-most (s .book .phase) (orderOf (s .book) i) (deliveredTotal (s .book .delivered) i) (s .tally .rows i) a (v .rows i hi),
-        order-in (s .book .nets) (s .book .lifts) i .due a,
+        order-in (dealtToday (s .book)) (s .book .nets) (s .book .lifts) i .due a,
         due-at (s .book .nets) i a ha,
       ))
     where

@@ -167,6 +167,8 @@ module _ (s : State) (v : Inv s) (g : SoundBook (s .book)) (p : isSettling (s .b
     phase = refl;
     rows = λ j hj. (row-cut j hj, delivered-units b g (v .sizeNets) (v .sizeDelivered) j hj);
     lifts = v .lifts;
+    day = v .day;
+    turn = v .turn;
     balance = λ j a hj ha.
         rw (ledger-written b (ledgerOf b ++ new))
         (omega (

@@ -13,7 +13,7 @@ use Rattle.rules.specs.declared.Phase.the-variants.{Taking, Settling, Cut}
 use Rattle.rules.specs.Measures.{owedOf}
 use Rattle.rules.specs.Units.{AccountLots, ofAccount}
 use Rattle.rules.specs.Handover.{handed, handovers}
-use Rattle.rules.specs.Book.{isSettling, cell, netAt, deliveredAt, deliveredTotal, orderIn, orderOf, withDelivered, withLifts}
+use Rattle.rules.specs.Book.{isSettling, cell, netAt, deliveredAt, deliveredTotal, orderIn, orderOf, withDelivered, withLifts, dealtToday}
 use Rattle.rules.specs.Records.{Rec, handover}
 use Rattle.rules.specs.Calls.{writes, Deliver, raisedDelivered, raisedCount, deliverRecords, called}
 use Rattle.rules.specs.Tally.{State, recordsOf}
@@ -56,7 +56,7 @@ module _ (s : State) (v : Inv s) (i a x : ℕ) (hi : i < 16) (ha : a < 64) (g : 
   all-fit : Every Fits rs
   all-fit =
       each-of-map Fits (handover i) (handovers us d x)
-      (each-handovers (λ u. Fits (handover i u)) us d x (units-fit (s .book .nets) (s .book .lifts) i hi (v .sizeNets)))
+      (each-handovers (λ u. Fits (handover i u)) us d x (units-fit (dealtToday (s .book)) (s .book .nets) (s .book .lifts) i hi (v .sizeNets)))
 
   row-here : RowIs Settling us (deliveredTotal ds i) (s .tally .rows i ++ recordsOf 10 i rs)
   row-here =
@@ -73,9 +73,9 @@ module _ (s : State) (v : Inv s) (i a x : ℕ) (hi : i < 16) (ha : a < 64) (g : 
       )
 
   row-at : (j : ℕ) → j < 16 →
-      RowIs (s .book .phase) (orderIn (s .book .nets) (raisedCount (s .book .lifts) i) j) (deliveredTotal ds j) (s .tally .rows j ++ recordsOf 10 j rs)
+      RowIs (s .book .phase) (orderIn (dealtToday (s .book)) (s .book .nets) (raisedCount (s .book .lifts) i) j) (deliveredTotal ds j) (s .tally .rows j ++ recordsOf 10 j rs)
   row-at j hj =
-      rw (raised-order (s .book .lifts) i (s .book .nets) j)
+      rw (raised-order (s .book .lifts) i (dealtToday (s .book)) (s .book .nets) j)
       (byTest (eqb j i)
       (λ e. rw (eqb-true j i e) (of-settling (s .book .phase) us (deliveredTotal ds i) (s .tally .rows i ++ recordsOf 10 i rs) p row-here))
       (λ e.
@@ -103,6 +103,8 @@ module _ (s : State) (v : Inv s) (i a x : ℕ) (hi : i < 16) (ha : a < 64) (g : 
     phase = v .phase;
     rows = row-at;
     lifts = λ j hj. v .lifts j hj ∙ sym (raised-lifts (s .book .lifts) i j);
+    day = v .day;
+    turn = v .turn;
     balance = v .balance;
     charges = v .charges;
   }

@@ -1,7 +1,7 @@
 -- Demand 3, of every list of calls: the invariant is there at the start, each call keeps it, and it
 -- says what demand 3 asks.
 use mathlib.Core.List.{List, [], _∷_}
-use Rattle.rules.specs.Calls.{Call, Trade, Close, Deliver, Ask, Commit, Cutoff, Resolve, PairOff, Roll, Mark}
+use Rattle.rules.specs.Calls.{Call, Trade, Close, Deliver, Ask, Commit, Cutoff, Resolve, PairOff, Roll, Mark, Turn}
 use Rattle.rules.specs.Tally.{State, after, afterAll, start, Demand3OfAll}
 use Rattle.tally.proofs.Invariant.{Inv}
 use Rattle.tally.proofs.Shown.{shown}
@@ -12,7 +12,7 @@ use Rattle.tally.proofs.Cutting.{keeps-cutoff}
 use Rattle.tally.proofs.Resolving.{keeps-resolve}
 use Rattle.tally.proofs.PairingOff.{keeps-pair-off}
 use Rattle.tally.proofs.Rolling.{keeps-roll}
-use Rattle.tally.proofs.Marking.{keeps-mark}
+use Rattle.tally.proofs.Marking.{keeps-mark, keeps-turn}
 
 pub keeps : (s : State) (c : Call) → Inv s → Inv (after s c)
 keeps s (Trade i f t x) v = keeps-trade s v i f t x
@@ -25,6 +25,7 @@ keeps s (Resolve i a x out) v = keeps-resolve s v i a x out
 keeps s (PairOff i a) v = keeps-pair-off s v i a
 keeps s (Roll days rate quotes) v = keeps-roll s v days rate quotes
 keeps s (Mark i m) v = keeps-mark s v i m
+keeps s (Turn d) v = keeps-turn s v d
 
 keeps-all : (s : State) (cs : List Call) → Inv s → Inv (afterAll s cs)
 keeps-all s [] v = v

@@ -39,6 +39,8 @@ pub record Inv (s : State) : Type 0 where
   pub rows : (i : ℕ) → i < 16 →
       RowIs (s .book .phase) (orderOf (s .book) i) (deliveredTotal (s .book .delivered) i) (s .tally .rows i)
   pub lifts : (i : ℕ) → i < 16 → s .tally .lifts i ≡ liftsAt (s .book .lifts) i
+  pub day : s .tally .day ≡ s .book .day
+  pub turn : s .tally .turn ≡ s .book .turn
   pub balance : (i a : ℕ) → i < 16 → a < 64 →
       s .tally .inAll .bought i a + s .tally .inAll .given i a + lotsOf (isFrom i a) (ledgerOf (s .book))
       ≡ s .tally .inAll .sold i a + s .tally .inAll .handed i a + lotsOf (isTo i a) (ledgerOf (s .book))

@@ -14,7 +14,7 @@ use Rattle.rules.specs.declared.Ticket.{Ticket}
 use Rattle.rules.specs.Units.{AccountLots, ofAccount}
 use Rattle.rules.specs.Handover.{covered, handed}
 use Rattle.rules.specs.Lifts.{Lift, lift, handedFrom}
-use Rattle.rules.specs.Book.{isSettling, placesIn, deliveredTotal, liftNumber, liftsAt, orderIn, orderOf, withLifts}
+use Rattle.rules.specs.Book.{isSettling, placesIn, deliveredTotal, liftNumber, liftsAt, orderIn, orderOf, withLifts, dealtToday}
 use Rattle.rules.specs.Records.{Rec, handover}
 use Rattle.rules.specs.Calls.{writes, Ask, Commit, commitLift, withLift, commitRecords, called}
 use Rattle.rules.specs.Tally.{State, recordsOf, joinLift}
@@ -59,7 +59,7 @@ module _ (s : State) (v : Inv s) (t : Ticket) (hi : t .issue < 16) (p : isSettli
   all-fit =
       each-of-map Fits (handover i) (handedFrom (lift l us) (covered us d) d)
       (each-handed-from (λ u. Fits (handover i u)) (lift l us) (covered us d) d
-      (each-lift (λ u. Fits (handover i u)) l us (units-fit (b .nets) (b .lifts) i hi (v .sizeNets))))
+      (each-lift (λ u. Fits (handover i u)) l us (units-fit (dealtToday b) (b .nets) (b .lifts) i hi (v .sizeNets))))
 
   row-before : RowIs Settling us d (s .tally .rows i)
   row-before = to-settling (b .phase) us d (s .tally .rows i) p (v .rows i hi)
@@ -75,16 +75,16 @@ module _ (s : State) (v : Inv s) (t : Ticket) (hi : t .issue < 16) (p : isSettli
   )
 
   row-at : (j : ℕ) → j < 16 →
-      RowIs (b .phase) (orderIn (b .nets) new j) (deliveredTotal (b .delivered) j) (s .tally .rows j ++ recordsOf 10 j rs)
+      RowIs (b .phase) (orderIn (dealtToday b) (b .nets) new j) (deliveredTotal (b .delivered) j) (s .tally .rows j ++ recordsOf 10 j rs)
   row-at j hj =
       byTest (eqb j i)
       (λ e.
-      rw (eqb-true j i e, lift-in-order (b .lifts) i l few (v .sizeLifts) hi (b .nets))
+      rw (eqb-true j i e, lift-in-order (b .lifts) i l few (v .sizeLifts) hi (dealtToday b) (b .nets))
       (of-settling (b .phase) (lift l us) d (s .tally .rows i ++ recordsOf 10 i rs) p row-here))
       (λ e.
       let ne = eqb-false j i e in
       rw (
-        same-words (b .lifts) new j (b .nets) (lift-other (b .lifts) i l few j ne),
+        same-words (dealtToday b) (b .lifts) new j (b .nets) (lift-other (b .lifts) i l few j ne),
         tens-other i j (handedFrom (lift l us) (covered us d) d) (λ q. ne (sym q)),
         append-nil (s .tally .rows j),
       ) (v .rows j hj))
@@ -113,6 +113,8 @@ module _ (s : State) (v : Inv s) (t : Ticket) (hi : t .issue < 16) (p : isSettli
     phase = v .phase;
     rows = row-at;
     lifts = lifts-at;
+    day = v .day;
+    turn = v .turn;
     balance = v .balance;
     charges = v .charges;
   }

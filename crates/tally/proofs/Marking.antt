@@ -1,9 +1,13 @@
--- Mark keeps the invariant: the book differs in its marks alone, and the tally is left as it is.
+-- Mark and turn keep the invariant: the book differs in its marks or in its day of the new order alone, and no order
+-- changes today.
+use mathlib.Core.Path.{refl, sym, subst}
 use Prim.Native.Nat.{ℕ}
-use Rattle.rules.specs.Calls.{Mark, called}
+use Rattle.rules.specs.Calls.{Mark, Turn, called}
+use Rattle.rules.specs.Book.{orderIn, deliveredTotal}
 use Rattle.rules.specs.Tally.{State}
 use Rattle.laws.proofs.Answers.{by-answer}
-use Rattle.tally.proofs.Invariant.{Inv, Keeps}
+use Rattle.laws.proofs.Kept.{turn-same}
+use Rattle.tally.proofs.Invariant.{Inv, Keeps, RowIs}
 
 pub keeps-mark : (s : State) → Inv s → (i m : ℕ) → Keeps (Mark i m) s (called (s .book) (Mark i m))
 keeps-mark s v i m =
@@ -19,6 +23,32 @@ keeps-mark s v i m =
       phase = v .phase;
       rows = v .rows;
       lifts = v .lifts;
+      day = v .day;
+      turn = v .turn;
+      balance = v .balance;
+      charges = v .charges;
+    })
+    (λ r. v)
+
+pub keeps-turn : (s : State) → Inv s → (d : ℕ) → Keeps (Turn d) s (called (s .book) (Turn d))
+keeps-turn s v d =
+    let b = s .book in
+    by-answer (Keeps (Turn d) s) b (Turn d)
+    (λ y. record {
+      sizeNets = v .sizeNets;
+      sizeDelivered = v .sizeDelivered;
+      sizeLifts = v .sizeLifts;
+      sizeCharges = v .sizeCharges;
+      nets = v .nets;
+      given = v .given;
+      handed = v .handed;
+      phase = v .phase;
+      rows = λ i h.
+          subst (λ new. RowIs (b .phase) (orderIn new (b .nets) (b .lifts) i) (deliveredTotal (b .delivered) i) (s .tally .rows i))
+          (sym (turn-same (b .turn) (b .day) d (y .1 .0))) (v .rows i h);
+      lifts = v .lifts;
+      day = v .day;
+      turn = refl;
       balance = v .balance;
       charges = v .charges;
     })

@@ -159,6 +159,8 @@ keeps-pair-off s v i a =
       phase = v .phase;
       rows = v .rows;
       lifts = v .lifts;
+      day = v .day;
+      turn = v .turn;
       balance = λ j c hj hc.
           rw (ledger-written b (p .ledger))
           (shift _ _ _ _ _ _ (v .balance j c hj hc)

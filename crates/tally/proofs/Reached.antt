@@ -11,7 +11,7 @@ use Rattle.rules.specs.declared.Entry.{Entry}
 use Rattle.rules.specs.Measures.{mostEntries}
 use Rattle.rules.specs.Ledger.{isFrom, meet, pairing}
 use Rattle.rules.specs.Book.{orderOf, ledgerOf, sound, column, LedgerLengths, Lengths, fresh}
-use Rattle.rules.specs.Calls.{Call, Trade, Close, Deliver, Ask, Commit, Cutoff, Resolve, PairOff, Roll, Mark, newEntries, effect, called}
+use Rattle.rules.specs.Calls.{Call, Trade, Close, Deliver, Ask, Commit, Cutoff, Resolve, PairOff, Roll, Mark, Turn, newEntries, effect, called}
 use Rattle.rules.specs.Tally.{State, answered, after, afterAll, start}
 use Rattle.laws.proofs.Sound.{SoundBook, sound-parts, parts-sound}
 use Rattle.laws.proofs.Ledger.{length-column}
@@ -70,6 +70,7 @@ ledger-kept b (Resolve i a x out) g l = written (meet (isFrom i a) x (ledgerOf b
 ledger-kept b (PairOff i a) g l = written (pairing (b .day) i a (ledgerOf b) .ledger) (g .ledger .count)
 ledger-kept b (Roll days rate quotes) g l = l
 ledger-kept b (Mark i m) g l = l
+ledger-kept b (Turn d) g l = l
 
 ledger-all : (s : State) (cs : List Call) → Standing (s .book) → LedgerOf (s .book) → LedgerOf (afterAll s cs .book)
 ledger-all s [] g l = l

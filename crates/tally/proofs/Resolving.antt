@@ -38,6 +38,8 @@ module _ (s : State) (v : Inv s) (i a x : ℕ) (o : x ≤ lotsOf (isFrom i a) (l
     phase = v .phase;
     rows = v .rows;
     lifts = v .lifts;
+    day = v .day;
+    turn = v .turn;
     balance = λ j c hj hc.
         rw (ledger-written (s .book) (meet (isFrom i a) x es))
         (omega (

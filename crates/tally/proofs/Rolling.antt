@@ -1,9 +1,9 @@
 -- Roll keeps the invariant: each charge is taken from one account and given to another, so that charges
 -- go on summing to 0; today's numbers are 0 in book and tally.
-use mathlib.Core.Path.{_≡_, refl, sym, _∙_}
+use mathlib.Core.Path.{_≡_, refl, sym, _∙_, ap}
 use mathlib.Core.Bool.{true, false, false≢true}
 use mathlib.Core.List.{List}
-use Prim.Native.Nat.{ℕ}
+use Prim.Native.Nat.{ℕ, _+_}
 use lib.ListN.{length-replicate}
 use lib.IntN.{pos}
 use Rattle.rules.specs.declared.Phase.{Phase}
@@ -39,6 +39,8 @@ keeps-roll s v days rate quotes =
       phase = v .phase ∙ cut-not-settling (b .phase) (y .1 .0);
       rows = λ i h. (refl, row-zeros i 1024);
       lifts = λ i h. sym (no-lifts i 288);
+      day = ap (λ n. n + 1) (v .day);
+      turn = v .turn;
       balance = v .balance;
       charges = charged-balance days rate quotes (ledgerOf b) (b .charges) (v .sizeCharges)
           (sound-parts b (y .0) .ledger .each) (v .charges);

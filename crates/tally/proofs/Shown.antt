@@ -14,7 +14,7 @@ use Rattle.rules.specs.Measures.{unitLots, sum}
 use Rattle.rules.specs.Units.{AccountLots, prepend, sumLots, unitsOfNets}
 use Rattle.rules.specs.Handover.{stock, handed, partials}
 use Rattle.rules.specs.Lifts.{lifted}
-use Rattle.rules.specs.Book.{isSettling, row, netAt, deliveredTotal, liftsAt, orderIn, orderOf}
+use Rattle.rules.specs.Book.{isSettling, row, netAt, deliveredTotal, liftsAt, orderIn, orderOf, dealtToday, unitsBy, inForce}
 use Rattle.rules.specs.Tally.{State, Demand3, StockHeld, InTurn, netsToday, unitsToday, inIssue}
 use Rattle.laws.proofs.Basics.{byTest, total-append, Every, each-map}
 use Rattle.laws.proofs.Units.{UnitSized}
@@ -111,13 +111,15 @@ module _ (s : State) (v : Inv s) (i : ℕ) (h : i < 16) where
   pub units-today : unitsToday (s .tally) i ≡ orderOf (s .book) i
   unfolding orderIn
   units-today =
-      ap (λ ls. lifted ls (unitsOfNets unitLots (netsToday (s .tally) i))) (v .lifts i h)
-      ∙ ap (λ l. lifted (liftsAt (s .book .lifts) i) (unitsOfNets unitLots l)) nets-today
+      ap (λ ls. lifted ls (unitsBy (inForce (s .tally .turn) (s .tally .day)) (netsToday (s .tally) i))) (v .lifts i h)
+      ∙ ap (λ l. lifted (liftsAt (s .book .lifts) i) (unitsBy (inForce (s .tally .turn) (s .tally .day)) l)) nets-today
+      ∙ ap (λ t. lifted (liftsAt (s .book .lifts) i) (unitsBy (inForce t (s .tally .day)) (row i (s .book .nets)))) (v .turn)
+      ∙ ap (λ d. lifted (liftsAt (s .book .lifts) i) (unitsBy (inForce (s .book .turn) d) (row i (s .book .nets)))) (v .day)
 
   facts : Facts (orderOf (s .book) i) (deliveredTotal (s .book .delivered) i) (s .tally .rows i) (isSettling (s .book .phase))
   facts =
       row-facts (s .book .phase) (orderOf (s .book) i) (deliveredTotal (s .book .delivered) i) (s .tally .rows i)
-      (order-in (s .book .nets) (s .book .lifts) i .sized) (v .rows i h)
+      (order-in (dealtToday (s .book)) (s .book .nets) (s .book .lifts) i .sized) (v .rows i h)
 
 pub shown : (s : State) → Inv s → Demand3 s
 shown s v = record {

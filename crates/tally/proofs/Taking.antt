@@ -13,7 +13,7 @@ use Rattle.rules.specs.declared.Phase.the-variants.{Taking, Settling, Cut}
 use Rattle.rules.specs.Measures.{dueOf, owedOf}
 use Rattle.rules.specs.Units.{AccountLots}
 use Rattle.rules.specs.Handover.{handed}
-use Rattle.rules.specs.Book.{isTaking, cell, netAt}
+use Rattle.rules.specs.Book.{isTaking, cell, netAt, dealtToday}
 use Rattle.rules.specs.Calls.{Trade, Close, tradedNets, called}
 use Rattle.rules.specs.Tally.{State, start}
 use Rattle.laws.proofs.Basics.{byTest, and-left, and-right, Every}
@@ -45,6 +45,8 @@ starts = record {
   phase = refl;
   rows = λ i h. (refl, row-zeros i 1024);
   lifts = λ i h. sym (no-lifts i 288);
+  day = refl;
+  turn = refl;
   balance = λ i a h k. refl;
   charges = refl;
 }
@@ -103,6 +105,8 @@ keeps-trade s v i f c x =
       phase = v .phase;
       rows = λ j h. taking-row (b .phase) _ _ _ (s .tally .rows j) (y .1 .0) (v .rows j h);
       lifts = v .lifts;
+      day = v .day;
+      turn = v .turn;
       balance = v .balance;
       charges = v .charges;
     })
@@ -132,8 +136,10 @@ keeps-close s v =
       given = v .given;
       handed = v .handed;
       phase = refl;
-      rows = λ j h. closed-row (b .phase) _ _ (s .tally .rows j) (order-in (b .nets) (b .lifts) j .sized) (y .1 .0) (v .rows j h);
+      rows = λ j h. closed-row (b .phase) _ _ (s .tally .rows j) (order-in (dealtToday b) (b .nets) (b .lifts) j .sized) (y .1 .0) (v .rows j h);
       lifts = v .lifts;
+      day = v .day;
+      turn = v .turn;
       balance = v .balance;
       charges = v .charges;
     })

@@ -8,8 +8,8 @@ use lib.ListN.{getD, take}
 use Rattle.rules.specs.declared.Instruction.{Instruction}
 use Rattle.rules.specs.declared.Read.the-variants.{Instr}
 use Rattle.rules.specs.Measures.{quoteCount}
-use Rattle.rules.specs.Records.{bits, issueBits, fromBits, toBits, lotsBits, daysBits, rateBits, markBits, quoteBits, ofField, headWord, lotsWord}
-use Rattle.rules.specs.Tape.{kindOf, Kind, head, after, none, kindAt, isAfter, wordAs, wordsWrong, readOf, quotesOf, rollWord, markWord, quoteWord, wordsOf}
+use Rattle.rules.specs.Records.{bits, issueBits, fromBits, toBits, lotsBits, daysBits, rateBits, markBits, dayBits, quoteBits, ofField, headWord, lotsWord}
+use Rattle.rules.specs.Tape.{kindOf, Kind, head, after, none, kindAt, isAfter, wordAs, wordsWrong, readOf, quotesOf, rollWord, markWord, turnWord, quoteWord, wordsOf}
 use Rattle.laws.proofs.Basics.{byTest}
 use Rattle.tape.proofs.Table.{by-kind, Clears, after-is}
 use Rattle.tape.proofs.Sized.{read-is}
@@ -58,6 +58,11 @@ module _ (w k : ℕ) (word : w < 2 ^ 32) (kind : kindOf w ≡ k) where
   mark-back e z =
       let s : w ≡ w / 16777216 * 16777216 + w / 2 % 8388608 * 2 + w % 2 = omega arith in
       omega (arith, above-issue)
+
+  turn-back : k ≡ 14 → ofField (bits 16 12) w ≡ 0 → w ≡ turnWord (ofField dayBits w)
+  turn-back e z =
+      let s : w ≡ k * 268435456 + w / 65536 % 4096 * 65536 + w % 65536 = omega arith in
+      omega arith
 
   lots-back : k ≡ 8 → w ≡ lotsWord (ofField lotsBits w)
   lots-back e = omega arith
@@ -118,7 +123,8 @@ module _ (w : ℕ) (rest : List ℕ) (b : Words (w ∷ rest)) where
       (λ e z r. joined (short w 4 (b 0) e z) refl)
       (λ e z r. joined (bare w 5 (b 0) e z) refl)
       (λ e z r. joined (bare w 6 (b 0) e z) refl) roll-back
-      (λ e z r. joined (mark-back w 13 (b 0) e refl z) refl) k
+      (λ e z r. joined (mark-back w 13 (b 0) e refl z) refl)
+      (λ e z r. joined (turn-back w 14 (b 0) e refl z) refl) k
 
 -- the words that are read as an instruction are exactly those written for it
 pub read-is-written : (ws : List ℕ) (x : Instruction) (n : ℕ) → Words ws → readOf ws ≡ Instr x n →

@@ -32,12 +32,12 @@ none-below k zero h = omega arith
 none-below k (suc n) h = let l = none-below k n (h .0) in let m = h .1 in omega arith
 
 -- a kind that the table does not have is wrong
-pub kind-above : (w x k : ℕ) → k ≡ kindOf w → NoneBelow k 10 × (k ≡ 13 → ⊥) → Wrong ≡ wordAs w x
+pub kind-above : (w x k : ℕ) → k ≡ kindOf w → (NoneBelow k 10 × (k ≡ 13 → ⊥)) × (k ≡ 14 → ⊥) → Wrong ≡ wordAs w x
 kind-above w x k e h =
-    let l = none-below k 10 (h .0) in
+    let l = none-below k 10 (h .0 .0) in
     let ne : (n : ℕ) → n < 10 → eqb k n ≡ false = λ n m. ne-eqb k n (λ q. omega arith) in
     rw (← e)
-    (simp (ne 1 (omega arith), ne 2 (omega arith), ne 3 (omega arith), ne 4 (omega arith), ne 5 (omega arith), ne 6 (omega arith), ne 7 (omega arith), ne 8 (omega arith), ne 9 (omega arith), ne-eqb k 13 (h .1)))
+    (simp (ne 1 (omega arith), ne 2 (omega arith), ne 3 (omega arith), ne 4 (omega arith), ne 5 (omega arith), ne 6 (omega arith), ne 7 (omega arith), ne 8 (omega arith), ne 9 (omega arith), ne-eqb k 13 (h .0 .1), ne-eqb k 14 (h .1)))
 
 -- the words of kind k from `at` on, of n in all
 module _ (k n at : ℕ) (ws : List ℕ) (more : at < n) where

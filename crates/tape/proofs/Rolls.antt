@@ -21,7 +21,7 @@ QuotesAfter none = Unit {0}
 -- no other instruction is a roll
 quotes-after : (k : ℕ) → QuotesAfter (kindAt k)
 quotes-after k =
-    by-kind (λ k K. QuotesAfter K) (λ k. tt) (λ k u. tt) (λ w x d r e. cc) (λ w x d r e. cc) (λ w x d r e. cc) (λ w x d r e. cc) (λ w x d r e. cc) (λ w x d r e. cc) (λ w x d r e. refl) (λ w x d r e. cc) k
+    by-kind (λ k K. QuotesAfter K) (λ k. tt) (λ k u. tt) (λ w x d r e. cc) (λ w x d r e. cc) (λ w x d r e. cc) (λ w x d r e. cc) (λ w x d r e. cc) (λ w x d r e. cc) (λ w x d r e. refl) (λ w x d r e. cc) (λ w x d r e. cc) k
 
 pub roll-whole : (ws : List ℕ) (days rate n : ℕ) → readOf ws ≡ Instr (Roll days rate) n → tapeWords ≤ length ws
 unfolding readOf

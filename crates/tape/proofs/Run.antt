@@ -108,6 +108,7 @@ module _ (b : Book) (out lent : List ℕ) (room : outputWords ≤ length out) (a
   answer-any-output instruction.Cutoff quotes = any-asked (askSound b ∷ ownAsks b (Cutoff out)) (effect b (Cutoff out))
   answer-any-output (instruction.Roll days rate) quotes = same (called b (callOf (instruction.Roll days rate) quotes out))
   answer-any-output (instruction.Mark i m) quotes = same (called b (callOf (instruction.Mark i m) quotes out))
+  answer-any-output (instruction.Turn d) quotes = same (called b (callOf (instruction.Turn d) quotes out))
 
 -- so any such output gives the line and the book of the run
 pub answer-lent : (b : Book) (out : List ℕ) → outputWords ≤ length out → (x : Instruction) (ws : List ℕ) →

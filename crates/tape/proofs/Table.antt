@@ -23,10 +23,10 @@ each P (kind n K ∷ ls) h d k =
     byTest (eqb k n) (λ t. rw t (subst (λ (j : ℕ). P j K) (sym (eqb-true k n t)) (h .0))) (λ t. rw t (each P ls (h .1) d k))
 
 pub by-kind : (P : ℕ → Kind → Type 0) → ((k : ℕ) → P k none) → ((k : ℕ) (u : Field) → P k (after u)) →
-    P 1 (kindAt 1) → P 2 (kindAt 2) → P 3 (kindAt 3) → P 4 (kindAt 4) → P 5 (kindAt 5) → P 6 (kindAt 6) → P 7 (kindAt 7) → P 13 (kindAt 13) →
+    P 1 (kindAt 1) → P 2 (kindAt 2) → P 3 (kindAt 3) → P 4 (kindAt 4) → P 5 (kindAt 5) → P 6 (kindAt 6) → P 7 (kindAt 7) → P 13 (kindAt 13) → P 14 (kindAt 14) →
     (k : ℕ) → P k (kindAt k)
-by-kind P n f h1 h2 h3 h4 h5 h6 h7 h13 k =
-    each P kinds (h1, (h2, (h3, (h4, (h5, (h6, (h7, (f 8 _, (f 9 _, (h13, tt)))))))))) n k
+by-kind P n f h1 h2 h3 h4 h5 h6 h7 h13 h14 k =
+    each P kinds (h1, (h2, (h3, (h4, (h5, (h6, (h7, (f 8 _, (f 9 _, (h13, (h14, tt))))))))))) n k
 
 -- the line of a word that is taken as a head
 pub record HeadIs (K : Kind) (w x : ℕ) (y : Instruction) (k n : ℕ) : Type 0 where

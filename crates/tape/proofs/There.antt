@@ -9,12 +9,12 @@ use lib.Dec.{leb}
 use lib.ListN.{length, drop, length-map}
 use lib.Seq.{take-at}
 use Rattle.rules.specs.declared.Instruction.{Instruction}
-use Rattle.rules.specs.declared.Instruction.the-variants.{Trade, Deliver, Resolve, PairOff, Close, Cutoff, Roll, Mark}
+use Rattle.rules.specs.declared.Instruction.the-variants.{Trade, Deliver, Resolve, PairOff, Close, Cutoff, Roll, Mark, Turn}
 use Rattle.rules.specs.declared.Read.the-variants.{Instr}
 use Rattle.rules.specs.Measures.{quoteCount, tapeWords}
 use Rattle.rules.specs.Book.{all}
-use Rattle.rules.specs.Records.{bits, issueBits, daysBits, rateBits, markBits, quoteBits, ofField, headWord, over}
-use Rattle.rules.specs.Tape.{kindOf, wordsWrong, readOf, quotesOf, rollWord, markWord, quoteWord, wordsOf, fits, fieldsFit, writeOf}
+use Rattle.rules.specs.Records.{bits, issueBits, daysBits, rateBits, markBits, dayBits, quoteBits, ofField, headWord, over}
+use Rattle.rules.specs.Tape.{kindOf, wordsWrong, readOf, quotesOf, rollWord, markWord, turnWord, quoteWord, wordsOf, fits, fieldsFit, writeOf}
 use Rattle.laws.proofs.Basics.{byTest, and-left, and-right}
 use Rattle.words.proofs.Fields.{kind-read, issue-read, from-read, to-read, lots-read, lots-kind}
 use Rattle.tape.proofs.Reading.{mod-one}
@@ -40,6 +40,17 @@ module _ (i m : ℕ) (h : MarkFits i m) where
 
   mark-clears : ofField (bits 1 23) (markWord i m) ≡ 0
   mark-clears = omega arith
+
+-- a turn's word
+module _ (d : ℕ) (h : d < 2 ^ 16) where
+  turn-kind : kindOf (turnWord d) ≡ 14
+  turn-kind = omega arith
+
+  turn-day : ofField dayBits (turnWord d) ≡ d
+  turn-day = omega arith
+
+  turn-clears : ofField (bits 16 12) (turnWord d) ≡ 0
+  turn-clears = omega arith
 
 -- words of quotes are right, and give their quotes
 module _ (p : ℕ) (h : p < 2 ^ 18) where
@@ -117,6 +128,9 @@ written-is-read (Roll days rate) quotes rest fit = roll-read days rate quotes re
 written-is-read (Mark i m) quotes rest fit =
     let h = mark-fits i m fit in
     simp (mark-kind i m h, mark-issue i m h, mark-bit i m h, mark-clears i m h)
+written-is-read (Turn d) quotes rest fit =
+    let h : d < 2 ^ 16 = ltb-true d 65536 fit in
+    simp (turn-kind d h, turn-day d h, turn-clears d h)
 
 -- the same of the writer's output, whatever stood in it
 module _ (x : Instruction) (quotes out : List ℕ) (done : writeOf x quotes out .refusal ≡ 0) where

@@ -28,7 +28,7 @@ Few none = Unit {0}
 
 few : (k : ℕ) → Few (kindAt k)
 few k =
-    by-kind (λ k K. Few K) (λ k. tt) (λ k u. tt) (omega arith) (omega arith) (omega arith) (omega arith) (omega arith) (omega arith) (omega arith) (omega arith) k
+    by-kind (λ k K. Few K) (λ k. tt) (λ k u. tt) (omega arith) (omega arith) (omega arith) (omega arith) (omega arith) (omega arith) (omega arith) (omega arith) (omega arith) k
 
 module _ (m : ℕ) (enough : quoteCount ≤ m) (ws : List ℕ) where
   from-take : (K : Kind) (w x : ℕ) → Few K → readFrom (asKind K w x) (take m ws) ≡ readFrom (asKind K w x) ws

@@ -8,9 +8,9 @@ use Rattle.rules.specs.declared.Written.{Written}
 use Rattle.rules.specs.declared.Instruction.the-variants.{Roll}
 use Rattle.rules.specs.Measures.{quoteCount, tapeWords}
 use Rattle.rules.specs.Book.{all}
-use Rattle.rules.specs.Records.{issueBits, markBits, quoteBits, headWord, lotsWord}
+use Rattle.rules.specs.Records.{issueBits, markBits, dayBits, quoteBits, headWord, lotsWord}
 use Rattle.rules.specs.Questions.{ask, firstNo}
-use Rattle.rules.specs.Tape.{markWord, fits, headFits, fieldsFit, WriteAnswer, writeAnswer, wordsOf}
+use Rattle.rules.specs.Tape.{markWord, turnWord, fits, headFits, fieldsFit, WriteAnswer, writeAnswer, wordsOf}
 
 -- number and count as returned, and the lent output, are an answer
 pub record WriteAnswerIs (d : WriteAnswer) (r : Written) (lent : List ℕ) : Type 0 where
@@ -30,6 +30,10 @@ headWords kind i f t x alone out =
 -- a mark's word
 abbrev pub markWords : ℕ → ℕ → List ℕ → WriteAnswer
 markWords i m out = fitted (fits issueBits i && fits markBits m) (markWord i m ∷ []) out
+
+-- a turn's word
+abbrev pub turnWords : ℕ → List ℕ → WriteAnswer
+turnWords d out = fitted (fits dayBits d) (turnWord d ∷ []) out
 
 -- a roll's head with its quotes
 abbrev pub rollWords : ℕ → ℕ → List ℕ → List ℕ → WriteAnswer

@@ -14,8 +14,8 @@ ghost use Rattle.rules.specs.Measures.{tapeWords};
 ghost use Rattle.rules.specs.Book.{all};
 ghost use Rattle.rules.specs.Records.{lotsBits, quoteBits, ofField};
 ghost use Rattle.rules.specs.declared.Word.the-variants.{Head, Wrong};
-ghost use Rattle.rules.specs.Tape.{wordAs, isAfter, wordsWrong, readOf, readAnswer, quotesOf, rollWord, markWord, quoteWord, fits, headFits, fieldsFit, writeOf};
-ghost use Rattle.tape.specs.Answers.{WriteAnswerIs, headWords, markWords, rollWords, Room, QuotesFit};
+ghost use Rattle.rules.specs.Tape.{wordAs, isAfter, wordsWrong, readOf, readAnswer, quotesOf, rollWord, markWord, turnWord, quoteWord, fits, headFits, fieldsFit, writeOf};
+ghost use Rattle.tape.specs.Answers.{WriteAnswerIs, headWords, markWords, turnWords, rollWords, Room, QuotesFit};
 
 // A word taken as x, or a wrong word where its unused bits, which hold `unused`, are not 0.
 fn clear(unused: u32, x: Word) -> Word
@@ -64,6 +64,7 @@ fn word_as(w: u32, lots: u32) -> Word
         8 => Word::After(8),
         9 => clear(w / 262144 % 1024, Word::After(9)),
         13 => head(w / 2 % 8388608, Instruction::Mark(issue, w % 2), 0, 1),
+        14 => head(w / 65536 % 4096, Instruction::Turn(w % 65536), 0, 1),
         10..=15 => Word::Wrong,
         _ => Word::Wrong,
     }
@@ -216,6 +217,29 @@ fn put_mark(issue: u32, mark: u32, out: &mut [u32]) -> Written
     }
 }
 
+// The word of a turn: kind 14, day in bits 15..0, the rest 0.
+fn turn_word(day: u32) -> u32
+    requires { ⌜ day < 2 ^ 16 ⌝ }
+    ensures { λ r. ⌜ r ≡ turnWord day ⌝ }
+{
+    3758096384 + day
+}
+
+// A turn's word at the front of the output, or refusal 15.
+fn put_turn(day: u32, out: &mut [u32]) -> Written
+    requires { ⌜ tapeWords ≤ length (now out) ⌝ }
+    ensures { λ r. ⌜ WriteAnswerIs (turnWords day (now (out .entry))) r (now (out .exit)) ⌝ }
+{
+    if 65536 <= day {
+        return refused(15);
+    }
+    out[0] = turn_word(day);
+    Written {
+        refusal: 0,
+        count: 1,
+    }
+}
+
 // Does each quote fit its bits?
 fn quotes_fit(quotes: &[u32]) -> bool
     ensures { λ r. ⌜ r ≡ all (fits quoteBits) (now (quotes .entry)) ⌝ }
@@ -298,5 +322,6 @@ pub fn write(x: Instruction, quotes: &[u32], out: &mut [u32]) -> Written
         Instruction::Cutoff => put_head(6, 0, 0, 0, 0, true, out),
         Instruction::Roll(days, rate) => put_roll(days, rate, quotes, out),
         Instruction::Mark(issue, mark) => put_mark(issue, mark, out),
+        Instruction::Turn(day) => put_turn(day, out),
     }
 }

@@ -47,6 +47,7 @@ pub quoted : (ws lent quotes : List ℕ) (x : Instruction) → Begins ws x → l
 quoted ws lent quotes (instruction.Roll d r) g h p =
     λ out. ap (λ (ps : List ℕ). callOf (instruction.Roll d r) ps out) (p refl ∙ roll-quotes ws lent d r (g .count) (g .read) h)
 quoted ws lent quotes (instruction.Mark i m) g h p = λ out. refl
+quoted ws lent quotes (instruction.Turn d) g h p = λ out. refl
 quoted ws lent quotes (instruction.Trade i f t x) g h p = λ out. refl
 quoted ws lent quotes (instruction.Deliver i a x) g h p = λ out. refl
 quoted ws lent quotes (instruction.Resolve i a x) g h p = λ out. refl

@@ -33,6 +33,7 @@ rollsOf instruction.Close = false
 rollsOf instruction.Cutoff = false
 rollsOf (instruction.Roll days rate) = true
 rollsOf (instruction.Mark i m) = false
+rollsOf (instruction.Turn d) = false
 
 -- quotes with which it is the call of the words
 abbrev pub Quoted : List ℕ → Instruction → List ℕ → Type 0

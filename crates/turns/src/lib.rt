@@ -40,6 +40,7 @@ fn name_of(x: Instruction) -> Name
         Instruction::Cutoff => Name::Cutoff,
         Instruction::Roll(_, _) => Name::Roll,
         Instruction::Mark(_, _) => Name::Mark,
+        Instruction::Turn(_) => Name::Turn,
     }
 }
 
@@ -56,6 +57,7 @@ fn rolls(x: Instruction) -> bool
         Instruction::Cutoff => false,
         Instruction::Roll(_, _) => true,
         Instruction::Mark(_, _) => false,
+        Instruction::Turn(_) => false,
     }
 }
 

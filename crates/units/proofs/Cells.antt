@@ -1,6 +1,6 @@
 -- Nets, delivered lots and lifts of a sound book: the rows of an issue, their bounds and their order.
 use mathlib.Core.Path.{_≡_, sym, _∙_}
-use mathlib.Core.Bool.{true}
+use mathlib.Core.Bool.{true, false}
 use mathlib.Core.List.{List, [], _∷_, map}
 use Prim.Native.Nat.{ℕ, _-_, _+_, _*_, _≤_, _<_}
 use native.Mathlib.Omega.{arith}
@@ -9,7 +9,7 @@ use lib.IntN.{ℤ, pos, natAbs}
 use borrow.Author.Tests.{leb-true, le-leb}
 use Rattle.rules.specs.declared.Book.{Book}
 use Rattle.rules.specs.Measures.{mostLots, sum, dueOf, owedOf}
-use Rattle.rules.specs.Book.{all, sound, row, withinSize, duesOf, obligationsOf, deliveredTotal, liftsAt}
+use Rattle.rules.specs.Book.{all, sound, row, withinSize, duesOf, obligationsOf, deliveredTotal, liftsAt, orderIn, orderOf, dealtToday}
 use Rattle.laws.proofs.Basics.{Every, each-map, each-take, each-drop}
 use Rattle.laws.proofs.Signed.{size-of}
 use Rattle.laws.proofs.Fails.{each-of-map}
@@ -17,6 +17,7 @@ use Rattle.laws.proofs.Cutoff.{SoundRow, delivered-due}
 use Rattle.laws.proofs.Cells.{length-row, within-row}
 use Rattle.laws.proofs.Sound.{SoundBook, sound-parts, all-each, each-all, each-getD, within-at, parts-balanced, places-among}
 use Rattle.laws.proofs.SoundRows as books
+use Rattle.laws.proofs.Dealt.{same-length}
 use Rattle.book.specs.Cells.{OwedCells, SoundCells}
 use Rattle.units.specs.Runs.{CanOrder}
 
@@ -68,7 +69,9 @@ sound-cells b s n d l =
       balance = λ i h. parts-balanced (row i (b .nets)) (s .rows i h);
       owed = s .owed;
       few = λ i h. s .lifts i h .few;
-      places = λ i h. places-among _ _ 0 (liftsAt (b .lifts) i) (s .lifts i h .places);
+      places = λ i h.
+          rw (same-length (orderOf b i) (orderIn false (b .nets) (b .lifts) i) (books.order-lots (dealtToday b) (b .nets) (b .lifts) i))
+          at (places-among _ _ 0 (liftsAt (b .lifts) i) (s .lifts i h .places));
       counted = λ i h. omega (arith, s .lifts i h .count, s .lifts i h .few, books.total-due b s n d i h, dues-sum (b .nets) i (parts-sized b s) n h);
     }
 

@@ -40,7 +40,7 @@ seeking-more us u vs d e h s =
 
 -- Runs of 0 lots
 
-skip0-cons : (v : AccountLots) (vs : List AccountLots) → dropLots 0 (v ∷ vs) ≡ prepend (v .account) (v .lots) (dropLots 0 vs)
+pub skip0-cons : (v : AccountLots) (vs : List AccountLots) → dropLots 0 (v ∷ vs) ≡ prepend (v .account) (v .lots) (dropLots 0 vs)
 skip0-cons v vs = rw (sub-zero (v .lots), zero-sub (v .lots))
 
 skip0-tail : (v : AccountLots) (us vs : List AccountLots) → dropLots 0 us ≡ dropLots 0 vs → dropLots 0 (v ∷ us) ≡ dropLots 0 (v ∷ vs)
@@ -274,7 +274,7 @@ zeros (suc n) (suc a) = zeros n a
 
 -- The cursor
 
-cursor-lacks : (runs : List ℕ) (n j a x st : ℕ) (vs : List AccountLots) → dropLots 0 (accountLots a x ∷ drop j (runsIn runs n)) ≡ dropLots 0 vs →
+pub cursor-lacks : (runs : List ℕ) (n j a x st : ℕ) (vs : List AccountLots) → dropLots 0 (accountLots a x ∷ drop j (runsIn runs n)) ≡ dropLots 0 vs →
     (missing : List ℕ) → overlapsFrom runs n missing (position j a x st .cursor) ≡ overlaps (byAccount 0 missing) vs
 unfolding overlapsFrom
 cursor-lacks runs n j a x st vs e missing =
@@ -284,7 +284,7 @@ cursor-lacks runs n j a x st vs e missing =
 
 -- all runs are handed
 pub begins-none : (before after : List ℕ) (n d : ℕ) (s : Waiting) → n ≤ length after → HandsOn before after n d s → n ≤ s .run →
-    Started before after n d (position (s .run) 0 0 (s .stock))
+    Started (unitsIn before n) after n d (position (s .run) 0 0 (s .stock))
 unfolding lacks
 begins-none before after n d s l h g =
     let z = runs-end after n (s .run) l g in
@@ -316,7 +316,7 @@ module _ (before after : List ℕ) (n d j st : ℕ) (v : AccountLots) (us : List
   pub lack-fits : st ≤ k / 64
   lack-fits = omega (arith, heads .1)
 
-  pub begins-some : drop (j + 1) (runsIn after n) ≡ map partOf ks → Started before after n d (position (j + 1) (k % 64) (k / 64 - st) st)
+  pub begins-some : drop (j + 1) (runsIn after n) ≡ map partOf ks → Started (unitsIn before n) after n d (position (j + 1) (k % 64) (k / 64 - st) st)
   unfolding lacks
   begins-some e =
       let m = map partOf ks in
@@ -348,7 +348,7 @@ drop-take (suc j) (suc n) (w ∷ ws) h = ap (λ m. take m (drop j ws)) (suc-sub-
 pub lent-runs : (runs : List ℕ) (n j : ℕ) → j ≤ n → map partOf (take (n - j) (drop j runs)) ≡ drop j (runsIn runs n)
 lent-runs runs n j h = ap (map partOf) (drop-take j n runs h) ∙ sym (drop-map j (take n runs))
 
-run-account : (a : ℕ) (u : AccountLots) → total (ofAccount a) (unitsOfRun u) ≡ ofAccount a u
+pub run-account : (a : ℕ) (u : AccountLots) → total (ofAccount a) (unitsOfRun u) ≡ ofAccount a u
 run-account a u =
     let b = u .account in
     let e₁ = total-append (ofAccount a) (replicate (u .lots / 100000) (accountLots b 100000)) (prepend b (u .lots % 100000) []) in
@@ -440,11 +440,11 @@ module _ (before runs : List ℕ) (n d : ℕ) (s : Waiting) (h : HandsOn before 
     fits-lent =
         rw first (lack-fits before final n d j (s .stock) v us waits (h .left) (h .some g) (rw seen at (h .plain)) (getD ys 0 0) (drop 1 ys) list)
 
-    pub begins-lent : Started before final n d (position (j + 1) (getD final j 0 % 64) (getD final j 0 / 64 - s .stock) (s .stock))
+    pub begins-lent : Started (unitsIn before n) final n d (position (j + 1) (getD final j 0 % 64) (getD final j 0 / 64 - s .stock) (s .stock))
     begins-lent =
         ap-begun (sym first)
         (begins-some before final n d j (s .stock) v us waits (h .left) (h .some g) (rw seen at (h .plain)) (getD ys 0 0) (drop 1 ys) list later)
       where
-        ap-begun : {k k′ : ℕ} → k ≡ k′ → Started before final n d (position (j + 1) (k % 64) (k / 64 - s .stock) (s .stock)) →
-            Started before final n d (position (j + 1) (k′ % 64) (k′ / 64 - s .stock) (s .stock))
-        ap-begun q b = subst (λ k. Started before final n d (position (j + 1) (k % 64) (k / 64 - s .stock) (s .stock))) q b
+        ap-begun : {k k′ : ℕ} → k ≡ k′ → Started (unitsIn before n) final n d (position (j + 1) (k % 64) (k / 64 - s .stock) (s .stock)) →
+            Started (unitsIn before n) final n d (position (j + 1) (k′ % 64) (k′ / 64 - s .stock) (s .stock))
+        ap-begun q b = subst (λ k. Started (unitsIn before n) final n d (position (j + 1) (k % 64) (k / 64 - s .stock) (s .stock))) q b

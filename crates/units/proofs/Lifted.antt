@@ -1,5 +1,6 @@
 -- A lift among runs: the run of a unit is found, falls by it, and another is split where it goes. Lifts keep runs plain.
 use mathlib.Core.Path.{_≡_, refl, sym, ap, _∙_}
+use mathlib.Core.Bool.{false}
 use mathlib.Core.List.{List, [], _∷_, _++_, map, map-append, append-assoc, append-nil}
 use Prim.Native.Nat.{ℕ, zero, suc, _+_, _-_, _*_, _/_, _%_, _≤_, _<_, min}
 use native.Mathlib.Omega.{arith}
@@ -299,13 +300,13 @@ module _ (nets : List ℤ) (lifts : List ℕ) (i : ℕ) (runs : List ℕ) (n : �
   unfolding orderIn
   prepared after r room q =
       let a = rw (words-part lifts i) at q in
-      let e : unitsIn after r ≡ orderIn nets lifts i = a .units ∙ ap (lifted (liftsAt lifts i)) (p .units) in
+      let e : unitsIn after r ≡ orderIn false nets lifts i = a .units ∙ ap (lifted (liftsAt lifts i)) (p .units) in
       record {
         held = record {
           few = omega (arith, a .few, p .few, o .few);
           there = omega (arith, a .few, p .few, o .few);
           plain = a .plain (p .plain);
-          small = λ b. omega (arith, ap (total (ofAccount b)) e, order-in nets lifts i .due b, dues-small nets i (duesOf nets i) refl (o .size) b);
+          small = λ b. omega (arith, ap (total (ofAccount b)) e, order-in false nets lifts i .due b, dues-small nets i (duesOf nets i) refl (o .size) b);
         };
         few = omega (arith, a .few, p .few);
         units = e;

@@ -164,4 +164,5 @@ ranked-nets nets i dues runs n e few r =
       few = few;
       units = ap unitsOfRuns (r ∙ ap runsOf e) ∙ units-runs (duesOf nets i);
       plain = rw r (runs-plain dues);
+      runs = r ∙ ap runsOf e;
     }

@@ -1,5 +1,6 @@
 -- The unit question's answers: each refusal, and the unit that is found.
 use mathlib.Core.Path.{_≡_, sym, ap, _∙_}
+use mathlib.Core.Bool.{false}
 use mathlib.Core.List.{List, [], _∷_}
 use Prim.Native.Nat.{ℕ, _≤_, _<_}
 use lib.ListN.{drop}
@@ -25,5 +26,5 @@ module _ (runs : List ℕ) (n : ℕ) (s : Seat) (r : NextUnit) (l : NextIs runs 
 
 -- behind the place in front of unit k is the k-th
 module _ (nets : List ℤ) (lifts : List ℕ) (i k : ℕ) (runs : List ℕ) (n : ℕ) (s : Seat) (p : Prepared nets lifts i runs n) (q : SeatIs k s) where
-  pub found-is : (us : List AccountLots) → unitsFrom runs n s ≡ us → foundOf us ≡ foundOf (drop k (orderIn nets lifts i))
+  pub found-is : (us : List AccountLots) → unitsFrom runs n s ≡ us → foundOf us ≡ foundOf (drop k (orderIn false nets lifts i))
   found-is us e = ap foundOf (sym e ∙ q runs n ∙ ap (drop k) (p .units))

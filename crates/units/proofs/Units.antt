@@ -52,7 +52,7 @@ smalls-sorted dues =
     (each-sort (Small unitLots) (smalls unitLots (byAccount 0 dues)) (smalls-small unitLots (lit< tt) (byAccount 0 dues)))
 
 -- the receivers with a full unit stand in front
-abbrev withFull : List AccountLots → List AccountLots
+abbrev pub withFull : List AccountLots → List AccountLots
 withFull [] = []
 withFull (u ∷ us) = cond (leb 100000 (u .lots)) (u ∷ withFull us) []
 
@@ -70,7 +70,7 @@ small-insert u (v ∷ vs) h =
     (λ e. byTest (leb 100000 (v .lots)) (λ f. simp (e, f) (ap (λ l. v ∷ l) (small-insert u vs h))) (λ f. simp (e, f)))
     (λ e. simp (e, lt-leb 100000 (u .lots) h, lt-leb 100000 (v .lots) (omega (arith, ltb-false (u .lots) (v .lots) e))))
 
-full-sorted : (k : ℕ) (dues : List ℕ) → largestFirst (byAccount k (map (atLeast 100000) dues)) ≡ withFull (largestFirst (byAccount k dues))
+pub full-sorted : (k : ℕ) (dues : List ℕ) → largestFirst (byAccount k (map (atLeast 100000) dues)) ≡ withFull (largestFirst (byAccount k dues))
 full-sorted k [] = refl
 full-sorted k (zero ∷ xs) = full-sorted (suc k) xs
 full-sorted k (suc n ∷ xs) =

@@ -11,7 +11,7 @@ use Rattle.units.specs.declared.Cursor.{Cursor}
 use Rattle.units.specs.declared.Next.{Next}
 use Rattle.units.specs.declared.Next.the-variants.{Overlap, Done}
 use Rattle.units.specs.declared.Position.{Position}
-use Rattle.units.specs.Runs.{runsIn, unitsIn}
+use Rattle.units.specs.Runs.{runsIn}
 
 -- what is still to be handed out: the rest of a shortfall and the later ones, against the rest of a run and the later ones
 abbrev pub overlapsOn : List AccountLots → List ℕ → Cursor → List Fail
@@ -79,11 +79,11 @@ abbrev pub position : ℕ → ℕ → ℕ → ℕ → Position
 position run to lack s =
     record { cursor = record { account = 0; from = 0; short = 0; run = run; to = to; lack = lack }; stock = s }
 
--- after a delivered total: the cursor in front of all overlaps with what units lack, the stock, and whose unit is next;
--- the units are the lent array's before, the cursor goes along it as it is left
-pub record Started (before after : List ℕ) (n d : ℕ) (r : Position) : Type 0 where
+-- after a delivered total of some units: the cursor in front of all overlaps with what they lack, the stock, and whose unit
+-- is next; the cursor goes along a lent array as it is left
+pub record Started (us : List AccountLots) (after : List ℕ) (n d : ℕ) (r : Position) : Type 0 where
   pub lacking : (missing : List ℕ) →
-      overlapsFrom after n missing (r .cursor) ≡ overlaps (byAccount 0 missing) (lacks unitLots (unitsIn before n) d)
-  pub left : r .stock ≡ stock (unitsIn before n) d
-  pub next : r .cursor .to ≡ firstUnit (waiting (unitsIn before n) d) .account
+      overlapsFrom after n missing (r .cursor) ≡ overlaps (byAccount 0 missing) (lacks unitLots us d)
+  pub left : r .stock ≡ stock us d
+  pub next : r .cursor .to ≡ firstUnit (waiting us d) .account
   pub range : InRange (r .cursor)

@@ -1,12 +1,12 @@
 -- Runs: parts of one word each that stand for units in unit order.
 use mathlib.Core.Path.{_≡_}
-use mathlib.Core.Bool.{true, cond}
+use mathlib.Core.Bool.{true, cond, false}
 use mathlib.Core.List.{List, [], _∷_, _++_, map}
 use Prim.Native.Nat.{ℕ, suc, _+_, _*_, _/_, _%_, _≤_, _<_, min}
 use lib.Dec.{leb, ltb}
 use lib.ListN.{length, take, drop, getD, replicate}
 use lib.IntN.{ℤ}
-use Rattle.rules.specs.Measures.{Every, unitLots, mostLots, total}
+use Rattle.rules.specs.Measures.{Every, unitLots, mostLots, total, dueOf}
 use Rattle.rules.specs.Units.{AccountLots, accountLots, prepend, byAccount, largestFirst, ofAccount, unitsOfNets}
 use Rattle.rules.specs.Ranking.{priority, Pairwise}
 use Rattle.rules.specs.Handover.{covered, stock}
@@ -104,10 +104,11 @@ pub record CanRankNets (nets : List ℤ) (i : ℕ) (runs : List ℕ) : Type 0 wh
   pub room : 128 ≤ length runs
 
 -- the lent array holds the issue's units in the order without lifts
-pub record RankedNets (nets : List ℤ) (i : ℕ) (runs : List ℕ) (n : ℕ) : Type 0 where
+pub record RankedNets (nets : List ℤ) (i : ℕ) (keys : List ℕ) (n : ℕ) : Type 0 where
   pub few : n ≤ 128
-  pub units : unitsIn runs n ≡ unitsOfNets unitLots (row i nets)
-  pub plain : PlainIn runs n
+  pub units : unitsIn keys n ≡ unitsOfNets unitLots (row i nets)
+  pub plain : PlainIn keys n
+  pub runs : runsIn keys n ≡ runsOf (map dueOf (row i nets))
 
 -- an issue whose units can be ordered, from all nets and lifts
 pub record CanOrder (nets : List ℤ) (lifts : List ℕ) (i : ℕ) : Type 0 where
@@ -116,7 +117,7 @@ pub record CanOrder (nets : List ℤ) (lifts : List ℕ) (i : ℕ) : Type 0 wher
   pub issue : i < 16
   pub size : all (withinSize mostLots) nets ≡ true
   pub few : liftNumber lifts i ≤ 8
-  pub places : Every (Among (length (orderIn nets lifts i))) (liftsAt lifts i)
+  pub places : Every (Among (length (orderIn false nets lifts i))) (liftsAt lifts i)
 
 pub record CanPrepare (nets : List ℤ) (lifts : List ℕ) (i : ℕ) (runs : List ℕ) : Type 0 where
   pub order : CanOrder nets lifts i
@@ -126,7 +127,7 @@ pub record CanPrepare (nets : List ℤ) (lifts : List ℕ) (i : ℕ) (runs : Lis
 pub record Prepared (nets : List ℤ) (lifts : List ℕ) (i : ℕ) (runs : List ℕ) (n : ℕ) : Type 0 where
   pub held : Held runs n
   pub few : n ≤ 128 + 2 * liftNumber lifts i
-  pub units : unitsIn runs n ≡ orderIn nets lifts i
+  pub units : unitsIn runs n ≡ orderIn false nets lifts i
 
 abbrev pub foundOf : List AccountLots → Found
 foundOf [] = Nothing

@@ -250,6 +250,16 @@ pub fn mark_on_sound(book: &mut Book, issue: u32, mark: u32) -> Answer {
     settings::mark(book, issue, mark, Soundness::Known).into()
 }
 
+/// turn: from this day on full units are dealt in turn; in any phase.
+pub fn turn(book: &mut Book, day: u32) -> Answer {
+    settings::turn(book, day, Soundness::Asked).into()
+}
+
+/// turn on a book known to be sound.
+pub fn turn_on_sound(book: &mut Book, day: u32) -> Answer {
+    settings::turn(book, day, Soundness::Known).into()
+}
+
 /// The unit question: 2, 4.
 fn ask_unit(book: &Book, issue: u32, k: u32, soundness: Soundness) -> UnitAnswer {
     let none = UnitAnswer { number: 0, found: false, account: 0, lots: 0 };

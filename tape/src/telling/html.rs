@@ -1,11 +1,13 @@
 //! The facts as one page of HTML: for each day and issue its units in order as a bar, and the
 //! ledger and the charges as tables. The page holds all that it needs and no script.
 
+use crate::dealt::{Rounds, Turn};
 use crate::facts::{Fact, Told};
 use crate::input::Stands;
 use crate::measure::{counted, Face, Grouped, Lots, Price};
 use crate::telling::Only;
-use std::collections::BTreeMap;
+use crate::units::FULL;
+use std::collections::{BTreeMap, BTreeSet};
 use std::io::{self, Write};
 
 /// What is noted for the page.
@@ -13,10 +15,13 @@ use std::io::{self, Write};
 pub struct Page {
     /// The units of each day and issue.
     bars: BTreeMap<(u16, u32), Vec<Units>>,
+    /// The days of the new order.
+    in_turn: BTreeSet<u16>,
     /// Where an instruction was refused, and why.
     refused: Vec<String>,
     charges: Vec<(u16, Fact)>,
     end: Option<(u16, &'static str)>,
+    turn: Option<u32>,
     marked: Vec<u32>,
     ledger: Vec<Fact>,
     charged: Vec<Fact>,
@@ -28,13 +33,36 @@ struct Units {
     last: u32,
     account: u32,
     lots: u32,
+    /// Where the unit stands, if it was dealt in turn.
+    turn: Option<Turn>,
     handed: u64,
     /// What the unit that was handed in part lacks; all of it is failed.
     partly: u64,
     failed: u64,
 }
 
+/// What is said of a day of the new order.
+const IN_TURN: &str = ", full units dealt in turn (the new order)";
+
+/// The units of rounds, one by one.
+fn dealt(rounds: &Rounds) -> Vec<Units> {
+    let of = rounds.accounts.len() as u32;
+    let unit = |at: u32| {
+        let (round, seat) = (rounds.round + at / of, at % of);
+        let account = rounds.accounts[seat as usize];
+        let turn = Some(Turn { round, until: round, receiver: seat + 1, of });
+        let unit = rounds.first + at;
+        Units { turn, ..Units::of(unit, unit, account, FULL) }
+    };
+    (0..=rounds.last - rounds.first).map(unit).collect()
+}
+
 impl Units {
+    /// Like units of an account, nothing handed.
+    fn of(first: u32, last: u32, account: u32, lots: u32) -> Units {
+        Units { first, last, account, lots, turn: None, handed: 0, partly: 0, failed: 0 }
+    }
+
     /// How many they are.
     fn count(&self) -> usize {
         (self.last - self.first + 1) as usize
@@ -53,9 +81,16 @@ impl Page {
         match fact {
             Fact::Units { issue, first, last, account, lots, .. } => {
                 let (first, last, account, lots) = (*first, *last, *account, *lots);
-                let units = Units { first, last, account, lots, handed: 0, partly: 0, failed: 0 };
+                let units = Units::of(first, last, account, lots);
                 self.bars.entry((day, *issue)).or_default().push(units);
             }
+            Fact::Rounds { issue, rounds } => {
+                self.bars.entry((day, *issue)).or_default().extend(dealt(rounds));
+            }
+            Fact::Day { day, turn } if *turn != 0 && *turn <= u32::from(*day) => {
+                self.in_turn.insert(*day);
+            }
+            Fact::ChangeOver { turn } => self.turn = Some(*turn),
             Fact::Handed { issue, first, last, lots, .. } => {
                 let all = u64::from(last - first + 1) * u64::from(*lots);
                 self.at(day, *issue, *first, |units| units.handed += all);
@@ -66,8 +101,8 @@ impl Page {
                     units.partly += u64::from(*lacks);
                 });
             }
-            Fact::Fails { issue, lots, first, .. } => {
-                self.at(day, *issue, *first, |units| units.failed += u64::from(*lots));
+            Fact::Fails { issue, to, lots, first, last, .. } => {
+                self.failed(day, *issue, *to, (*first, *last), u64::from(*lots));
             }
             Fact::Instruction { instruction, refusal: Some((_, why)) } => {
                 let place = place(told, stands);
@@ -90,10 +125,24 @@ impl Page {
     fn at(&mut self, day: u16, issue: u32, unit: u32, change: impl FnOnce(&mut Units)) {
         let bar = self.bars.get_mut(&(day, issue));
         let found = bar.and_then(|bar| {
-            bar.iter_mut().find(|units| (units.first..=units.last).contains(&unit))
+            let at = bar.partition_point(|units| units.last < unit);
+            bar.get_mut(at)
         });
-        if let Some(units) = found {
+        if let Some(units) = found.filter(|units| units.first <= unit) {
             change(units);
+        }
+    }
+
+    /// Fails lots of the account's units from the first to the last, each as far as it lacks them.
+    fn failed(&mut self, day: u16, issue: u32, account: u32, units: (u32, u32), lots: u64) {
+        let mut left = lots;
+        let Some(bar) = self.bars.get_mut(&(day, issue)) else { return };
+        let begin = bar.partition_point(|one| one.last < units.0);
+        let those = bar[begin..].iter_mut().take_while(|one| one.first <= units.1);
+        for one in those.filter(|one| one.account == account) {
+            let lacks = one.all().saturating_sub(one.handed + one.failed);
+            one.failed += left.min(lacks);
+            left -= left.min(lacks);
         }
     }
 
@@ -116,7 +165,8 @@ impl Page {
             let all: u64 = bar.iter().map(Units::all).sum();
             writeln!(out, "<h2>Day {day}, issue {issue}</h2>")?;
             let units: usize = bar.iter().map(Units::count).sum();
-            writeln!(out, "<p>{} due in {}</p>", Face(all), counted(units, "unit"))?;
+            let order = if self.in_turn.contains(day) { IN_TURN } else { "" };
+            writeln!(out, "<p>{} due in {}{order}</p>", Face(all), counted(units, "unit"))?;
             writeln!(out, "<div class=\"bar\">")?;
             bar.iter().try_for_each(|units| segment(out, units))?;
             writeln!(out, "</div>")?;
@@ -156,6 +206,9 @@ impl Page {
         if let Some((day, phase)) = self.end {
             writeln!(out, "<h2>At the end: day {day}, {phase}</h2>")?;
         }
+        if let Some(turn) = self.turn {
+            writeln!(out, "<p>Full units are dealt in turn from day {turn} on.</p>")?;
+        }
         if !self.marked.is_empty() {
             let issues: Vec<String> = self.marked.iter().map(u32::to_string).collect();
             let (s, issues) = (if issues.len() == 1 { "" } else { "s" }, issues.join(", "));
@@ -189,11 +242,14 @@ fn place(told: &Told, stands: Stands) -> String {
 /// The part of a bar that like units have: handed, lacking in a unit that was handed in part, failed
 /// whole, and what is neither yet.
 fn segment(out: &mut impl Write, units: &Units) -> io::Result<()> {
-    let Units { first, last, account, lots, handed, partly, failed } = *units;
+    let Units { first, last, account, lots, turn, handed, partly, failed } = *units;
     let open = units.all().saturating_sub(handed + failed);
     let of = Lots(units.all());
     let names = match units.count() {
-        1 => format!("unit {first} of account {account}, {of}"),
+        1 => {
+            let turn = turn.map_or(String::new(), |turn| format!(", {}", turn.words()));
+            format!("unit {first} of account {account}, {of}{turn}")
+        }
         _ => {
             let each = Lots(lots.into());
             format!("units {first}–{last} of account {account}, {each} each, {of} in all")

@@ -1,6 +1,7 @@
 //! The facts as JSON: one object a line, with `fact` and `day` first, then the instruction that the
 //! fact belongs to. docs/TAPE.md lists them.
 
+use crate::dealt::Turn;
 use crate::facts::{Fact, Told};
 use crate::input::Stands;
 use crate::measure::write_number;
@@ -46,6 +47,7 @@ fn name(fact: &Fact) -> &'static str {
         Fact::Day { .. } => "day",
         Fact::Instruction { .. } => "instruction",
         Fact::Units { .. } => "units",
+        Fact::Rounds { .. } => "rounds",
         Fact::Tie { .. } => "tie",
         Fact::SmallAfterFull { .. } => "small-after-full",
         Fact::Owes { .. } => "owes",
@@ -60,6 +62,7 @@ fn name(fact: &Fact) -> &'static str {
         Fact::Charge { .. } => "charge",
         Fact::ReadingEnds { .. } => "reading-ends",
         Fact::End { .. } => "end",
+        Fact::ChangeOver { .. } => "change-over",
         Fact::Marked { .. } => "marked",
         Fact::Entry { .. } => "entry",
         Fact::Charged { .. } => "charged",
@@ -83,6 +86,19 @@ fn text(out: &mut impl Write, name: &str, value: &str) -> io::Result<()> {
     out.write_all(b"\"")
 }
 
+/// A field that is a list of numbers.
+fn list(out: &mut impl Write, name: &str, numbers: &[u32]) -> io::Result<()> {
+    let numbers: Vec<String> = numbers.iter().map(u32::to_string).collect();
+    write!(out, ",\"{name}\":[{}]", numbers.join(","))
+}
+
+/// Where units stand that were dealt in turn.
+fn dealt(out: &mut impl Write, turn: &Option<Turn>) -> io::Result<()> {
+    let Some(Turn { round, until, receiver, of }) = *turn else { return Ok(()) };
+    let fields = [("round", round), ("until", until), ("receiver", receiver), ("of", of)];
+    fields.iter().try_for_each(|(name, number)| field(out, name, (*number).into()))
+}
+
 /// Fields that are numbers.
 fn numbers(out: &mut impl Write, fields: &[(&str, u64)]) -> io::Result<()> {
     fields.iter().try_for_each(|(name, value)| field(out, name, *value))
@@ -98,7 +114,13 @@ fn refused(out: &mut impl Write, refusal: Refusal, why: &str) -> io::Result<()> 
 fn fields(out: &mut impl Write, fact: &Fact) -> io::Result<()> {
     match fact {
         Fact::Instruction { .. } | Fact::ReadingEnds { .. } => instruction(out, fact),
-        Fact::Units { .. } | Fact::Owes { .. } => order(out, fact),
+        Fact::Day { day, turn } => {
+            let new = *turn != 0 && *turn <= u32::from(*day);
+            text(out, "order", if new { "new" } else { "old" })?;
+            field(out, "turn", (*turn).into())
+        }
+        Fact::ChangeOver { turn } => field(out, "turn", (*turn).into()),
+        Fact::Units { .. } | Fact::Rounds { .. } | Fact::Owes { .. } => order(out, fact),
         Fact::Tie { .. } | Fact::SmallAfterFull { .. } => decided(out, fact),
         Fact::Handed { .. } | Fact::Waits { .. } | Fact::Partly { .. } => handover(out, fact),
         Fact::Charge { .. } | Fact::Charged { .. } | Fact::End { .. } => charge(out, fact),
@@ -131,6 +153,12 @@ fn order(out: &mut impl Write, fact: &Fact) -> io::Result<()> {
             units(out, [*issue, *first, *last, *account, *lots])?;
             field(out, "due", wide(*due))
         }
+        Fact::Rounds { issue, rounds } => {
+            field(out, "issue", wide(*issue))?;
+            numbers(out, &[("first", wide(rounds.first)), ("last", wide(rounds.last))])?;
+            numbers(out, &[("round", wide(rounds.round)), ("until", wide(rounds.until))])?;
+            list(out, "accounts", &rounds.accounts)
+        }
         Fact::Owes { issue, account, lots } => {
             numbers(out, &[("issue", wide(*issue)), ("account", wide(*account)), ("lots", *lots)])
         }
@@ -147,8 +175,7 @@ fn decided(out: &mut impl Write, fact: &Fact) -> io::Result<()> {
             text(out, "case", case.name())?;
             text(out, "of", if *case == Case::BothFull { "nets" } else { "small units" })?;
             field(out, "lots", wide(*lots))?;
-            let accounts: Vec<String> = accounts.iter().map(u32::to_string).collect();
-            write!(out, ",\"accounts\":[{}]", accounts.join(","))
+            list(out, "accounts", accounts)
         }
         Fact::SmallAfterFull { issue, unit, account, next, follower } => {
             field(out, "issue", wide(*issue))?;
@@ -164,12 +191,14 @@ fn decided(out: &mut impl Write, fact: &Fact) -> io::Result<()> {
 fn handover(out: &mut impl Write, fact: &Fact) -> io::Result<()> {
     let wide = u64::from;
     match fact {
-        Fact::Handed { issue, first, last, account, lots } => {
-            units(out, [*issue, *first, *last, *account, *lots])
+        Fact::Handed { issue, first, last, account, lots, turn } => {
+            units(out, [*issue, *first, *last, *account, *lots])?;
+            dealt(out, turn)
         }
-        Fact::Waits { issue, stock, unit, account, lots } => {
+        Fact::Waits { issue, stock, unit, account, lots, turn } => {
             numbers(out, &[("issue", wide(*issue)), ("stock", *stock), ("unit", wide(*unit))])?;
-            numbers(out, &[("account", wide(*account)), ("lots", wide(*lots))])
+            numbers(out, &[("account", wide(*account)), ("lots", wide(*lots))])?;
+            dealt(out, turn)
         }
         Fact::Partly { issue, unit, account, lots, lacks } => {
             numbers(out, &[("issue", wide(*issue)), ("unit", wide(*unit))])?;
@@ -184,9 +213,9 @@ fn handover(out: &mut impl Write, fact: &Fact) -> io::Result<()> {
 fn fail(out: &mut impl Write, fact: &Fact) -> io::Result<()> {
     let wide = u64::from;
     match fact {
-        Fact::Fails { issue, from, to, lots, first, last } => {
+        Fact::Fails { issue, from, to, lots, first, last, units } => {
             owed(out, [*issue, *from, *to, *lots])?;
-            numbers(out, &[("first", wide(*first)), ("last", wide(*last))])
+            numbers(out, &[("first", wide(*first)), ("last", wide(*last)), ("units", wide(*units))])
         }
         Fact::Resolved { issue, from, to, lots } => owed(out, [*issue, *from, *to, *lots]),
         Fact::Left { issue, from, to, lots, since }
@@ -255,6 +284,7 @@ fn arguments(out: &mut impl Write, instruction: &Instruction) -> io::Result<()> 
         Instruction::Roll { days, rate } => {
             numbers(out, &[("days", wide(days)), ("rate", wide(rate))])
         }
+        Instruction::Turn { day } => field(out, "turn", wide(day)),
         Instruction::Close | Instruction::Cutoff => Ok(()),
     }
 }

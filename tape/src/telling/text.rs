@@ -1,5 +1,6 @@
 //! The facts as sentences: a line for each instruction, and below it what it did.
 
+use crate::dealt::{Rounds, Turn};
 use crate::facts::{Fact, Told};
 use crate::input::Stands;
 use crate::measure::{counted, Face, Grouped, Line, Lots, Price, Rate};
@@ -11,7 +12,7 @@ use std::io::{self, Write};
 pub fn tell(out: &mut impl Write, told: &Told, stands: Stands) -> io::Result<()> {
     let Told { day, word, fact } = *told;
     match fact {
-        Fact::Day { day } => writeln!(out, "Day {day}"),
+        Fact::Day { day, turn } => writeln!(out, "Day {day}{}", order_of_day(*day, *turn)),
         Fact::Instruction { instruction, refusal } => {
             let mut line = Line::new();
             head(out, &mut line, word, stands)?;
@@ -107,6 +108,9 @@ fn sentence(out: &mut impl Write, instruction: &Instruction) -> io::Result<()> {
         Instruction::Mark { issue, .. } => {
             write!(out, "mark: issue {issue} in multiples of 100,000 yen face, even lots only")
         }
+        Instruction::Turn { day } => {
+            write!(out, "turn: full units dealt in turn from day {day} on")
+        }
         Instruction::Close => write!(out, "close"),
         Instruction::Cutoff => write!(out, "cutoff"),
         Instruction::Roll { days, rate } => {
@@ -118,10 +122,11 @@ fn sentence(out: &mut impl Write, instruction: &Instruction) -> io::Result<()> {
 /// Something that an instruction did, or that stands in the book at the end.
 fn detail(out: &mut impl Write, fact: &Fact) -> io::Result<()> {
     match fact {
+        Fact::ChangeOver { turn } => write!(out, "full units are dealt in turn from day {turn} on"),
         Fact::Marked { issue } => {
             write!(out, "issue {issue} is in multiples of 100,000 yen face, even lots only")
         }
-        Fact::Units { .. } | Fact::Owes { .. } => order(out, fact),
+        Fact::Units { .. } | Fact::Rounds { .. } | Fact::Owes { .. } => order(out, fact),
         Fact::Tie { .. } | Fact::SmallAfterFull { .. } => decided(out, fact),
         Fact::Handed { .. } | Fact::Waits { .. } | Fact::Partly { .. } => handover(out, fact),
         Fact::Charge { .. } | Fact::Charged { .. } => charge(out, fact),
@@ -139,6 +144,10 @@ fn order(out: &mut impl Write, fact: &Fact) -> io::Result<()> {
             write!(out, "issue {issue}: {units} {is} account {account}'s, {lots}{each}, ")?;
             write!(out, "of {due} due")
         }
+        Fact::Rounds { issue, rounds } => {
+            write!(out, "issue {issue}: ")?;
+            rounds_text(out, rounds)
+        }
         Fact::Owes { issue, account, lots: 0 } => {
             write!(out, "account {account} owes nothing more of issue {issue} today")
         }
@@ -146,6 +155,21 @@ fn order(out: &mut impl Write, fact: &Fact) -> io::Result<()> {
             write!(out, "account {account} still owes {} of issue {issue} today", Lots(*lots))
         }
         _ => Ok(()),
+    }
+}
+
+/// Units dealt in turn: their rounds, and the accounts that take part in each.
+fn rounds_text(out: &mut impl Write, rounds: &Rounds) -> io::Result<()> {
+    let Rounds { first, last, round, until, accounts } = rounds;
+    let (units, are) = units_text(*first, *last);
+    if round == until {
+        write!(out, "{units} {are} round {round}: one full unit ")?;
+    } else {
+        write!(out, "{units} {are} rounds {round} to {until}: in each one full unit ")?;
+    }
+    match accounts.len() {
+        1 => write!(out, "to account {}", listed(accounts)),
+        _ => write!(out, "each to accounts {}, in this order", listed(accounts)),
     }
 }
 
@@ -171,14 +195,15 @@ fn decided(out: &mut impl Write, fact: &Fact) -> io::Result<()> {
 /// Units handed over, whole and in part, and stock that waits.
 fn handover(out: &mut impl Write, fact: &Fact) -> io::Result<()> {
     match fact {
-        Fact::Handed { first, last, account, lots, .. } => {
+        Fact::Handed { first, last, account, lots, turn, .. } => {
             let (units, is) = units_text(*first, *last);
             let (lots, each) = (Face((*lots).into()), if first == last { "" } else { " each" });
-            write!(out, "{units} {is} handed to account {account}: {lots}{each}")
+            write!(out, "{units} {is} handed to account {account}: {lots}{each}{}", dealt(turn))
         }
-        Fact::Waits { stock, unit, account, lots, .. } => {
+        Fact::Waits { stock, unit, account, lots, turn, .. } => {
             let (wait, lots) = (if *stock == 1 { "waits" } else { "wait" }, Lots((*lots).into()));
-            write!(out, "{} {wait} for unit {unit} of account {account}, {lots}", Lots(*stock))
+            write!(out, "{} {wait} for unit {unit} of account {account}, {lots}", Lots(*stock))?;
+            out.write_all(dealt(turn).as_bytes())
         }
         Fact::Partly { issue, unit, account, lots, lacks } => {
             let go = if *lots == 1 { "goes" } else { "go" };
@@ -196,8 +221,8 @@ fn handover(out: &mut impl Write, fact: &Fact) -> io::Result<()> {
 /// Fails as they arise, are met and stand in the ledger.
 fn fail(out: &mut impl Write, fact: &Fact) -> io::Result<()> {
     match fact {
-        Fact::Fails { issue, from, to, lots, first, last } => {
-            let (lots, (units, _)) = (Face((*lots).into()), units_text(*first, *last));
+        Fact::Fails { issue, from, to, lots, first, last, units } => {
+            let (lots, units) = (Face((*lots).into()), failed_units(*first, *last, *units));
             write!(out, "issue {issue}: account {from} fails account {to}: {lots}, of {units}")
         }
         Fact::NothingFails => write!(out, "nothing fails"),
@@ -238,6 +263,31 @@ fn entry(out: &mut impl Write, numbers: &[u32; 4], since: u16) -> io::Result<()>
     let [issue, from, to, lots] = *numbers;
     let lots = Face(lots.into());
     write!(out, "issue {issue}: account {from} owes account {to} {lots}, since day {since}")
+}
+
+/// The order of a day, where a change-over day is named.
+fn order_of_day(day: u16, turn: u32) -> String {
+    match turn {
+        0 => String::new(),
+        turn if turn <= day.into() => {
+            format!(", the new order: full units are dealt in turn since day {turn}")
+        }
+        turn => format!(", the old order: full units are dealt in turn from day {turn} on"),
+    }
+}
+
+/// Where a unit stands that was dealt in turn.
+fn dealt(turn: &Option<Turn>) -> String {
+    turn.map_or(String::new(), |turn| format!(", {}", turn.words()))
+}
+
+/// The units of a fail: those from the first to the last, or so many of them that lie apart.
+fn failed_units(first: u32, last: u32, units: u32) -> String {
+    match units {
+        _ if last + 1 - first == units => units_text(first, last).0,
+        2 => format!("units {first} and {last}"),
+        units => format!("{units} units from {first} to {last} that lie apart"),
+    }
 }
 
 /// Units from the first to the last, and the verb that follows them.

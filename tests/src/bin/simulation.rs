@@ -3,8 +3,9 @@
 //! Every small market of up to four accounts in two settlement accounts with every small inventory,
 //! at every small size; markets in which one unit goes round and round; every question at its edge;
 //! damaged books and lists of other lengths; then random desks. The second engine keeps units one by
-//! one and makes every round; the library makes equal rounds as one step. `--replay` takes `size S`,
-//! `settle ACCOUNT SETTLEMENT`, `hold PLACE LOTS` and `net PLACE NET`.
+//! one and makes every round; the library makes equal rounds as one step. Some desks are of a day on
+//! which a book's full units are dealt in turn, which changes nothing here. `--replay` takes `size S`,
+//! `turn DAY`, `settle ACCOUNT SETTLEMENT`, `hold PLACE LOTS` and `net PLACE NET`.
 
 use library::raw;
 use library::simulation::Simulated;
@@ -202,6 +203,9 @@ fn random(rng: &mut Rng) -> Trial {
         for settlement in 0..settlements as usize {
             trial.hold(issue, settlement, rng.range(0, most / share + 1));
         }
+    }
+    if rng.chance(1, 3) {
+        trial.turn(rng.range(1, 65_535) as u16);
     }
     if rng.chance(1, 12) {
         rng.pick(&EDGES)(&mut trial);

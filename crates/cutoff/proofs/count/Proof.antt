@@ -11,12 +11,12 @@ use Rattle.cutoff.proofs.count.Statement.{statement}
 use Rattle.cutoff.proofs.count.Tie as tie
 
 abbrev Inv-loop : tie.InvT-loop
-Inv-loop nets delivered lifts i₀ n₀ i n =
+Inv-loop dealt nets delivered lifts i₀ n₀ i n =
     (i ≤ 16) × (n ≤ 126 * i)
-    × ((today : ℕ) → n + length (entriesFrom today nets delivered lifts i (16 - i)) ≡ length (entriesFrom today nets delivered lifts 0 16))
+    × ((today : ℕ) → n + length (entriesFrom dealt today nets delivered lifts i (16 - i)) ≡ length (entriesFrom dealt today nets delivered lifts 0 16))
 
 abbrev μ-loop : tie.MeasureT-loop
-μ-loop nets delivered lifts i₀ n₀ i n = 16 - i
+μ-loop dealt nets delivered lifts i₀ n₀ i n = 16 - i
 
 loop-holds : tie.Need-loop-holds Inv-loop μ-loop
 loop-holds c = (search needs, search needs, (λ today. omega arith))
@@ -29,7 +29,7 @@ one c =
     omega (
       arith,
       c .count-issue .ensures,
-      few (now (a .nets)) (now (a .delivered)) (now (a .lifts)) (c .before .before .loop .i) (c .before .loop-test .taken) (s .pre),
+      few (a .dealt) (now (a .nets)) (now (a .delivered)) (now (a .lifts)) (c .before .before .loop .i) (c .before .loop-test .taken) (s .pre),
     )
 
 add-n : tie.Need-add-n Inv-loop μ-loop
@@ -46,7 +46,7 @@ loop-again c =
             arith,
             l .inv .2 today,
             c .count-issue .ensures,
-            count-on today (now (a .nets)) (now (a .delivered)) (now (a .lifts)) (l .i) (omega arith),
+            count-on (a .dealt) today (now (a .nets)) (now (a .delivered)) (now (a .lifts)) (l .i) (omega arith),
           )),
     )
 
@@ -56,9 +56,9 @@ returns c =
     let l = c .before .loop in
     record {
       count = λ today.
-          let n : l .n ≡ length (entriesFrom today (now (a .nets)) (now (a .delivered)) (now (a .lifts)) 0 16) =
-          omega (arith, l .inv .2 today, ap length (entries-none today (now (a .nets)) (now (a .delivered)) (now (a .lifts)) (l .i) (omega arith))) in
-          n ∙ ap length (entries-all today (now (a .nets)) (now (a .delivered)) (now (a .lifts)));
+          let n : l .n ≡ length (entriesFrom (a .dealt) today (now (a .nets)) (now (a .delivered)) (now (a .lifts)) 0 16) =
+          omega (arith, l .inv .2 today, ap length (entries-none (a .dealt) today (now (a .nets)) (now (a .delivered)) (now (a .lifts)) (l .i) (omega arith))) in
+          n ∙ ap length (entries-all (a .dealt) today (now (a .nets)) (now (a .delivered)) (now (a .lifts)));
       few = omega arith;
     }
 

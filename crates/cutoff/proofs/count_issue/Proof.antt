@@ -12,14 +12,14 @@ count-requires : tie.Need-count-requires
 count-requires c κs =
     let s = c .before .before .before .before .before .before .before .before .before .before in
     let a = s .args in
-    let y = c .before .before .before .before .before .prepare .ensures in (
+    let y = c .before .before .before .before .before .prepare-for .ensures in (
       y .advance,
       y .range,
-      omega (arith, ap length (y .fails), few (now (a .nets)) (now (a .delivered)) (now (a .lifts)) (a .i) (s .pre .1) (s .pre .0)),
+      omega (arith, ap length (y .fails), few (a .dealt) (now (a .nets)) (now (a .delivered)) (now (a .lifts)) (a .i) (s .pre .1) (s .pre .0)),
     )
 
 returns : tie.Need-returns
-returns c = c .count .ensures ∙ ap length (c .before .before .before .before .before .before .prepare .ensures .fails)
+returns c = c .count .ensures ∙ ap length (c .before .before .before .before .before .before .prepare-for .ensures .fails)
 
 pub count-issue-spec : {M : Type 1} → statement M
 count-issue-spec =

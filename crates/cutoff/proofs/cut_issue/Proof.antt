@@ -14,24 +14,24 @@ hand-stock-requires : tie.Need-hand-stock-requires
 hand-stock-requires c κs =
     let s = c .before .before .before .before .before .before .before .before .before .before .before .before .before .before .before in
     let a = s .args in
-    let p = c .before .before .before .before .prepare in
-    can-hand (now (a .nets)) (now (a .delivered)) (now (a .lifts)) (a .day) (a .i) (a .n) (lending (a .issues) (a .froms) (a .tos) (a .lots) (a .days) (a .out))
-    (s .pre) (p .last .1 .1 .1 .1 .0) (p .last .1 .1 .1 .1 .1 .0) (p .result) (p .ensures)
+    let p = c .before .before .before .before .prepare-for in
+    can-hand (a .dealt) (now (a .nets)) (now (a .delivered)) (now (a .lifts)) (a .day) (a .i) (a .n) (lending (a .issues) (a .froms) (a .tos) (a .lots) (a .days) (a .out))
+    (s .pre) (p .last .1 .1 .1 .1 .1 .0) (p .last .1 .1 .1 .1 .1 .1 .0) (p .result) (p .ensures)
 
 abbrev start : tie.After-hand-stock → tie.Start
 start c = c .before .before .before .before .before .before .before .before .before .before .before .before .before .before .before .before
 
 handed : (c : tie.After-hand-stock) →
     let a = start c .args in
-    let p = c .before .before .before .before .before .prepare in
-    Behind (now (a .nets)) (now (a .delivered)) (now (a .lifts)) (a .day) (a .i) (a .n) (lending (a .issues) (a .froms) (a .tos) (a .lots) (a .days) (a .out))
-    (p .last .1 .1 .1 .1 .0) (p .last .1 .1 .1 .1 .1 .0) (p .result) (c .hand-stock .result) (c .hand-stock .last .0)
+    let p = c .before .before .before .before .before .prepare-for in
+    Behind (a .dealt) (now (a .nets)) (now (a .delivered)) (now (a .lifts)) (a .day) (a .i) (a .n) (lending (a .issues) (a .froms) (a .tos) (a .lots) (a .days) (a .out))
+    (p .last .1 .1 .1 .1 .1 .0) (p .last .1 .1 .1 .1 .1 .1 .0) (p .result) (c .hand-stock .result) (c .hand-stock .last .0)
 handed c =
     let s = start c in
     let a = s .args in
-    let p = c .before .before .before .before .before .prepare in
-    stock-handed (now (a .nets)) (now (a .delivered)) (now (a .lifts)) (a .day) (a .i) (a .n) (lending (a .issues) (a .froms) (a .tos) (a .lots) (a .days) (a .out))
-    (s .pre) (p .last .1 .1 .1 .1 .0) (p .last .1 .1 .1 .1 .1 .0) (p .result) (p .ensures) (c .hand-stock .result) (c .hand-stock .last .0) (c .hand-stock .ensures)
+    let p = c .before .before .before .before .before .prepare-for in
+    stock-handed (a .dealt) (now (a .nets)) (now (a .delivered)) (now (a .lifts)) (a .day) (a .i) (a .n) (lending (a .issues) (a .froms) (a .tos) (a .lots) (a .days) (a .out))
+    (s .pre) (p .last .1 .1 .1 .1 .1 .0) (p .last .1 .1 .1 .1 .1 .1 .0) (p .result) (p .ensures) (c .hand-stock .result) (c .hand-stock .last .0) (c .hand-stock .ensures)
 
 lay-requires : tie.Need-lay-requires
 lay-requires c κs = handed (c .before .before .before .before .before .before .before .before .before .before) .can
@@ -44,7 +44,7 @@ cut : (c : tie.After-slice-known13) →
     let a = start (stocked c) .args in
     let l = c .before .before .before .before .before .before .before .before .before .before .before .before .lay in
     let v = stocked c .hand-stock in
-    WasCut (now (a .nets)) (now (a .delivered)) (now (a .lifts)) (a .day) (a .i) (a .n) (lending (a .issues) (a .froms) (a .tos) (a .lots) (a .days) (a .out)) (countsOf (a .n + l .result) (v .result + l .result))
+    WasCut (a .dealt) (now (a .nets)) (now (a .delivered)) (now (a .lifts)) (a .day) (a .i) (a .n) (lending (a .issues) (a .froms) (a .tos) (a .lots) (a .days) (a .out)) (countsOf (a .n + l .result) (v .result + l .result))
     (back (v .result) (withOut (lending (a .issues) (a .froms) (a .tos) (a .lots) (a .days) (a .out)) (v .last .0))
     (lent (l .last .1 .1 .1 .1 .1 .1 .0) (l .last .1 .1 .1 .1 .1 .1 .1 .0) (l .last .1 .1 .1 .1 .1 .1 .1 .1 .0) (l .last .1 .1 .1 .1 .1 .1 .1 .1 .1 .0)
     (l .last .1 .1 .1 .1 .1 .1 .1 .1 .1 .1 .0) (l .last .1 .1 .1 .1 .1 .1 .1 .1 .1 .1 .1 .0)))

@@ -15,19 +15,19 @@ right c = sym (c .before .settling .ensures) ∙ not-false _ (c .if1 .left)
 returns : tie.Need-returns
 returns c =
     let a = c .before .before .before .before .args in
-    no-phase (a .phase) (a .old) (now (a .nets)) (now (a .delivered)) (now (a .lifts)) (sym (c .before .settling .ensures) ∙ not-true _ (c .if1 .taken))
+    no-phase (a .dealt) (a .phase) (a .old) (now (a .nets)) (now (a .delivered)) (now (a .lifts)) (sym (c .before .settling .ensures) ∙ not-true _ (c .if1 .taken))
 
 returns-2 : tie.Need-returns-2
 returns-2 c =
     let a = c .before .before .before .before .before .before .args in
     let k = c .before .count in
-    no-room (a .phase) (a .old) (now (a .nets)) (now (a .delivered)) (now (a .lifts)) (k .result) (right (c .before .before)) (k .ensures) (c .if2 .taken)
+    no-room (a .dealt) (a .phase) (a .old) (now (a .nets)) (now (a .delivered)) (now (a .lifts)) (k .result) (right (c .before .before)) (k .ensures) (c .if2 .taken)
 
 returns-3 : tie.Need-returns-3
 returns-3 c =
     let a = c .before .before .before .before .before .before .args in
     let k = c .before .count in
-    all-yes (a .phase) (a .old) (now (a .nets)) (now (a .delivered)) (now (a .lifts)) (k .result) (right (c .before .before)) (k .ensures) (c .if2 .left)
+    all-yes (a .dealt) (a .phase) (a .old) (now (a .nets)) (now (a .delivered)) (now (a .lifts)) (k .result) (right (c .before .before)) (k .ensures) (c .if2 .left)
 
 pub cutoff-asks-spec : {M : Type 1} → statement M
 cutoff-asks-spec =

@@ -9,18 +9,18 @@ use Rattle.cutoff.proofs.cutoff_in.Statement.{statement}
 use Rattle.cutoff.proofs.cutoff_in.Tie as tie
 
 abbrev Inv-loop : tie.InvT-loop
-Inv-loop nets delivered lifts day count issues₀ froms₀ tos₀ lots₀ days₀ out₀ i₀ n₀ w₀ issues froms tos lots days out i n w =
+Inv-loop dealt nets delivered lifts day count issues₀ froms₀ tos₀ lots₀ days₀ out₀ i₀ n₀ w₀ issues froms tos lots days out i n w =
     (i ≤ 16)
-    × LayingAll nets delivered lifts day count (lent issues₀ froms₀ tos₀ lots₀ days₀ out₀) i n w (lent issues froms tos lots days out)
+    × LayingAll dealt nets delivered lifts day count (lent issues₀ froms₀ tos₀ lots₀ days₀ out₀) i n w (lent issues froms tos lots days out)
 
 abbrev μ-loop : tie.MeasureT-loop
-μ-loop nets delivered lifts day count issues₀ froms₀ tos₀ lots₀ days₀ out₀ i₀ n₀ w₀ issues froms tos lots days out i n w = 16 - i
+μ-loop dealt nets delivered lifts day count issues₀ froms₀ tos₀ lots₀ days₀ out₀ i₀ n₀ w₀ issues froms tos lots days out i n w = 16 - i
 
 loop-holds : tie.Need-loop-holds Inv-loop μ-loop
 loop-holds c =
     let s = c .before .before .before .before .before .before .before .before in
     let a = s .args in
-    (omega arith, starts (now (a .nets)) (now (a .delivered)) (now (a .lifts)) (a .day) (a .count) (lending (a .issues) (a .froms) (a .tos) (a .lots) (a .days) (a .out)) (s .pre))
+    (omega arith, starts (a .dealt) (now (a .nets)) (now (a .delivered)) (now (a .lifts)) (a .day) (a .count) (lending (a .issues) (a .froms) (a .tos) (a .lots) (a .days) (a .out)) (s .pre))
 
 abbrev within : tie.After-struct-known Inv-loop μ-loop → tie.In-loop Inv-loop μ-loop
 within c = c .before .before .before .before .before .before .before .before .before .before .before .before .before .before .before .before .before .before .before .before
@@ -29,13 +29,13 @@ within c = c .before .before .before .before .before .before .before .before .be
 turned : (c : tie.In-loop Inv-loop μ-loop) →
     let a = c .before .before .before .before .before .before .before .before .before .before .args in
     let l = c .before .loop in
-    Turn (now (a .nets)) (now (a .delivered)) (now (a .lifts)) (a .day) (a .count) (lending (a .issues) (a .froms) (a .tos) (a .lots) (a .days) (a .out)) (l .i) (l .n) (l .w)
+    Turn (a .dealt) (now (a .nets)) (now (a .delivered)) (now (a .lifts)) (a .day) (a .count) (lending (a .issues) (a .froms) (a .tos) (a .lots) (a .days) (a .out)) (l .i) (l .n) (l .w)
     (lent (l .issues) (l .froms) (l .tos) (l .lots) (l .days) (l .out))
 turned c =
     let s = c .before .before .before .before .before .before .before .before .before .before in
     let a = s .args in
     let l = c .before .loop in
-    turn (now (a .nets)) (now (a .delivered)) (now (a .lifts)) (a .day) (a .count) (lending (a .issues) (a .froms) (a .tos) (a .lots) (a .days) (a .out)) (s .pre) (l .i) (l .n) (l .w)
+    turn (a .dealt) (now (a .nets)) (now (a .delivered)) (now (a .lifts)) (a .day) (a .count) (lending (a .issues) (a .froms) (a .tos) (a .lots) (a .days) (a .out)) (s .pre) (l .i) (l .n) (l .w)
     (lent (l .issues) (l .froms) (l .tos) (l .lots) (l .days) (l .out)) (l .inv .1) (c .loop-test .taken)
 
 loop-again : tie.Need-loop-again Inv-loop μ-loop
@@ -43,8 +43,8 @@ loop-again c =
     let e = c .before .before .before .before .before .before .before .before .before .before .before .before .before .cut-issue in (
       omega (arith, within c .loop-test .taken),
       turned (within c) .more (e .result)
-          (lent (e .last .1 .1 .1 .1 .1 .1 .0) (e .last .1 .1 .1 .1 .1 .1 .1 .0) (e .last .1 .1 .1 .1 .1 .1 .1 .1 .0) (e .last .1 .1 .1 .1 .1 .1 .1 .1 .1 .0)
-          (e .last .1 .1 .1 .1 .1 .1 .1 .1 .1 .1 .0) (e .last .1 .1 .1 .1 .1 .1 .1 .1 .1 .1 .1 .0)) (e .ensures),
+          (lent (e .last .1 .1 .1 .1 .1 .1 .1 .0) (e .last .1 .1 .1 .1 .1 .1 .1 .1 .0) (e .last .1 .1 .1 .1 .1 .1 .1 .1 .1 .0) (e .last .1 .1 .1 .1 .1 .1 .1 .1 .1 .1 .0)
+          (e .last .1 .1 .1 .1 .1 .1 .1 .1 .1 .1 .1 .0) (e .last .1 .1 .1 .1 .1 .1 .1 .1 .1 .1 .1 .1 .0)) (e .ensures),
     )
 
 returns : tie.Need-returns Inv-loop μ-loop
@@ -53,7 +53,7 @@ returns c =
     let a = s .args in
     let l = c .before .before .loop in
     rw (c .numbers .ensures)
-    (ends (now (a .nets)) (now (a .delivered)) (now (a .lifts)) (a .day) (a .count) (lending (a .issues) (a .froms) (a .tos) (a .lots) (a .days) (a .out)) (s .pre) (l .i) (l .n) (l .w)
+    (ends (a .dealt) (now (a .nets)) (now (a .delivered)) (now (a .lifts)) (a .day) (a .count) (lending (a .issues) (a .froms) (a .tos) (a .lots) (a .days) (a .out)) (s .pre) (l .i) (l .n) (l .w)
     (lent (l .issues) (l .froms) (l .tos) (l .lots) (l .days) (l .out)) (l .inv .1) (omega arith))
 
 pub cutoff-in-spec : {M : Type 1} → statement M

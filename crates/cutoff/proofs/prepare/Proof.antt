@@ -1,4 +1,5 @@
 -- The issue's rows are cut out of the columns; what the leaves answer of them stands for the issue's fails.
+use mathlib.Core.Bool.{false}
 use native.Mathlib.Omega.{arith}
 use borrow.Author.Needs.{needs}
 use denote.Ref.{now}
@@ -11,7 +12,7 @@ prepare-requires : tie.Need-prepare-requires
 prepare-requires c κs =
     let s = c .before .before .before .before .before in
     let a = s .args in
-    record { order = can-order (now (a .nets)) (now (a .delivered)) (now (a .lifts)) (a .i) (s .pre .sound) (s .pre .issue); room = s .pre .held }
+    record { order = can-order (now (a .nets)) (now (a .delivered)) (now (a .lifts)) (a .i) (s .pre .sound) (s .pre .issue); room = omega (arith, s .pre .held) }
 
 abbrev begin : tie.After-prepare → tie.Start
 begin c = c .before .before .before .before .before .before
@@ -37,12 +38,12 @@ returns c =
     let p = t .before .before .before .before in
     let s = begin p in
     let a = s .args in
-    ready (now (a .nets)) (now (a .delivered)) (now (a .lifts)) (a .i) (s .pre .issue) (s .pre .sound)
-    (p .prepare .last .1 .1 .1 .0) (v .start .last .0) (h .missing-of .last .1 .1 .0) (p .prepare .result) (t .total .result) (v .start .result)
-    (p .prepare .ensures)
+    ready false (now (a .nets)) (now (a .delivered)) (now (a .lifts)) (a .i) (s .pre .issue) (s .pre .sound)
+    (v .start .last .0) (h .missing-of .last .1 .1 .0) (p .prepare .result) (t .total .result) (v .start .result)
     (rw (row-part (now (a .delivered)) (a .i)) at (t .total .ensures))
     (rw (row-part (now (a .nets)) (a .i), row-part (now (a .delivered)) (a .i)) at (h .missing-of .ensures))
-    (omega (arith, h .missing-of .kept .1 .1 .0, s .pre .accounts)) (omega (arith, p .prepare .ensures .held .there, v .start .kept .0)) (v .start .ensures)
+    (omega (arith, h .missing-of .kept .1 .1 .0, s .pre .accounts)) (omega (arith, p .prepare .ensures .held .there, v .start .kept .0))
+    (rw (p .prepare .ensures .units) at (v .start .ensures))
 
 pub prepare-spec : {M : Type 1} → statement M
 prepare-spec =

@@ -14,7 +14,7 @@ use Rattle.delivery.proofs.deliver_in.Tie as tie
 abbrev begin : tie.After-total → tie.Start
 begin c = c .before .before .before .before .before .before
 
-abbrev served : tie.After-slice-known6 → tie.After-serve
+abbrev served : tie.After-slice-known6 → tie.After-serve-in
 served c = c .before .before .before
 
 total-requires : tie.Need-total-requires
@@ -36,11 +36,11 @@ add-delivered c =
 total : (c : tie.After-total) → c .total .result ≡ deliveredTotal (now (begin c .args .delivered)) (begin c .args .i)
 total c = c .total .ensures ∙ ap sum (row-part (now (begin c .args .delivered)) (begin c .args .i))
 
-serve-requires : tie.Need-serve-requires
-serve-requires c κs =
+serve-in-requires : tie.Need-serve-in-requires
+serve-in-requires c κs =
     let t = c .before .before .before in
     let s = begin t in
-    can-serve (now (s .args .nets)) (now (s .args .delivered)) (now (s .args .lifts)) (now (s .args .out)) (s .args .i) (s .args .a) (s .args .x) (s .pre) _
+    can-serve (s .args .dealt) (now (s .args .nets)) (now (s .args .delivered)) (now (s .args .lifts)) (now (s .args .out)) (s .args .i) (s .args .a) (s .args .x) (s .pre) _
     (total t)
 
 add-lifts : tie.Need-add-lifts
@@ -56,7 +56,7 @@ returns c =
     let v = served c in
     let t = v .before .before .before .before in
     let s = begin t in
-    let r = served-after _ _ _ _ _ _ _ _ (total t) (v .serve .ensures) in
+    let r = served-after _ _ _ _ _ _ _ _ (total t) (v .serve-in .ensures) in
     record { column = refl; counted = raised-count (now (s .args .lifts)) (s .args .i); count = r .count; output = r .output }
 
 pub deliver-in-spec : {M : Type 1} → statement M
@@ -64,5 +64,5 @@ deliver-in-spec =
     tie.close
     (tie.spec (λ c. search needs) (λ c. search needs) (λ c. search needs) (λ c. search needs) (λ c. search needs) (λ c. search needs)
     total-requires (λ c. search needs) (λ c. search needs) (λ c. search needs) add-delivered (λ c. search needs) (λ c. search needs)
-    serve-requires (λ c. search needs) (λ c. search needs) (λ c. search needs) (λ c. search needs) add-lifts (λ c. search needs)
+    serve-in-requires (λ c. search needs) (λ c. search needs) (λ c. search needs) (λ c. search needs) add-lifts (λ c. search needs)
     (λ c. search needs) (λ c. search needs) (λ c. search needs) (λ c. search needs) returns)

@@ -42,10 +42,12 @@ output-asks-spec =
     (λ c. search needs)
     (λ c. search needs)
     (λ c. search needs)
+    (λ c. search needs)
     returns-3
     returns-4
     (λ c. search needs)
     (λ c. search needs)
     returns-7
+    (λ c. search needs)
     (λ c. search needs)
     (λ c. search needs))

@@ -42,19 +42,21 @@ returns-2 c =
     let b = book s in
     refused-issue (soundIn b) b (s .args .i) (s .args .k) (yes (c .before)) (c .if2 .taken)
 
-unit-of-requires : tie.Need-unit-of-requires
-unit-of-requires c κs =
-    let b = book (start (c .before .before)) in
-    let l = sound-lengths b (yes (c .before)) in
+unit-in-requires : tie.Need-unit-in-requires
+unit-in-requires c κs =
+    let e = c .before .before in
+    let b = book (start (e .before)) in
+    let l = sound-lengths b (yes e) in
     can-order (b .nets) (b .delivered) (b .lifts) _
-    (sound-cells b (sound-parts b (sound-book b (yes (c .before)))) (l .cells .nets) (l .cells .delivered) (l .lifts)) (omega arith)
+    (sound-cells b (sound-parts b (sound-book b (yes e))) (l .cells .nets) (l .cells .delivered) (l .lifts)) (omega arith)
 
 returns-3 : tie.Need-returns-3
 returns-3 c =
-    let e = c .before .before in
+    let e = c .before .before .before in
     let s = start (e .before) in
     let b = book s in
-    answered (soundIn b) b (s .args .i) (s .args .k) (c .unit-of .result) (yes e) (omega arith) (c .unit-of .ensures)
+    answered (soundIn b) b (s .args .i) (s .args .k) (c .unit-in .result) (c .before .dealt-today .result) (yes e) (omega arith)
+    (c .before .dealt-today .ensures) (c .unit-in .ensures)
 
 pub unit-spec : {M : Type 1} → statement M
-unit-spec = tie.close (tie.spec (λ c κs. search needs) returns returns-2 unit-of-requires returns-3)
+unit-spec = tie.close (tie.spec (λ c κs. search needs) returns returns-2 (λ c κs. search needs) unit-in-requires returns-3)

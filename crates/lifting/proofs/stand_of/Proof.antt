@@ -1,9 +1,10 @@
 -- The issue's order is prepared, and what its delivered total covers is counted.
-use mathlib.Core.Path.{_≡_, sym, ap, _∙_}
+use mathlib.Core.Path.{ap, _∙_}
 use native.Mathlib.Omega.{arith}
 use denote.Ref.{now}
 use Rattle.rules.specs.Measures.{sum}
 use Rattle.units.proofs.Cells.{row-part, can-order, total-small}
+use Rattle.lifting.proofs.Standing.{covers-either, left-either}
 use borrow.Author.Needs.{needs}
 use Rattle.lifting.proofs.stand_of.Statement.{statement}
 use Rattle.lifting.proofs.stand_of.Tie as tie
@@ -24,12 +25,13 @@ returns c =
     let s = c .before .before .before .before .before .before .before .before .before .before .before in
     let p = c .before .before .before .before .before .before .prepare in
     let t = c .before .before .total .ensures ∙ ap sum (row-part (now (s .args .delivered)) (s .args .i)) in
+    let e = p .ensures .units in
+    let a = s .args in
     record {
-      few = p .ensures .few;
-      held = p .ensures .held;
-      units = p .ensures .units;
-      delivers = t;
-      covers = c .handover .ensures .covers ∙ rw (p .ensures .units, t);
+      there = p .ensures .held .there;
+      units = e;
+      covers = λ new. c .handover .ensures .covers ∙ covers-either (now (a .nets)) (now (a .delivered)) (now (a .lifts)) (a .i) _ _ e t new;
+      left = λ new. c .handover .ensures .left ∙ left-either (now (a .nets)) (now (a .delivered)) (now (a .lifts)) (a .i) _ _ e t new;
     }
 
 pub stand-of-spec : {M : Type 1} → statement M

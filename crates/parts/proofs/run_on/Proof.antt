@@ -28,6 +28,9 @@ same c =
     let b = begin c .args .b in
     ap (λ (s : State). bookIn s (b .nets) (b .delivered) (b .lifts) (b .charges) (b .issues) (b .froms) (b .tos) (b .lots) (b .days)) (c .state-of .ensures)
 
+slice-aggregate-run-3 : tie.Need-slice-aggregate-run-3
+slice-aggregate-run-3 c = let l = lengths (begin (c .before .before .before .before .before .before .before .before .before .before .before .before)) .lifts in search (needs, l)
+
 slice-aggregate-run-4 : tie.Need-slice-aggregate-run-4
 slice-aggregate-run-4 c = let l = lengths (begin (c .before .before .before .before .before .before .before .before .before .before .before .before .before)) .charges in search (needs, l)
 
@@ -61,6 +64,6 @@ pub run-on-spec : {M : Type 1} → statement M
 run-on-spec =
     tie.close
     (tie.spec
-    (λ c κs. search needs) (λ c. search needs) (λ c. search needs) (λ c. search needs) slice-aggregate-run-4 slice-aggregate-run-5
+    (λ c κs. search needs) (λ c. search needs) (λ c. search needs) slice-aggregate-run-3 slice-aggregate-run-4 slice-aggregate-run-5
     slice-aggregate-run-6 slice-aggregate-run-7 slice-aggregate-run-8 slice-aggregate-run-9 run-requires
     (λ c κs. search needs) (λ c. search needs) (λ c. search needs) returns)

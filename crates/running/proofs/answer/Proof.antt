@@ -114,6 +114,11 @@ returns-8 c =
     let s = begin (c .before .before .before .before .before .before) in
     rw (c .before .before .before .before .x6 .given .1) (gives refl (c .mark .ensures (book s) (s .pre .0 .sound)))
 
+returns-9 : tie.Need-returns-9
+returns-9 c =
+    let s = begin (c .before .before .before .before) in
+    rw (c .before .before .x7 .given .1) (gives refl (c .name-turn .ensures (book s) (s .pre .0 .sound)))
+
 pub answer-spec : {M : Type 1} → statement M
 answer-spec =
     tie.close
@@ -134,6 +139,8 @@ answer-spec =
     roll-requires
     (λ c. search needs)
     mark-requires
+    (λ c. search needs)
+    (λ c κs. search needs)
     (λ c. search needs)
     returns
     (λ c. search needs)
@@ -176,4 +183,5 @@ answer-spec =
     returns-7
     (λ c. search needs)
     (λ c. search needs)
-    returns-8)
+    returns-8
+    returns-9)

@@ -38,7 +38,7 @@ returns c b q =
 
 deliver-in-requires : tie.Need-deliver-in-requires
 deliver-in-requires c κs =
-    let k = c .before .before .before in
+    let k = c .before .before .before .before in
     let s = start (k .before) in
     let a = s .args in
     can-deliver (a .s .phase) (a .s .marks) (now (a .nets)) (now (a .delivered)) (now (a .lifts)) (a .i) (a .a) (a .x) (now (a .out)) (cells s)
@@ -46,13 +46,15 @@ deliver-in-requires c κs =
 
 returns-2 : tie.Need-returns-2
 returns-2 c b q =
-    let d = c .before .before .before .before .before .before .deliver-in in
-    let k = c .before .before .before .before .before .before .before .before .before .before in
+    let v = c .before .before .before .before .before .before in
+    let d = v .deliver-in in
+    let o = v .before .before .before .before .dealt-today in
+    let k = v .before .before .before .before .before in
     let s = start (k .before) in
     let a = s .args in
     turn-yes (within s b) (Deliver (a .i) (a .a) (a .x) (now (a .out))) (room-out (now (a .out)) (s .pre .3)) q (a .s)
     (k .before .deliver-asks .result) (d .result) 0 _ _ (k .before .deliver-asks .ensures) (k .if1 .left)
-    (delivered-to (a .s) (now (a .nets)) (now (a .delivered)) _ (now (a .lifts)) _ (a .i) (a .a) (a .x) (now (a .out)) _ (d .result) b (d .ensures))
+    (delivered-to (a .s) (o .result) (now (a .nets)) (now (a .delivered)) _ (now (a .lifts)) _ (a .i) (a .a) (a .x) (now (a .out)) _ (d .result) b (o .ensures) (d .ensures))
 
 pub deliver-spec : {M : Type 1} → statement M
 deliver-spec =
@@ -61,6 +63,7 @@ deliver-spec =
     deliver-asks-requires
     (λ c. search needs)
     returns
+    (λ c κs. search needs)
     deliver-in-requires
     (λ c. search needs)
     (λ c. search needs)

@@ -4,6 +4,7 @@ use mathlib.Core.Bool.{true}
 use denote.Ref.{now}
 use borrow.Author.Tests.{not-true, not-false}
 use Rattle.rules.specs.declared.Book.{Book}
+use Rattle.rules.specs.Book.{dealtToday}
 use Rattle.laws.proofs.Sound.{sound-parts}
 use Rattle.book.specs.States.{bookIn}
 use Rattle.units.proofs.Cells.{sound-cells}
@@ -39,7 +40,7 @@ status-in-requires c κs =
 returns-2 : tie.Need-returns-2
 returns-2 c =
     let s = start (c .before .before) in
-    c .status-in .ensures ∙ told-sound _ (book s) (s .args .i) (s .args .k) (good (c .before))
+    c .status-in .ensures (dealtToday (book s)) ∙ told-sound _ (book s) (s .args .i) (s .args .k) (good (c .before))
 
 pub status-spec : {M : Type 1} → statement M
 status-spec = tie.close (tie.spec (λ c κs. search needs) returns status-in-requires returns-2)

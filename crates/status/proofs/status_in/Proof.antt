@@ -1,5 +1,6 @@
 -- Each return by the answers that led there.
 use mathlib.Core.Path.{_≡_, sym, ap, _∙_}
+use mathlib.Core.Bool.{false}
 use native.Mathlib.Omega.{arith}
 use denote.Ref.{now}
 use Rattle.rules.specs.Measures.{sum}
@@ -12,15 +13,15 @@ use Rattle.status.proofs.status_in.Statement.{statement}
 use Rattle.status.proofs.status_in.Tie as tie
 
 returns : tie.Need-returns
-returns c =
+returns c new =
     let a = c .before .before .before .before .args in
-    is-taking (a .phase) (now (a .nets)) (now (a .delivered)) (now (a .lifts)) (a .i) (a .k)
+    is-taking new (a .phase) (now (a .nets)) (now (a .delivered)) (now (a .lifts)) (a .i) (a .k)
     (sym (c .before .taking .ensures) ∙ c .if1 .taken)
 
 returns-2 : tie.Need-returns-2
-returns-2 c =
+returns-2 c new =
     let a = c .before .before .before .before .before .args in
-    no-issue (a .phase) (now (a .nets)) (now (a .delivered)) (now (a .lifts)) (a .i) (a .k)
+    no-issue new (a .phase) (now (a .nets)) (now (a .delivered)) (now (a .lifts)) (a .i) (a .k)
     (sym (c .before .before .taking .ensures) ∙ c .before .if1 .left) (c .if2 .taken)
 
 prepare-requires : tie.Need-prepare-requires
@@ -47,16 +48,16 @@ tell-requires c κs =
     let p = c .before .before .before .before .prepare .ensures in
     record {
       held = p .held;
-      small = rw (p .units) (omega (arith, order-in (now (a .nets)) (now (a .lifts)) (a .i) .whole, dues-sum (now (a .nets)) (a .i) (s .pre .size) (s .pre .cells) (omega arith)));
+      small = rw (p .units) (omega (arith, order-in false (now (a .nets)) (now (a .lifts)) (a .i) .whole, dues-sum (now (a .nets)) (a .i) (s .pre .size) (s .pre .cells) (omega arith)));
     }
 
 returns-3 : tie.Need-returns-3
-returns-3 c =
+returns-3 c new =
     let r = c .before in
     let a = start r .args in
     let e = r .before .before .before .before .before .before in
     c .tell .ensures
-    ∙ of-unit (a .phase) (now (a .nets)) (now (a .delivered)) (now (a .lifts)) (a .i) (a .k) _ _ (r .before .before .before .before .prepare .ensures .units)
+    ∙ of-unit new (a .phase) (now (a .nets)) (now (a .delivered)) (now (a .lifts)) (a .i) (a .k) _ _ (r .before .before .before .before .prepare .ensures .units)
     (total-is r) (sym (e .before .before .taking .ensures) ∙ e .before .if1 .left) (omega arith)
 
 pub status-in-spec : {M : Type 1} → statement M

@@ -13,7 +13,7 @@ kind : (a : tie.After-from-of) (k : ℕ) → a .before .before .kind-of .result 
 kind a k e = sym (a .before .before .kind-of .ensures) ∙ e
 
 -- or none of the table's
-above : (a : tie.After-from-of) → NoneBelow (a .before .before .kind-of .result) 10 × (a .before .before .kind-of .result ≡ 13 → ⊥) →
+above : (a : tie.After-from-of) → (NoneBelow (a .before .before .kind-of .result) 10 × (a .before .before .kind-of .result ≡ 13 → ⊥)) × (a .before .before .kind-of .result ≡ 14 → ⊥) →
     let s = a .before .before .before .args in Wrong ≡ wordAs (s .w) (s .lots)
 above a h = kind-above _ _ (a .before .before .kind-of .result) (a .before .before .kind-of .ensures) h
 
@@ -63,9 +63,12 @@ returns-11 c =
     let a = c .before .before in
     simp (c .head8 .ensures, a .before .issue-of .ensures, kind a 13 (c .before .match .keys11), div-one)
 
+returns-12 : tie.Need-returns-12
+returns-12 c = simp (c .head9 .ensures, kind (c .before .before) 14 (c .before .match .keys12), div-one)
+
 pub word-as-spec : {M : Type 1} → statement M
 word-as-spec =
     tie.close
     (tie.spec (λ c κs. search needs) (λ c κs. search needs) (λ c κs. search needs) (λ c κs. search needs) (λ c κs. search needs) (λ c κs. search needs) (λ c κs. search needs)
-    (λ c κs. search needs) (λ c κs. search needs) (λ c κs. search needs) (λ c κs. search needs) (λ c κs. search needs) (λ c κs. search needs) (λ c κs. search needs) (λ c κs. search needs)
-    returns returns-2 returns-3 returns-4 returns-5 returns-6 returns-7 returns-8 returns-9 returns-10 returns-11 (λ c. above (c .before .before) (c .before .match .rest)) (λ c. above (c .before .before) (c .before .match .rest)))
+    (λ c κs. search needs) (λ c κs. search needs) (λ c κs. search needs) (λ c κs. search needs) (λ c κs. search needs) (λ c κs. search needs) (λ c κs. search needs) (λ c κs. search needs) (λ c κs. search needs)
+    returns returns-2 returns-3 returns-4 returns-5 returns-6 returns-7 returns-8 returns-9 returns-10 returns-11 returns-12 (λ c. above (c .before .before) (c .before .match .rest .0)) (λ c. simp (kind (c .before) 15 (c .match .keys13))) (λ c. above (c .before .before) (c .before .match .rest .0)))

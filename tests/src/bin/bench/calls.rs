@@ -47,6 +47,7 @@ fn measured_calls() -> Vec<(Phase, Call)> {
         (Phase::Settling, Call::PairOff { issue, account: 0 }),
         (Phase::Cut, Call::Roll { days: 3, rate: 300, quotes: same_quotes(99_999, 501).to_vec() }),
         (Phase::Taking, Call::Mark { issue, mark: 1 }),
+        (Phase::Taking, Call::Turn { day: 301 }),
     ]
 }
 

@@ -1,12 +1,13 @@
 //! `bench`: run times of the library and the program beside the second engine, as Markdown.
 //!
-//! Parts: calls, lifts, growth, simulation and programs; `--part NAME` runs one of them. `--cases N` is the number of
-//! rounds of which the middle one is shown. `--program PATH` and `--reference PATH` name the
+//! Parts: calls, lifts, orders, growth, simulation and programs; `--part NAME` runs one of them.
+//! `--cases N` is the number of rounds of which the middle one is shown. `--program PATH` and `--reference PATH` name the
 //! programs.
 
 mod calls;
 mod growth;
 mod lifts;
+mod orders;
 mod programs;
 mod simulation;
 mod timing;
@@ -35,6 +36,7 @@ fn run(options: Options) -> Result<(), String> {
         "all" => {
             calls::run(rounds);
             lifts::run(rounds);
+            orders::run(rounds);
             growth::run(rounds);
             simulation::run();
             programs::run(&options)
@@ -47,6 +49,10 @@ fn run(options: Options) -> Result<(), String> {
             lifts::run(rounds);
             Ok(())
         }
+        "orders" => {
+            orders::run(rounds);
+            Ok(())
+        }
         "growth" => {
             growth::run(rounds);
             Ok(())
@@ -57,7 +63,7 @@ fn run(options: Options) -> Result<(), String> {
         }
         "programs" => programs::run(&options),
         other => {
-            let parts = "calls, lifts, growth, simulation and programs";
+            let parts = "calls, lifts, orders, growth, simulation and programs";
             Err(format!("there is no part {other:?}: there are {parts}"))
         }
     }

@@ -21,10 +21,20 @@ type Make<B> = fn(&mut B, &Call, &mut [u32]) -> Answer;
 pub fn times(book: &Book, call: &Call, rounds: usize) -> [Option<f64>; 3] {
     let on_sound = || time(book, by_reference_on_sound, call, rounds);
     [
-        Some(time(&library_book(book), by_library, call, rounds)),
-        Some(time(book, by_reference, call, rounds)),
+        Some(library_time(book, call, rounds)),
+        Some(reference_time(book, call, rounds)),
         (*call != Call::Sound).then(on_sound),
     ]
+}
+
+/// Nanoseconds of one call by the library.
+pub fn library_time(book: &Book, call: &Call, rounds: usize) -> f64 {
+    time(&library_book(book), by_library, call, rounds)
+}
+
+/// Nanoseconds of one call by the second engine.
+pub fn reference_time(book: &Book, call: &Call, rounds: usize) -> f64 {
+    time(book, by_reference, call, rounds)
 }
 
 /// Nanoseconds of one call: the middle of the rounds.

@@ -284,10 +284,33 @@ const MARK_CHANGES: &[Change] = &[
     (false, |book| book.issues[2] = 19),
 ];
 
+/// The changes of the change-over day: it is in no condition of soundness.
+const TURN_CHANGES: &[Change] = &[
+    (true, |book| book.turn = 0),
+    (true, |book| book.turn = 1),
+    (true, |book| book.turn = 299),
+    (true, |book| book.turn = 300),
+    (true, |book| book.turn = 301),
+    (true, |book| book.turn = 65_535),
+    (true, |book| book.turn = 65_536),
+    (true, |book| book.turn = 1 << 31),
+    (true, |book| book.turn = u32::MAX),
+];
+
 /// Runs all damage; gives the answers compared.
 pub fn run(seed: u64, cases: u64) -> Result<u64, Failure> {
     let mut compared = 0;
-    let books = [(edges(), CHANGES), (lifted(), LIFT_CHANGES), (marked(), MARK_CHANGES)];
+    let in_turn = |book: Book| Book { turn: 1, ..book };
+    let books = [
+        (edges(), CHANGES),
+        (lifted(), LIFT_CHANGES),
+        (marked(), MARK_CHANGES),
+        (edges(), TURN_CHANGES),
+        (lifted(), TURN_CHANGES),
+        (apart(), TURN_CHANGES),
+        (in_turn(edges()), CHANGES),
+        (in_turn(lifted()), LIFT_CHANGES),
+    ];
     for (start, changes) in books {
         for &(sound, change) in changes {
             let mut book = start.clone();
@@ -331,6 +354,20 @@ fn lifted() -> Book {
     }
     book.delivered[place(7, 9)] = 75_000;
     places(&mut book, 3, &[(4, 0), (4, 1), (3, 2)]);
+    book
+}
+
+/// A sound book in Settling with two lifts in issue 7 and full units of 1, 2 and 3 that lie apart: three,
+/// two and two of them. The fifth stands first now, the last at the fourth place; three are handed.
+fn apart() -> Book {
+    let mut book = Book { day: 300, phase: Phase::Settling, ..Book::fresh() };
+    for (account, net) in [(1, 330_000), (2, 250_000), (3, 200_000), (9, -780_000)] {
+        book.nets[place(7, account)] = net;
+    }
+    book.delivered[place(7, 9)] = 350_000;
+    let moves = [lift(4, 0), lift(6, 3)];
+    book.lifts[7].moves[..2].copy_from_slice(&moves);
+    (book.lifts[7].number, book.lifts[7].count) = (2, 5);
     book
 }
 
@@ -443,6 +480,7 @@ fn every_call() -> Vec<Call> {
         Call::PairOff { issue, account },
         Call::Roll { days: 1, rate: 300, quotes: same_quotes(100_000, 0).to_vec() },
         Call::Mark { issue: 9, mark: 1 },
+        Call::Turn { day: 301 },
     ]
 }
 
@@ -635,7 +673,7 @@ fn random_damage(rng: &mut Rng) -> Result<u64, Mismatch> {
 fn random_edit(rng: &mut Rng, book: &Book) -> Edit {
     let (issue, account) = (rng.range(0, 15) as usize, rng.range(0, 63) as usize);
     let at = rng.range(0, 2_047) as usize;
-    match rng.range(0, 11) {
+    match rng.range(0, 12) {
         0 => Edit::Day(rng.next_u32() as u16),
         1 => Edit::Phase(*rng.pick(&[Phase::Taking, Phase::Settling, Phase::Cut])),
         2 => Edit::Net { issue, account, lots: rng.next_u32() as i32 },
@@ -649,6 +687,7 @@ fn random_edit(rng: &mut Rng, book: &Book) -> Edit {
         6..=7 => random_lift_edit(rng, book),
         8 => Edit::Mark { issue, mark: *rng.pick(&[0, 1, 2, 255]) },
         9 => random_odd_edit(rng, book),
+        10 => Edit::Turn(rng.next_u32() >> rng.range(0, 31)),
         _ => Edit::Entries { first: at, end: at + 1, entry: random_entry(rng) },
     }
 }

@@ -19,8 +19,8 @@ const LENGTHS: [usize; 9] = [1_024, 1_024, 288, 64, 2_048, 2_048, 2_048, 2_048, 
 /// Phases that are none; the low bytes of some are those of a phase.
 const NO_PHASES: [u32; 10] = [3, 4, 255, 256, 257, 258, 65_536, 1 << 31, u32::MAX - 1, u32::MAX];
 /// Kinds that are none; the low bits of some are those of a kind.
-const NO_KINDS: [u32; 17] =
-    [0, 8, 9, 10, 11, 12, 14, 15, 16, 17, 29, 257, 269, 65_537, 1 << 28, 1 << 31, u32::MAX];
+const NO_KINDS: [u32; 18] =
+    [0, 8, 9, 10, 11, 12, 15, 16, 17, 29, 30, 257, 269, 270, 65_537, 1 << 28, 1 << 31, u32::MAX];
 /// The lengths of an output, both sides of 4,096.
 const OUTPUTS: [usize; 4] = [0, 4_095, 4_096, 5_000];
 /// The words before and after a lent output, which no call may touch.
@@ -32,6 +32,7 @@ struct Lent {
     day: u16,
     phase: u32,
     entries: usize,
+    turn: u32,
     marks: [u8; 16],
     nets: Vec<i32>,
     delivered: Vec<u32>,
@@ -51,6 +52,7 @@ impl Lent {
             day: book.day,
             phase: book.phase.0,
             entries: book.entries,
+            turn: book.turn,
             marks: book.marks,
             nets: book.nets.to_vec(),
             delivered: book.delivered.to_vec(),
@@ -84,6 +86,7 @@ impl Lent {
             day: self.day,
             phase: self.phase,
             entries: self.entries,
+            turn: self.turn,
             marks: &self.marks,
             nets: &self.nets,
             delivered: &self.delivered,
@@ -102,6 +105,7 @@ impl Lent {
             day: &mut self.day,
             phase: &mut self.phase,
             entries: &mut self.entries,
+            turn: &mut self.turn,
             marks: &mut self.marks,
             nets: &mut self.nets,
             delivered: &mut self.delivered,
@@ -133,8 +137,8 @@ pub fn run(seed: u64, cases: u64) -> Result<u64, Failure> {
     Ok(compared)
 }
 
-/// The instructions of the eight kinds, with numbers in range.
-fn instructions() -> [Fields; 8] {
+/// The instructions of the nine kinds, with numbers in range.
+fn instructions() -> [Fields; 9] {
     [
         [1, 3, 5, 6, 1],
         [2, 3, 5, 1, 0],
@@ -144,6 +148,7 @@ fn instructions() -> [Fields; 8] {
         [6, 0, 0, 0, 0],
         [7, 1, 300, 0, 0],
         [13, 4, 1, 0, 0],
+        [14, 65_535, 0, 0, 0],
     ]
 }
 

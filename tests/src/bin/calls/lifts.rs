@@ -2,7 +2,8 @@
 //!
 //! Of each small market with a set of deliveries every unit is lifted, and then again every unit; at
 //! each step the edges are asked, the used ticket is put again, and the day goes on to its cutoff.
-//! Then the last unit is lifted until eight lifts stand, and a ninth is refused.
+//! Then the last unit is lifted until eight lifts stand, and a ninth is refused. All markets are walked
+//! in both orders.
 
 use crate::Failure;
 use reference::book::{place, Book, Phase};
@@ -41,12 +42,13 @@ pub fn run(_seed: u64, _cases: u64) -> Result<u64, Failure> {
     Ok(compared)
 }
 
-/// All markets of three receivers in Settling; each of two accounts delivers half of it.
+/// All markets of three receivers in Settling, in both orders; each of two accounts delivers half of it.
 fn all_markets() -> Vec<Book> {
     let nets = || SIZES.into_iter();
     let all = nets().flat_map(|a| nets().flat_map(move |b| nets().map(move |c| [a, b, c])));
-    all.map(|nets| {
-        let mut book = Book { day: 2, phase: Phase::Settling, ..Book::fresh() };
+    let both = all.flat_map(|nets| [0, 2].map(|turn| (nets, turn)));
+    both.map(|(nets, turn)| {
+        let mut book = Book { day: 2, turn, phase: Phase::Settling, ..Book::fresh() };
         let total: i32 = nets.iter().sum();
         for (account, net) in RECEIVERS.into_iter().zip(nets) {
             book.nets[place(ISSUE, account)] = net;

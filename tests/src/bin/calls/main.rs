@@ -1,7 +1,7 @@
 //! `calls`: the library's calls beside those of the second engine, on the same cases.
 //!
 //! Every answer, the whole book and every word of the output are compared. Parts: lists, refusals,
-//! damage, lent, units, status, markets, lifts, marks and tape; `--part NAME` runs one of them.
+//! damage, lent, units, status, markets, lifts, marks, turn and tape; `--part NAME` runs one of them.
 //! `--replay CASE` runs one case, as a mismatch prints it; CASE may also be a file that holds it.
 
 mod damage;
@@ -13,6 +13,7 @@ mod marks;
 mod refusals;
 mod status;
 mod tape;
+mod turn;
 mod units;
 
 use std::fs;
@@ -28,7 +29,7 @@ const DEFAULT_CASES: u64 = 1_500;
 /// A part: its name, and what runs it with seed and cases and gives the calls compared.
 type Part = (&'static str, fn(u64, u64) -> Result<u64, Failure>);
 /// All parts, in the order in which they run.
-const PARTS: [Part; 10] = [
+const PARTS: [Part; 11] = [
     ("refusals", refusals::run),
     ("damage", damage::run),
     ("lent", lent::run),
@@ -38,6 +39,7 @@ const PARTS: [Part; 10] = [
     ("markets", markets::run),
     ("lifts", lifts::run),
     ("marks", marks::run),
+    ("turn", turn::run),
     ("lists", lists::run),
 ];
 

@@ -1,7 +1,8 @@
 //! Part markets: all small markets of up to four accounts, each with a set of deliveries.
 //!
 //! Each goes through close, deliver, cutoff and resolve, then a day with the nets turned round and
-//! nothing delivered, so that fails go both ways, and pair-off and roll.
+//! nothing delivered, so that fails go both ways, and pair-off and roll. Each is run in both orders;
+//! on the second day of every other one the new order begins.
 
 use crate::Failure;
 use reference::book::{place, Book};
@@ -59,7 +60,10 @@ pub fn run(_seed: u64, _cases: u64) -> Result<u64, Failure> {
     let mut compared = 0;
     for (at, market) in markets.iter().enumerate() {
         for (which, pattern) in PATTERNS.iter().enumerate() {
-            compared += run_market(market, pattern, (at + which) % 2 == 1)?;
+            let odd = (at + which) % 2 == 1;
+            for first_day in [0, 1] {
+                compared += run_market(market, pattern, odd, first_day)?;
+            }
         }
     }
     eprintln!("markets: {} markets, each with {} deliveries", markets.len(), PATTERNS.len());
@@ -83,9 +87,18 @@ fn all_markets() -> Vec<[i32; 4]> {
     markets
 }
 
-/// One market with one pattern: two days, the second with the nets turned round.
-fn run_market(market: &[i32; 4], pattern: &[Part; 3], down: bool) -> Result<u64, Mismatch> {
-    let mut case = Case::of(book_of(market));
+/// One market with one pattern: two days, the second with the nets turned round. A first day of the new
+/// order of 0 is none; then it is the second day, if deliveries go down.
+fn run_market(
+    market: &[i32; 4],
+    pattern: &[Part; 3],
+    down: bool,
+    first_day: u32,
+) -> Result<u64, Mismatch> {
+    let mut case = Case::of(Book { turn: first_day, ..book_of(market) });
+    if down {
+        case.expect(Call::Turn { day: 2 }, if first_day == 0 { 0 } else { 26 })?;
+    }
     case.expect(Call::Close, 0)?;
     ask_units(&mut case)?;
     deliver_all(&mut case, pattern, down)?;
@@ -105,9 +118,9 @@ fn run_market(market: &[i32; 4], pattern: &[Part; 3], down: bool) -> Result<u64,
     Ok(case.engines.compared)
 }
 
-/// A fresh book with these nets in issue 5.
+/// A book of day 1 with these nets in issue 5.
 fn book_of(market: &[i32; 4]) -> Book {
-    let mut book = Book::fresh();
+    let mut book = Book { day: 1, ..Book::fresh() };
     for (&account, &net) in ACCOUNTS.iter().zip(market) {
         book.nets[place(5, account as usize)] = net;
     }

@@ -2,7 +2,7 @@
 //!
 //! For each call the ways of each question, 'yes' and 'no' at the edge, are put together in every
 //! combination; the number is that of the first 'no', whatever comes after it. Question 19 is put
-//! straight after 7.
+//! straight after 7, 26 straight after 3.
 
 use crate::Failure;
 use reference::book::{place, Book, Entry, Lift, Phase};
@@ -27,10 +27,12 @@ struct Asked {
     quotes: Vec<u32>,
     ticket: Ticket,
     mark: u32,
+    day: u32,
 }
 
 /// The numbers of the questions in the order in which they are put.
-const ORDER: [u32; 20] = [1, 2, 3, 4, 5, 6, 7, 19, 8, 9, 10, 11, 12, 13, 14, 15, 16, 17, 18, 20];
+const ORDER: [u32; 21] =
+    [1, 2, 3, 26, 4, 5, 6, 7, 19, 8, 9, 10, 11, 12, 13, 14, 15, 16, 17, 18, 20];
 
 /// One way in which a question is answered: its number for 'no', or 0 for 'yes'.
 type Way = (u32, fn(&mut Asked));
@@ -155,6 +157,30 @@ const IN_USE: &[Way] = &[
         entry_before(asked, &[], &[9]);
     }),
 ];
+const TODAY: &[Way] = &[
+    (0, |asked| asked.book.day = 1),
+    (0, |asked| asked.book.day = 300),
+    (0, |asked| asked.book.day = 65_534),
+    (0, |asked| asked.book.day = 65_535),
+];
+const NAMED: &[Way] = &[
+    (0, |_| {}),
+    (0, |asked| asked.book.turn = u32::from(asked.book.day) + 1),
+    (0, |asked| asked.book.turn = u32::from(asked.book.day) + 65_536),
+    (0, |asked| asked.book.turn = u32::MAX),
+    (26, |asked| asked.book.turn = asked.book.day.into()),
+    (26, |asked| asked.book.turn = 1),
+];
+const CHANGE_OVER: &[Way] = &[
+    (0, |asked| asked.day = u32::from(asked.book.day) + 1),
+    (0, |asked| asked.day = u32::from(asked.book.day) + 65_536),
+    (0, |asked| asked.day = 65_536),
+    (0, |asked| asked.day = 1 << 31),
+    (0, |asked| asked.day = u32::MAX),
+    (26, |asked| asked.day = asked.book.day.into()),
+    (26, |asked| asked.day = u32::from(asked.book.day) - 1),
+    (26, |asked| asked.day = 0),
+];
 const UNHANDED: &[Way] = &[
     (16, |asked| unit_asked(asked, 0)),
     (16, |asked| unit_asked(asked, 1)),
@@ -235,7 +261,7 @@ const DAY: &[Way] = &[
 ];
 
 /// The calls with their questions.
-const PLANS: [Plan; 12] = [
+const PLANS: [Plan; 13] = [
     ("unit", |asked| Call::Unit { issue: asked.issue, k: 0 }, &[ANY_PHASE, ISSUE, SOUND]),
     ("status", status, &[NOT_TAKING, ISSUE, THERE, LIFTS_ASKED, SOUND]),
     ("trade", trade, &[TAKING, ISSUE, FROM, TO, LOTS, NETS, SOUND]),
@@ -248,6 +274,7 @@ const PLANS: [Plan; 12] = [
     ("pair-off", pair_off, &[ANY_PHASE, ISSUE, FROM, SOUND]),
     ("roll", roll, &[CUT, DAYS, RATE, QUOTES, DAY, SOUND]),
     ("mark", mark, &[ANY_PHASE, ISSUE, MARK, MARKED_BEFORE, IN_USE, SOUND]),
+    ("turn", |asked| Call::Turn { day: asked.day }, &[ANY_PHASE, TODAY, NAMED, CHANGE_OVER, SOUND]),
 ];
 
 /// Makes every combination of every call; gives the answers compared.
@@ -294,6 +321,7 @@ fn start() -> Asked {
         quotes: same_quotes(100_000, 0).to_vec(),
         ticket: Ticket::default(),
         mark: 1,
+        day: 1,
     }
 }
 

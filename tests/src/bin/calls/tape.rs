@@ -22,10 +22,10 @@ const MOST_WORDS: usize = 36;
 const OUTPUTS: [usize; 7] = [0, 1, 17, 32, 33, 34, 60];
 
 /// The kinds of the instructions.
-const KINDS: [u32; 8] = [1, 2, 3, 4, 5, 6, 7, 13];
+const KINDS: [u32; 9] = [1, 2, 3, 4, 5, 6, 7, 13, 14];
 /// Kinds that are none of an instruction; the low bits of some are those of one.
-const NO_KINDS: [u32; 17] =
-    [0, 8, 9, 10, 11, 12, 14, 15, 16, 17, 29, 256, 257, 269, 1 << 28, 1 << 31, u32::MAX];
+const NO_KINDS: [u32; 18] =
+    [0, 8, 9, 10, 11, 12, 15, 16, 17, 29, 30, 256, 257, 269, 270, 1 << 28, 1 << 31, u32::MAX];
 
 /// The numbers that reader and writer can answer, by the paper; 0 is done.
 const NUMBERS: [(&str, [u32; 3]); 2] = [("read", [0, 13, 14]), ("write", [0, 1, 15])];
@@ -222,7 +222,7 @@ fn by_reference(fields: &Fields, quotes: &[u32], out: &mut [u32]) -> WriteAnswer
 
 /// Numbers at the limits of the fields' bits and one past, 0 and 1.
 fn edge_numbers() -> Vec<u32> {
-    let ends = [1, 4, 6, 14, 18, 28, 32].map(|bits| (1_u64 << bits) as u32);
+    let ends = [1, 4, 6, 14, 16, 18, 28, 32].map(|bits| (1_u64 << bits) as u32);
     let near = |end: u32| [end.wrapping_sub(1), end, end.wrapping_add(1)];
     ends.into_iter().flat_map(near).chain([0, 1, 1 << 31]).collect()
 }
@@ -230,10 +230,10 @@ fn edge_numbers() -> Vec<u32> {
 /// Every instruction with fields at both ends, as words, and two words after it.
 fn whole_instructions() -> Vec<Vec<u32>> {
     let mut all = Vec::new();
-    for [issue, account, to, lots, days, rate, price, mark] in [
-        [0, 0, 0, 0, 0, 0, 0, 0],
-        [15, 63, 63, (1 << 28) - 1, 15, (1 << 14) - 1, (1 << 18) - 1, 1],
-        [5, 42, 21, 0xa5a_5a5a, 10, 0x2aaa, 0x15555, 1],
+    for [issue, account, to, lots, days, rate, price, mark, day] in [
+        [0, 0, 0, 0, 0, 0, 0, 0, 0],
+        [15, 63, 63, (1 << 28) - 1, 15, (1 << 14) - 1, (1 << 18) - 1, 1, 65_535],
+        [5, 42, 21, 0xa5a_5a5a, 10, 0x2aaa, 0x15555, 1, 0xa5a5],
     ] {
         for instruction in [
             Instruction::Trade { issue, from: account, to, lots },
@@ -244,6 +244,7 @@ fn whole_instructions() -> Vec<Vec<u32>> {
             Instruction::Cutoff,
             Instruction::Roll { days, rate },
             Instruction::Mark { issue, mark },
+            Instruction::Turn { day },
         ] {
             let mut words = vec![0; WRITER_OUTPUT];
             let count = tape::write(&instruction, &[price; QUOTES], &mut words).count as usize;
@@ -261,6 +262,7 @@ fn used_fields(kind: u32) -> Fields {
         1 => 5,
         2 | 3 => 4,
         4 | 7 | 13 => 3,
+        14 => 2,
         _ => 1,
     };
     let mut fields = [0; 5];
@@ -300,12 +302,13 @@ fn random_words(rng: &mut Rng) -> Vec<u32> {
     words
 }
 
-/// A head of a kind that an instruction has, with more or fewer of its low bits 0; of a mark mostly all
-/// but the last.
+/// A head of a kind that an instruction has, with more or fewer of its low bits 0; of a mark and of a
+/// turn mostly its own bits alone.
 fn random_head(rng: &mut Rng) -> u32 {
     let (kind, bits) = (*rng.pick(&KINDS), rng.next_u32() >> 4);
     let used = match kind {
         13 if rng.chance(3, 4) => 0x0f00_0001,
+        14 if rng.chance(3, 4) => 0xffff,
         _ => 0x0fff_ffff << rng.range(0, 28),
     };
     kind << 28 | (bits & used)

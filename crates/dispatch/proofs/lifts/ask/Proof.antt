@@ -29,12 +29,13 @@ returns c =
 
 ask-in-requires : tie.Need-ask-in-requires
 ask-in-requires c κs =
-    cells-of (book (start (c .before))) (good c)
+    cells-of (book (start (c .before .before))) (good (c .before))
 
 returns-2 : tie.Need-returns-2
 returns-2 c =
-    let s = start (c .before .before) in
-    c .ask-in .ensures ∙ ask-sound _ (book s) (s .args .i) (s .args .k) (good (c .before))
+    let d = c .before in
+    let s = start (d .before .before) in
+    c .ask-in .ensures ∙ ask-sound _ (d .dealt-today .result) (book s) (s .args .i) (s .args .k) (good (d .before)) (d .dealt-today .ensures)
 
 pub ask-spec : {M : Type 1} → statement M
-ask-spec = tie.close (tie.spec (λ c κs. search needs) returns ask-in-requires returns-2)
+ask-spec = tie.close (tie.spec (λ c κs. search needs) returns (λ c κs. search needs) ask-in-requires returns-2)

@@ -39,16 +39,18 @@ returns-2 c =
 
 commit-in-requires : tie.Need-commit-in-requires
 commit-in-requires c κs =
-    let e = c .before .before in
+    let e = c .before .before .before in
     let s = start (first (e .before)) in
     (cells-of (book s) (good e), first (e .before) .if1 .left)
 
 returns-3 : tie.Need-returns-3
 returns-3 c =
     let k = c .before .before .before .before in
-    let e = k .before .before .before in
+    let d = k .before .before .before in
+    let e = d .before in
     let s = start (first (e .before)) in
-    commit-sound _ (book s) (s .args .t) (now (s .args .out)) (first (e .before) .if1 .left) (k .commit-in .result) _ _ (good e) (k .commit-in .ensures)
+    commit-sound _ (book s) (s .args .t) (now (s .args .out)) (first (e .before) .if1 .left) (d .dealt-today .result) (k .commit-in .result) _ _ (good e)
+    (d .dealt-today .ensures) (k .commit-in .ensures)
 
 pub commit-spec : {M : Type 1} → statement M
 commit-spec =
@@ -60,6 +62,7 @@ commit-spec =
     (λ c κs. search needs)
     (λ c. search needs)
     returns-2
+    (λ c κs. search needs)
     commit-in-requires
     (λ c. search needs)
     (λ c. search needs)

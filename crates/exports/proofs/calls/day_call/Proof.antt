@@ -20,7 +20,7 @@ at s t =
     bookIn t (now (a .nets)) (now (a .delivered)) (now (a .lifts)) (now (a .charges)) (now (a .issues)) (now (a .froms)) (now (a .tos)) (now (a .lots)) (now (a .days))
 
 abbrev state : tie.Start → State
-state s = stateOf (now (s .args .day)) (phaseOf (now (s .args .phase))) (now (s .args .entries)) (now (s .args .marks))
+state s = stateOf (now (s .args .day)) (phaseOf (now (s .args .phase))) (now (s .args .entries)) (now (s .args .turn)) (now (s .args .marks))
 
 abbrev asked : tie.Start → Instruction
 asked s = instructionOf (s .args .kind) (s .args .a) (s .args .b) (s .args .c) (s .args .d)
@@ -28,7 +28,7 @@ asked s = instructionOf (s .args .kind) (s .args .a) (s .args .b) (s .args .c) (
 abbrev start : tie.After-is-kind → tie.Start
 start c = c .before .before .before .before .before .before .before .before .before .before
 
--- a kind of 1 to 7 is asked for
+-- a kind is asked for
 kinded : (c : tie.Else1) → isKind (start (c .before) .args .kind) ≡ true
 kinded c = sym (c .before .is-kind .ensures) ∙ not-false _ (c .if1 .left)
 
@@ -73,7 +73,7 @@ returns-4 c =
     let n = c .before in
     let k = made-call n in
     let t = stated k in
-    let e = t .before .before .before .before in
+    let e = t .before .before .before .before .before in
     let i = e .before .before .before .before .before in
     let s = start (i .before .before) in
     let a = s .args in

@@ -21,10 +21,14 @@ returns-7 c = rw (c .before .x5 .given .1)
 returns-8 : tie.Need-returns-8
 returns-8 c = rw (c .before .x6 .given .1)
 
+returns-9 : tie.Need-returns-9
+returns-9 c = rw (c .before .x7 .given .1)
+
 pub fields-spec : {M : Type 1} → statement M
 fields-spec =
     tie.close
     (tie.spec
+    (λ c. search needs)
     (λ c. search needs)
     (λ c. search needs)
     (λ c. search needs)
@@ -40,4 +44,5 @@ fields-spec =
     (λ c. search needs)
     (λ c. search needs)
     returns-7
-    returns-8)
+    returns-8
+    returns-9)

@@ -27,11 +27,14 @@ returns-7 : tie.Need-returns-7
 returns-7 c = let e : c .before .args .kind ≡ 7 = omega arith in simp e
 
 returns-8 : tie.Need-returns-8
-returns-8 c =
+returns-8 c = let e : c .before .args .kind ≡ 13 = omega arith in simp e
+
+returns-9 : tie.Need-returns-9
+returns-9 c =
     let a = c .before .args in
     let m = c .match .rest in
-    other-kind (a .kind) (a .a) (a .b) (a .c) (a .d) (m .0 .0 .0 .0 .0 .0 .1) (m .0 .0 .0 .0 .0 .1) (m .0 .0 .0 .0 .1) (m .0 .0 .0 .1) (m .0 .0 .1) (m .0 .1) (m .1)
+    other-kind (a .kind) (a .a) (a .b) (a .c) (a .d) (m .0 .0 .0 .0 .0 .0 .0 .1) (m .0 .0 .0 .0 .0 .0 .1) (m .0 .0 .0 .0 .0 .1) (m .0 .0 .0 .0 .1) (m .0 .0 .0 .1) (m .0 .0 .1) (m .0 .1) (m .1)
 
 pub instruction-of-spec : {M : Type 1} → statement M
 instruction-of-spec =
-    tie.close (tie.spec returns returns-2 returns-3 returns-4 returns-5 returns-6 returns-7 returns-8)
+    tie.close (tie.spec returns returns-2 returns-3 returns-4 returns-5 returns-6 returns-7 returns-8 returns-9)

@@ -18,7 +18,7 @@ start c = c .before .before .before .before .before .before .before .before .bef
 abbrev book : tie.Start → Book
 book s =
     let a = s .args in
-    bookIn (stateOf (a .day) (phaseOf (a .phase)) (a .entries) (now (a .marks))) (now (a .nets)) (now (a .delivered)) (now (a .lifts)) (now (a .charges)) (now (a .issues)) (now (a .froms)) (now (a .tos)) (now (a .lots)) (now (a .days))
+    bookIn (stateOf (a .day) (phaseOf (a .phase)) (a .entries) (a .turn) (now (a .marks))) (now (a .nets)) (now (a .delivered)) (now (a .lifts)) (now (a .charges)) (now (a .issues)) (now (a .froms)) (now (a .tos)) (now (a .lots)) (now (a .days))
 
 abbrev good : tie.Start → Bool
 good s = soundAt (s .args .phase) (book s)

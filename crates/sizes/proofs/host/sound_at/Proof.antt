@@ -17,7 +17,7 @@ at s t =
     bookIn t (now (a .nets)) (now (a .delivered)) (now (a .lifts)) (now (a .charges)) (now (a .issues)) (now (a .froms)) (now (a .tos)) (now (a .lots)) (now (a .days))
 
 abbrev state : tie.Start → State
-state s = stateOf (s .args .day) (phaseOf (s .args .phase)) (s .args .entries) (now (s .args .marks))
+state s = stateOf (s .args .day) (phaseOf (s .args .phase)) (s .args .entries) (s .args .turn) (now (s .args .marks))
 
 returns : tie.Need-returns
 returns c =
@@ -30,7 +30,7 @@ returns-2 c =
     let s = u .before .before .before .before .before .before .before .before .before .before .before in
     let a = s .args in
     sound-in (a .phase) (at s) (state s) (u .state-of .result) (c .sound .result) (u .before .before .before .if1 .left)
-    (u .state-of .ensures ∙ ap (λ p. stateOf (a .day) p (a .entries) (now (a .marks))) (u .before .before .phase-of .ensures))
+    (u .state-of .ensures ∙ ap (λ p. stateOf (a .day) p (a .entries) (a .turn) (now (a .marks))) (u .before .before .phase-of .ensures))
     (c .sound .ensures)
 
 pub sound-at-spec : {M : Type 1} → statement M

@@ -1,5 +1,6 @@
 -- Each return is one condition answered 'no'; else the places tell.
 use mathlib.Core.Path.{_≡_, refl, ap, sym, _∙_}
+use mathlib.Core.Bool.{false}
 use Prim.Native.Nat.{_+_, _*_, _≤_}
 use native.Mathlib.Omega.{arith}
 use borrow.Author.Needs.{needs}
@@ -28,7 +29,7 @@ returns : tie.Need-returns
 returns c =
     let a = c .before .before .before .before .args in
     let ls = now (a .lifts) in
-    lifts-many (a .phase) (orderIn (now (a .nets)) ls) (now (a .delivered)) ls (a .i) (getD ls (a .i * 18) 0) (getD ls (a .i * 18 + 1) 0) _
+    lifts-many (a .phase) (orderIn false (now (a .nets)) ls) (now (a .delivered)) ls (a .i) (getD ls (a .i * 18) 0) (getD ls (a .i * 18 + 1) 0) _
     (number-at ls (a .i)) (count-at ls (a .i)) refl (c .if1 .taken)
 
 total-requires : tie.Need-total-requires
@@ -45,7 +46,7 @@ returns-2 c =
     let t = c .before .before in
     let a = start t .args in
     let ls = now (a .lifts) in
-    lifts-over (a .phase) (orderIn (now (a .nets)) ls) (now (a .delivered)) ls (a .i) (getD ls (a .i * 18) 0) (getD ls (a .i * 18 + 1) 0) (t .total .result)
+    lifts-over (a .phase) (orderIn false (now (a .nets)) ls) (now (a .delivered)) ls (a .i) (getD ls (a .i * 18) 0) (getD ls (a .i * 18 + 1) 0) (t .total .result)
     (number-at ls (a .i)) (count-at ls (a .i)) (total-is t) (c .if2 .taken)
 
 returns-3 : tie.Need-returns-3
@@ -53,7 +54,7 @@ returns-3 c =
     let t = c .before .before .before in
     let a = start t .args in
     let ls = now (a .lifts) in
-    lifts-none (a .phase) (orderIn (now (a .nets)) ls) (now (a .delivered)) ls (a .i) (getD ls (a .i * 18) 0) (getD ls (a .i * 18 + 1) 0) (t .total .result)
+    lifts-none (a .phase) (orderIn false (now (a .nets)) ls) (now (a .delivered)) ls (a .i) (getD ls (a .i * 18) 0) (getD ls (a .i * 18 + 1) 0) (t .total .result)
     (number-at ls (a .i)) (count-at ls (a .i)) (total-is t) (omega arith) (c .if3 .taken)
 
 returns-4 : tie.Need-returns-4
@@ -61,7 +62,7 @@ returns-4 c =
     let t = c .before .before .before .before .before in
     let a = start t .args in
     let ls = now (a .lifts) in
-    lifts-taking (a .phase) (orderIn (now (a .nets)) ls) (now (a .delivered)) ls (a .i) (getD ls (a .i * 18) 0) (getD ls (a .i * 18 + 1) 0) (t .total .result)
+    lifts-taking (a .phase) (orderIn false (now (a .nets)) ls) (now (a .delivered)) ls (a .i) (getD ls (a .i * 18) 0) (getD ls (a .i * 18 + 1) 0) (t .total .result)
     (number-at ls (a .i)) (count-at ls (a .i)) (total-is t) (λ z. omega arith) (sym (c .before .taking .ensures) ∙ c .if4 .taken)
 
 placed-requires : tie.Need-placed-requires
@@ -82,7 +83,7 @@ returns-5 c =
     let t = c .before .before .before .before .before .before in
     let a = start t .args in
     let ls = now (a .lifts) in
-    lifts-placed (a .phase) (orderIn (now (a .nets)) ls) (now (a .delivered)) ls (a .i) (getD ls (a .i * 18) 0) (getD ls (a .i * 18 + 1) 0) (t .total .result)
+    lifts-placed (a .phase) (orderIn false (now (a .nets)) ls) (now (a .delivered)) ls (a .i) (getD ls (a .i * 18) 0) (getD ls (a .i * 18 + 1) 0) (t .total .result)
     (number-at ls (a .i)) (count-at ls (a .i)) (total-is t) (c .placed .result) (omega arith) (omega arith)
     (sym (c .before .before .taking .ensures) ∙ c .before .if4 .left) (c .placed .ensures)
 

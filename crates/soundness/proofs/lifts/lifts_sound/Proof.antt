@@ -1,6 +1,6 @@
 -- The flag and the tests of the issues that are left are those of all issues.
 use mathlib.Core.Path.{_≡_}
-use mathlib.Core.Bool.{_&&_}
+use mathlib.Core.Bool.{_&&_, false}
 use Prim.Native.Nat.{_-_, _≤_}
 use native.Mathlib.Omega.{arith}
 use borrow.Author.Needs.{needs}
@@ -14,7 +14,7 @@ use Rattle.soundness.proofs.lifts.lifts_sound.Tie as tie
 
 abbrev Inv-loop : tie.InvT-loop
 Inv-loop phase nets delivered lifts good₀ i₀ good i =
-    (i ≤ 16) × (good && restOfIssues (liftsSound phase (orderIn nets lifts) delivered lifts) i ≡ allLifts phase nets delivered lifts)
+    (i ≤ 16) × (good && restOfIssues (liftsSound phase (orderIn false nets lifts) delivered lifts) i ≡ allLifts phase nets delivered lifts)
 
 abbrev μ-loop : tie.MeasureT-loop
 μ-loop phase nets delivered lifts good₀ i₀ good i = 16 - i
@@ -26,7 +26,7 @@ loop-again : tie.Need-loop-again Inv-loop μ-loop
 loop-again c =
     let a = c .before .before .before .before .before .args in
     let l = c .before .before .loop in
-    (search needs, issues-more (liftsSound (a .phase) (orderIn (now (a .nets)) (now (a .lifts))) (now (a .delivered)) (now (a .lifts))) (l .i) (l .good) _ _ (omega arith) (c .issue-lifts .ensures) (l .inv .1))
+    (search needs, issues-more (liftsSound (a .phase) (orderIn false (now (a .nets)) (now (a .lifts))) (now (a .delivered)) (now (a .lifts))) (l .i) (l .good) _ _ (omega arith) (c .issue-lifts .ensures) (l .inv .1))
 
 returns : tie.Need-returns Inv-loop μ-loop
 returns c =

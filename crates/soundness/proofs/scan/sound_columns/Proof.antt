@@ -18,7 +18,7 @@ start c = c .before .before .before .before .before .before .before .before .bef
 abbrev book : tie.Start → Book
 book s =
     let a = s .args in
-    bookOf (a .day) (a .phase) (a .marks) (now (a .nets)) (now (a .delivered)) (now (a .lifts)) (now (a .charges)) (a .count) (now (a .issues))
+    bookOf (a .day) (a .phase) (a .turn) (a .marks) (now (a .nets)) (now (a .delivered)) (now (a .lifts)) (now (a .charges)) (a .count) (now (a .issues))
     (now (a .froms)) (now (a .tos)) (now (a .lots)) (now (a .days))
 
 -- what the four parts found

@@ -18,7 +18,7 @@ at s t =
     bookIn t (now (a .nets)) (now (a .delivered)) (now (a .lifts)) (now (a .charges)) (now (a .issues)) (now (a .froms)) (now (a .tos)) (now (a .lots)) (now (a .days))
 
 abbrev state : tie.Start → State
-state s = stateOf (s .args .day) (phaseOf (s .args .phase)) (s .args .entries) (now (s .args .marks))
+state s = stateOf (s .args .day) (phaseOf (s .args .phase)) (s .args .entries) (s .args .turn) (now (s .args .marks))
 
 returns : tie.Need-returns
 returns c =
@@ -33,7 +33,7 @@ returns-2 c =
     let a = s .args in
     rw (← told-in (a .phase) (at s) (state s) (u .before .state-of .result) (a .issue) (a .k) (toldAnswer (u .status .result))
     (u .before .before .before .before .if1 .left)
-    (u .before .state-of .ensures ∙ ap (λ p. stateOf (a .day) p (a .entries) (now (a .marks))) (u .before .before .before .phase-of .ensures))
+    (u .before .state-of .ensures ∙ ap (λ p. stateOf (a .day) p (a .entries) (a .turn) (now (a .marks))) (u .before .before .before .phase-of .ensures))
     (u .status .ensures))
     (c .plain2 .ensures)
 

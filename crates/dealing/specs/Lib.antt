@@ -1,0 +1,2 @@
+-- What the contracts of dealing cite.
+pub mod Dealing

@@ -1,0 +1,3 @@
+-- What the contracts of stretching cite.
+pub mod Adding
+pub mod Spans

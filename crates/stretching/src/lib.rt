@@ -1,0 +1,170 @@
+// The cutoff where full units are dealt in turn: the stretches of what waits, made from the front, one run
+// after the other. Units are never listed: of whole rounds each account's are taken together.
+use dealing::before_lifts;
+use dealing::least;
+use dealing::seat;
+use units::Position;
+use units::stand;
+ghost use mathlib.Core.Path.{_≡_};
+ghost use Rattle.units.specs.Runs.{partOf};
+ghost use Rattle.stretching.specs.Adding.{CanAdd, Added, shareOf, CanFeed, Fed};
+ghost use Rattle.stretching.specs.Spans.{CanFeedSpan, FedSpan, CanFeedWaiting, FedWaiting, CanStart, HasStarted};
+
+// The units of one run more behind c stretches; answers how many there are then. `at` says of each account
+// where its stretch of full units stands: 0, or one more than its place.
+fn add(out: &mut [u32], c: usize, at: &mut [usize], word: u32) -> usize
+    requires { ⌜ CanAdd (now out) c (now at) word ⌝ }
+    ensures { λ r. ⌜ Added (now (out .entry)) (now (out .exit)) c (now (at .exit)) word r ⌝ }
+{
+    if word < 64 {
+        return c;
+    }
+    if word < 6400000 {
+        out[c] = word;
+        return c + 1;
+    }
+    let a = (word % 64) as usize;
+    let p = at[a];
+    if p == 0 {
+        at[a] = c + 1;
+        out[c] = word;
+        return c + 1;
+    }
+    out[p - 1] = out[p - 1] + word / 64 * 64;
+    c
+}
+
+// What a run has of so many rounds from a round on; a small unit is left as it is.
+fn share(word: u32, round: u32, rounds: u32) -> u32
+    ensures { λ r. ⌜ partOf r ≡ shareOf round rounds (partOf word) ⌝ }
+{
+    if word < 6400000 {
+        return word;
+    }
+    let q = word / 6400000;
+    if q <= round {
+        return word % 64;
+    }
+    least(rounds, q - round) * 6400000 + word % 64
+}
+
+// What the runs from x to y have of so many rounds, behind c stretches; answers how many there are then.
+fn feed(
+    runs: &[u32],
+    x: usize,
+    y: usize,
+    round: u32,
+    rounds: u32,
+    out: &mut [u32],
+    c: usize,
+    at: &mut [usize],
+) -> usize
+    requires { ⌜ CanFeed (now runs) x y round rounds (now out) c (now at) ⌝ }
+    ensures { λ r. ⌜ Fed (now (runs .entry)) x y round rounds (now (out .entry)) (now (out .exit)) c (now (at .exit)) r ⌝ }
+{
+    let mut j = x;
+    let mut k = c;
+    while j < y {
+        k = add(out, k, at, share(runs[j], round, rounds));
+        j += 1;
+    }
+    k
+}
+
+// The units of so many places from `base` on, dealt in turn and before lifts, behind c stretches; answers how
+// many there are then. They are small units, or a part of a round, or the rest of a round, whole rounds, and
+// small units or the front of a round.
+fn feed_span(
+    runs: &[u32],
+    n: usize,
+    m: usize,
+    base: u32,
+    len: u32,
+    out: &mut [u32],
+    c: usize,
+    at: &mut [usize],
+) -> usize
+    requires { ⌜ CanFeedSpan (now runs) n m base len (now out) c (now at) ⌝ }
+    ensures { λ r. ⌜ FedSpan (now (runs .entry)) n m base len (now (out .entry)) (now (out .exit)) c (now (at .exit)) r ⌝ }
+{
+    let d = seat(runs, n, m, base);
+    let r = d.round;
+    let w = d.wide;
+    let j = d.at;
+    let x = len as usize;
+    if w == 0 {
+        return feed(runs, m + j, m + j + x, 0, 0, out, c, at);
+    }
+    if x <= w - j {
+        return feed(runs, j, j + x, r, 1, out, c, at);
+    }
+    let g = seat(runs, n, m, base + len);
+    let q = g.round;
+    let v = g.at;
+    let a = feed(runs, j, w, r, 1, out, c, at);
+    let b = feed(runs, 0, w, r + 1, q - r - 1, out, a, at);
+    if g.wide == 0 {
+        return feed(runs, m, m + v, 0, 0, out, b, at);
+    }
+    feed(runs, 0, v, q, 1, out, b, at)
+}
+
+// The stretches of the units from unit k on, of so many, dealt in turn and then lifted; answers how many.
+fn feed_waiting(
+    runs: &[u32],
+    n: usize,
+    m: usize,
+    words: &[u32],
+    k: u32,
+    count: u32,
+    out: &mut [u32],
+    at: &mut [usize],
+) -> usize
+    requires { ⌜ CanFeedWaiting (now runs) n m (now words) k count (now out) (now at) ⌝ }
+    ensures { λ r. ⌜ FedWaiting (now (runs .entry)) n m (now (words .entry)) k (now (out .exit)) r ⌝ }
+{
+    let mut c: usize = 0;
+    let mut p = k;
+    while p < count {
+        let s = before_lifts(words, p);
+        let x = least(s.len, count - p);
+        c = feed_span(runs, n, m, s.base, x, out, c, at);
+        p += x;
+    }
+    c
+}
+
+// An issue at its cutoff: how many stretches wait, and the position in front of all fails.
+pub struct Begun {
+    pub n: usize,
+    pub position: Position,
+}
+
+// The stretches of an issue's units that wait after a delivered total, full units dealt in turn and then
+// lifted, into a lent array of 144 words; and the position in front of them.
+pub fn start(nets: &[i32], lifts: &[u32], i: usize, d: u32, out: &mut [u32]) -> Begun
+    requires { ⌜ CanStart (now nets) (now lifts) i (now out) ⌝ }
+    ensures { λ r. ⌜ HasStarted (now (nets .entry)) (now (lifts .entry)) i d (now (out .exit)) r ⌝ }
+{
+    let mut keys = [0u32; 128];
+    let mut at = [0usize; 64];
+    let p = dealing::prepare(nets, lifts, i, &mut keys, out);
+    let h = units::handover(out, p.lifted, d);
+    let k = p.ranks;
+    let n = k.n;
+    let count = units::number(&keys, n);
+    let s = i * 18;
+    let e = s + 18;
+    let c = feed_waiting(&keys, n, k.full, &lifts[s..e], h.count, count, out, &mut at);
+    if c == 0 {
+        return Begun {
+            n: c,
+            position: stand(0, 0, 0, h.stock),
+        };
+    }
+    let key = out[0];
+    Begun {
+        n: c,
+        position: stand(1, key % 64, key / 64 - h.stock, h.stock),
+    }
+}
