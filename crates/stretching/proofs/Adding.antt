@@ -57,6 +57,50 @@ not-small a w h = byTest (eqb (w % 64) a) (λ e. simp (e, lt-leb 100000 (w / 64)
 not-other : (a w : ℕ) → (w % 64 ≡ a → ⊥) → isFullOf unitLots a (partOf w) ≡ false
 not-other a w ne = rw (ne-eqb (w % 64) a ne)
 
+-- a stretch with other lots, full as before
+each-set : (P : AccountLots → Type 0) (xs : List ℕ) (i x q : ℕ) → Every P (runsIn xs q) → P (partOf x) → Every P (runsIn (set xs i x) q)
+each-set P [] i x q ps t = ps
+each-set P (y ∷ ys) zero x zero ps t = tt
+each-set P (y ∷ ys) zero x (suc q) ps t = (t, ps .1)
+each-set P (y ∷ ys) (suc i) x zero ps t = tt
+each-set P (y ∷ ys) (suc i) x (suc q) ps t = (ps .0, each-set P ys i x q (ps .1) t)
+
+pub keep-index : (out : List ℕ) (c : ℕ) (at : List ℕ) → Indexed out c at → (b p v : ℕ) → b < 64 → getD at b 0 ≡ suc p → p < length out →
+    v % 64 ≡ b → 6400000 ≤ v → Indexed (set out p v) c at
+keep-index out c at i b p v lb e there account full =
+    let first = i .some b p lb e in
+    let own : getD out p 0 % 64 ≡ b = eqb-true (getD out p 0 % 64) b (and-left (eqb (getD out p 0 % 64) b) (leb unitLots (getD out p 0 / 64)) (first .full)) in
+    record {
+      accounts = i .accounts;
+      none = λ a l z.
+          each-set (λ u. isFullOf unitLots a u ≡ false) out p v c (i .none a l z)
+          (not-other a v (λ q. zero-not (sym z ∙ ap (λ i. getD at i 0) (sym (sym account ∙ q)) ∙ e)));
+      some = λ a q l f.
+          byTest (eqb b a)
+          (λ g.
+          let r = eqb-true b a g in
+          let t : q ≡ p = omega (arith, e, ap (λ i. getD at i 0) r ∙ f) in
+          rw t (record {
+            below = first .below;
+            before = rw (ap (map partOf) (take-set-le p out p v (omega arith))) (rw r at (first .before));
+            full = rw (getD-set-same out p v 0 there)
+                (and-both (eqb (v % 64) a) (leb unitLots (v / 64)) (eq-eqb (v % 64) a (account ∙ r)) (le-leb 100000 (v / 64) (omega arith)));
+          }))
+          (λ g.
+          let ne = eqb-false b a g in
+          let o = i .some a q l f in
+          let apart : q ≡ p → ⊥ = λ t.
+          ne (sym own ∙ ap (λ i. getD out i 0 % 64) (sym t) ∙ eqb-true (getD out q 0 % 64) a (and-left (eqb (getD out q 0 % 64) a) (leb unitLots (getD out q 0 / 64)) (o .full))) in
+          record {
+            below = o .below;
+            before = each-set (λ u. isFullOf unitLots a u ≡ false) out p v q (o .before) (not-other a v (λ t. ne (sym account ∙ t)));
+            full = rw (getD-set-other out p q v 0 apart) (o .full);
+          });
+    }
+  where
+    zero-not : 0 ≡ suc p → ⊥
+    zero-not t = omega arith
+
 module _ (out : List ℕ) (c : ℕ) (at : List ℕ) (w : ℕ) (can : CanJoin out c at w) where
   last-small : w < 6400000 → JoinedLast out (set out c w) c at w (c + 1)
   last-small h =
@@ -124,13 +168,6 @@ module _ (out : List ℕ) (c : ℕ) (at : List ℕ) (w : ℕ) (can : CanJoin out
     set-in (y ∷ ys) zero x = refl
     set-in (y ∷ ys) (suc i) x = ap (λ l. partOf y ∷ l) (set-in ys i x)
 
-    each-set : (P : AccountLots → Type 0) (xs : List ℕ) (i x q : ℕ) → Every P (runsIn xs q) → P (partOf x) → Every P (runsIn (set xs i x) q)
-    each-set P [] i x q ps t = ps
-    each-set P (y ∷ ys) zero x zero ps t = tt
-    each-set P (y ∷ ys) zero x (suc q) ps t = (t, ps .1)
-    each-set P (y ∷ ys) (suc i) x zero ps t = tt
-    each-set P (y ∷ ys) (suc i) x (suc q) ps t = (ps .0, each-set P ys i x q (ps .1) t)
-
     run-at : getD (runsIn out c) p (partOf 0) ≡ partOf k
     run-at = List·getD-map partOf (take c out) p 0 ∙ ap partOf (getD-take c out p 0 (first .below))
 
@@ -145,38 +182,9 @@ module _ (out : List ℕ) (c : ℕ) (at : List ℕ) (w : ℕ) (can : CanJoin out
               (rw (front c p (omega arith)) (first .before)) (rw run-at (first .full))
               ∙ ap (λ u. set (runsIn out c) p (accountLots (u .account) (u .lots + w / 64))) run-at
               ∙ ap (set (runsIn out c) p) (ap (λ n. accountLots n (k / 64 + w / 64)) (own ∙ sym account) ∙ ap (accountLots (v % 64)) (sym lots)));
-          index = record {
-            accounts = can .index .accounts;
-            none = λ a l z.
-                each-set (λ u. isFullOf unitLots a u ≡ false) out p v c (can .index .none a l z)
-                (not-other a v (λ q. zero-not (sym z ∙ ap (λ i. getD at i 0) (sym (sym account ∙ q)) ∙ e)));
-            some = λ a q l f.
-                byTest (eqb (w % 64) a)
-                (λ g.
-                let r = eqb-true (w % 64) a g in
-                let t : q ≡ p = omega (arith, e, ap (λ i. getD at i 0) r ∙ f) in
-                rw t (record {
-                  below = below;
-                  before = rw (ap (map partOf) (take-set-le p out p v (omega arith))) (rw r at (first .before));
-                  full = rw (getD-set-same out p v 0 there)
-                      (and-both (eqb (v % 64) a) (leb unitLots (v / 64)) (eq-eqb (v % 64) a (account ∙ r)) (le-leb 100000 (v / 64) (omega (arith, lots))));
-                }))
-                (λ g.
-                let ne = eqb-false (w % 64) a g in
-                let o = can .index .some a q l f in
-                let apart : q ≡ p → ⊥ = λ t.
-                ne (sym own ∙ ap (λ i. getD out i 0 % 64) (sym t) ∙ eqb-true (getD out q 0 % 64) a (and-left (eqb (getD out q 0 % 64) a) (leb unitLots (getD out q 0 / 64)) (o .full))) in
-                record {
-                  below = o .below;
-                  before = each-set (λ u. isFullOf unitLots a u ≡ false) out p v q (o .before) (not-other a v (λ t. ne (sym account ∙ t)));
-                  full = rw (getD-set-other out p q v 0 apart) (o .full);
-                });
-          };
+          index = keep-index out c at (can .index) (w % 64) p v (omega arith) e there account (omega arith);
         }
       where
-        zero-not : 0 ≡ suc p → ⊥
-        zero-not t = omega arith
-
         front : (n q : ℕ) → q ≤ n → take q (runsIn out n) ≡ runsIn out q
         front n q g = taken q (take n out) ∙ ap (map partOf) (take-take q n out g)
           where
@@ -240,7 +248,7 @@ module _ (out : List ℕ) (c : ℕ) (at : List ℕ) (w : ℕ) (can : CanAdd out 
   few : c ≤ 128
   few = few-words out c us (can .room .whole) (can .room .list) (fits-front us (unitsOfRun (partOf w)) (can .room .fits))
 
-  own-lots : (p : ℕ) → FirstOf a p out c → getD out p 0 / 64 + w / 64 ≤ 20000000
+  own-lots : (p : ℕ) → FirstOf a p out c → getD out p 0 / 64 + w / 64 ≤ 20800000
   own-lots p f =
       let k = getD out p 0 in
       let b = f .below in

@@ -2,4 +2,6 @@
 pub mod Adding
 pub mod Feeding
 pub mod Spans
+pub mod Gaps
+pub mod Taking
 pub mod Starting

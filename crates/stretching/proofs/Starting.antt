@@ -5,7 +5,7 @@ use mathlib.Core.List.{List, [], _∷_, _++_, map}
 use Prim.Native.Nat.{ℕ, zero, suc, _+_, _-_, _*_, _/_, _%_, _≤_, _<_, min}
 use native.Mathlib.Omega.{arith}
 use lib.Dec.{leb}
-use lib.ListN.{length, take, drop, getD, length-drop, take-append-drop}
+use lib.ListN.{length, take, drop, getD, length-map, length-take, length-drop, take-append-drop}
 use lib.Seq.{take-add, take-all, drop-drop}
 use lib.IntN.{ℤ}
 use borrow.Author.Tests.{leb-true, leb-false}
@@ -15,9 +15,10 @@ use Rattle.rules.specs.Handover.{covered, stock, waiting, firstUnit}
 use Rattle.rules.specs.Lifts.{Lift}
 use Rattle.rules.specs.Fails.{stretches, lacks, dropLots}
 use Rattle.rules.specs.Book.{duesOf, placesIn, orderIn}
-use Rattle.laws.proofs.Basics.{byTest, total-append}
+use Rattle.laws.proofs.Basics.{byTest, total-split}
 use Rattle.laws.proofs.Cells.{length-dues}
 use Rattle.laws.proofs.Dealt.{same-covered, same-stock}
+use Rattle.laws.proofs.DealtStretches.{stretches-front}
 use Rattle.laws.proofs.Handover.{covered-le, stock-below, waits-short}
 use Rattle.laws.proofs.Lifts.{length-lifted}
 use Rattle.laws.proofs.Overlaps.{skip-skip0}
@@ -33,20 +34,20 @@ use Rattle.dealing.specs.declared.Span.{Span}
 use Rattle.dealing.specs.Dealing.{dealtRuns, liftedRuns, SpanIs, fullNumber, IsRanked}
 use Rattle.dealing.proofs.Places as places
 use Rattle.dealing.proofs.Dealer.{can-deal-out, order-short, ranked-lifted, ranked-length, ranked-number, ranked-smalls}
-use Rattle.stretching.specs.Adding.{StretchesOf, Indexed, Fits, Joined}
-use Rattle.stretching.specs.Spans.{Parted, spanIn, CanFeedSpan, FedSpan, CanFeedWaiting, FedWaiting, HasStarted}
-use Rattle.stretching.proofs.Adding.{few-words, fits-front}
+use Rattle.stretching.specs.declared.Pending.{Pending}
+use Rattle.stretching.specs.declared.Passed.{Passed}
+use Rattle.stretching.specs.Adding.{StretchesOf}
+use Rattle.stretching.specs.Spans.{spanIn, CanFeedWaiting, FedWaiting, HasStarted}
+use Rattle.stretching.specs.Gaps.{Waiting, CanFeedPending, FedPending, CanPass, HasPassed}
 use Rattle.stretching.proofs.Spans.{runs-front}
 
 -- Span by span
 
--- the stretches of what waits, up to unit p
-pub record Waits (runs : List ℕ) (n m : ℕ) (words : List ℕ) (k count : ℕ) (out at : List ℕ) (p c : ℕ) : Type 0 where
+-- what waits, up to unit p
+pub record Waits (runs : List ℕ) (n m : ℕ) (words : List ℕ) (k count : ℕ) (out at gaps : List ℕ) (p c : ℕ) (q : Pending) : Type 0 where
   pub from : k ≤ p
   pub reached : p ≤ count
-  pub whole : length out ≡ 144
-  pub index : Indexed out c at
-  pub list : StretchesOf out c (take (p - k) (drop k (liftedRuns runs n m words)))
+  pub done : Waiting runs n m out c at gaps q (take (p - k) (drop k (liftedRuns runs n m words)))
 
 module _ (runs : List ℕ) (n m : ℕ) (words : List ℕ) (k count : ℕ) (out₀ at₀ : List ℕ) (can : CanFeedWaiting runs n m words k count out₀ at₀) where
   abbrev lifted-units : List AccountLots
@@ -55,83 +56,104 @@ module _ (runs : List ℕ) (n m : ℕ) (words : List ℕ) (k count : ℕ) (out�
   abbrev ls : List Lift
   ls = placesIn (getD words 0 0) (drop 2 words)
 
-  pub waits-starts : Waits runs n m words k count out₀ at₀ k 0
-  waits-starts =
+  pub waits-starts : (gaps : List ℕ) → length gaps ≡ 8 → Waits runs n m words k count out₀ at₀ gaps k 0 (record { base = 0; len = 0; gaps = 0 })
+  unfolding spanIn
+  waits-starts gaps l =
       let z : k - k ≡ 0 = omega arith in
       record {
         from = omega arith;
         reached = can .some;
-        whole = can .whole;
-        index = record { accounts = can .accounts; none = λ a l e. tt; some = λ a p l e. absurd (omega (arith, can .none a, e)) };
-        list = rw z;
+        done = rw z (record {
+          whole = can .whole;
+          index = record { accounts = can .accounts; none = λ a l e. tt; some = λ a p l e. absurd (omega (arith, can .none a, e)) };
+          held = l;
+          few = omega arith;
+          there = omega arith;
+          fed = [];
+          rest = [];
+          parts = refl;
+          list = refl;
+          span = refl;
+          own = tt;
+        });
       }
 
   lifted-length : length lifted-units ≡ count
   unfolding liftedRuns
   lifted-length = length-lifted ls (dealtRuns runs n m) ∙ sym (can .all)
 
-  pub waits-ends : (out at : List ℕ) (p c : ℕ) → count ≤ p → Waits runs n m words k count out at p c → FedWaiting runs n m words k out c
-  waits-ends out at p c h w =
-      let e : take (p - k) (drop k lifted-units) ≡ drop k lifted-units =
-      take-all (p - k) (drop k lifted-units) (omega (arith, length-drop k lifted-units, lifted-length, w .from)) in
-      let l : StretchesOf out c (drop k lifted-units) = w .list ∙ ap (stretches unitLots) e in
-      record { there = omega (arith, few-words out c (drop k lifted-units) (w .whole) l (can .fits), w .whole); list = l }
+  part-few : (y : ℕ) → length (stretches unitLots (take y (drop k lifted-units))) ≤ 128
+  part-few y =
+      omega (
+        arith,
+        stretches-front unitLots (take y (drop k lifted-units)) (drop y (drop k lifted-units)),
+        ap (λ l. length (stretches unitLots l)) (take-append-drop y (drop k lifted-units)),
+        can .few,
+      )
 
-  -- a span more
-  module _ (out at : List ℕ) (p c : ℕ) (h : p < count) (w : Waits runs n m words k count out at p c) (s : Span) (si : SpanIs words p s)
-      (x : ℕ) (e : x ≡ min (s .len) (count - p)) where
-    abbrev done : List AccountLots
-    done = take (p - k) (drop k lifted-units)
+  part-small : (y a : ℕ) → total (ofAccount a) (take y (drop k lifted-units)) ≤ mostLots
+  part-small y a = omega (arith, total-split (ofAccount a) y (drop k lifted-units), can .small a)
 
-    before : (s .base + x ≤ length (dealtRuns runs n m)) × (take x (drop p lifted-units) ≡ take x (drop (s .base) (dealtRuns runs n m)))
-    unfolding liftedRuns
-    before =
-        let one = si .one in
-        places.span-part ls (dealtRuns runs n m) p (s .base) (s .len) x (can .places) (omega arith) (omega arith) (omega (arith, can .all)) (si .places)
-
-    span-is : spanIn runs n m (s .base) x ≡ take x (drop p lifted-units)
-    unfolding spanIn
-    span-is = sym (before .1)
-
-    more : done ++ spanIn runs n m (s .base) x ≡ take (p + x - k) (drop k lifted-units)
-    more =
-        let f = w .from in
-        let t : p + x - k ≡ p - k + x = omega arith in
-        let u : k + (p - k) ≡ p = omega arith in
-        ap (λ l. done ++ l) (span-is ∙ ap (λ i. take x (drop i lifted-units)) (sym u) ∙ ap (take x) (sym (drop-drop (p - k) k lifted-units)))
-        ∙ sym (take-add (p - k) x (drop k lifted-units)) ∙ ap (λ i. take i (drop k lifted-units)) (sym t)
-
-    pub can-span : CanFeedSpan runs n m (s .base) x out c at
-    can-span =
-        let y = p + x - k in
+  module _ (out at gaps : List ℕ) (p c : ℕ) (q : Pending) (w : Waits runs n m words k count out at gaps p c q) where
+    pub can-feed : CanFeedPending runs n m out c at gaps q
+    can-feed =
         record {
           parted = can .parted;
-          there = before .0;
-          fits = omega (arith, before .0, can .all, can .most);
-          room = record {
-            whole = w .whole;
-            index = w .index;
-            units = done;
-            list = w .list;
-            fits = subst Fits (sym more)
-                (fits-front (take y (drop k lifted-units)) (drop y (drop k lifted-units)) (subst Fits (sym (take-append-drop y (drop k lifted-units))) (can .fits)));
-          };
+          most = omega (arith, can .all, can .most);
+          units = take (p - k) (drop k lifted-units);
+          waits = w .done;
+          few = part-few (p - k);
+          small = part-small (p - k);
         }
 
-    pub waits-next : (out′ at′ : List ℕ) (c′ : ℕ) → length out′ ≡ length out → FedSpan runs n m (s .base) x out out′ c at′ c′ →
-        Waits runs n m words k count out′ at′ (p + x) c′
-    waits-next out′ at′ c′ l j =
-        let f = w .from in
+    pub waits-ends : count ≤ p → (out′ at′ : List ℕ) (r : ℕ) → length out′ ≡ length out → FedPending runs n m out out′ c at at′ gaps q r → FedWaiting runs n m words k out′ r
+    waits-ends h out′ at′ r l f =
+        let us = take (p - k) (drop k lifted-units) in
+        let e : us ≡ drop k lifted-units = take-all (p - k) (drop k lifted-units) (omega (arith, length-drop k lifted-units, lifted-length, w .from)) in
+        let s : StretchesOf out′ r us = f .list us (w .done) in
         record {
-          from = omega arith;
-          reached = omega arith;
-          whole = l ∙ w .whole;
-          index = j .index;
-          list = j .list done (w .list) ∙ ap (stretches unitLots) more;
+          there = omega (arith, ap length s, length-map (take r out′) partOf, length-take r out′, part-few (p - k), l, w .done .whole);
+          list = s ∙ ap (stretches unitLots) e;
         }
 
-    pub step-on : 0 < x
-    step-on = let one = si .one in omega arith
+    -- a span more
+    module _ (h : p < count) (s : Span) (si : SpanIs words p s) (x : ℕ) (e : x ≡ min (s .len) (count - p)) where
+      abbrev done : List AccountLots
+      done = take (p - k) (drop k lifted-units)
+
+      before : (s .base + x ≤ length (dealtRuns runs n m)) × (take x (drop p lifted-units) ≡ take x (drop (s .base) (dealtRuns runs n m)))
+      unfolding liftedRuns
+      before =
+          let one = si .one in
+          places.span-part ls (dealtRuns runs n m) p (s .base) (s .len) x (can .places) (omega arith) (omega arith) (omega (arith, can .all)) (si .places)
+
+      span-is : spanIn runs n m (s .base) x ≡ take x (drop p lifted-units)
+      unfolding spanIn
+      span-is = sym (before .1)
+
+      farther : done ++ spanIn runs n m (s .base) x ≡ take (p + x - k) (drop k lifted-units)
+      farther =
+          let f = w .from in
+          let t : p + x - k ≡ p - k + x = omega arith in
+          let u : k + (p - k) ≡ p = omega arith in
+          ap (λ l. done ++ l) (span-is ∙ ap (λ i. take x (drop i lifted-units)) (sym u) ∙ ap (take x) (sym (drop-drop (p - k) k lifted-units)))
+          ∙ sym (take-add (p - k) x (drop k lifted-units)) ∙ ap (λ i. take i (drop k lifted-units)) (sym t)
+
+      pub can-pass : CanPass runs n m out c at gaps q (s .base) x
+      can-pass = record { ready = can-feed; there = before .0 }
+
+      pub waits-next : (out′ at′ gaps′ : List ℕ) (r : Passed) → HasPassed runs n m out out′ c at at′ gaps gaps′ q (s .base) x r →
+          Waits runs n m words k count out′ at′ gaps′ (p + x) (r .count) (r .pending)
+      waits-next out′ at′ gaps′ r j =
+          let f = w .from in
+          record {
+            from = omega arith;
+            reached = omega arith;
+            done = subst (Waiting runs n m out′ (r .count) at′ gaps′ (r .pending)) farther (j done (w .done));
+          }
+
+      pub step-on : 0 < x
+      step-on = let one = si .one in omega arith
 
 -- The cursor
 
@@ -233,21 +255,24 @@ module _ (nets : List ℤ) (lifts : List ℕ) (i : ℕ) (o : CanOrder nets lifts
   left : h .stock ≡ stock us d
   left = hi .left ∙ ap (λ vs. stock vs d) (q .units) ∙ sym (same-stock us (orderIn false nets lifts i) (order-lots true nets lifts i) d)
 
-  fits-part : (k : ℕ) → Fits (drop k us)
-  fits-part k =
-      let a = order-in true nets lifts i in
+  few-part : (k : ℕ) → length (stretches unitLots (drop k us)) ≤ 128
+  few-part k =
       let t : take (length us) (drop k us) ≡ drop k us = take-all (length us) (drop k us) (omega (arith, length-drop k us)) in
-      record {
-        few = omega (arith, ap (λ l. length (stretches unitLots l)) t, part-stretches (duesOf nets i) us a k (length us), length-dues nets i (o .cells) (o .issue));
-        small = λ c.
-            omega (
-              arith,
-              total-append (ofAccount c) (take k us) (drop k us),
-              ap (total (ofAccount c)) (take-append-drop k us),
-              a .due c,
-              dues-small nets i (duesOf nets i) refl (o .size) c,
-            );
-      }
+      omega (
+        arith,
+        ap (λ l. length (stretches unitLots l)) t,
+        part-stretches (duesOf nets i) us (order-in true nets lifts i) k (length us),
+        length-dues nets i (o .cells) (o .issue),
+      )
+
+  small-part : (k c : ℕ) → total (ofAccount c) (drop k us) ≤ mostLots
+  small-part k c =
+      omega (
+        arith,
+        total-split (ofAccount c) k us,
+        order-in true nets lifts i .due c,
+        dues-small nets i (duesOf nets i) refl (o .size) c,
+      )
 
   pub can-wait : (count : ℕ) → count ≡ length (unitsIn keys (p .n)) → (out at : List ℕ) → length out ≡ 144 → length at ≡ 64 →
       ((a : ℕ) → getD at a 0 ≡ 0) → CanFeedWaiting keys (p .n) (p .full) ws (h .count) count out at
@@ -268,7 +293,8 @@ module _ (nets : List ℤ) (lifts : List ℕ) (i : ℕ) (o : CanOrder nets lifts
         whole = lo;
         accounts = la;
         none = z;
-        fits = rw (ranked-lifted nets lifts i o keys p r) (fits-part (h .count));
+        few = rw (ranked-lifted nets lifts i o keys p r) (few-part (h .count));
+        small = rw (ranked-lifted nets lifts i o keys p r) (small-part (h .count));
       }
 
   module _ (out : List ℕ) (c : ℕ) (f : FedWaiting keys (p .n) (p .full) ws (h .count) out c) where

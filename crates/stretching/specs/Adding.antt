@@ -5,7 +5,7 @@ use mathlib.Core.List.{List, _++_, map}
 use Prim.Native.Nat.{ℕ, suc, _-_, _*_, _/_, _%_, _≤_, _<_, min}
 use lib.Dec.{leb}
 use lib.ListN.{length, drop, getD}
-use Rattle.rules.specs.Measures.{Every, unitLots, mostLots, total}
+use Rattle.rules.specs.Measures.{Every, unitLots, total}
 use Rattle.rules.specs.Units.{AccountLots, accountLots, ofAccount}
 use Rattle.rules.specs.Fails.{isFullOf, stretches}
 use Rattle.units.specs.Runs.{partOf, runsIn, unitsOfRun, unitsOfRuns, Plain, PlainIn}
@@ -30,10 +30,14 @@ pub record Indexed (out : List ℕ) (c : ℕ) (at : List ℕ) : Type 0 where
   pub none : (a : ℕ) → a < 64 → getD at a 0 ≡ 0 → NoneOf a (runsIn out c)
   pub some : (a p : ℕ) → a < 64 → getD at a 0 ≡ suc p → FirstOf a p out c
 
+-- an account's lots, and eight full units that are taken off again
+abbrev pub mostFed : ℕ
+mostFed = 20800000
+
 -- units whose stretches are few enough for a lent array, and the lots of each account for a word
 pub record Fits (us : List AccountLots) : Type 0 where
   pub few : length (stretches unitLots us) ≤ 128
-  pub small : (a : ℕ) → total (ofAccount a) us ≤ mostLots
+  pub small : (a : ℕ) → total (ofAccount a) us ≤ mostFed
 
 -- the stretches of some units, to which others may be added
 pub record Room (out : List ℕ) (c : ℕ) (at : List ℕ) (more : List AccountLots) : Type 0 where

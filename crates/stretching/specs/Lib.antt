@@ -1,3 +1,4 @@
 -- What the contracts of stretching cite.
 pub mod Adding
 pub mod Spans
+pub mod Gaps

@@ -5,15 +5,16 @@ use mathlib.Core.List.{List}
 use Prim.Native.Nat.{ℕ, _+_, _≤_, _<_}
 use lib.ListN.{length, take, drop, getD}
 use lib.IntN.{ℤ}
-use Rattle.rules.specs.Measures.{Every, unitLots}
-use Rattle.rules.specs.Units.{AccountLots}
+use Rattle.rules.specs.Measures.{Every, unitLots, mostLots, total}
+use Rattle.rules.specs.Units.{AccountLots, ofAccount}
+use Rattle.rules.specs.Fails.{stretches}
 use Rattle.rules.specs.Lifts.{Among}
 use Rattle.rules.specs.Book.{placesIn, orderIn}
 use Rattle.units.specs.Runs.{runsIn, PlainIn, CanOrder}
 use Rattle.units.specs.Cursor.{Started}
 use Rattle.dealing.specs.Dealing.{CanDeal, smallsOf, dealtRuns, liftedRuns, CanSpan}
 use Rattle.stretching.specs.declared.Begun.{Begun}
-use Rattle.stretching.specs.Adding.{StretchesOf, Fits, Room, Joined}
+use Rattle.stretching.specs.Adding.{StretchesOf, Room, Joined}
 
 -- runs of an issue in the order without lifts: m of full units, and behind them one for each small unit
 pub record Parted (runs : List ℕ) (n m : ℕ) : Type 0 where
@@ -46,7 +47,8 @@ pub record CanFeedWaiting (runs : List ℕ) (n m : ℕ) (words : List ℕ) (k co
   pub whole : length out ≡ 144
   pub accounts : length at ≡ 64
   pub none : (a : ℕ) → getD at a 0 ≡ 0
-  pub fits : Fits (drop k (liftedRuns runs n m words))
+  pub few : length (stretches unitLots (drop k (liftedRuns runs n m words))) ≤ 128
+  pub small : (a : ℕ) → total (ofAccount a) (drop k (liftedRuns runs n m words)) ≤ mostLots
 
 pub record FedWaiting (runs : List ℕ) (n m : ℕ) (words : List ℕ) (k : ℕ) (out : List ℕ) (r : ℕ) : Type 0 where
   pub there : r ≤ length out

@@ -8,6 +8,7 @@ use units::stand;
 ghost use mathlib.Core.Path.{_≡_};
 ghost use Rattle.units.specs.Runs.{partOf};
 ghost use Rattle.stretching.specs.Adding.{CanAdd, Added, shareOf, CanFeed, Fed};
+ghost use Rattle.stretching.specs.Gaps.{CanTake, Taken, CanTakeAll, TakenAll, CanFeedPending, FedPending, CanGap, GapIs, CanPass, HasPassed};
 ghost use Rattle.stretching.specs.Spans.{CanFeedSpan, FedSpan, CanFeedWaiting, FedWaiting, CanStart, HasStarted};
 
 // The units of one run more behind c stretches; answers how many there are then. `at` says of each account
@@ -109,6 +110,118 @@ fn feed_span(
     feed(runs, 0, v, q, 1, out, b, at)
 }
 
+// A span of places that is still to be fed, and how many units in it were lifted away.
+pub struct Pending {
+    pub base: u32,
+    pub len: u32,
+    pub gaps: usize,
+}
+
+// How many stretches there are, and what is still to be fed.
+pub struct Passed {
+    pub count: usize,
+    pub pending: Pending,
+}
+
+// A full unit of an account taken off its stretch.
+fn take_off(out: &mut [u32], c: usize, at: &[usize], a: usize)
+    requires { ⌜ CanTake (now out) c (now at) a ⌝ }
+    ensures { λ _. ⌜ Taken (now (out .entry)) (now (out .exit)) c (now (at .entry)) a ⌝ }
+{
+    let p = at[a];
+    out[p - 1] = out[p - 1] - 6400000;
+}
+
+// A full unit of each of n accounts taken off.
+fn take_all(out: &mut [u32], c: usize, at: &[usize], gaps: &[usize], n: usize)
+    requires { ⌜ CanTakeAll (now out) c (now at) (now gaps) n ⌝ }
+    ensures { λ _. ⌜ TakenAll (now (out .entry)) (now (out .exit)) c (now (at .entry)) (now (gaps .entry)) n ⌝ }
+{
+    let mut j = n;
+    while 0 < j {
+        j -= 1;
+        take_off(out, c, at, gaps[j]);
+    }
+}
+
+// What is still to be fed, behind c stretches; answers how many there are then.
+fn feed_pending(
+    runs: &[u32],
+    n: usize,
+    m: usize,
+    out: &mut [u32],
+    c: usize,
+    at: &mut [usize],
+    gaps: &[usize],
+    p: Pending,
+) -> usize
+    requires { ⌜ CanFeedPending (now runs) n m (now out) c (now at) (now gaps) p ⌝ }
+    ensures { λ r. ⌜ FedPending (now (runs .entry)) n m (now (out .entry)) (now (out .exit)) c (now (at .entry)) (now (at .exit)) (now (gaps .entry)) p r ⌝ }
+{
+    let r = feed_span(runs, n, m, p.base, p.len, out, c, at);
+    take_all(out, r, at, gaps, p.gaps);
+    r
+}
+
+// The account of the one full unit between a span and a place, where the account has a stretch; else 64.
+fn gap(runs: &[u32], n: usize, m: usize, at: &[usize], p: Pending, base: u32) -> usize
+    requires { ⌜ CanGap (now runs) n m (now at) p base ⌝ }
+    ensures { λ r. ⌜ GapIs (now (runs .entry)) n m (now (at .entry)) p base r ⌝ }
+{
+    if base == 0 {
+        return 64;
+    }
+    if base - 1 != p.base + p.len {
+        return 64;
+    }
+    if 8 <= p.gaps {
+        return 64;
+    }
+    let d = seat(runs, n, m, base - 1);
+    let j = d.at;
+    if d.wide == 0 {
+        return 64;
+    }
+    let a = (runs[j] % 64) as usize;
+    if at[a] == 0 {
+        return 64;
+    }
+    a
+}
+
+// A span more. Where only a full unit stands between it and the one before, of an account that has a stretch, both
+// are fed as one later, and the unit is taken off; else the one before is fed now.
+fn pass(
+    runs: &[u32],
+    n: usize,
+    m: usize,
+    out: &mut [u32],
+    c: usize,
+    at: &mut [usize],
+    gaps: &mut [usize],
+    p: Pending,
+    base: u32,
+    len: u32,
+) -> Passed
+    requires { ⌜ CanPass (now runs) n m (now out) c (now at) (now gaps) p base len ⌝ }
+    ensures { λ r. ⌜ HasPassed (now (runs .entry)) n m (now (out .entry)) (now (out .exit)) c (now (at .entry)) (now (at .exit)) (now (gaps .entry)) (now (gaps .exit)) p base len r ⌝ }
+{
+    let a = gap(runs, n, m, at, p, base);
+    let g = p.gaps;
+    if a < 64 {
+        gaps[g] = a;
+        let pending = Pending {
+            base: p.base,
+            len: p.len + 1 + len,
+            gaps: g + 1,
+        };
+        return Passed { count: c, pending };
+    }
+    let count = feed_pending(runs, n, m, out, c, at, gaps, p);
+    let pending = Pending { base, len, gaps: 0 };
+    Passed { count, pending }
+}
+
 // The stretches of the units from unit k on, of so many, dealt in turn and then lifted; answers how many.
 fn feed_waiting(
     runs: &[u32],
@@ -123,15 +236,23 @@ fn feed_waiting(
     requires { ⌜ CanFeedWaiting (now runs) n m (now words) k count (now out) (now at) ⌝ }
     ensures { λ r. ⌜ FedWaiting (now (runs .entry)) n m (now (words .entry)) k (now (out .exit)) r ⌝ }
 {
+    let mut gaps = [0usize; 8];
     let mut c: usize = 0;
+    let mut q = Pending {
+        base: 0,
+        len: 0,
+        gaps: 0,
+    };
     let mut p = k;
     while p < count {
         let s = before_lifts(words, p);
         let x = least(s.len, count - p);
-        c = feed_span(runs, n, m, s.base, x, out, c, at);
+        let r = pass(runs, n, m, out, c, at, &mut gaps, q, s.base, x);
+        c = r.count;
+        q = r.pending;
         p += x;
     }
-    c
+    feed_pending(runs, n, m, out, c, at, &gaps, q)
 }
 
 // An issue at its cutoff: how many stretches wait, and the position in front of all fails.
