@@ -171,7 +171,7 @@ static int lift(void)
 static int show_charges_on_entries(uint32_t days, uint32_t rate, uint32_t price,
                                    uint32_t accrued)
 {
-    for (size_t at = 0; at < book.entries; at++) {
+    for (size_t at = 0; at < book.state.entries; at++) {
         uint64_t yen = 0;
         if (day_charge(book.lots[at], price, days, rate, accrued, &yen) != DAY_DONE) {
             return 0;
@@ -194,7 +194,7 @@ static int roll(uint32_t days, uint32_t rate, uint32_t price, uint32_t accrued)
         !done("roll", day_book_roll(&book, days, rate, quotes))) {
         return 0;
     }
-    printf("day %d, phase %" PRIu32 "\n", book.day, book.phase);
+    printf("day %d, phase %" PRIu32 "\n", book.state.day, book.state.phase);
     for (size_t account = 0; account < DAY_ACCOUNTS; account++) {
         if (book.charges[account] != 0) {
             printf("account %zu: %" PRId64 " yen\n", account, book.charges[account]);
@@ -215,7 +215,7 @@ static int mark(uint32_t issue)
                    DAY_REFUSED_ODD) &&
            done("trade", day_book_trade(&marked, issue, 4, 1, 130000)) &&
            refused("the mark taken away", day_book_mark(&marked, issue, 0), DAY_REFUSED_IN_USE) &&
-           marked.marks[issue] == 1 && day_book_sound(&marked) == 1;
+           marked.state.marks[issue] == 1 && day_book_sound(&marked) == 1;
 }
 
 /* The change-over: named on day 0 for day 5, then for day 1 instead; on day 1 the units of P5 are dealt
@@ -232,10 +232,10 @@ static int change_over(void)
         !done("roll", day_book_roll(&dealt, 1, 300, quotes)) || !take_trades(&dealt)) {
         return 0;
     }
-    printf("in another book, full units dealt in turn from day %" PRIu32 " on:\n", dealt.turn);
+    printf("in another book, full units dealt in turn from day %" PRIu32 " on:\n", dealt.state.turn);
     return show_units(&dealt) && deliver(&dealt, 5, 150000) && cut(&dealt) &&
            refused("another day for it", day_book_turn(&dealt, 2), DAY_REFUSED_CHANGE_OVER) &&
-           dealt.turn == 1 && day_book_sound(&dealt) == 1;
+           dealt.state.turn == 1 && day_book_sound(&dealt) == 1;
 }
 
 int main(void)

@@ -2,13 +2,11 @@
  *
  * The functions are in static libraries, which `make libraries` makes:
  *
- *     target/staticlib/libexports.a   day_sound day_unit day_call day_ask day_commit day_read
- *                                     day_quotes day_write
- *     target/staticlib/libdesk.a      day_value day_charge
+ *     target/staticlib/libhost.a      day_sound day_unit day_status day_simulate day_call day_ask
+ *                                     day_commit
+ *     target/staticlib/libdesk.a      day_value day_charge day_read day_quotes day_write
  *     target/staticlib/libentries.a   entry_meet
- *     target/staticlib/libsizes.a     day_simulate
  *     target/staticlib/libfunds.a     day_bases day_shares day_funds
- *     target/staticlib/libstatus.a    day_status
  *     target/staticlib/libtrust.a     day_trust
  *
  * Each is proved to answer as the rules say for every number and every book, damaged ones too.
@@ -47,7 +45,7 @@ extern "C" {
 #define DAY_SETTLEMENT_ACCOUNTS 16u /* of a simulated desk: settlement accounts 0 to 15 */
 #define DAY_INVENTORIES 256u /* issue i in settlement account s stands at i * 16 + s */
 #define DAY_PARTICIPANTS 64u /* the most participants, and the places of an output of funds */
-#define DAY_STACK_BYTES 32768u /* the most stack that a call needs; measured: 26,232 */
+#define DAY_STACK_BYTES 32768u /* the most stack that a call needs; measured: 24,568 */
 
 /* The place of an issue and an account, both in range, in nets and delivered lots. */
 #define DAY_PLACE(issue, account) ((size_t)(issue) * DAY_ACCOUNTS + (size_t)(account))
@@ -134,16 +132,31 @@ extern "C" {
 
 /* ---- the libraries' functions
  *
- * A book goes in as three numbers, the change-over day, sixteen marks and nine columns. The change-over
- * day (turn) is the first day on which full units are dealt in turn, 0 where none is named. An issue's
- * mark is 0 where it takes any lots, and any other number where it takes even lots only; the call
- * stores 1 or 0. A column, the quotes, the words and an output are a pointer and a length in this
+ * A book goes in as its state, a struct by value, and nine columns; day_call gives the state after it
+ * back by value too. A column, the quotes, the words and an output are a pointer and a length in this
  * order: nets and delivered 1,024 each, lifts 288, charges 64, the ledger's five columns 2,048 each. A
  * column of another length is a damaged book. The number returned, but for day_sound's, is the
  * refusal's, 0 where it is done. */
 
+/* What of a book stands beside its columns. */
+struct day_state {
+    uint16_t day;
+    uint32_t phase;   /* above 2 it is no phase, and the book damaged */
+    size_t entries;   /* of the ledger's columns, so many are used */
+    uint32_t turn;    /* the first day on which full units are dealt in turn; 0: none is named */
+    uint8_t marks[DAY_ISSUES]; /* 0: the issue takes any lots; else even lots only. Stored: 1 or 0 */
+};
+
+/* What a call gives: number, count, pair-off's lots, and the state after it. */
+struct day_turned {
+    uint32_t refusal; /* 0 where it is done */
+    size_t count;
+    uint64_t cancelled;
+    struct day_state state;
+};
+
 /* 1 where the book is sound, else 0. */
-uint32_t day_sound(uint16_t day, uint32_t phase, size_t entries, uint32_t turn, const uint8_t marks[16],
+uint32_t day_sound(struct day_state state,
                    const int32_t *nets, size_t nets_length,
                    const uint32_t *delivered, size_t delivered_length,
                    const uint32_t *lifts, size_t lifts_length,
@@ -155,7 +168,7 @@ uint32_t day_sound(uint16_t day, uint32_t phase, size_t entries, uint32_t turn, 
                    const uint16_t *days, size_t days_length);
 
 /* The k-th unit of an issue, k from 0: 1, account, lots; or 0, 0, 0 where there is none. */
-uint32_t day_unit(uint16_t day, uint32_t phase, size_t entries, uint32_t turn, const uint8_t marks[16],
+uint32_t day_unit(struct day_state state,
                   const int32_t *nets, size_t nets_length,
                   const uint32_t *delivered, size_t delivered_length,
                   const uint32_t *lifts, size_t lifts_length,
@@ -169,7 +182,7 @@ uint32_t day_unit(uint16_t day, uint32_t phase, size_t entries, uint32_t turn, c
 
 /* Why the k-th unit of an issue, k from 0, has not come, in Settling and in Cut: the case and its lots
  * (0 where it is handed or wholly failed); twice 0 on a refusal (2, 3 in Taking, 4, 16). */
-uint32_t day_status(uint16_t day, uint32_t phase, size_t entries, uint32_t turn, const uint8_t marks[16],
+uint32_t day_status(struct day_state state,
                     const int32_t *nets, size_t nets_length,
                     const uint32_t *delivered, size_t delivered_length,
                     const uint32_t *lifts, size_t lifts_length,
@@ -189,7 +202,7 @@ uint32_t day_status(uint16_t day, uint32_t phase, size_t entries, uint32_t turn,
  * the first round without a delivery, which is counted. deliveries, rounds and the lots still owed of
  * each issue are all 0 on a refusal (2; 5, also for other than 64 settlement accounts; 7, also for
  * other than 256 inventories). */
-uint32_t day_simulate(uint16_t day, uint32_t phase, size_t entries, uint32_t turn, const uint8_t marks[16],
+uint32_t day_simulate(struct day_state state,
                       const int32_t *nets, size_t nets_length,
                       const uint32_t *delivered, size_t delivered_length,
                       const uint32_t *lifts, size_t lifts_length,
@@ -206,24 +219,24 @@ uint32_t day_simulate(uint16_t day, uint32_t phase, size_t entries, uint32_t tur
 /* The call of an instruction, made in place on any book. A kind that is none of 1..7, 13, 14 is refused by
  * 14 before anything else is asked, the output (1) and the book (2) too. Only deliver, cutoff and
  * resolve use the output, and only roll the quotes. count is that of the records written (for pair-off,
- * of the steps), cancelled pair-off's lots; both are 0 on a refusal. */
-uint32_t day_call(uint32_t kind, uint32_t a, uint32_t b, uint32_t c, uint32_t d,
-                  const uint32_t *quotes, size_t quotes_length,
-                  uint16_t *day, uint32_t *phase, size_t *entries, uint32_t *turn, uint8_t marks[16],
-                  int32_t *nets, size_t nets_length,
-                  uint32_t *delivered, size_t delivered_length,
-                  uint32_t *lifts, size_t lifts_length,
-                  int64_t *charges, size_t charges_length,
-                  uint8_t *issues, size_t issues_length,
-                  uint8_t *froms, size_t froms_length,
-                  uint8_t *tos, size_t tos_length,
-                  uint32_t *lots, size_t lots_length,
-                  uint16_t *days, size_t days_length,
-                  uint32_t *out, size_t out_length, size_t *count, uint64_t *cancelled);
+ * of the steps), cancelled pair-off's lots; both are 0 on a refusal, and the state is as it came. */
+struct day_turned day_call(uint32_t kind, uint32_t a, uint32_t b, uint32_t c, uint32_t d,
+                           const uint32_t *quotes, size_t quotes_length,
+                           struct day_state state,
+                           int32_t *nets, size_t nets_length,
+                           uint32_t *delivered, size_t delivered_length,
+                           uint32_t *lifts, size_t lifts_length,
+                           int64_t *charges, size_t charges_length,
+                           uint8_t *issues, size_t issues_length,
+                           uint8_t *froms, size_t froms_length,
+                           uint8_t *tos, size_t tos_length,
+                           uint32_t *lots, size_t lots_length,
+                           uint16_t *days, size_t days_length,
+                           uint32_t *out, size_t out_length);
 
 /* Asks for a lift of an issue's unit, by its number, in Settling; changes nothing. The ticket is
  * issue, unit, account, lots, day, count; six times 0 on a refusal. */
-uint32_t day_ask(uint16_t day, uint32_t phase, size_t entries, uint32_t turn, const uint8_t marks[16],
+uint32_t day_ask(struct day_state state,
                  const int32_t *nets, size_t nets_length,
                  const uint32_t *delivered, size_t delivered_length,
                  const uint32_t *lifts, size_t lifts_length,
@@ -237,8 +250,7 @@ uint32_t day_ask(uint16_t day, uint32_t phase, size_t entries, uint32_t turn, co
 
 /* Lifts the ticket's unit before all unhanded ones, in Settling, and hands on as far as stock covers.
  * Only the lifts and the output are changed; count is that of the records written, 0 on a refusal. */
-uint32_t day_commit(const uint32_t ticket[6], uint16_t day, uint32_t phase, size_t entries,
-                    uint32_t turn, const uint8_t marks[16],
+uint32_t day_commit(const uint32_t ticket[6], struct day_state state,
                     const int32_t *nets, size_t nets_length,
                     const uint32_t *delivered, size_t delivered_length,
                     uint32_t *lifts, size_t lifts_length,
@@ -325,11 +337,7 @@ uint32_t day_funds(const uint64_t *averages, size_t averages_length, uint64_t te
 /* ---- a book as a struct, and the calls on it */
 
 struct day_book {
-    uint16_t day;
-    uint32_t phase;
-    size_t entries; /* of the ledger's columns, so many are used */
-    uint8_t marks[DAY_ISSUES]; /* 0: the issue takes any lots; else even lots only */
-    uint32_t turn; /* the first day on which full units are dealt in turn; 0: none is named */
+    struct day_state state;
     int32_t nets[DAY_PLACES];
     uint32_t delivered[DAY_PLACES];
     uint32_t lifts[DAY_LIFT_PLACES];
@@ -406,7 +414,7 @@ static inline void day_book_fresh(struct day_book *book)
 /* 1 where the book is sound, else 0. */
 static inline uint32_t day_book_sound(const struct day_book *book)
 {
-    return day_sound(book->day, book->phase, book->entries, book->turn, book->marks, book->nets, DAY_PLACES,
+    return day_sound(book->state, book->nets, DAY_PLACES,
                      book->delivered, DAY_PLACES, book->lifts, DAY_LIFT_PLACES,
                      book->charges, DAY_ACCOUNTS, book->issues, DAY_ENTRIES,
                      book->froms, DAY_ENTRIES, book->tos, DAY_ENTRIES,
@@ -419,8 +427,7 @@ static inline struct day_unit_answer day_book_unit(const struct day_book *book, 
 {
     struct day_unit_answer unit;
     uint32_t answer[3] = {0, 0, 0};
-    unit.refusal = day_unit(book->day, book->phase, book->entries, book->turn, book->marks,
-                            book->nets, DAY_PLACES, book->delivered, DAY_PLACES,
+    unit.refusal = day_unit(book->state, book->nets, DAY_PLACES, book->delivered, DAY_PLACES,
                             book->lifts, DAY_LIFT_PLACES,
                             book->charges, DAY_ACCOUNTS, book->issues, DAY_ENTRIES,
                             book->froms, DAY_ENTRIES, book->tos, DAY_ENTRIES,
@@ -437,8 +444,7 @@ static inline struct day_status_answer day_book_status(const struct day_book *bo
 {
     struct day_status_answer told;
     uint32_t answer[2] = {0, 0};
-    told.refusal = day_status(book->day, book->phase, book->entries, book->turn, book->marks,
-                              book->nets, DAY_PLACES, book->delivered, DAY_PLACES,
+    told.refusal = day_status(book->state, book->nets, DAY_PLACES, book->delivered, DAY_PLACES,
                               book->lifts, DAY_LIFT_PLACES,
                               book->charges, DAY_ACCOUNTS, book->issues, DAY_ENTRIES,
                               book->froms, DAY_ENTRIES, book->tos, DAY_ENTRIES,
@@ -455,8 +461,7 @@ day_book_simulate(const struct day_book *book, const uint32_t settles[DAY_ACCOUN
 {
     struct day_simulated tried;
     memset(&tried, 0, sizeof tried);
-    tried.refusal = day_simulate(book->day, book->phase, book->entries, book->turn, book->marks,
-                                 book->nets, DAY_PLACES, book->delivered, DAY_PLACES,
+    tried.refusal = day_simulate(book->state, book->nets, DAY_PLACES, book->delivered, DAY_PLACES,
                                  book->lifts, DAY_LIFT_PLACES,
                                  book->charges, DAY_ACCOUNTS, book->issues, DAY_ENTRIES,
                                  book->froms, DAY_ENTRIES, book->tos, DAY_ENTRIES,
@@ -473,15 +478,18 @@ static inline struct day_answer day_book_call(struct day_book *book, uint32_t ki
                                               uint32_t *out, size_t out_length)
 {
     struct day_answer answer;
-    answer.count = 0;
-    answer.cancelled = 0;
-    answer.refusal = day_call(kind, a, b, c, d, quotes, quotes_length, &book->day, &book->phase,
-                              &book->entries, &book->turn, book->marks, book->nets, DAY_PLACES,
-                              book->delivered, DAY_PLACES, book->lifts, DAY_LIFT_PLACES,
-                              book->charges, DAY_ACCOUNTS, book->issues, DAY_ENTRIES,
-                              book->froms, DAY_ENTRIES, book->tos, DAY_ENTRIES,
-                              book->lots, DAY_ENTRIES, book->days, DAY_ENTRIES,
-                              out, out_length, &answer.count, &answer.cancelled);
+    struct day_turned turned =
+        day_call(kind, a, b, c, d, quotes, quotes_length, book->state, book->nets, DAY_PLACES,
+                 book->delivered, DAY_PLACES, book->lifts, DAY_LIFT_PLACES,
+                 book->charges, DAY_ACCOUNTS, book->issues, DAY_ENTRIES,
+                 book->froms, DAY_ENTRIES, book->tos, DAY_ENTRIES,
+                 book->lots, DAY_ENTRIES, book->days, DAY_ENTRIES, out, out_length);
+    if (turned.refusal == DAY_DONE) {
+        book->state = turned.state; /* else it is as it came */
+    }
+    answer.refusal = turned.refusal;
+    answer.count = turned.count;
+    answer.cancelled = turned.cancelled;
     return answer;
 }
 
@@ -491,8 +499,7 @@ static inline struct day_ask_answer day_book_ask(const struct day_book *book, ui
 {
     struct day_ask_answer asked;
     uint32_t ticket[6] = {0, 0, 0, 0, 0, 0};
-    asked.refusal = day_ask(book->day, book->phase, book->entries, book->turn, book->marks,
-                            book->nets, DAY_PLACES, book->delivered, DAY_PLACES,
+    asked.refusal = day_ask(book->state, book->nets, DAY_PLACES, book->delivered, DAY_PLACES,
                             book->lifts, DAY_LIFT_PLACES,
                             book->charges, DAY_ACCOUNTS, book->issues, DAY_ENTRIES,
                             book->froms, DAY_ENTRIES, book->tos, DAY_ENTRIES,
@@ -520,8 +527,8 @@ static inline struct day_answer day_book_commit(struct day_book *book, struct da
     numbers[5] = ticket.count;
     answer.count = 0;
     answer.cancelled = 0;
-    answer.refusal = day_commit(numbers, book->day, book->phase, book->entries, book->turn, book->marks,
-                                book->nets, DAY_PLACES, book->delivered, DAY_PLACES,
+    answer.refusal = day_commit(numbers, book->state, book->nets, DAY_PLACES,
+                                book->delivered, DAY_PLACES,
                                 book->lifts, DAY_LIFT_PLACES, book->charges, DAY_ACCOUNTS,
                                 book->issues, DAY_ENTRIES, book->froms, DAY_ENTRIES,
                                 book->tos, DAY_ENTRIES, book->lots, DAY_ENTRIES,

@@ -5,7 +5,7 @@ set -euo pipefail
 cd "$(dirname "$0")/.."
 scripts/tools.sh rt make gcc cargo rustc
 
-libraries=(desk entries exports status trust)
+libraries=(desk entries host trust)
 
 # The crates of this repository that a library depends on. It is proved itself where its archive is
 # made.

@@ -11,8 +11,8 @@ mkdir -p "$home/bin" "$home/crates/dayrun/src" "$home/crates/dayrun/must-fail" "
 cp -R scripts Makefile Cargo.toml tapes "$home"
 cp docs/CHECK-TIMES.md "$home/docs"
 echo 'fn main() {}' >"$home/crates/dayrun/src/main.rt"
-printf '%s\n' dayrun: desk: entries: exports: status: trust: >"$home/crates.txt"
-for crate in desk entries exports status trust; do mkdir "$home/crates/$crate"; done
+printf '%s\n' dayrun: desk: entries: host: trust: >"$home/crates.txt"
+for crate in desk entries host trust; do mkdir "$home/crates/$crate"; done
 
 tool() { # NAME: its script is read from standard input
     { echo '#!/bin/sh' && cat; } >"$home/bin/$1"

@@ -36,13 +36,13 @@ refuse 'large solution'
 refuse 'logic='
 [ "$(cat "$log")" = "$said" ] || { echo 'the log is not what was said'; exit 1; }
 
-# A whole gate in which every crate took 7 s, with two edits of rules in 5 and 4 s, and one of exports.
+# A whole gate in which every crate took 7 s, with two edits of rules in 5 and 4 s, and one of host.
 {
     sed -n 's/^\([a-z]*\):.*/rt: \1 proved (7 s)/p' crates.txt
     echo "rt: dayrun ran, and wrote what its file 'stdout' has (1 s)"
     echo 'rt: must-fail rules/one: refused, as it must be (first at specs/Units.antt:1:2; 5 s)'
     echo 'rt: must-fail rules/two: refused, as it must be (4 s)'
-    echo 'rt: must-fail exports/one: refused, as it must be (first at src/fields.rt:3:4; 31 s)'
+    echo 'rt: must-fail host/one: refused, as it must be (first at src/calls.rt:3:4; 31 s)'
     echo '35 passed, 0 failed'
 } >"$log"
 printf 'Said above.\n\n| Crate | old |\n' >"$page"
@@ -51,10 +51,10 @@ shown=$(cat "$page")
 all=$(sed -n '/^[a-z]*:/p' crates.txt | wc -l)
 expect -Fx 'Said above.'
 expect -Fx '| rules | 7 | 2 | 9 |'
-expect -Fx '| exports | 7 | 1 | 31 |'
+expect -Fx '| host | 7 | 1 | 31 |'
 expect -Fx '| dayrun | 7 | – | – |'
 expect -Fx "All $all crates together: $((7 * all)) seconds; their 3 edits: 40 seconds."
-refuse 'old'
+refuse '| old |'
 for line in '12 passed, 1 failed' 'rt: ok, 3 crates proved, no program run'; do
     ! scripts/check-times.sh <(echo "$line") "$page" 2>/dev/null || { echo "a table of: $line"; exit 1; }
 done
@@ -86,7 +86,7 @@ first_line() { # LIBRARIES: what is said before the first proof
     printf '' | PROGRESS_LATER=$1 scripts/progress.sh "$log" none_of_the_crates
 }
 [ -z "$(first_line '')" ] || { echo 'nothing is to be proved'; exit 1; }
-shown=$(first_line 'running turns pairing units dispatch exports')
+shown=$(first_line 'running turns pairing units soundness host')
 expect '^To be proved: 0 crates, then 6 libraries; about [2-9] minutes on [12] cores*, by '
 shown=$(first_line 'desk')
 expect '^To be proved: 0 crates, then 1 library; about a minute on '

@@ -3,6 +3,7 @@
 //! A column, the quotes, the words and an output are a pointer and a length, in this order.
 //! `host/settlement_day.h` has the same declarations for C.
 
+use crate::raw::{State, Turned};
 use crate::Entry;
 
 // libdesk.a
@@ -15,6 +16,28 @@ extern "C" {
         rate: u32,
         accrued: u32,
         yen: *mut u64,
+    ) -> u32;
+
+    pub fn day_read(
+        words: *const u32,
+        words_length: usize,
+        instruction: *mut [u32; 5],
+        count: *mut usize,
+    ) -> u32;
+
+    pub fn day_quotes(words: *const u32, words_length: usize, quotes: *mut [u32; 32]);
+
+    pub fn day_write(
+        kind: u32,
+        a: u32,
+        b: u32,
+        c: u32,
+        d: u32,
+        quotes: *const u32,
+        quotes_length: usize,
+        out: *mut u32,
+        out_length: usize,
+        count: *mut usize,
     ) -> u32;
 }
 
@@ -48,14 +71,82 @@ extern "C" {
     ) -> u32;
 }
 
-// libsizes.a
+// libhost.a
 extern "C" {
+    pub fn day_sound(
+        state: State,
+        nets: *const i32,
+        nets_length: usize,
+        delivered: *const u32,
+        delivered_length: usize,
+        lifts: *const u32,
+        lifts_length: usize,
+        charges: *const i64,
+        charges_length: usize,
+        issues: *const u8,
+        issues_length: usize,
+        froms: *const u8,
+        froms_length: usize,
+        tos: *const u8,
+        tos_length: usize,
+        lots: *const u32,
+        lots_length: usize,
+        days: *const u16,
+        days_length: usize,
+    ) -> u32;
+
+    pub fn day_unit(
+        state: State,
+        nets: *const i32,
+        nets_length: usize,
+        delivered: *const u32,
+        delivered_length: usize,
+        lifts: *const u32,
+        lifts_length: usize,
+        charges: *const i64,
+        charges_length: usize,
+        issues: *const u8,
+        issues_length: usize,
+        froms: *const u8,
+        froms_length: usize,
+        tos: *const u8,
+        tos_length: usize,
+        lots: *const u32,
+        lots_length: usize,
+        days: *const u16,
+        days_length: usize,
+        issue: u32,
+        k: u32,
+        answer: *mut [u32; 3],
+    ) -> u32;
+
+    pub fn day_status(
+        state: State,
+        nets: *const i32,
+        nets_length: usize,
+        delivered: *const u32,
+        delivered_length: usize,
+        lifts: *const u32,
+        lifts_length: usize,
+        charges: *const i64,
+        charges_length: usize,
+        issues: *const u8,
+        issues_length: usize,
+        froms: *const u8,
+        froms_length: usize,
+        tos: *const u8,
+        tos_length: usize,
+        lots: *const u32,
+        lots_length: usize,
+        days: *const u16,
+        days_length: usize,
+        issue: u32,
+        k: u32,
+        answer: *mut [u32; 2],
+    ) -> u32;
+
     pub fn day_simulate(
-        day: u16,
-        phase: u32,
-        entries: usize,
-        turn: u32,
-        marks: *const [u8; 16],
+        state: State,
         nets: *const i32,
         nets_length: usize,
         delivered: *const u32,
@@ -83,116 +174,6 @@ extern "C" {
         rounds: *mut u64,
         owed: *mut [u32; 16],
     ) -> u32;
-}
-
-// libstatus.a
-extern "C" {
-    pub fn day_status(
-        day: u16,
-        phase: u32,
-        entries: usize,
-        turn: u32,
-        marks: *const [u8; 16],
-        nets: *const i32,
-        nets_length: usize,
-        delivered: *const u32,
-        delivered_length: usize,
-        lifts: *const u32,
-        lifts_length: usize,
-        charges: *const i64,
-        charges_length: usize,
-        issues: *const u8,
-        issues_length: usize,
-        froms: *const u8,
-        froms_length: usize,
-        tos: *const u8,
-        tos_length: usize,
-        lots: *const u32,
-        lots_length: usize,
-        days: *const u16,
-        days_length: usize,
-        issue: u32,
-        k: u32,
-        answer: *mut [u32; 2],
-    ) -> u32;
-}
-
-// libtrust.a
-extern "C" {
-    pub fn day_trust(
-        sub_accounts: *const u32,
-        sub_accounts_length: usize,
-        counterparties: *const u32,
-        counterparties_length: usize,
-        lots: *const i32,
-        lots_length: usize,
-        earlier: *const u8,
-        earlier_length: usize,
-        draw: *const u32,
-        draw_length: usize,
-        fail: u32,
-        failing: u32,
-        out: *mut u32,
-        out_length: usize,
-    ) -> u32;
-}
-
-// libexports.a
-extern "C" {
-    pub fn day_sound(
-        day: u16,
-        phase: u32,
-        entries: usize,
-        turn: u32,
-        marks: *const [u8; 16],
-        nets: *const i32,
-        nets_length: usize,
-        delivered: *const u32,
-        delivered_length: usize,
-        lifts: *const u32,
-        lifts_length: usize,
-        charges: *const i64,
-        charges_length: usize,
-        issues: *const u8,
-        issues_length: usize,
-        froms: *const u8,
-        froms_length: usize,
-        tos: *const u8,
-        tos_length: usize,
-        lots: *const u32,
-        lots_length: usize,
-        days: *const u16,
-        days_length: usize,
-    ) -> u32;
-
-    pub fn day_unit(
-        day: u16,
-        phase: u32,
-        entries: usize,
-        turn: u32,
-        marks: *const [u8; 16],
-        nets: *const i32,
-        nets_length: usize,
-        delivered: *const u32,
-        delivered_length: usize,
-        lifts: *const u32,
-        lifts_length: usize,
-        charges: *const i64,
-        charges_length: usize,
-        issues: *const u8,
-        issues_length: usize,
-        froms: *const u8,
-        froms_length: usize,
-        tos: *const u8,
-        tos_length: usize,
-        lots: *const u32,
-        lots_length: usize,
-        days: *const u16,
-        days_length: usize,
-        issue: u32,
-        k: u32,
-        answer: *mut [u32; 3],
-    ) -> u32;
 
     pub fn day_call(
         kind: u32,
@@ -202,11 +183,7 @@ extern "C" {
         d: u32,
         quotes: *const u32,
         quotes_length: usize,
-        day: *mut u16,
-        phase: *mut u32,
-        entries: *mut usize,
-        turn: *mut u32,
-        marks: *mut [u8; 16],
+        state: State,
         nets: *mut i32,
         nets_length: usize,
         delivered: *mut u32,
@@ -227,16 +204,10 @@ extern "C" {
         days_length: usize,
         out: *mut u32,
         out_length: usize,
-        count: *mut usize,
-        cancelled: *mut u64,
-    ) -> u32;
+    ) -> Turned;
 
     pub fn day_ask(
-        day: u16,
-        phase: u32,
-        entries: usize,
-        turn: u32,
-        marks: *const [u8; 16],
+        state: State,
         nets: *const i32,
         nets_length: usize,
         delivered: *const u32,
@@ -262,11 +233,7 @@ extern "C" {
 
     pub fn day_commit(
         ticket: *const [u32; 6],
-        day: u16,
-        phase: u32,
-        entries: usize,
-        turn: u32,
-        marks: *const [u8; 16],
+        state: State,
         nets: *const i32,
         nets_length: usize,
         delivered: *const u32,
@@ -289,26 +256,24 @@ extern "C" {
         out_length: usize,
         count: *mut usize,
     ) -> u32;
+}
 
-    pub fn day_read(
-        words: *const u32,
-        words_length: usize,
-        instruction: *mut [u32; 5],
-        count: *mut usize,
-    ) -> u32;
-
-    pub fn day_quotes(words: *const u32, words_length: usize, quotes: *mut [u32; 32]);
-
-    pub fn day_write(
-        kind: u32,
-        a: u32,
-        b: u32,
-        c: u32,
-        d: u32,
-        quotes: *const u32,
-        quotes_length: usize,
+// libtrust.a
+extern "C" {
+    pub fn day_trust(
+        sub_accounts: *const u32,
+        sub_accounts_length: usize,
+        counterparties: *const u32,
+        counterparties_length: usize,
+        lots: *const i32,
+        lots_length: usize,
+        earlier: *const u8,
+        earlier_length: usize,
+        draw: *const u32,
+        draw_length: usize,
+        fail: u32,
+        failing: u32,
         out: *mut u32,
         out_length: usize,
-        count: *mut usize,
     ) -> u32;
 }

@@ -12,6 +12,28 @@ use crate::{Fields, ISSUES, QUOTES};
 /// What stands in a count before the library writes it: no answer has it.
 const NOT_WRITTEN: usize = usize::MAX;
 
+/// What of a book stands beside its columns, as the library takes it and gives it back: the change-over
+/// day is 0 where none is named, and of the marks any number but 0 is one.
+#[repr(C)]
+#[derive(Clone, Copy, Debug, PartialEq, Eq)]
+pub struct State {
+    pub day: u16,
+    pub phase: u32,
+    pub entries: usize,
+    pub turn: u32,
+    pub marks: [u8; ISSUES],
+}
+
+/// What a call gives: its answer, and the state after it.
+#[repr(C)]
+#[derive(Clone, Copy, Debug, PartialEq, Eq)]
+pub struct Turned {
+    pub refusal: u32,
+    pub count: usize,
+    pub cancelled: u64,
+    pub state: State,
+}
+
 /// A book as it is lent to a question: four numbers, of them the change-over day 0 where none is
 /// named, the marks of the issues, any number but 0 being one, and nine columns, of any length.
 #[derive(Clone, Copy, Debug, PartialEq, Eq)]
@@ -32,6 +54,14 @@ pub struct Columns<'a> {
     pub days: &'a [u16],
 }
 
+impl Columns<'_> {
+    /// Its state.
+    fn state(&self) -> State {
+        let Columns { day, phase, entries, turn, marks, .. } = *self;
+        State { day, phase, entries, turn, marks: *marks }
+    }
+}
+
 /// A book as it is lent to a call, which may change it.
 #[derive(Debug, PartialEq, Eq)]
 pub struct ColumnsMut<'a> {
@@ -49,6 +79,28 @@ pub struct ColumnsMut<'a> {
     pub tos: &'a mut [u8],
     pub lots: &'a mut [u32],
     pub days: &'a mut [u16],
+}
+
+impl ColumnsMut<'_> {
+    /// Its state.
+    fn state(&self) -> State {
+        State {
+            day: *self.day,
+            phase: *self.phase,
+            entries: *self.entries,
+            turn: *self.turn,
+            marks: *self.marks,
+        }
+    }
+
+    /// Puts a state in the place of its own.
+    fn put(&mut self, state: State) {
+        *self.day = state.day;
+        *self.phase = state.phase;
+        *self.entries = state.entries;
+        *self.turn = state.turn;
+        *self.marks = state.marks;
+    }
 }
 
 /// A call's answer: the refusal's number, 0 where it is done, the count of records (for pair-off,
@@ -113,16 +165,12 @@ pub struct WriteAnswer {
     pub count: usize,
 }
 
-/// Calls a function that takes a book to be read: its numbers and marks and each column with its
-/// length, then what else it takes.
+/// Calls a function that takes a book to be read: its state and each column with its length, then what
+/// else it takes.
 macro_rules! on_book {
     ($function:ident, $book:expr $(, $more:expr)*) => {
         $function(
-            $book.day,
-            $book.phase,
-            $book.entries,
-            $book.turn,
-            $book.marks,
+            $book.state(),
             $book.nets.as_ptr(),
             $book.nets.len(),
             $book.delivered.as_ptr(),
@@ -148,16 +196,15 @@ macro_rules! on_book {
 
 /// Is the book sound? 1 if it is, 0 if not.
 pub fn sound(book: &Columns) -> u32 {
-    // SAFETY: there are sixteen marks, and each column is given with its length; they live through the
-    // call, which reads them alone.
+    // SAFETY: each column is given with its length; they live through the call, which reads them alone.
     unsafe { on_book!(day_sound, book) }
 }
 
 /// The k-th unit of an issue, k from 0.
 pub fn unit(book: &Columns, issue: u32, k: u32) -> UnitAnswer {
     let mut answer = [u32::MAX; 3];
-    // SAFETY: there are sixteen marks, and each column is given with its length; they live through the
-    // call, which reads them alone; the answer has the three words that are written.
+    // SAFETY: each column is given with its length; they live through the call, which reads them
+    // alone; the answer has the three words that are written.
     let refusal = unsafe { on_book!(day_unit, book, issue, k, &mut answer) };
     let [found, account, lots] = answer;
     UnitAnswer { refusal, found, account, lots }
@@ -166,11 +213,9 @@ pub fn unit(book: &Columns, issue: u32, k: u32) -> UnitAnswer {
 /// The call of an instruction given by its fields, made in place on any book.
 pub fn call(book: &mut ColumnsMut, fields: &Fields, quotes: &[u32], out: &mut [u32]) -> Answer {
     let [kind, a, b, c, d] = *fields;
-    let (mut count, mut cancelled) = (NOT_WRITTEN, u64::MAX);
-    // SAFETY: there are sixteen marks; columns, quotes and output are given with their lengths. All
-    // live through the call, and none of those that it may write overlaps another: each is a
-    // reference of its own.
-    let refusal = unsafe {
+    // SAFETY: columns, quotes and output are given with their lengths. All live through the call, and
+    // none of those that it may write overlaps another: each is a reference of its own.
+    let turned = unsafe {
         day_call(
             kind,
             a,
@@ -179,11 +224,7 @@ pub fn call(book: &mut ColumnsMut, fields: &Fields, quotes: &[u32], out: &mut [u
             d,
             quotes.as_ptr(),
             quotes.len(),
-            book.day,
-            book.phase,
-            book.entries,
-            book.turn,
-            book.marks,
+            book.state(),
             book.nets.as_mut_ptr(),
             book.nets.len(),
             book.delivered.as_mut_ptr(),
@@ -204,18 +245,18 @@ pub fn call(book: &mut ColumnsMut, fields: &Fields, quotes: &[u32], out: &mut [u
             book.days.len(),
             out.as_mut_ptr(),
             out.len(),
-            &mut count,
-            &mut cancelled,
         )
     };
+    book.put(turned.state);
+    let Turned { refusal, count, cancelled, .. } = turned;
     Answer { refusal, count, cancelled }
 }
 
 /// What is told of the k-th unit of an issue, k from 0.
 pub fn status(book: &Columns, issue: u32, k: u32) -> StatusAnswer {
     let mut answer = [u32::MAX; 2];
-    // SAFETY: there are sixteen marks, and each column is given with its length; they live through the
-    // call, which reads them alone; the answer has the two numbers that are written.
+    // SAFETY: each column is given with its length; they live through the call, which reads them
+    // alone; the answer has the two numbers that are written.
     let refusal = unsafe { on_book!(day_status, book, issue, k, &mut answer) };
     let [case, lots] = answer;
     StatusAnswer { refusal, case, lots }
@@ -225,8 +266,7 @@ pub fn status(book: &Columns, issue: u32, k: u32) -> StatusAnswer {
 /// inventories (issue × 16 + settlement account, 256) and the size of a unit.
 pub fn simulate(book: &Columns, settles: &[u32], inventories: &[u32], size: u32) -> Simulated {
     let (mut deliveries, mut rounds, mut owed) = (u64::MAX, u64::MAX, [u32::MAX; ISSUES]);
-    // SAFETY: there are sixteen marks; columns, settlement accounts and inventories are given with
-    // their lengths and live through the call, which reads them alone; the three places that it
+    // SAFETY: columns, settlement accounts and inventories are given with their lengths and live through the call, which reads them alone; the three places that it
     // writes are of this function.
     let refusal = unsafe {
         on_book!(
@@ -248,8 +288,8 @@ pub fn simulate(book: &Columns, settles: &[u32], inventories: &[u32], size: u32)
 /// The ticket for a lift of an issue's unit, by its number.
 pub fn ask(book: &Columns, issue: u32, unit: u32) -> AskAnswer {
     let mut ticket = [u32::MAX; 6];
-    // SAFETY: there are sixteen marks, and each column is given with its length; they live through the
-    // call, which reads them alone; the ticket has the six numbers that are written.
+    // SAFETY: each column is given with its length; they live through the call, which reads them
+    // alone; the ticket has the six numbers that are written.
     let refusal = unsafe { on_book!(day_ask, book, issue, unit, &mut ticket) };
     AskAnswer { refusal, ticket }
 }
@@ -257,17 +297,12 @@ pub fn ask(book: &Columns, issue: u32, unit: u32) -> AskAnswer {
 /// The lift of a ticket, made in place on any book; of the book only the lifts are lent to be written.
 pub fn commit(book: &mut ColumnsMut, ticket: &TicketNumbers, out: &mut [u32]) -> Answer {
     let mut count = NOT_WRITTEN;
-    // SAFETY: there are sixteen marks; columns and output are given with their lengths. All live
-    // through the call, and neither of the two that it may write overlaps another: each is a
-    // reference of its own.
+    // SAFETY: columns and output are given with their lengths. All live through the call, and neither
+    // of the two that it may write overlaps another: each is a reference of its own.
     let refusal = unsafe {
         day_commit(
             ticket,
-            *book.day,
-            *book.phase,
-            *book.entries,
-            *book.turn,
-            book.marks,
+            book.state(),
             book.nets.as_ptr(),
             book.nets.len(),
             book.delivered.as_ptr(),

@@ -1,53 +1,26 @@
--- A book is a small state (day, phase, number of entries, marks) and its columns. A contract takes lent columns by name.
+-- A book is a small state and its columns. A contract takes lent columns by name.
 use mathlib.Core.Path.{_≡_}
 use mathlib.Core.Bool.{true}
 use mathlib.Core.List.{List}
-use Prim.Native.Nat.{ℕ, _+_, _≤_}
+use Prim.Native.Nat.{ℕ, _≤_}
 use lib.ListN.{length}
 use lib.IntN.{ℤ}
 use denote.Ref.{RefT, now}
 use denote.Triple.Both.{Both}
 use Rattle.rules.specs.declared.Book.{Book}
-use Rattle.rules.specs.declared.Phase.{Phase}
-use Rattle.rules.specs.declared.Phase.the-variants.{Taking}
+use Rattle.rules.specs.declared.State.{State}
 use Rattle.rules.specs.Measures.{outputWords}
 use Rattle.rules.specs.Book.{bookOf, sound, Lengths}
-use Rattle.book.specs.declared.State.{State}
-
--- Setters: nobody else writes a state out field by field
-
-abbrev pub stateOf : ℕ → Phase → ℕ → ℕ → List ℕ → State
-stateOf day phase n turn marks = record { day = day; phase = phase; entries = n; turn = turn; marks = marks }
-
-abbrev pub withPhase : State → Phase → State
-withPhase s p = stateOf (s .day) p (s .entries) (s .turn) (s .marks)
-
-abbrev pub withEntries : State → ℕ → State
-withEntries s n = stateOf (s .day) (s .phase) n (s .turn) (s .marks)
-
-abbrev pub withMarks : State → List ℕ → State
-withMarks s ms = stateOf (s .day) (s .phase) (s .entries) (s .turn) ms
-
-abbrev pub withTurn : State → ℕ → State
-withTurn s t = stateOf (s .day) (s .phase) (s .entries) t (s .marks)
-
-abbrev pub nextDay : State → State
-nextDay s = stateOf (s .day + 1) Taking (s .entries) (s .turn) (s .marks)
-
--- the book of a state and all columns
-abbrev pub bookIn : State → List ℤ → List ℕ → List ℕ → List ℤ → List ℕ → List ℕ → List ℕ → List ℕ → List ℕ → Book
-bookIn s nets delivered lifts charges issues froms tos lots days =
-    bookOf (s .day) (s .phase) (s .turn) (s .marks) nets delivered lifts charges (s .entries) issues froms tos lots days
 
 -- columns of a book's lengths that are a sound book
 pub record SoundColumns (s : State) (nets : List ℤ) (delivered lifts : List ℕ) (charges : List ℤ) (issues froms tos lots days : List ℕ) : Type 0 where
   pub lengths : Lengths nets delivered lifts charges issues froms tos lots days
-  pub sound : sound (bookIn s nets delivered lifts charges issues froms tos lots days) ≡ true
+  pub sound : sound (bookOf s nets delivered lifts charges issues froms tos lots days) ≡ true
 
 -- and beside them an output that is long enough
 pub record Ready (s : State) (nets : List ℤ) (delivered lifts : List ℕ) (charges : List ℤ) (issues froms tos lots days out : List ℕ) : Type 0 where
   pub lengths : Lengths nets delivered lifts charges issues froms tos lots days
-  pub sound : sound (bookIn s nets delivered lifts charges issues froms tos lots days) ≡ true
+  pub sound : sound (bookOf s nets delivered lifts charges issues froms tos lots days) ≡ true
   pub room : outputWords ≤ length out
 
 -- a column as a contract has it: lent, and before and after
@@ -66,8 +39,8 @@ abbrev pub columns :
     Column ℤ → Column ℕ → Column ℕ → Column ℤ → Column ℕ → Column ℕ → Column ℕ → Column ℕ → Column ℕ → Columns
 columns nets delivered lifts charges issues froms tos lots days =
     record {
-      before = λ s. bookIn s (now (nets .entry)) (now (delivered .entry)) (now (lifts .entry)) (now (charges .entry)) (now (issues .entry)) (now (froms .entry)) (now (tos .entry)) (now (lots .entry)) (now (days .entry));
-      after = λ s. bookIn s (now (nets .exit)) (now (delivered .exit)) (now (lifts .exit)) (now (charges .exit)) (now (issues .exit)) (now (froms .exit)) (now (tos .exit)) (now (lots .exit)) (now (days .exit));
+      before = λ s. bookOf s (now (nets .entry)) (now (delivered .entry)) (now (lifts .entry)) (now (charges .entry)) (now (issues .entry)) (now (froms .entry)) (now (tos .entry)) (now (lots .entry)) (now (days .entry));
+      after = λ s. bookOf s (now (nets .exit)) (now (delivered .exit)) (now (lifts .exit)) (now (charges .exit)) (now (issues .exit)) (now (froms .exit)) (now (tos .exit)) (now (lots .exit)) (now (days .exit));
     }
 
 abbrev pub soundColumns : State → Lent ℤ → Lent ℕ → Lent ℕ → Lent ℤ → Lent ℕ → Lent ℕ → Lent ℕ → Lent ℕ → Lent ℕ → Type 0

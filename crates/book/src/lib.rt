@@ -3,15 +3,15 @@
 
 use rules::Book;
 use rules::Phase;
+use rules::State;
 ghost use mathlib.Core.Path.{_≡_};
 ghost use mathlib.Core.List.{map};
 ghost use Prim.Native.Nat.{_<_};
 ghost use lib.ListN.{length};
 ghost use Rattle.rules.specs.Measures.{mostLots, lastDay, sum, dueOf, owedOf};
 ghost use Rattle.rules.specs.Fails.{undelivered};
-ghost use Rattle.rules.specs.Book.{inForce, isTaking, isSettling, isCut, withinSize, lotsEven, fresh as freshOf};
+ghost use Rattle.rules.specs.Book.{inForce, isTaking, isSettling, isCut, withinSize, lotsEven, stateOf, withPhase, withEntries, withTurn, withMarks, nextDay, bookOf, fresh as freshOf};
 ghost use Rattle.book.specs.Nets.{Small, Lowered, Raised};
-ghost use Rattle.book.specs.States.{stateOf, bookIn, withPhase, withEntries, withMarks, withTurn, nextDay};
 ghost use Rattle.book.specs.Rows.{Owing};
 
 // The lots due to an account with this net, 0 where it is not positive.
@@ -52,7 +52,7 @@ pub fn within(n: i32) -> bool
 }
 
 // Are lots in this issue even, if it is marked? There is no mark of an issue above 15.
-pub fn lots_even(marks: [u8; 16], i: u32, x: u32) -> bool
+fn lots_even(marks: [u8; 16], i: u32, x: u32) -> bool
     ensures { λ r. ⌜ r ≡ lotsEven marks i x ⌝ }
 {
     if 15 < i {
@@ -62,6 +62,14 @@ pub fn lots_even(marks: [u8; 16], i: u32, x: u32) -> bool
         return true;
     }
     x % 2 == 0
+}
+
+// The same by a state's marks.
+pub fn even_in(s: State, i: u32, x: u32) -> bool
+    ensures { λ r. ⌜ r ≡ lotsEven (s .marks) i x ⌝ }
+{
+    let marks = s.marks;
+    lots_even(marks, i, x)
 }
 
 // The lots due to each account of an issue, from its nets.
@@ -137,18 +145,7 @@ pub fn cut(p: Phase) -> bool
     }
 }
 
-// What of a book stands beside its columns: day, phase, number of entries, the first day on which full
-// units are dealt in turn (0: none is named), marks. It is written by the setters below and nowhere else
-// field by field.
-pub struct State {
-    pub day: u16,
-    pub phase: Phase,
-    pub entries: usize,
-    pub turn: u32,
-    pub marks: [u8; 16],
-}
-
-// The state of these numbers.
+// The state of these numbers. It is written by the setters below and nowhere else field by field.
 pub fn state_of(day: u16, phase: Phase, entries: usize, turn: u32, marks: [u8; 16]) -> State
     ensures { λ r. ⌜ r ≡ stateOf day phase entries turn marks ⌝ }
 {
@@ -163,7 +160,7 @@ pub fn state_of(day: u16, phase: Phase, entries: usize, turn: u32, marks: [u8; 1
 
 // The book of a state and its columns.
 pub fn book_in(
-    s: State,
+    state: State,
     nets: [i32; 1024],
     delivered: [u32; 1024],
     lifts: [u32; 288],
@@ -174,20 +171,14 @@ pub fn book_in(
     lots: [u32; 2048],
     days: [u16; 2048],
 ) -> Book
-    ensures { λ r. ⌜ r ≡ bookIn s nets delivered lifts charges issues froms tos lots days ⌝ }
+    ensures { λ r. ⌜ r ≡ bookOf state nets delivered lifts charges issues froms tos lots days ⌝ }
 {
-    let phase = s.phase;
-    let marks = s.marks;
     Book {
-        day: s.day,
-        phase,
-        turn: s.turn,
-        marks,
+        state,
         nets,
         delivered,
         lifts,
         charges,
-        count: s.entries,
         issues,
         froms,
         tos,
@@ -264,15 +255,17 @@ pub fn fresh() -> Book
     ensures { λ r. ⌜ r ≡ freshOf ⌝ }
 {
     Book {
-        day: 0,
-        phase: Phase::Taking,
-        turn: 0,
-        marks: [0; 16],
+        state: State {
+            day: 0,
+            phase: Phase::Taking,
+            entries: 0,
+            turn: 0,
+            marks: [0; 16],
+        },
         nets: [0; 1024],
         delivered: [0; 1024],
         lifts: [0; 288],
         charges: [0; 64],
-        count: 0,
         issues: [0; 2048],
         froms: [0; 2048],
         tos: [0; 2048],

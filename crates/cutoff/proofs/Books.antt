@@ -15,7 +15,7 @@ use Rattle.laws.proofs.Sound.{SoundBook, parts-sound}
 use Rattle.ledger.proofs.Books.{book-held}
 use Rattle.book.specs.Cells.{SoundCells}
 use Rattle.laws.proofs.Answers.{yes}
-use Rattle.cutoff.specs.Write.{Lent, lent}
+use Rattle.cutting.specs.Write.{Lent, lent}
 use Rattle.cutoff.specs.All.{CanCutAll}
 
 -- a book's columns with an output
@@ -25,14 +25,14 @@ columnsOf b o = lent (b .issues) (b .froms) (b .tos) (b .lots) (b .days) o
 module _ (new : Bool) (b : Book) (s : SoundBook b) where
   pub can-cut-all : (o : List ℕ) → SoundCells (b .nets) (b .delivered) (b .lifts) →
       LedgerLengths (b .issues) (b .froms) (b .tos) (b .lots) (b .days) → outputWords ≤ length o →
-      firstNo (cutoffAsks (b .phase) (b .count) (length (newEntries (b .day) (orderIn new (b .nets) (b .lifts)) (b .nets) (b .delivered)))) ≡ 0 →
-      CanCutAll new (b .nets) (b .delivered) (b .lifts) (b .day) (b .count) (columnsOf b o)
+      firstNo (cutoffAsks (b .state .phase) (b .state .entries) (length (newEntries (b .state .day) (orderIn new (b .nets) (b .lifts)) (b .nets) (b .delivered)))) ≡ 0 →
+      CanCutAll new (b .nets) (b .delivered) (b .lifts) (b .state .day) (b .state .entries) (columnsOf b o)
   can-cut-all o c f h q =
-      let n = length (newEntries (b .day) (orderIn new (b .nets) (b .lifts)) (b .nets) (b .delivered)) in
-      let y3 = yes 2 (isSettling (b .phase)) (askEntries (b .count) n ∷ []) q in
+      let n = length (newEntries (b .state .day) (orderIn new (b .nets) (b .lifts)) (b .nets) (b .delivered)) in
+      let y3 = yes 2 (isSettling (b .state .phase)) (askEntries (b .state .entries) n ∷ []) q in
       record {
         sound = c;
         held = book-held b (parts-sound b s) (record { issues = f .issues; froms = f .froms; tos = f .tos; lotss = f .lots; dayss = f .days });
-        most = leb-true (b .count + n) mostEntries (yes 9 (leb (b .count + n) mostEntries) [] (y3 .others) .first);
+        most = leb-true (b .state .entries + n) mostEntries (yes 9 (leb (b .state .entries + n) mostEntries) [] (y3 .others) .first);
         room = h;
       }

@@ -17,13 +17,13 @@ use Rattle.rules.specs.Calls.{joined, failEntry, issueFails, issueEntries, issu
 use Rattle.laws.proofs.Cells.{length-row}
 use Rattle.laws.proofs.Room.{cutoff-room}
 use Rattle.laws.proofs.SoundRows.{order-in}
-use Rattle.units.proofs.Cells.{sound-row}
+use Rattle.runs.proofs.Cells.{sound-row}
 use Rattle.ledger.specs.Columns.{Columns}
-use Rattle.cutoff.specs.declared.Counts.{Counts}
-use Rattle.cutoff.specs.Write.{Lent, CanWrite, Wrote}
-use Rattle.cutoff.specs.Issue.{countsOf, CanCut, WasCut}
+use Rattle.cutting.specs.declared.Counts.{Counts}
+use Rattle.cutting.specs.Write.{Lent, CanWrite, Wrote}
+use Rattle.cutting.specs.Issue.{countsOf, CanCut, WasCut}
 use Rattle.cutoff.specs.All.{Counted, Asked, CanCutAll, WasCutAll}
-use Rattle.cutoff.proofs.Writing.{ledger-length, behind, back, Laying, laying-starts, laying-can, laying-more, laying-ends}
+use Rattle.cutting.proofs.Writing.{ledger-length, behind, back, Laying, laying-starts, laying-can, laying-more, laying-ends}
 
 -- entries and records of m issues from issue i on
 unfoldable pub entriesFrom : Bool → ℕ → List ℤ → List ℕ → List ℕ → ℕ → ℕ → List Entry

@@ -13,8 +13,8 @@ use Rattle.rules.specs.Book.{orderIn}
 use Rattle.rules.specs.Calls.{newEntries, cutoffRecords, cutoffAsks}
 use Rattle.book.specs.Cells.{SoundCells}
 use Rattle.ledger.specs.Columns.{Columns}
-use Rattle.cutoff.specs.declared.Counts.{Counts}
-use Rattle.cutoff.specs.Write.{Lent, ledgerIn, HeldIn}
+use Rattle.cutting.specs.declared.Counts.{Counts}
+use Rattle.cutting.specs.Write.{Lent, ledgerIn, HeldIn}
 
 -- how many entries a cutoff makes, whatever the day
 pub record Counted (new : Bool) (nets : List ℤ) (delivered lifts : List ℕ) (r : ℕ) : Type 0 where

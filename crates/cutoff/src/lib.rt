@@ -1,262 +1,17 @@
-// Cutoff, issue by issue: the stock goes to the next unit (record 10), then the shortfalls are laid
-// against what the units lack, each overlap an entry of the ledger and a record (12).
-use rules::Entry;
+// Cutoff: its questions, and all issues one after the other.
+use answers::Turn;
+use cutting::Counts;
+use cutting::count_issue;
+use cutting::cut_issue;
+use cutting::numbers;
 use rules::Phase;
-use units::Cursor;
-use units::Next;
-ghost use mathlib.Core.Path.{_≡_};
-ghost use mathlib.Core.Bool.{true, false};
-ghost use mathlib.Core.List.{_∷_, []};
-ghost use Prim.Native.Nat.{_+_, _≤_, _<_};
-ghost use lib.ListN.{length};
-ghost use Rattle.rules.specs.Ledger.{entry};
-ghost use Rattle.rules.specs.Book.{orderIn};
-ghost use Rattle.rules.specs.Calls.{issueFails};
+use rules::State;
+ghost use Prim.Native.Nat.{_≤_};
+ghost use Rattle.rules.specs.Calls.{Cutoff};
 ghost use Rattle.book.specs.Cells.{SoundCells};
-ghost use Rattle.cutoff.specs.Write.{lending, lentBefore, lentAfter, failRecords, Wrote};
-ghost use Rattle.cutoff.specs.Issue.{countsOf, CanEnter, CanLay, WasLaid, CanHand, WasHanded, CanReady, IsReady, CanCut, WasCut};
+ghost use Rattle.answers.specs.Turns.{Turns, onFails, cutoffReady};
+ghost use Rattle.cutting.specs.Write.{lending, lentBefore, lentAfter};
 ghost use Rattle.cutoff.specs.All.{Counted, Asked, CanCutAll, WasCutAll};
-
-// The entry of a fail.
-fn fail(i: u8, f: u32, t: u32, x: u32, day: u16) -> Entry
-    requires { ⌜ (f < 64) × (t < 64) ⌝ }
-    ensures { λ r. ⌜ r ≡ entry i f t x day ⌝ }
-{
-    Entry {
-        issue: i,
-        from: f as u8,
-        to: t as u8,
-        lots: x,
-        day,
-    }
-}
-
-// One fail: its entry behind n others, its record at the front of the lent part of the output.
-fn enter(
-    n: usize,
-    issues: &mut [u8],
-    froms: &mut [u8],
-    tos: &mut [u8],
-    lots: &mut [u32],
-    days: &mut [u16],
-    out: &mut [u32],
-    e: Entry,
-)
-    requires { ⌜ CanEnter e n (lending issues froms tos lots days out) ⌝ }
-    ensures { λ _. ⌜ Wrote (e ∷ []) (failRecords (e ∷ [])) n (lentBefore issues froms tos lots days out) (n + 1) (lentAfter issues froms tos lots days out) ⌝ }
-{
-    ledger::append(
-        n,
-        issues,
-        froms,
-        tos,
-        lots,
-        days,
-        e.issue,
-        e.from,
-        e.to,
-        e.lots,
-        e.day,
-    );
-    words::record(out, 12, e.issue as u32, e.from as u32, e.to as u32, e.lots);
-}
-
-// An issue at its cutoff: how many words its units take, the cursor in front of its fails, and its stock.
-pub struct Ready {
-    pub n: usize,
-    pub cursor: Cursor,
-    pub stock: u32,
-}
-
-// Each overlap from a cursor on becomes an entry and a record; answers their number.
-fn lay(
-    runs: &[u32],
-    missing: &[u32],
-    p: Ready,
-    i: u8,
-    day: u16,
-    n: usize,
-    issues: &mut [u8],
-    froms: &mut [u8],
-    tos: &mut [u8],
-    lots: &mut [u32],
-    days: &mut [u16],
-    out: &mut [u32],
-) -> usize
-    requires { ⌜ CanLay day i (now runs) (now missing) p n (lending issues froms tos lots days out) ⌝ }
-    ensures { λ r. ⌜ WasLaid day i (now (runs .entry)) (now (missing .entry)) p n (lentBefore issues froms tos lots days out) r (lentAfter issues froms tos lots days out) ⌝ }
-{
-    let k = p.n;
-    let mut cur = p.cursor;
-    let mut done: usize = 0;
-    loop {
-        let Next::Overlap(f, t, x, rest) = units::advance(runs, k, missing, cur) else {
-            return done;
-        };
-        let e = fail(i, f, t, x, day);
-        enter(
-            n + done,
-            issues,
-            froms,
-            tos,
-            lots,
-            days,
-            &mut out[2 * done..],
-            e,
-        );
-        cur = rest;
-        done += 1;
-    }
-}
-
-// The stock's record, if the stock is not 0, at the front of the lent part; answers how many records that is.
-fn hand_stock(out: &mut [u32], i: u32, to: u32, lots: u32) -> usize
-    requires { ⌜ CanHand i to lots (now out) ⌝ }
-    ensures { λ r. ⌜ WasHanded i to lots r (now (out .entry)) (now (out .exit)) ⌝ }
-{
-    if lots == 0 {
-        return 0;
-    }
-    words::record(out, 10, i, 0, to, lots);
-    1
-}
-
-// An issue's units and shortfalls into lent arrays, and where its delivered total ends: in the order of old.
-fn prepare(
-    nets: &[i32],
-    delivered: &[u32],
-    lifts: &[u32],
-    i: usize,
-    runs: &mut [u32],
-    missing: &mut [u32],
-) -> Ready
-    requires { ⌜ CanReady (now nets) (now delivered) (now lifts) i (now runs) (now missing) ⌝ }
-    ensures { λ r. ⌜ IsReady false (now (nets .entry)) (now (delivered .entry)) (now (lifts .entry)) i (now (runs .exit)) (now (missing .exit)) r ⌝ }
-{
-    let s = i * 64;
-    let e = s + 64;
-    let n = units::prepare(nets, lifts, i, runs);
-    let d = book::total(&delivered[s..e]);
-    book::missing_of(&nets[s..e], &delivered[s..e], missing);
-    let p = units::start(runs, n, d);
-    let c = p.cursor;
-    Ready {
-        n,
-        cursor: c,
-        stock: p.stock,
-    }
-}
-
-// The same where full units are dealt in turn.
-fn prepare_dealt(
-    nets: &[i32],
-    delivered: &[u32],
-    lifts: &[u32],
-    i: usize,
-    runs: &mut [u32],
-    missing: &mut [u32],
-) -> Ready
-    requires { ⌜ CanReady (now nets) (now delivered) (now lifts) i (now runs) (now missing) ⌝ }
-    ensures { λ r. ⌜ IsReady true (now (nets .entry)) (now (delivered .entry)) (now (lifts .entry)) i (now (runs .exit)) (now (missing .exit)) r ⌝ }
-{
-    let s = i * 64;
-    let e = s + 64;
-    let d = book::total(&delivered[s..e]);
-    book::missing_of(&nets[s..e], &delivered[s..e], missing);
-    let b = stretching::start(nets, lifts, i, d, runs);
-    let p = b.position;
-    let c = p.cursor;
-    Ready {
-        n: b.n,
-        cursor: c,
-        stock: p.stock,
-    }
-}
-
-// The same in the order of the day.
-fn prepare_for(
-    dealt: bool,
-    nets: &[i32],
-    delivered: &[u32],
-    lifts: &[u32],
-    i: usize,
-    runs: &mut [u32],
-    missing: &mut [u32],
-) -> Ready
-    requires { ⌜ CanReady (now nets) (now delivered) (now lifts) i (now runs) (now missing) ⌝ }
-    ensures { λ r. ⌜ IsReady dealt (now (nets .entry)) (now (delivered .entry)) (now (lifts .entry)) i (now (runs .exit)) (now (missing .exit)) r ⌝ }
-{
-    if dealt {
-        return prepare_dealt(nets, delivered, lifts, i, runs, missing);
-    }
-    prepare(nets, delivered, lifts, i, runs, missing)
-}
-
-// How many entries the ledger has, and how many records were written.
-pub struct Counts {
-    pub entries: usize,
-    pub records: usize,
-}
-
-fn numbers(entries: usize, records: usize) -> Counts
-    ensures { λ r. ⌜ r ≡ countsOf entries records ⌝ }
-{
-    Counts { entries, records }
-}
-
-// The cutoff of one issue, its entries behind n others, its records at the front of the lent part.
-fn cut_issue(
-    dealt: bool,
-    nets: &[i32],
-    delivered: &[u32],
-    lifts: &[u32],
-    i: usize,
-    day: u16,
-    n: usize,
-    issues: &mut [u8],
-    froms: &mut [u8],
-    tos: &mut [u8],
-    lots: &mut [u32],
-    days: &mut [u16],
-    out: &mut [u32],
-) -> Counts
-    requires { ⌜ CanCut dealt (now nets) (now delivered) (now lifts) day i n (lending issues froms tos lots days out) ⌝ }
-    ensures { λ r. ⌜ WasCut dealt (now (nets .entry)) (now (delivered .entry)) (now (lifts .entry)) day i n (lentBefore issues froms tos lots days out) r (lentAfter issues froms tos lots days out) ⌝ }
-{
-    let mut runs = [0u32; 144];
-    let mut missing = [0u32; 64];
-    let p = prepare_for(dealt, nets, delivered, lifts, i, &mut runs, &mut missing);
-    let c = p.cursor;
-    let v = hand_stock(out, i as u32, c.to, p.stock);
-    let m = lay(
-        &runs,
-        &missing,
-        p,
-        i as u8,
-        day,
-        n,
-        issues,
-        froms,
-        tos,
-        lots,
-        days,
-        &mut out[2 * v..],
-    );
-    numbers(n + m, v + m)
-}
-
-// How many fails an issue has.
-fn count_issue(dealt: bool, nets: &[i32], delivered: &[u32], lifts: &[u32], i: usize) -> usize
-    requires { ⌜ SoundCells (now nets) (now delivered) (now lifts) × (i < 16) ⌝ }
-    ensures { λ r. ⌜ r ≡ length (issueFails (orderIn dealt (now (nets .entry)) (now (lifts .entry))) (now (nets .entry)) (now (delivered .entry)) i) ⌝ }
-{
-    let mut runs = [0u32; 144];
-    let mut missing = [0u32; 64];
-    let p = prepare_for(dealt, nets, delivered, lifts, i, &mut runs, &mut missing);
-    let k = p.n;
-    let c = p.cursor;
-    units::count(&runs, k, &missing, c)
-}
 
 // How many entries a cutoff of all issues makes.
 fn count<'a>(dealt: bool, nets: &'a [i32], delivered: &'a [u32], lifts: &'a [u32]) -> usize
@@ -273,17 +28,18 @@ fn count<'a>(dealt: bool, nets: &'a [i32], delivered: &'a [u32], lifts: &'a [u32
 }
 
 // Questions 3 and 10 of a cutoff, of a sound book: the number of the first 'no', or 0.
-pub fn cutoff_asks<'a>(
+fn cutoff_asks<'a>(
     dealt: bool,
-    phase: Phase,
-    old: usize,
+    s: State,
     nets: &'a [i32],
     delivered: &'a [u32],
     lifts: &'a [u32],
 ) -> u32
-    requires { ⌜ SoundCells (now nets) (now delivered) (now lifts) × (old ≤ 2048) ⌝ }
-    ensures { λ r. ⌜ Asked dealt phase old (now (nets .entry)) (now (delivered .entry)) (now (lifts .entry)) r ⌝ }
+    requires { ⌜ SoundCells (now nets) (now delivered) (now lifts) × (s .entries ≤ 2048) ⌝ }
+    ensures { λ r. ⌜ Asked dealt (s .phase) (s .entries) (now (nets .entry)) (now (delivered .entry)) (now (lifts .entry)) r ⌝ }
 {
+    let phase = s.phase;
+    let old = s.entries;
     if !book::settling(phase) {
         return 3;
     }
@@ -293,15 +49,15 @@ pub fn cutoff_asks<'a>(
     0
 }
 
-// The cutoff of all issues, in place: entries behind the first `count`, records from the front of the
+// The cutoff of all issues, in place: entries behind the first `entries`, records from the front of the
 // output; answers how many entries and records there are then.
-pub fn cutoff_in<'a>(
+fn cutoff_in<'a>(
     dealt: bool,
     nets: &'a [i32],
     delivered: &'a [u32],
     lifts: &'a [u32],
     day: u16,
-    count: usize,
+    entries: usize,
     issues: &mut [u8],
     froms: &mut [u8],
     tos: &mut [u8],
@@ -309,11 +65,11 @@ pub fn cutoff_in<'a>(
     days: &mut [u16],
     out: &mut [u32],
 ) -> Counts
-    requires { ⌜ CanCutAll dealt (now nets) (now delivered) (now lifts) day count (lending issues froms tos lots days out) ⌝ }
-    ensures { λ r. ⌜ WasCutAll dealt (now (nets .entry)) (now (delivered .entry)) (now (lifts .entry)) day count (lentBefore issues froms tos lots days out) r (lentAfter issues froms tos lots days out) ⌝ }
+    requires { ⌜ CanCutAll dealt (now nets) (now delivered) (now lifts) day entries (lending issues froms tos lots days out) ⌝ }
+    ensures { λ r. ⌜ WasCutAll dealt (now (nets .entry)) (now (delivered .entry)) (now (lifts .entry)) day entries (lentBefore issues froms tos lots days out) r (lentAfter issues froms tos lots days out) ⌝ }
 {
     let mut i: usize = 0;
-    let mut n = count;
+    let mut n = entries;
     let mut w: usize = 0;
     while i < 16 {
         let k = cut_issue(
@@ -336,4 +92,49 @@ pub fn cutoff_in<'a>(
         i += 1;
     }
     numbers(n, w)
+}
+
+// cutoff: the new entries behind the others, and the phase, unless it is refused; the records go to
+// the output.
+pub fn cutoff<'a>(
+    s: State,
+    nets: &'a [i32],
+    delivered: &'a [u32],
+    lifts: &'a [u32],
+    issues: &mut [u8],
+    froms: &mut [u8],
+    tos: &mut [u8],
+    lots: &mut [u32],
+    days: &mut [u16],
+    out: &mut [u32],
+) -> Turn
+    requires { ⌜ cutoffReady s nets delivered lifts issues froms tos lots days out ⌝ }
+    ensures { λ r. ⌜ Turns (onFails nets delivered lifts issues froms tos lots days) s (Cutoff (now (out .entry))) r (now (out .exit)) ⌝ }
+{
+    let dealt = book::dealt_today(s);
+    let no = cutoff_asks(dealt, s, nets, delivered, lifts);
+    if no != 0 {
+        return answers::refused(no, s);
+    }
+    let k = cutoff_in(
+        dealt,
+        nets,
+        delivered,
+        lifts,
+        s.day,
+        s.entries,
+        issues,
+        froms,
+        tos,
+        lots,
+        days,
+        out,
+    );
+    let next = book::with_entries(book::with_phase(s, Phase::Cut), k.entries);
+    Turn {
+        refusal: 0,
+        count: k.records,
+        cancelled: 0,
+        state: next,
+    }
 }

@@ -1,2 +1,2 @@
 -- Laws of a day.
-pub mod Sofar
+pub mod Closing

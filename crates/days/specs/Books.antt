@@ -8,11 +8,11 @@ use Rattle.rules.specs.declared.Ticket.{Ticket}
 use Rattle.rules.specs.Measures.{liftCells}
 use Rattle.rules.specs.Units.{accountLots}
 use Rattle.rules.specs.Ledger.{entry}
-use Rattle.rules.specs.Book.{sound, withMarks, withLifts, withLedger, fresh}
+use Rattle.rules.specs.Book.{sound, withState, withMarks, withLifts, withLedger, fresh}
 use Rattle.rules.specs.Calls.{Trade, Close, Deliver, Commit, Cutoff, Resolve, PairOff, Roll, Mark, Answer, ticketFor, called}
 use Rattle.rules.specs.Tape.{rollWord, quoteWord}
 use Rattle.rules.specs.Run.{Ran, runOf}
-use Rattle.rules.specs.Tally.{State, afterAll, start}
+use Rattle.rules.specs.Tally.{Tallied, afterAll, start}
 use Rattle.rules.specs.Days.{fail, quotesP9}
 
 -- a lent output: the words after the last record show that they are kept
@@ -64,13 +64,13 @@ unfoldable pub exampleRun : Ran
 exampleRun = runOf exampleTape false
 
 -- the same calls as P5 to P8 and the resolve after it, tallied
-unfoldable pub tallied : State
+unfoldable pub tallied : Tallied
 tallied =
     afterAll start
     (Trade 0 4 1 230000 ∷ Trade 0 5 2 250000 ∷ Trade 0 5 3 150000 ∷ Close ∷ Deliver 0 5 345000 lent
     ∷ Deliver 0 4 200000 lent ∷ [])
 
-unfoldable pub talliedCut : State
+unfoldable pub talliedCut : Tallied
 talliedCut = afterAll tallied (Cutoff lent ∷ Resolve 0 4 6000 lent ∷ [])
 
 -- Lifts
@@ -101,7 +101,7 @@ unfoldable pub eightLifts : Book
 eightLifts = ownPlaces 8
 
 -- 3 sells 300,000 to 1 and 200,000 to 2; unit 3 of the units 1 1 1 2 2 is lifted, 50,000 are delivered, cutoff
-unfoldable pub parted : State
+unfoldable pub parted : Tallied
 parted =
     afterAll start
     (Trade 0 3 1 300000 ∷ Trade 0 3 2 200000 ∷ Close ∷ Commit (ticketFor 0 3 (accountLots 2 100000) 0 0) lent
@@ -137,7 +137,7 @@ markedRoll = called (markedCut .book) (Roll 1 300 quotesP9)
 
 -- is a book sound with issue 3 marked?
 abbrev pub soundMarked : Book → Bool
-soundMarked b = sound (withMarks b marks3)
+soundMarked b = sound (withState b (withMarks (b .state) marks3))
 
 -- 1 sells x lots of issue 3 to 2 and delivers d of them
 abbrev pub sold : ℕ → Book
@@ -153,7 +153,7 @@ withEntry i x = withLedger fresh (entry i 1 2 x 0 ∷ [])
 -- Accrued interest
 
 -- 1 sells 3 lots of issue 1 to 2 and fails; roll, 12 days, 10,000, price 101, accrued 1, and 10,000 in the other issues
-unfoldable pub accruing : State
+unfoldable pub accruing : Tallied
 accruing =
     afterAll start
     (Trade 1 1 2 3 ∷ Close ∷ Cutoff lent ∷ Roll 12 10000 (replicate 16 101 ++ (10000 ∷ 1 ∷ replicate 14 10000)) ∷ [])

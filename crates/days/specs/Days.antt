@@ -9,10 +9,10 @@ use Rattle.rules.specs.declared.Name.the-variants as name
 use Rattle.rules.specs.Measures.{valueOf, chargeOf}
 use Rattle.rules.specs.Units.{accountLots, units, sumLots}
 use Rattle.rules.specs.Handover.{handovers, partials}
-use Rattle.rules.specs.Lifts.{liftOf, lift, handedFrom}
+use Rattle.rules.specs.Lifts.{liftOf, lift}
 use Rattle.rules.specs.Fails.{lacks, fails}
 use Rattle.rules.specs.Ledger.{entry, pairing}
-use Rattle.rules.specs.Book.{liftConditions, liftsSound, conditions, sound, liftsAt, countAt, orderIn, orderOf, stockOf, ledgerOf, cellsEven, withMarks, fresh}
+use Rattle.rules.specs.Book.{liftConditions, liftsSound, conditions, sound, liftsAt, countAt, orderIn, orderOf, stockOf, ledgerOf, cellsEven, withState, withMarks, fresh}
 use Rattle.rules.specs.Questions.{quotesRight}
 use Rattle.rules.specs.Calls.{Trade, Deliver, Commit, Resolve, Roll, Mark, Answer, someTicket, noTicket, oneUnit, noUnit, called, asked, unit, issuePartials, issueFails}
 use Rattle.rules.specs.Tape.{readOf, quotesOf}
@@ -179,12 +179,12 @@ markDays =
     ∷ case (ledgerOf (called (markedCut .book) (Resolve 3 1 6000 lent) .book)) (entry 3 1 2 44000 0 ∷ entry 3 1 2 2 0 ∷ [])
     ∷ case (called (markedCut .book) (Resolve 3 1 50003 lent) .refusal ∷ []) (19 ∷ [])
     -- the mark stays over days; it is refused while the issue has an entry, whatever it is; one of no use is set and taken away
-    ∷ case (markedRoll .book .marks) marks3
+    ∷ case (markedRoll .book .state .marks) marks3
     ∷ case
     (called (markedRoll .book) (Mark 3 1) .refusal ∷ called (markedRoll .book) (Mark 16 1) .refusal
-    ∷ called (markedRoll .book) (Mark 4 7) .book .marks)
+    ∷ called (markedRoll .book) (Mark 4 7) .book .state .marks)
     (20 ∷ 4 ∷ 0 ∷ 0 ∷ 0 ∷ 1 ∷ 1 ∷ replicate 11 0)
-    ∷ case (called (withMarks fresh marks3) (Mark 3 0) .book .marks) (replicate 16 0)
+    ∷ case (called (withState fresh (withMarks (fresh .state) marks3)) (Mark 3 0) .book .state .marks) (replicate 16 0)
     -- books that only odd lots of a marked issue make unsound, each beside a sound one: nets, delivered lots, an entry
     ∷ case (soundMarked (sold 4) ∷ soundMarked (sold 3) ∷ []) (true ∷ false ∷ [])
     ∷ case (soundMarked (partOf4 2) ∷ soundMarked (partOf4 3) ∷ []) (true ∷ false ∷ [])
@@ -217,7 +217,7 @@ baseSettled =
     (refl, (refl, (refl, (refl, (refl, (refl, (refl, (refl, (refl, (refl, (refl, (refl, (refl, (refl, (refl, (refl, (refl, (refl, (refl, (refl, (refl, (refl, (refl, (refl, tt))))))))))))))))))))))))
 
 pub liftSettled : Holds liftDays
-unfolding units handovers partials lacks fails valueOf chargeOf quotesRight liftConditions liftsSound cellsEven conditions sound lift handedFrom orderIn issuePartials issueFails called asked traded1 traded2 traded3 closed delivered1 delivered2 committed7 crossed eightLifts parted partedCut
+unfolding units handovers partials lacks fails valueOf chargeOf quotesRight liftConditions liftsSound cellsEven conditions sound lift orderIn issuePartials issueFails called asked traded1 traded2 traded3 closed delivered1 delivered2 committed7 crossed eightLifts parted partedCut
 liftSettled =
     (refl, (refl, (refl, (refl, (refl, (refl, (refl, (refl, (refl, (refl, (refl, (refl, (refl, (refl, (refl, (refl, (refl, (refl, (refl, tt)))))))))))))))))))
 

@@ -4,18 +4,17 @@ use mathlib.Core.List.{List, [], _∷_, _++_}
 use Prim.Native.Nat.{ℕ}
 use lib.ListN.{replicate}
 use Rattle.rules.specs.declared.Book.{Book}
-use Rattle.rules.specs.declared.Phase.the-variants.{Taking}
 use Rattle.rules.specs.Measures.{valueOf, chargeOf}
 use Rattle.rules.specs.Units.{units}
 use Rattle.rules.specs.Dealt.{dealt}
 use Rattle.rules.specs.Handover.{handovers, partials}
-use Rattle.rules.specs.Lifts.{lift, handedFrom}
+use Rattle.rules.specs.Lifts.{lift}
 use Rattle.rules.specs.Fails.{lacks, fails}
 use Rattle.rules.specs.Ledger.{entry}
-use Rattle.rules.specs.Book.{liftConditions, liftsSound, cellsEven, conditions, sound, orderIn, orderOf, ledgerOf, withDay, withTurn, fresh}
+use Rattle.rules.specs.Book.{liftConditions, liftsSound, cellsEven, conditions, sound, orderIn, orderOf, ledgerOf, withTurn, nextDay, withState, fresh}
 use Rattle.rules.specs.Questions.{quotesRight}
 use Rattle.rules.specs.Calls.{Trade, Close, Deliver, Commit, Cutoff, Roll, Mark, Turn, Answer, ticketFor, oneUnit, called, unit, issuePartials, issueFails}
-use Rattle.rules.specs.Tally.{State, afterAll, start, unitsToday}
+use Rattle.rules.specs.Tally.{Tallied, afterAll, start, unitsToday}
 use Rattle.rules.specs.Days.{quotesP9, Case, case, Holds, bothHold}
 use Rattle.rules.specs.TurnCases.{full, smallP5}
 use Rattle.days.specs.Books.{lent}
@@ -24,7 +23,7 @@ use Rattle.days.specs.Days.{numbers}
 -- P5's market on day 1, the first day of the new order
 unfoldable pub dealtBook : Book
 dealtBook =
-    called (called (called (called (withTurn (withDay fresh 1 Taking) 1) (Trade 0 4 1 230000) .book) (Trade 0 5 2 250000) .book) (Trade 0 5 3 150000) .book) Close .book
+    called (called (called (called (withState fresh (withTurn (nextDay (fresh .state)) 1)) (Trade 0 4 1 230000) .book) (Trade 0 5 2 250000) .book) (Trade 0 5 3 150000) .book) Close .book
 
 unfoldable pub dealt1 : Answer
 dealt1 = called dealtBook (Deliver 0 5 345000 lent)
@@ -38,7 +37,7 @@ unfoldable pub dealtCut : Answer
 dealtCut = called (called dealtBook (Deliver 0 5 150000 lent) .book) (Cutoff lent)
 
 -- day 0: issue 3 is marked, day 9 is named and then day 1 instead, 6 fails 3 lots of issue 1 to 7; on day 1 account 8 sells to 1 and 2
-unfoldable pub broughtDay : State
+unfoldable pub broughtDay : Tallied
 broughtDay =
     afterAll start
     (Mark 3 1 ∷ Turn 9 ∷ Trade 1 6 7 3 ∷ Close ∷ Turn 1 ∷ Cutoff lent ∷ Roll 1 300 quotesP9 ∷ Trade 0 8 1 200000 ∷ Trade 0 8 2 100000 ∷ [])
@@ -66,9 +65,9 @@ dealtCuts =
 abbrev pub broughtDays : List Case
 broughtDays =
     case (unitsToday (broughtDay .tally) 0) (full 1 ∷ full 2 ∷ full 1 ∷ [])
-    ∷ case (broughtDay .tally .day ∷ broughtDay .tally .turn ∷ broughtDay .book .turn ∷ []) (1 ∷ 1 ∷ 1 ∷ [])
+    ∷ case (broughtDay .tally .day ∷ broughtDay .tally .turn ∷ broughtDay .book .state .turn ∷ []) (1 ∷ 1 ∷ 1 ∷ [])
     ∷ case (ledgerOf (broughtDay .book)) (entry 1 6 7 3 0 ∷ [])
-    ∷ case (broughtDay .book .marks) (0 ∷ 0 ∷ 0 ∷ 1 ∷ replicate 12 0)
+    ∷ case (broughtDay .book .state .marks) (0 ∷ 0 ∷ 0 ∷ 1 ∷ replicate 12 0)
     ∷ case (called (broughtDay .book) (Turn 2) .refusal) 26
     ∷ []
 
@@ -82,7 +81,7 @@ unfolding units dealt handovers liftConditions liftsSound cellsEven conditions s
 dealtSettled = (refl, (refl, tt))
 
 liftSettled : Holds dealtLifts
-unfolding units dealt handovers liftConditions liftsSound cellsEven conditions sound lift handedFrom orderIn called dealtBook dealt1 dealtLift
+unfolding units dealt handovers liftConditions liftsSound cellsEven conditions sound lift orderIn called dealtBook dealt1 dealtLift
 liftSettled = (refl, tt)
 
 cutSettled : Holds dealtCuts

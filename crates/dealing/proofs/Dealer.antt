@@ -21,15 +21,16 @@ use Rattle.laws.proofs.Units.{UnitSized, Small}
 use Rattle.laws.proofs.Lifts.{length-lifted}
 use Rattle.laws.proofs.Dealt.{dealt-lots, same-length}
 use Rattle.laws.proofs.SoundRows.{order-in}
-use Rattle.units.specs.Runs.{partOf, runsIn, unitsOfRun, unitsOfRuns, unitsIn, foundOf, CanOrder, RankedNets}
+use Rattle.runs.specs.Runs.{partOf, runsIn, unitsOfRun, unitsOfRuns, unitsIn, foundOf, CanOrder, RankedNets}
 use Rattle.dealing.specs.declared.Ranks.{Ranks}
-use Rattle.dealing.specs.Dealing.{smallsOf, dealtRuns, liftedRuns, fullNumber, IsRanked, CanDealOut, DealtOut, CanWindow}
-use Rattle.units.proofs.Cells.{dues-sum}
-use Rattle.units.proofs.Loops.{dues-small}
+use Rattle.inturn.specs.InTurn.{smallsOf, dealtRuns}
+use Rattle.dealing.specs.Dealing.{liftedRuns, fullNumber, IsRanked, CanDealOut, DealtOut, CanWindow}
+use Rattle.runs.proofs.Cells.{dues-sum}
+use Rattle.runs.proofs.Loops.{dues-small}
 use Rattle.laws.proofs.LiftColumn.{length-lift-words}
-use Rattle.units.proofs.Lifted.{words-part}
-use Rattle.units.proofs.Units.{smalls-sorted}
-use Rattle.dealing.proofs.Dealing.{can-deal, small-ss, dealt-runs}
+use Rattle.lifted.proofs.Lifted.{words-part}
+use Rattle.runs.proofs.Units.{smalls-sorted}
+use Rattle.dealing.proofs.Fulls.{can-deal, small-ss, dealt-runs}
 
 -- a unit is a run of its own
 one-unit : (u : AccountLots) → UnitSized u → unitsOfRun u ≡ u ∷ []

@@ -1,4 +1,3 @@
 -- Why the units dealt are those of the definition, and where lifts move them.
-pub mod Dealing
-pub mod Places
 pub mod Dealer
+pub mod Fulls

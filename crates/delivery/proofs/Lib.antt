@@ -1,3 +1,3 @@
-pub mod Handing
 pub mod Serving
 pub mod Asking
+pub mod Turned

@@ -17,8 +17,9 @@ use Rattle.laws.proofs.Cutoff.{SoundRow, delivered-due}
 use Rattle.laws.proofs.SoundRows.{order-in}
 use Rattle.laws.proofs.Room.{handovers-few}
 use Rattle.book.specs.Cells.{SoundCells}
-use Rattle.units.proofs.Cells.{dues-sum, can-order}
-use Rattle.delivery.specs.Deliver.{CanServe, Served, CanDeliver}
+use Rattle.runs.proofs.Cells.{dues-sum, can-order}
+use Rattle.serving.specs.Serving.{CanServe, Served}
+use Rattle.delivery.specs.Deliver.{CanDeliver}
 
 -- the store at an issue's count
 pub raised-count : (lifts : List ℕ) (i : ℕ) → set lifts (i * 18 + 1) (getD lifts (i * 18 + 1) 0 + 1) ≡ raisedCount lifts i
@@ -36,16 +37,6 @@ count-fits nets delivered lifts i s h =
 pub served-after : (us : List AccountLots) (i d e x : ℕ) (before after : List ℕ) (r : ℕ) → d ≡ e →
     Served us i d x before after r → Served us i e x before after r
 served-after us i d e x before after r q s = rw (← q) s
-
--- of units that are others by name
-pub served-as : (us vs : List AccountLots) (i d x : ℕ) (before after : List ℕ) (r : ℕ) → us ≡ vs →
-    Served us i d x before after r → Served vs i d x before after r
-served-as us vs i d x before after r e s = rw (← e) s
-
--- and what can be served in an order that the test chose
-pub serve-as : (new new′ : Bool) (nets : List ℤ) (lifts : List ℕ) (i d x : ℕ) (out : List ℕ) → new ≡ new′ →
-    CanServe new nets lifts i d x out → CanServe new′ nets lifts i d x out
-serve-as new new′ nets lifts i d x out e c = rw (← e) c
 
 module _ (new : Bool) (nets : List ℤ) (delivered lifts out : List ℕ) (i a x : ℕ) (can : CanDeliver nets delivered lifts i a x out) where
   -- the account's lots raised, the issue is one of a sound book

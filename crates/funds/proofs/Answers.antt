@@ -10,8 +10,8 @@ use Rattle.rules.specs.Measures.{sum}
 use Rattle.rules.specs.Book.{all}
 use Rattle.rules.specs.Records.{over}
 use Rattle.laws.proofs.Basics.{and-left, and-right}
-use Rattle.funds.specs.Bases.{basesOf}
-use Rattle.funds.specs.Funds.{mostParticipants, mostAmount, participantsRight, sharesOf, cleared, answered, bases, shares, funds}
+use Rattle.contributions.specs.Bases.{basesOf}
+use Rattle.contributions.specs.Funds.{mostParticipants, mostAmount, participantsRight, sharesOf, cleared, answered, bases, shares, funds}
 use Rattle.funds.specs.Steps.{coveredAnswer}
 
 module _ (averages : List ℕ) (tenths : ℕ) (out : List ℕ) where

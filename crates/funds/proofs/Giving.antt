@@ -7,12 +7,13 @@ use lib.ListN.{length, take, replicate, length-map, length-replicate}
 use lib.Seq.{take-all}
 use Rattle.rules.specs.Measures.{sum}
 use Rattle.rules.specs.Records.{over}
-use Rattle.funds.specs.Order.{amountOf, orderOf}
-use Rattle.funds.specs.Rounds.{rounds, allotted, inOrder}
-use Rattle.funds.specs.Funds.{numbered, sharesOf}
-use Rattle.funds.specs.Steps.{CanAllot, CanGive}
-use Rattle.funds.proofs.Order.{length-order, bases-in-order}
-use Rattle.funds.proofs.Rounds.{none-sum, length-rounds}
+use Rattle.contributions.specs.Order.{amountOf, orderOf}
+use Rattle.contributions.specs.Rounds.{rounds, allotted, inOrder}
+use Rattle.contributions.specs.Funds.{numbered, sharesOf}
+use Rattle.allotting.specs.Steps.{CanAllot}
+use Rattle.funds.specs.Steps.{CanGive}
+use Rattle.apportioning.proofs.Order.{length-order, bases-in-order}
+use Rattle.apportioning.proofs.Rounds.{none-sum, length-rounds}
 
 -- an order with a place for each participant
 pub ranked : (averages order : List ℕ) → length order ≡ length averages → take (length averages) order ≡ orderOf averages →

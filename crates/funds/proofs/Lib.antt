@@ -1,10 +1,3 @@
--- Why the shares are right: lists filled and read, bases, the order, the rounds, the theorems of the shares, the answers.
-pub mod Lists
-pub mod Bases
-pub mod Order
-pub mod Rounds
-pub mod Shares
-pub mod Turns
+-- Why the code's answers are the definition's.
 pub mod Giving
 pub mod Answers
-pub mod Answered

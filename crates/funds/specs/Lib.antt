@@ -1,7 +1,2 @@
--- Obligated funds for a default: document 02, F-8, and document 002, 3(2), as definitions.
-pub mod Bases
-pub mod Order
-pub mod Rounds
-pub mod Funds
+-- What the functions of this crate may count on, and what they leave.
 pub mod Steps
-pub mod Days

@@ -1,8 +1,8 @@
 -- One way to reason about every call: either all questions were answered 'yes' and it does what it does, or it was
 -- refused and nothing changed.
 use mathlib.Core.Path.{_≡_, refl, sym, ap, _∙_}
-use mathlib.Core.Bool.{Bool, true, false, false≢true}
-use mathlib.Core.List.{List, [], _∷_}
+use mathlib.Core.Bool.{Bool, true, false, cond, false≢true}
+use mathlib.Core.List.{List, [], _∷_, _++_}
 use Prim.Native.Nat.{ℕ, zero, suc, _≤_, _<_}
 use native.Mathlib.Omega.{arith}
 use lib.Dec.{leb}
@@ -14,7 +14,7 @@ use Rattle.rules.specs.declared.Instruction.the-variants as instruction
 use Rattle.rules.specs.Measures.{outputWords}
 use Rattle.rules.specs.Book.{sound}
 use Rattle.rules.specs.Questions.{Question, ask, firstNo, askOutput, askSound}
-use Rattle.rules.specs.Calls.{Call, Trade, Close, Deliver, Ask, Commit, Cutoff, Resolve, PairOff, Roll, Mark, Turn, Answer, Effect, answer, lentTo, HasRoom, ownAsks, asks, effect, called}
+use Rattle.rules.specs.Calls.{Call, Trade, Close, Deliver, Ask, Commit, Cutoff, Resolve, PairOff, Roll, Mark, Turn, Answer, Effect, answer, lentTo, lends, HasRoom, ownAsks, asks, effect, called}
 use Rattle.rules.specs.Run.{callOf}
 
 -- The first 'no' of a list
@@ -117,25 +117,21 @@ has-room (instruction.Turn d) quotes out h = refl
 pub room-in : (out : List ℕ) → firstNo (askOutput outputWords out ∷ []) ≡ 0 → outputWords ≤ length out
 room-in out h = leb-true outputWords (length out) (yes 0 (leb outputWords (length out)) [] h .first)
 
-room : (b : Book) (c : Call) → HasRoom c → firstNo (asks b c) ≡ firstNo (askSound b ∷ ownAsks b c)
-room b (Trade i f t x) h = refl
-room b Close h = refl
-room b (Deliver i a x out) h = said-yes 1 (leb outputWords (length out)) (askSound b ∷ ownAsks b (Deliver i a x out)) (yes 0 (leb outputWords (length out)) [] h .first)
-room b (Ask i k) h = refl
-room b (Commit t out) h = said-yes 1 (leb outputWords (length out)) (askSound b ∷ ownAsks b (Commit t out)) (yes 0 (leb outputWords (length out)) [] h .first)
-room b (Cutoff out) h = said-yes 1 (leb outputWords (length out)) (askSound b ∷ ownAsks b (Cutoff out)) (yes 0 (leb outputWords (length out)) [] h .first)
-room b (Resolve i a x out) h = said-yes 1 (leb outputWords (length out)) (askSound b ∷ ownAsks b (Resolve i a x out)) (yes 0 (leb outputWords (length out)) [] h .first)
-room b (PairOff i a) h = refl
-room b (Roll days rate quotes) h = refl
-room b (Mark i m) h = refl
-room b (Turn d) h = refl
+-- question 1, asked or not
+abbrev askedOf : Bool → List ℕ → List Question
+askedOf l out = cond l (askOutput outputWords out ∷ []) []
+
+-- where it is answered 'yes' the others are asked
+pub room : (l : Bool) (out : List ℕ) (qs : List Question) → firstNo (askedOf l out) ≡ 0 → firstNo (askedOf l out ++ qs) ≡ firstNo qs
+room true out qs h = said-yes 1 (leb outputWords (length out)) qs (yes 0 (leb outputWords (length out)) [] h .first)
+room false out qs h = refl
 
 -- a sound book and enough room leave the call's own questions
 pub own-first : (b : Book) (c : Call) → HasRoom c → sound b ≡ true → firstNo (asks b c) ≡ firstNo (ownAsks b c)
-own-first b c h s = room b c h ∙ said-yes 2 (sound b) (ownAsks b c) s
+own-first b c h s = room (lends c) (lentTo c) (askSound b ∷ ownAsks b c) h ∙ said-yes 2 (sound b) (ownAsks b c) s
 
 pub unsound-first : (b : Book) (c : Call) → HasRoom c → sound b ≡ false → firstNo (asks b c) ≡ 2
-unsound-first b c h s = room b c h ∙ said-no 2 (sound b) (ownAsks b c) s
+unsound-first b c h s = room (lends c) (lentTo c) (askSound b ∷ ownAsks b c) h ∙ said-no 2 (sound b) (ownAsks b c) s
 
 pub short-first : (b : Book) (qs : List Question) (out : List ℕ) → length out < outputWords →
     firstNo (ask 1 (leb outputWords (length out)) ∷ qs) ≡ 1

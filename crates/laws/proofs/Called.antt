@@ -13,7 +13,7 @@ use Rattle.rules.specs.declared.Book.{Book}
 use Rattle.rules.specs.declared.Phase.the-variants.{Settling}
 use Rattle.rules.specs.Measures.{quoteCount, mostLots, mostDays, mostRate, between}
 use Rattle.rules.specs.Handover.{covered}
-use Rattle.rules.specs.Book.{deliveredTotal, orderOf, ledgerOf, liftConditions, liftsSound, cellsEven, sound, conditions, withNets, withPhase, fresh}
+use Rattle.rules.specs.Book.{deliveredTotal, orderOf, ledgerOf, liftConditions, liftsSound, cellsEven, sound, conditions, withNets, withState, withPhase, fresh}
 use Rattle.rules.specs.Questions.{quotesRight, noNet, noEntry}
 use Rattle.rules.specs.Calls.{Call, Trade, Close, Deliver, Ask, Commit, Cutoff, Resolve, PairOff, Roll, Mark, Turn, Answer, tradedNets, lentTo, asks, effect, called}
 use Rattle.laws.proofs.Basics.{and-left, and-right}
@@ -59,14 +59,14 @@ keeps b (Trade i f c x) y s =
     (omega (arith, leb-true f 63 (and-left (leb f 63) (leb c 63) (y .1 .1 .1 .0))))
     (omega (arith, leb-true c 63 (and-right (leb f 63) (leb c 63) (y .1 .1 .1 .0))))
     (eqb-false f c (not-true (eqb f c) (y .1 .1 .1 .1 .0))) (y .1 .0)
-    (lots-parts (b .marks) i x (y .1 .1 .1 .1 .1 .1 .0)) (y .1 .1 .1 .1 .1 .1 .1 .0))
-keeps b Close y s = as-before b (withPhase b Settling) s (refl, refl, refl, refl) (close-kept b (s .parts))
+    (lots-parts (b .state .marks) i x (y .1 .1 .1 .1 .1 .1 .0)) (y .1 .1 .1 .1 .1 .1 .1 .0))
+keeps b Close y s = as-before b (withState b (withPhase (b .state) Settling)) s (refl, refl, refl, refl) (close-kept b (s .parts))
 keeps b (Deliver i a x out) y s =
     as-before b (effect b (Deliver i a x out) .book) s (refl, simp length-set, simp length-set, refl)
     (deliver-kept b (s .sizes .delivered) (s .sizes .lifts) (s .parts) i a x (omega (arith, leb-true i 15 (y .1 .1 .1 .0)))
     (omega (arith, leb-true a 63 (y .1 .1 .1 .1 .0)))
     (leb-true 1 x (and-left (leb 1 x) (leb x mostLots) (y .1 .1 .1 .1 .1 .0))) (y .1 .1 .0)
-    (lots-parts (b .marks) i x (y .1 .1 .1 .1 .1 .1 .0)) (leb-true _ _ (y .1 .1 .1 .1 .1 .1 .1 .0)))
+    (lots-parts (b .state .marks) i x (y .1 .1 .1 .1 .1 .1 .0)) (leb-true _ _ (y .1 .1 .1 .1 .1 .1 .1 .0)))
 keeps b (Ask i k) y s = s
 keeps b (Commit t out) y s =
     let us = orderOf b (t .issue) in
@@ -81,7 +81,7 @@ keeps b (Cutoff out) y s =
     as-before b (effect b (Cutoff out) .book) s (refl, refl, refl, refl)
     (cutoff-kept b (s .sizes .nets) (s .sizes .delivered) (s .parts) (leb-true _ _ (y .1 .1 .1 .0)))
 keeps b (Resolve i a x out) y s =
-    as-before b (effect b (Resolve i a x out) .book) s (refl, refl, refl, refl) (resolve-kept b (s .parts) i a x (lots-parts (b .marks) i x (y .1 .1 .1 .1 .1 .0)))
+    as-before b (effect b (Resolve i a x out) .book) s (refl, refl, refl, refl) (resolve-kept b (s .parts) i a x (lots-parts (b .state .marks) i x (y .1 .1 .1 .1 .1 .0)))
 keeps b (PairOff i a) y s =
     as-before b (effect b (PairOff i a) .book) s (refl, refl, refl, refl)
     (pair-off-kept b (s .parts) i a (omega (arith, leb-true i 15 (y .1 .0))))

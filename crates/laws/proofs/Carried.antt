@@ -8,7 +8,7 @@ use lib.IntN.{ℤ}
 use Rattle.rules.specs.declared.Book.{Book}
 use Rattle.rules.specs.declared.Phase.{Phase}
 use Rattle.rules.specs.Units.{AccountLots}
-use Rattle.rules.specs.Book.{all, deliveredTotal, inForce, dealtToday, orderIn, ledgerOf, liftConditions, liftsSound, conditions, sound, withTurn}
+use Rattle.rules.specs.Book.{all, deliveredTotal, inForce, dealtToday, orderIn, ledgerOf, liftConditions, liftsSound, conditions, sound, withState, withTurn}
 use Rattle.rules.specs.Questions.{firstNo}
 use Rattle.rules.specs.Calls.{Roll, Turn, Answer, answer, asks, effect, called}
 use Rattle.laws.proofs.Dealt.{lotsIn, same-length, same-covered}
@@ -37,12 +37,12 @@ lifts-either new phase nets delivered lifts is =
     (lifts-by-lots phase (orderIn new nets lifts i) (orderIn false nets lifts i) (deliveredTotal delivered i) lifts i (order-lots new nets lifts i)))
     is
 
-pub sound-turn : (b : Book) (t : ℕ) → sound (withTurn b t) ≡ sound b
+pub sound-turn : (b : Book) (t : ℕ) → sound (withState b (withTurn (b .state) t)) ≡ sound b
 unfolding sound conditions
 sound-turn b t =
     rw (
-      lifts-either (inForce t (b .day)) (b .phase) (b .nets) (b .delivered) (b .lifts),
-      lifts-either (dealtToday b) (b .phase) (b .nets) (b .delivered) (b .lifts),
+      lifts-either (inForce t (b .state .day)) (b .state .phase) (b .nets) (b .delivered) (b .lifts),
+      lifts-either (dealtToday b) (b .state .phase) (b .nets) (b .delivered) (b .lifts),
     )
 
 -- What carries over
@@ -50,7 +50,7 @@ sound-turn b t =
 pub record Carried (b c : Book) : Type 0 where
   pub fails : ledgerOf c ≡ ledgerOf b
   pub charges : c .charges ≡ b .charges
-  pub marks : c .marks ≡ b .marks
+  pub marks : c .state .marks ≡ b .state .marks
 
 -- by `turn`, accepted or refused
 pub turn-carries : (b : Book) (d : ℕ) → Carried b (called b (Turn d) .book)
@@ -62,22 +62,22 @@ turn-carries b d =
 -- a roll's answer, but for the day that is named
 pub record SameRoll (t : ℕ) (r s : Answer) : Type 0 where
   pub refusal : s .refusal ≡ r .refusal
-  pub book : s .book ≡ withTurn (r .book) t
+  pub book : s .book ≡ withState (r .book) (withTurn (r .book .state) t)
 
 -- by a roll, whatever day is named: so the one that brings the day charges as any other
 pub roll-carries : (b : Book) (t days rate : ℕ) (quotes : List ℕ) →
-    SameRoll t (called b (Roll days rate quotes)) (called (withTurn b t) (Roll days rate quotes))
+    SameRoll t (called b (Roll days rate quotes)) (called (withState b (withTurn (b .state) t)) (Roll days rate quotes))
 unfolding called
 roll-carries b t days rate quotes =
     let c = Roll days rate quotes in
     rw (sound-turn b t) (same (firstNo (asks b c)))
   where
-    same : (n : ℕ) → SameRoll t (answer n b [] (effect b (Roll days rate quotes))) (answer n (withTurn b t) [] (effect (withTurn b t) (Roll days rate quotes)))
+    same : (n : ℕ) → SameRoll t (answer n b [] (effect b (Roll days rate quotes))) (answer n (withState b (withTurn (b .state) t)) [] (effect (withState b (withTurn (b .state) t)) (Roll days rate quotes)))
     same zero = record { refusal = refl; book = refl }
     same (suc n) = record { refusal = refl; book = refl }
 
 -- and leaves fails and marks
 pub roll-leaves : (b : Book) (days rate : ℕ) (quotes : List ℕ) →
-    (ledgerOf (called b (Roll days rate quotes) .book) ≡ ledgerOf b) × (called b (Roll days rate quotes) .book .marks ≡ b .marks)
+    (ledgerOf (called b (Roll days rate quotes) .book) ≡ ledgerOf b) × (called b (Roll days rate quotes) .book .state .marks ≡ b .state .marks)
 roll-leaves b days rate quotes =
-    by-answer (λ r. (ledgerOf (r .book) ≡ ledgerOf b) × (r .book .marks ≡ b .marks)) b (Roll days rate quotes) (λ y. (refl, refl)) (λ r. (refl, refl))
+    by-answer (λ r. (ledgerOf (r .book) ≡ ledgerOf b) × (r .book .state .marks ≡ b .state .marks)) b (Roll days rate quotes) (λ y. (refl, refl)) (λ r. (refl, refl))

@@ -19,7 +19,7 @@ use Rattle.rules.specs.Measures.{mostLots, mostEntries, mostCharge, mostDays, m
 use Rattle.rules.specs.Handover.{covered}
 use Rattle.rules.specs.Fails.{Fail}
 use Rattle.rules.specs.Ledger.{isFrom, meet, pairing, charged}
-use Rattle.rules.specs.Book.{isTaking, isSettling, isZero, row, cell, netAt, deliveredAt, deliveredTotal, liftNumber, orderIn, orderOf, dealtToday, ledgerOf, withinSize, isMarked, withPhase, withMarks, withNets, withDelivered, withLifts, withLedger, inForce, withTurn}
+use Rattle.rules.specs.Book.{isTaking, isSettling, isZero, row, cell, netAt, deliveredAt, deliveredTotal, liftNumber, orderIn, orderOf, dealtToday, ledgerOf, withinSize, isMarked, withState, withPhase, withMarks, withNets, withDelivered, withLifts, withLedger, inForce, withTurn}
 use Rattle.rules.specs.Questions.{noNet, noEntry}
 use Rattle.rules.specs.Calls.{tradedNets, raisedDelivered, raisedCount, commitLift, withLift, failEntry, issueEntries, issueFails, newEntries, rolled, markedAs}
 use Rattle.laws.proofs.Basics.{byTest, and-left, and-right, all-replicate, Every, each-append, each-map, each-take, each-drop, each-replicate}
@@ -61,7 +61,7 @@ trade-balance l f t x hf ht ne h =
     )
 
 pub trade-kept : (b : Book) → length (b .nets) ≡ 1024 → SoundBook b → (i f c x : ℕ) → i < 16 → f < 64 → c < 64 → (f ≡ c → ⊥) →
-    isTaking (b .phase) ≡ true → (isMarked (b .marks) i ≡ true → Even x) →
+    isTaking (b .state .phase) ≡ true → (isMarked (b .state .marks) i ≡ true → Even x) →
     withinSize mostLots (netAt (b .nets) i f -ℤ pos x) && withinSize mostLots (netAt (b .nets) i c +ℤ pos x) ≡ true →
     SoundBook (withNets b (tradedNets (b .nets) i f c x))
 trade-kept b n g i f c x hi hf hc ne ph hx sm =
@@ -84,14 +84,14 @@ trade-kept b n g i f c x hi hf hc ne ph hx sm =
       ledger = g .ledger;
       balance = g .balance;
       bounded = g .bounded;
-      lifts = λ j hj. lifts-taking (b .phase) (orderOf b j) (orderIn (dealtToday b) (tradedNets ns i f c x) (b .lifts) j) (deliveredTotal (b .delivered) j) (b .lifts) j ph (g .lifts j hj);
-      even = λ j hj. even-traded (b .marks) ns (b .delivered) i f c x hf hc hx j (g .even j hj);
+      lifts = λ j hj. lifts-taking (b .state .phase) (orderOf b j) (orderIn (dealtToday b) (tradedNets ns i f c x) (b .lifts) j) (deliveredTotal (b .delivered) j) (b .lifts) j ph (g .lifts j hj);
+      even = λ j hj. even-traded (b .state .marks) ns (b .delivered) i f c x hf hc hx j (g .even j hj);
       evenEntries = g .evenEntries;
     }
 
 -- Close and deliver
 
-pub close-kept : (b : Book) → SoundBook b → SoundBook (withPhase b Settling)
+pub close-kept : (b : Book) → SoundBook b → SoundBook (withState b (withPhase (b .state) Settling))
 close-kept b g = record {
   size = g .size;
   rows = g .rows;
@@ -100,7 +100,7 @@ close-kept b g = record {
   ledger = g .ledger;
   balance = g .balance;
   bounded = g .bounded;
-  lifts = λ j hj. lifts-later (b .phase) Settling (orderOf b j) (deliveredTotal (b .delivered) j) (b .lifts) j false≢true (g .lifts j hj);
+  lifts = λ j hj. lifts-later (b .state .phase) Settling (orderOf b j) (deliveredTotal (b .delivered) j) (b .lifts) j false≢true (g .lifts j hj);
   even = g .even;
   evenEntries = g .evenEntries;
 }
@@ -111,24 +111,24 @@ not-taking Settling h k = false≢true k
 not-taking Cut h k = false≢true h
 
 pub deliver-kept : (b : Book) → length (b .delivered) ≡ 1024 → length (b .lifts) ≡ 288 → SoundBook b → (i a x : ℕ) → i < 16 → a < 64 → 1 ≤ x →
-    isSettling (b .phase) ≡ true → (isMarked (b .marks) i ≡ true → Even x) → deliveredAt (b .delivered) i a + x ≤ owedOf (netAt (b .nets) i a) →
+    isSettling (b .state .phase) ≡ true → (isMarked (b .state .marks) i ≡ true → Even x) → deliveredAt (b .delivered) i a + x ≤ owedOf (netAt (b .nets) i a) →
     SoundBook (withLifts (withDelivered b (raisedDelivered (b .delivered) i a x)) (raisedCount (b .lifts) i))
 deliver-kept b m n g i a x hi ha hx ph hv o = record {
   size = g .size;
   rows = g .rows;
   owed = within-set (b .nets) (b .delivered) (cell i a) (deliveredAt (b .delivered) i a + x) (g .owed) o;
-  taking = λ h. absurd (not-taking (b .phase) ph h);
+  taking = λ h. absurd (not-taking (b .state .phase) ph h);
   ledger = g .ledger;
   balance = g .balance;
   bounded = g .bounded;
-  lifts = λ j hj. lifts-delivered (dealtToday b) (b .phase) (b .nets) (b .delivered) (b .lifts) i a x m n hi ha hx j (g .lifts j hj);
-  even = λ j hj. even-delivered (b .marks) (b .nets) (b .delivered) i a x ha hv j (g .even j hj);
+  lifts = λ j hj. lifts-delivered (dealtToday b) (b .state .phase) (b .nets) (b .delivered) (b .lifts) i a x m n hi ha hx j (g .lifts j hj);
+  even = λ j hj. even-delivered (b .state .marks) (b .nets) (b .delivered) i a x ha hv j (g .even j hj);
   evenEntries = g .evenEntries;
 }
 
 -- Commit
 
-pub commit-kept : (b : Book) → length (b .lifts) ≡ 288 → SoundBook b → (t : Ticket) → t .issue < 16 → isSettling (b .phase) ≡ true →
+pub commit-kept : (b : Book) → length (b .lifts) ≡ 288 → SoundBook b → (t : Ticket) → t .issue < 16 → isSettling (b .state .phase) ≡ true →
     covered (orderOf b (t .issue)) (deliveredTotal (b .delivered) (t .issue)) ≤ t .unit → t .unit < length (orderOf b (t .issue)) →
     liftNumber (b .lifts) (t .issue) < 8 →
     SoundBook (withLifts b (withLift (b .lifts) (t .issue) (commitLift (orderOf b) (b .delivered) t)))
@@ -141,53 +141,53 @@ commit-kept b n g t hi ph h l few = record {
   balance = g .balance;
   bounded = g .bounded;
   lifts = λ j hj.
-      lifts-committed (dealtToday b) (b .phase) (b .nets) (b .delivered) (b .lifts) (t .issue) (t .unit) n hi few h l (not-taking (b .phase) ph) j (g .lifts j hj);
+      lifts-committed (dealtToday b) (b .state .phase) (b .nets) (b .delivered) (b .lifts) (t .issue) (t .unit) n hi few h l (not-taking (b .state .phase) ph) j (g .lifts j hj);
   even = g .even;
   evenEntries = g .evenEntries;
 }
 
 -- Resolve and pair-off
 
-pub resolve-kept : (b : Book) → SoundBook b → (i a x : ℕ) → (isMarked (b .marks) i ≡ true → Even x) → SoundBook (withLedger b (meet (isFrom i a) x (ledgerOf b)))
+pub resolve-kept : (b : Book) → SoundBook b → (i a x : ℕ) → (isMarked (b .state .marks) i ≡ true → Even x) → SoundBook (withLedger b (meet (isFrom i a) x (ledgerOf b)))
 resolve-kept b g i a x hx =
     with-ledger b (meet (isFrom i a) x (ledgerOf b)) g
     (omega (arith, length-meet (isFrom i a) x (ledgerOf b), length-ledger b, g .ledger .count))
-    (sound-meet (isFrom i a) x (ledgerOf b) (g .ledger .each)) (days-meet 0 (b .day) (isFrom i a) x (ledgerOf b) (g .ledger .days))
-    (meet-even (b .marks) (isFrom i a) i (issue-from i a) x (ledgerOf b) hx (g .evenEntries))
+    (sound-meet (isFrom i a) x (ledgerOf b) (g .ledger .each)) (days-meet 0 (b .state .day) (isFrom i a) x (ledgerOf b) (g .ledger .days))
+    (meet-even (b .state .marks) (isFrom i a) i (issue-from i a) x (ledgerOf b) hx (g .evenEntries))
 
-pub pair-off-kept : (b : Book) → SoundBook b → (i a : ℕ) → i < 16 → SoundBook (withLedger b (pairing (b .day) i a (ledgerOf b) .ledger))
+pub pair-off-kept : (b : Book) → SoundBook b → (i a : ℕ) → i < 16 → SoundBook (withLedger b (pairing (b .state .day) i a (ledgerOf b) .ledger))
 pair-off-kept b g i a hi =
-    let r = pairing-sound (b .day) i a (ledgerOf b) hi (g .ledger .each) (g .ledger .days) in
-    with-ledger b (pairing (b .day) i a (ledgerOf b) .ledger) g
+    let r = pairing-sound (b .state .day) i a (ledgerOf b) hi (g .ledger .each) (g .ledger .days) in
+    with-ledger b (pairing (b .state .day) i a (ledgerOf b) .ledger) g
     (le-trans (r .few) (rw (length-ledger b) (g .ledger .count))) (r .each) (r .days)
-    (pairing-even (b .marks) (b .day) i a (ledgerOf b) (g .evenEntries))
+    (pairing-even (b .state .marks) (b .state .day) i a (ledgerOf b) (g .evenEntries))
 
 -- Cutoff
 
 module _ (b : Book) (n : length (b .nets) ≡ 1024) (m : length (b .delivered) ≡ 1024) (g : SoundBook b) where
-  new-sound : Every SoundEntry (newEntries (b .day) (orderOf b) (b .nets) (b .delivered))
+  new-sound : Every SoundEntry (newEntries (b .state .day) (orderOf b) (b .nets) (b .delivered))
   new-sound =
-      each-joined SoundEntry (issueEntries (b .day) (orderOf b) (b .nets) (b .delivered)) 0 16
-      (λ j h. entries-sound b g n m j (omega arith) (b .day))
+      each-joined SoundEntry (issueEntries (b .state .day) (orderOf b) (b .nets) (b .delivered)) 0 16
+      (λ j h. entries-sound b g n m j (omega arith) (b .state .day))
 
-  all-today : (j : ℕ) (fs : List Fail) → Every (λ e. e .day ≡ b .day) (map (failEntry (b .day) j) fs)
+  all-today : (j : ℕ) (fs : List Fail) → Every (λ e. e .day ≡ b .state .day) (map (failEntry (b .state .day) j) fs)
   all-today j [] = tt
   all-today j (f ∷ fs) = (refl, all-today j fs)
 
-  new-today : Every (λ e. e .day ≡ b .day) (newEntries (b .day) (orderOf b) (b .nets) (b .delivered))
+  new-today : Every (λ e. e .day ≡ b .state .day) (newEntries (b .state .day) (orderOf b) (b .nets) (b .delivered))
   new-today =
-      each-joined (λ e. e .day ≡ b .day) (issueEntries (b .day) (orderOf b) (b .nets) (b .delivered)) 0 16
+      each-joined (λ e. e .day ≡ b .state .day) (issueEntries (b .state .day) (orderOf b) (b .nets) (b .delivered)) 0 16
       (λ j h. all-today j (issueFails (orderOf b) (b .nets) (b .delivered) j))
 
-  pub cutoff-kept : b .count + length (newEntries (b .day) (orderOf b) (b .nets) (b .delivered)) ≤ mostEntries →
-      SoundBook (withPhase (withLedger b (ledgerOf b ++ newEntries (b .day) (orderOf b) (b .nets) (b .delivered))) Cut)
+  pub cutoff-kept : b .state .entries + length (newEntries (b .state .day) (orderOf b) (b .nets) (b .delivered)) ≤ mostEntries →
+      SoundBook (withLedger (withState b (withPhase (b .state) Cut)) (ledgerOf b ++ newEntries (b .state .day) (orderOf b) (b .nets) (b .delivered)))
   cutoff-kept few =
-      let new = newEntries (b .day) (orderOf b) (b .nets) (b .delivered) in
+      let new = newEntries (b .state .day) (orderOf b) (b .nets) (b .delivered) in
       let r = with-ledger b (ledgerOf b ++ new) g
       (rw (length-append (ledgerOf b) new, length-ledger b) few)
       (each-append SoundEntry (ledgerOf b) new (g .ledger .each) new-sound)
-      (days-append 0 (b .day) (ledgerOf b) new (g .ledger .days) new-today)
-      (each-append (EvenEntry (b .marks)) (ledgerOf b) new (g .evenEntries) (new-even (b .marks) (dealtToday b) (b .day) (b .nets) (b .delivered) (b .lifts) (g .even))) in
+      (days-append 0 (b .state .day) (ledgerOf b) new (g .ledger .days) new-today)
+      (each-append (EvenEntry (b .state .marks)) (ledgerOf b) new (g .evenEntries) (new-even (b .state .marks) (dealtToday b) (b .state .day) (b .nets) (b .delivered) (b .lifts) (g .even))) in
       record {
         size = r .size;
         rows = r .rows;
@@ -196,7 +196,7 @@ module _ (b : Book) (n : length (b .nets) ≡ 1024) (m : length (b .delivered) �
         ledger = r .ledger;
         balance = r .balance;
         bounded = r .bounded;
-        lifts = λ j hj. lifts-later (b .phase) Cut (orderOf b j) (deliveredTotal (b .delivered) j) (b .lifts) j false≢true (g .lifts j hj);
+        lifts = λ j hj. lifts-later (b .state .phase) Cut (orderOf b j) (deliveredTotal (b .delivered) j) (b .lifts) j false≢true (g .lifts j hj);
         even = r .even;
         evenEntries = r .evenEntries;
       }
@@ -222,7 +222,7 @@ roll-kept b n g days rate quotes hd hr hp =
       ledger = record {
         count = f .count;
         each = f .each;
-        days = days-later 0 (b .day) (ledgerOf b) (f .days);
+        days = days-later 0 (b .state .day) (ledgerOf b) (f .days);
         unusedIssues = f .unusedIssues;
         unusedFroms = f .unusedFroms;
         unusedTos = f .unusedTos;
@@ -230,19 +230,19 @@ roll-kept b n g days rate quotes hd hr hp =
         unusedDays = f .unusedDays;
       };
       balance = charged-balance days rate quotes (ledgerOf b) (b .charges) n (f .each) (g .balance);
-      bounded = each-map (λ c. natAbs c ≤ mostCharge * b .day + length (ledgerOf b) * 65753424657)
-          (λ c. natAbs c ≤ mostCharge * (b .day + 1)) (λ c q. omega (arith, q, l, f .count))
+      bounded = each-map (λ c. natAbs c ≤ mostCharge * b .state .day + length (ledgerOf b) * 65753424657)
+          (λ c. natAbs c ≤ mostCharge * (b .state .day + 1)) (λ c q. omega (arith, q, l, f .count))
           (charged days rate quotes (ledgerOf b) (b .charges))
-          (charged-most days rate quotes (ledgerOf b) (b .charges) (mostCharge * b .day) hd hr hp (f .each) (g .bounded));
+          (charged-most days rate quotes (ledgerOf b) (b .charges) (mostCharge * b .state .day) hd hr hp (f .each) (g .bounded));
       lifts = λ j hj. lifts-none Taking (orderIn _ (replicate 1024 (pos 0)) (replicate 288 0) j) (deliveredTotal (replicate 1024 0) j) j 288;
-      even = λ j hj. even-none (b .marks) 1024 1024 j;
+      even = λ j hj. even-none (b .state .marks) 1024 1024 j;
       evenEntries = g .evenEntries;
     }
 
 -- Mark
 
 pub mark-kept : (b : Book) → length (b .nets) ≡ 1024 → length (b .delivered) ≡ 1024 → SoundBook b → (i m : ℕ) → i < 16 →
-    noNet (b .nets) i ≡ true → noEntry (ledgerOf b) i ≡ true → SoundBook (withMarks b (markedAs (b .marks) i m))
+    noNet (b .nets) i ≡ true → noEntry (ledgerOf b) i ≡ true → SoundBook (withState b (withMarks (b .state) (markedAs (b .state .marks) i m)))
 mark-kept b n d g i m hi h k = record {
   size = g .size;
   rows = g .rows;
@@ -252,8 +252,8 @@ mark-kept b n d g i m hi h k = record {
   balance = g .balance;
   bounded = g .bounded;
   lifts = g .lifts;
-  even = λ j hj. even-marked (b .marks) (b .nets) (b .delivered) i m hi n d (g .owed) h j (g .even j hj);
-  evenEntries = entries-marked (b .marks) i m (ledgerOf b) k (g .evenEntries);
+  even = λ j hj. even-marked (b .state .marks) (b .nets) (b .delivered) i m hi n d (g .owed) h j (g .even j hj);
+  evenEntries = entries-marked (b .state .marks) i m (ledgerOf b) k (g .evenEntries);
 }
 
 -- Turn: a day that has not come changes no order today
@@ -266,7 +266,7 @@ turn-same turn today d h =
     not-yet d today (ltb-true today d (and-left (ltb today d) (not (inForce turn today)) h))
     ∙ sym (not-true (inForce turn today) (and-right (ltb today d) (not (inForce turn today)) h))
 
-pub turn-kept : (b : Book) → SoundBook b → (d : ℕ) → ltb (b .day) d && not (dealtToday b) ≡ true → SoundBook (withTurn b d)
+pub turn-kept : (b : Book) → SoundBook b → (d : ℕ) → ltb (b .state .day) d && not (dealtToday b) ≡ true → SoundBook (withState b (withTurn (b .state) d))
 turn-kept b g d h = record {
   size = g .size;
   rows = g .rows;
@@ -276,8 +276,8 @@ turn-kept b g d h = record {
   balance = g .balance;
   bounded = g .bounded;
   lifts = λ j hj.
-      subst (λ new. SoundLifts (b .phase) (orderIn new (b .nets) (b .lifts) j) (deliveredTotal (b .delivered) j) (b .lifts) j)
-      (sym (turn-same (b .turn) (b .day) d h)) (g .lifts j hj);
+      subst (λ new. SoundLifts (b .state .phase) (orderIn new (b .nets) (b .lifts) j) (deliveredTotal (b .delivered) j) (b .lifts) j)
+      (sym (turn-same (b .state .turn) (b .state .day) d h)) (g .lifts j hj);
   even = g .even;
   evenEntries = g .evenEntries;
 }

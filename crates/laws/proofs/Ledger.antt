@@ -26,8 +26,8 @@ pub length-entries : (n : ℕ) (is fs ts xs ds : List ℕ) → length (entries n
 length-entries zero is fs ts xs ds = refl
 length-entries (suc n) is fs ts xs ds = ap suc (length-entries n _ _ _ _ _)
 
-pub length-ledger : (b : Book) → length (ledgerOf b) ≡ b .count
-length-ledger b = length-entries (b .count) (b .issues) (b .froms) (b .tos) (b .lots) (b .days)
+pub length-ledger : (b : Book) → length (ledgerOf b) ≡ b .state .entries
+length-ledger b = length-entries (b .state .entries) (b .issues) (b .froms) (b .tos) (b .lots) (b .days)
 
 pub getD-tail : (xs : List ℕ) (k : ℕ) → getD (tail xs) k 0 ≡ getD xs (suc k) 0
 getD-tail [] k = refl
@@ -196,13 +196,13 @@ ledger-sound today es n s d = record {
 
 -- a sound book with another ledger is sound
 pub with-ledger : (b : Book) (es : List Entry) → SoundBook b → length es ≤ mostEntries → Every SoundEntry es →
-    daysSound 0 (b .day) es ≡ true → Every (EvenEntry (b .marks)) es → SoundBook (withLedger b es)
+    daysSound 0 (b .state .day) es ≡ true → Every (EvenEntry (b .state .marks)) es → SoundBook (withLedger b es)
 with-ledger b es g n s d v = record {
   size = g .size;
   rows = g .rows;
   owed = g .owed;
   taking = g .taking;
-  ledger = ledger-sound (b .day) es n s d;
+  ledger = ledger-sound (b .state .day) es n s d;
   balance = g .balance;
   bounded = g .bounded;
   lifts = g .lifts;

@@ -10,8 +10,8 @@ use lib.Seq.{take-add, getD-take, take-append-add}
 use borrow.Author.Tests.{lt-leb}
 use Rattle.rules.specs.Measures.{total, unitLots}
 use Rattle.rules.specs.Units.{AccountLots, sumLots, ofAccount}
-use Rattle.rules.specs.Handover.{covered, stock, handed, waiting, firstUnit}
-use Rattle.rules.specs.Lifts.{Lift, liftOf, toFront, lift, lifted, handedFrom}
+use Rattle.rules.specs.Handover.{covered, stock, handed, waiting, firstUnit, handedFrom}
+use Rattle.rules.specs.Lifts.{Lift, liftOf, toFront, lift, lifted}
 use Rattle.laws.proofs.Basics.{byTest, Every, count-one, total-append, total-split, each-append, each-take, each-drop}
 use Rattle.laws.proofs.Units.{UnitSized, Order, ofSmall, isOf}
 use Rattle.laws.proofs.Handover.{covered-past, handed-length, handed-stock, stock-below}
@@ -83,7 +83,6 @@ lifted-order dues (l ∷ ls) us o = lifted-order dues ls (lift l us) (lift-order
 -- What is handed
 
 pub each-handed-from : (P : AccountLots → Type 0) (us : List AccountLots) (h d : ℕ) → Every P us → Every P (handedFrom us h d)
-unfolding handedFrom
 each-handed-from P us h d ps = each-take P (covered us d - h) (drop h us) (each-drop P h us ps)
 
 module _ (us : List AccountLots) (d k : ℕ) where
@@ -115,7 +114,6 @@ module _ (us : List AccountLots) (d k : ℕ) where
 
   -- what was handed stays, and units from there on join it
   pub lift-handed : handed us′ d ≡ handed us d ++ handedFrom us′ (covered us d) d
-  unfolding handedFrom
   lift-handed =
       let e : covered us′ d ≡ covered us d + (covered us′ d - covered us d) = omega (arith, lift-covered) in
       ap (λ m. take m us′) e ∙ take-add (covered us d) (covered us′ d - covered us d) us′
@@ -143,5 +141,4 @@ module _ (us : List AccountLots) (d k : ℕ) where
 
   -- so at most one handover is written
   pub lift-few : d < sumLots us → covered us d ≤ k → k < length us → length (handedFrom us′ (covered us d) d) ≤ 1
-  unfolding handedFrom
   lift-few short h l = rw length-take (omega (arith, lift-one short h l))

@@ -14,8 +14,8 @@ use borrow.Author.Tests.{leb-true, eqb-true, eqb-false}
 use Rattle.rules.specs.declared.Ticket.{Ticket}
 use Rattle.rules.specs.Measures.{total, sum, dueOf, owedOf, unitLots, mostLots, issueCount, outputWords}
 use Rattle.rules.specs.Units.{AccountLots, byAccount, sumLots, receivers}
-use Rattle.rules.specs.Handover.{covered, waiting, handovers, partials}
-use Rattle.rules.specs.Lifts.{lift, handedFrom}
+use Rattle.rules.specs.Handover.{covered, waiting, handovers, partials, handedFrom}
+use Rattle.rules.specs.Lifts.{lift}
 use Rattle.rules.specs.Fails.{stretches, lacks, undelivered, shortfalls, fails}
 use Rattle.rules.specs.Book.{tabulate, row, duesOf, obligationsOf, deliveredTotal, orderIn}
 use Rattle.rules.specs.Records.{handover, recordOf}

@@ -142,16 +142,16 @@ pub record SoundBook (b : Book) : Type 0 where
   -- delivered lots are at most what is owed
   pub owed : withinOwed (b .nets) (b .delivered) ≡ true
   -- and are 0 throughout in Taking
-  pub taking : isTaking (b .phase) ≡ true → all isZero (b .delivered) ≡ true
-  pub ledger : SoundLedger (b .day) (b .count) (b .issues) (b .froms) (b .tos) (b .lots) (b .days)
+  pub taking : isTaking (b .state .phase) ≡ true → all isZero (b .delivered) ≡ true
+  pub ledger : SoundLedger (b .state .day) (b .state .entries) (b .issues) (b .froms) (b .tos) (b .lots) (b .days)
   -- charges sum to 0, and each is bounded by the day
   pub balance : total dueOf (b .charges) ≡ total owedOf (b .charges)
-  pub bounded : Every (λ c. natAbs c ≤ mostCharge * b .day) (b .charges)
+  pub bounded : Every (λ c. natAbs c ≤ mostCharge * b .state .day) (b .charges)
   -- each issue's lifts are sound
-  pub lifts : (i : ℕ) → i < 16 → SoundLifts (b .phase) (orderOf b i) (deliveredTotal (b .delivered) i) (b .lifts) i
+  pub lifts : (i : ℕ) → i < 16 → SoundLifts (b .state .phase) (orderOf b i) (deliveredTotal (b .delivered) i) (b .lifts) i
   -- lots in a marked issue are even
-  pub even : (i : ℕ) → i < 16 → EvenCells (b .marks) (b .nets) (b .delivered) i
-  pub evenEntries : Every (EvenEntry (b .marks)) (ledgerOf b)
+  pub even : (i : ℕ) → i < 16 → EvenCells (b .state .marks) (b .nets) (b .delivered) i
+  pub evenEntries : Every (EvenEntry (b .state .marks)) (ledgerOf b)
 
 -- in balance: by the test, and as an equation of sums
 pub balanced-parts : (ns : List ℤ) → balanced ns ≡ true → total dueOf ns ≡ total owedOf ns
@@ -240,7 +240,7 @@ sound-parts b h =
           (tab-each (λ j. balanced (row j (b .nets)) ≡ true) (λ j. j) 0 16 i
           (all-each (λ j. balanced (row j (b .nets))) (tabulate (λ j. j) 0 16) (e .1 .0)) (omega arith) (omega arith));
       owed = e₂ .0;
-      taking = if-taking (isTaking (b .phase)) (all isZero (b .delivered)) (e₂ .1 .0);
+      taking = if-taking (isTaking (b .state .phase)) (all isZero (b .delivered)) (e₂ .1 .0);
       ledger = record {
         count = leb-true _ _ (e₂ .1 .1 .0);
         each = each-map (λ d. entrySound d ≡ true) SoundEntry entry-parts (ledgerOf b)
@@ -253,16 +253,16 @@ sound-parts b h =
         unusedDays = e₁₁ .0;
       };
       balance = balanced-parts (b .charges) (e₁₁ .1 .0);
-      bounded = each-map (λ c. withinSize (mostCharge * b .day) c ≡ true) (λ c. natAbs c ≤ mostCharge * b .day)
-          (λ c q. leb-true _ _ q) (b .charges) (all-each (withinSize (mostCharge * b .day)) (b .charges) (e₁₁ .1 .1 .0));
-      lifts = λ i l. lifts-parts (b .phase) (orderOf b) (b .delivered) (b .lifts) i
-          (tab-each (λ j. liftsSound (b .phase) (orderOf b) (b .delivered) (b .lifts) j ≡ true) (λ j. j) 0 16 i
-          (all-each (liftsSound (b .phase) (orderOf b) (b .delivered) (b .lifts)) (tabulate (λ j. j) 0 16) (e₁₁ .1 .1 .1 .0)) (omega arith) (omega arith));
-      even = λ i l. cells-parts (b .marks) (b .nets) (b .delivered) i
-          (tab-each (λ j. cellsEven (b .marks) (b .nets) (b .delivered) j ≡ true) (λ j. j) 0 16 i
-          (all-each (cellsEven (b .marks) (b .nets) (b .delivered)) (tabulate (λ j. j) 0 16) (e₁₅ .0)) (omega arith) (omega arith));
-      evenEntries = each-map (λ d. entryEven (b .marks) d ≡ true) (EvenEntry (b .marks)) (even-parts (b .marks)) (ledgerOf b)
-          (all-each (entryEven (b .marks)) (ledgerOf b) (e₁₅ .1 .0));
+      bounded = each-map (λ c. withinSize (mostCharge * b .state .day) c ≡ true) (λ c. natAbs c ≤ mostCharge * b .state .day)
+          (λ c q. leb-true _ _ q) (b .charges) (all-each (withinSize (mostCharge * b .state .day)) (b .charges) (e₁₁ .1 .1 .0));
+      lifts = λ i l. lifts-parts (b .state .phase) (orderOf b) (b .delivered) (b .lifts) i
+          (tab-each (λ j. liftsSound (b .state .phase) (orderOf b) (b .delivered) (b .lifts) j ≡ true) (λ j. j) 0 16 i
+          (all-each (liftsSound (b .state .phase) (orderOf b) (b .delivered) (b .lifts)) (tabulate (λ j. j) 0 16) (e₁₁ .1 .1 .1 .0)) (omega arith) (omega arith));
+      even = λ i l. cells-parts (b .state .marks) (b .nets) (b .delivered) i
+          (tab-each (λ j. cellsEven (b .state .marks) (b .nets) (b .delivered) j ≡ true) (λ j. j) 0 16 i
+          (all-each (cellsEven (b .state .marks) (b .nets) (b .delivered)) (tabulate (λ j. j) 0 16) (e₁₅ .0)) (omega arith) (omega arith));
+      evenEntries = each-map (λ d. entryEven (b .state .marks) d ≡ true) (EvenEntry (b .state .marks)) (even-parts (b .state .marks)) (ledgerOf b)
+          (all-each (entryEven (b .state .marks)) (ledgerOf b) (e₁₅ .1 .0));
     }
 
 pub parts-sound : (b : Book) → SoundBook b → sound b ≡ true
@@ -278,7 +278,7 @@ parts-sound b g =
         (
           g .owed,
           (
-            taking-if (isTaking (b .phase)) (all isZero (b .delivered)) (g .taking),
+            taking-if (isTaking (b .state .phase)) (all isZero (b .delivered)) (g .taking),
             (
               le-leb _ _ (g .ledger .count),
               (
@@ -299,19 +299,19 @@ parts-sound b g =
                             (
                               parts-balanced (b .charges) (g .balance),
                               (
-                                each-all (withinSize (mostCharge * b .day)) (b .charges)
-                                    (each-map _ (λ c. withinSize (mostCharge * b .day) c ≡ true) (λ c h. le-leb _ _ h) (b .charges) (g .bounded)),
+                                each-all (withinSize (mostCharge * b .state .day)) (b .charges)
+                                    (each-map _ (λ c. withinSize (mostCharge * b .state .day) c ≡ true) (λ c h. le-leb _ _ h) (b .charges) (g .bounded)),
                                 (
-                                  each-all (liftsSound (b .phase) (orderOf b) (b .delivered) (b .lifts)) (tabulate (λ i. i) 0 16)
-                                      (each-tab (λ i. liftsSound (b .phase) (orderOf b) (b .delivered) (b .lifts) i ≡ true) (λ i. i) 0 16
-                                      (λ i h. parts-lifts (b .phase) (orderOf b) (b .delivered) (b .lifts) i (g .lifts i (omega arith)))),
+                                  each-all (liftsSound (b .state .phase) (orderOf b) (b .delivered) (b .lifts)) (tabulate (λ i. i) 0 16)
+                                      (each-tab (λ i. liftsSound (b .state .phase) (orderOf b) (b .delivered) (b .lifts) i ≡ true) (λ i. i) 0 16
+                                      (λ i h. parts-lifts (b .state .phase) (orderOf b) (b .delivered) (b .lifts) i (g .lifts i (omega arith)))),
                                   (
-                                    each-all (cellsEven (b .marks) (b .nets) (b .delivered)) (tabulate (λ i. i) 0 16)
-                                        (each-tab (λ i. cellsEven (b .marks) (b .nets) (b .delivered) i ≡ true) (λ i. i) 0 16
-                                        (λ i h. parts-cells (b .marks) (b .nets) (b .delivered) i (g .even i (omega arith)))),
+                                    each-all (cellsEven (b .state .marks) (b .nets) (b .delivered)) (tabulate (λ i. i) 0 16)
+                                        (each-tab (λ i. cellsEven (b .state .marks) (b .nets) (b .delivered) i ≡ true) (λ i. i) 0 16
+                                        (λ i h. parts-cells (b .state .marks) (b .nets) (b .delivered) i (g .even i (omega arith)))),
                                     (
-                                      each-all (entryEven (b .marks)) (ledgerOf b)
-                                          (each-map (EvenEntry (b .marks)) (λ e. entryEven (b .marks) e ≡ true) (parts-even (b .marks)) (ledgerOf b) (g .evenEntries)),
+                                      each-all (entryEven (b .state .marks)) (ledgerOf b)
+                                          (each-map (EvenEntry (b .state .marks)) (λ e. entryEven (b .state .marks) e ≡ true) (parts-even (b .state .marks)) (ledgerOf b) (g .evenEntries)),
                                       tt,
                                     ),
                                   ),
@@ -341,11 +341,11 @@ module _ (b : Book) (s : SoundBook b) where
       getD (b .delivered) k 0 ≤ owedOf (getD (b .nets) k (pos 0))
   delivered-owed k e = within-at (b .nets) (b .delivered) k e (s .owed)
 
-  pub delivered-none : (k : ℕ) → isTaking (b .phase) ≡ true → getD (b .delivered) k 0 ≡ 0
+  pub delivered-none : (k : ℕ) → isTaking (b .state .phase) ≡ true → getD (b .delivered) k 0 ≡ 0
   delivered-none k t = zero-at (b .delivered) k (s .taking t)
 
-  pub charge-bounded : (a : ℕ) → natAbs (getD (b .charges) a (pos 0)) ≤ mostCharge * b .day
-  charge-bounded a = each-getD (λ c. natAbs c ≤ mostCharge * b .day) (b .charges) a (pos 0) (s .bounded) (omega arith)
+  pub charge-bounded : (a : ℕ) → natAbs (getD (b .charges) a (pos 0)) ≤ mostCharge * b .state .day
+  charge-bounded a = each-getD (λ c. natAbs c ≤ mostCharge * b .state .day) (b .charges) a (pos 0) (s .bounded) (omega arith)
 
 -- The places of lifts
 

@@ -85,5 +85,5 @@ module _ (b : Book) (s : SoundBook b) (n : length (b .nets) ≡ 1024) (d : lengt
     deliver-fits x l = deliver-room (dealtToday b) (b .nets) (b .delivered) (b .lifts) i x (order-in (dealtToday b) (b .nets) (b .lifts) i) (length-row (b .nets) i n h) sound-row l
 
   -- and so do those of a cutoff
-  pub cutoff-fits : 2 * length (cutoffRecords (b .day) (orderOf b) (b .nets) (b .delivered)) ≤ outputWords
-  cutoff-fits = cutoff-room (dealtToday b) (b .day) (b .nets) (b .delivered) (b .lifts) (order-in (dealtToday b) (b .nets) (b .lifts)) (λ i h. length-row (b .nets) i n h) (λ i h. sound-row i h)
+  pub cutoff-fits : 2 * length (cutoffRecords (b .state .day) (orderOf b) (b .nets) (b .delivered)) ≤ outputWords
+  cutoff-fits = cutoff-room (dealtToday b) (b .state .day) (b .nets) (b .delivered) (b .lifts) (order-in (dealtToday b) (b .nets) (b .lifts)) (λ i h. length-row (b .nets) i n h) (λ i h. sound-row i h)

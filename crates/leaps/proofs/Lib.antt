@@ -1,3 +1,2 @@
 -- Laws of columns and of the room that a leap has.
 pub mod Columns
-pub mod Leaping

@@ -15,12 +15,6 @@ pub record CanIssue (runs : List ℕ) (n size x : ℕ) : Type 0 where
   pub some : 0 < size
   pub small : x < 2000000000
 
-pub record CanLeap (runs : List ℕ) (n size x : ℕ) : Type 0 where
-  pub there : n ≤ length runs
-  pub some : 0 < size
-  pub each : 0 < x
-  pub small : x < 2000000000
-
 pub record CanOwe (nets : List ℤ) (delivered xs : List ℕ) : Type 0 where
   pub cells : length nets ≡ 1024
   pub both : length delivered ≡ 1024

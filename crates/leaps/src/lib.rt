@@ -1,45 +1,17 @@
 // Rounds that do the same again are made as one step (document 02, F-7): how many of them there are, and the
 // delivered lots after them. So the time of a simulated desk depends neither on the size of units nor on inventories.
-use rounds::less;
+use joining::less;
+use leaping::run_rounds;
 use rounds::smaller;
 ghost use mathlib.Core.Path.{_≡_};
 ghost use mathlib.Core.Bool.{true};
 ghost use Prim.Native.Nat.{_*_, _≤_};
 ghost use lib.ListN.{length};
 ghost use Rattle.rules.specs.Fails.{undelivered};
-ghost use Rattle.units.specs.Runs.{runsIn};
+ghost use Rattle.runs.specs.Runs.{runsIn};
 ghost use Rattle.simulation.specs.Repeated.{plusTimes, AgainFor, OwedFor};
 ghost use Rattle.ranking.specs.Runs.{unitsOfRuns};
-ghost use Rattle.leaps.specs.Rooms.{CanIssue, CanLeap, CanOwe, CanAdvance, CanLeapAll, LeapIs};
-
-// For how many rounds more can an issue hand over what a round of x lots handed over, from d on? As many as
-// stay in the run of full units in which they began.
-fn run_rounds(runs: &[u32], n: usize, size: u32, d: u32, x: u32) -> u32
-    requires { ⌜ CanLeap (now runs) n size x ⌝ }
-    ensures { λ r. ⌜ AgainFor (unitsOfRuns size (runsIn (now (runs .entry)) n)) d x r ⌝ }
-{
-    if x % size != 0 {
-        return 0;
-    }
-    let mut b = d;
-    let mut j = 0;
-    while j < n {
-        let lots = runs[j] / 64;
-        if b < lots {
-            if lots % size != 0 {
-                return 0;
-            }
-            let room = lots - b;
-            if room <= x {
-                return 0;
-            }
-            return (room - x - 1) / x;
-        }
-        b -= lots;
-        j += 1;
-    }
-    0
-}
+ghost use Rattle.leaps.specs.Rooms.{CanIssue, CanOwe, CanAdvance, CanLeapAll, LeapIs};
 
 // At most k rounds more, as the issue's units allow them.
 fn issue_rounds(runs: &[u32], n: usize, size: u32, d: u32, x: u32, k: u32) -> u32

@@ -1,4 +1,4 @@
-// The ledger in five columns: issue, from, to, lots, day. The first `count` places of each are its
+// The ledger in five columns: issue, from, to, lots, day. The first `entries` places of each are its
 // entries; the others are 0.
 use rules::Entry;
 ghost use mathlib.Core.Path.{_≡_};
@@ -8,7 +8,7 @@ ghost use Prim.Native.Nat.{ℕ, _+_, _-_, _≤_, _<_, min};
 ghost use lib.Dec.{eqb};
 ghost use lib.ListN.{length};
 ghost use Rattle.rules.specs.Ledger.{entry, isFrom, lotsOf};
-ghost use Rattle.rules.specs.Book.{entries};
+ghost use Rattle.rules.specs.Book.{entries as entriesOf};
 ghost use Rattle.ledger.specs.Columns.{Stored, Copied, Unused, Cleared, withoutZeros, MovedUp, whole, held, before, kept, changed};
 
 // An entry at a place, whatever stood there.
@@ -37,7 +37,7 @@ fn store(
 
 // One entry behind the others.
 pub fn append(
-    count: usize,
+    entries: usize,
     issues: &mut [u8],
     froms: &mut [u8],
     tos: &mut [u8],
@@ -49,10 +49,10 @@ pub fn append(
     x: u32,
     d: u16,
 )
-    requires { ⌜ (count < 2048) × held count issues froms tos lots days ⌝ }
-    ensures { λ _. ⌜ kept (before count issues froms tos lots days ++ (entry i f t x d ∷ [])) (count + 1) issues froms tos lots days ⌝ }
+    requires { ⌜ (entries < 2048) × held entries issues froms tos lots days ⌝ }
+    ensures { λ _. ⌜ kept (before entries issues froms tos lots days ++ (entry i f t x d ∷ [])) (entries + 1) issues froms tos lots days ⌝ }
 {
-    store(issues, froms, tos, lots, days, count, i, f, t, x, d);
+    store(issues, froms, tos, lots, days, entries, i, f, t, x, d);
 }
 
 fn wide(x: u8) -> u32
@@ -83,13 +83,13 @@ fn lots_from(issue: u8, from: u8, x: u32, i: u32, a: u32) -> u64
 
 // The lots that account a owes in issue i: of all entries from it. Whoever is owed and since when
 // does not matter.
-pub fn owed_lots(count: usize, issues: &[u8], froms: &[u8], lots: &[u32], i: u32, a: u32) -> u64
-    requires { ⌜ (count ≤ 2048) × (length (now issues) ≡ 2048) × (length (now froms) ≡ 2048) × (length (now lots) ≡ 2048) ⌝ }
-    ensures { λ r. ⌜ ((ts ds : List ℕ) → r ≡ lotsOf (isFrom i a) (entries count (now (issues .entry)) (now (froms .entry)) ts (now (lots .entry)) ds)) ⌝ }
+pub fn owed_lots(entries: usize, issues: &[u8], froms: &[u8], lots: &[u32], i: u32, a: u32) -> u64
+    requires { ⌜ (entries ≤ 2048) × (length (now issues) ≡ 2048) × (length (now froms) ≡ 2048) × (length (now lots) ≡ 2048) ⌝ }
+    ensures { λ r. ⌜ ((ts ds : List ℕ) → r ≡ lotsOf (isFrom i a) (entriesOf entries (now (issues .entry)) (now (froms .entry)) ts (now (lots .entry)) ds)) ⌝ }
 {
     let mut t: u64 = 0;
     let mut k = 0;
-    while k < count {
+    while k < entries {
         t += lots_from(issues[k], froms[k], lots[k], i, a);
         k += 1;
     }
@@ -132,21 +132,21 @@ pub fn left_of(issue: u8, from: u8, to: u8, lots: u32, day: u16, m: u32) -> u32
     after.lots
 }
 
-// Places from w on are 0. Those from `count` on are so already.
+// Places from w on are 0. Those from `entries` on are so already.
 fn clear(
     w: usize,
-    count: usize,
+    entries: usize,
     issues: &mut [u8],
     froms: &mut [u8],
     tos: &mut [u8],
     lots: &mut [u32],
     days: &mut [u16],
 )
-    requires { ⌜ (w ≤ count) × Unused count (now issues) (now froms) (now tos) (now lots) (now days) ⌝ }
+    requires { ⌜ (w ≤ entries) × Unused entries (now issues) (now froms) (now tos) (now lots) (now days) ⌝ }
     ensures { λ _. ⌜ changed (Cleared w) issues froms tos lots days ⌝ }
 {
     let mut j = w;
-    while j < count {
+    while j < entries {
         store(issues, froms, tos, lots, days, j, 0, 0, 0, 0, 0);
         j += 1;
     }
@@ -177,29 +177,29 @@ fn move_up(
 
 // Entries at 0 go and later ones move up; answers the number of those that stay.
 pub fn remove_zeros(
-    count: usize,
+    entries: usize,
     issues: &mut [u8],
     froms: &mut [u8],
     tos: &mut [u8],
     lots: &mut [u32],
     days: &mut [u16],
 ) -> usize
-    requires { ⌜ held count issues froms tos lots days ⌝ }
-    ensures { λ r. ⌜ kept (withoutZeros (before count issues froms tos lots days)) r issues froms tos lots days ⌝ }
+    requires { ⌜ held entries issues froms tos lots days ⌝ }
+    ensures { λ r. ⌜ kept (withoutZeros (before entries issues froms tos lots days)) r issues froms tos lots days ⌝ }
 {
     let mut k = 0;
     let mut w = 0;
-    while k < count {
+    while k < entries {
         w = move_up(issues, froms, tos, lots, days, k, w);
         k += 1;
     }
-    clear(w, count, issues, froms, tos, lots, days);
+    clear(w, entries, issues, froms, tos, lots, days);
     w
 }
 
 // The entries of a second ledger, in its columns is, fs, ts, xs, ds, behind those of the first.
 pub fn append_all(
-    count: usize,
+    entries: usize,
     issues: &mut [u8],
     froms: &mut [u8],
     tos: &mut [u8],
@@ -212,8 +212,8 @@ pub fn append_all(
     xs: &[u32],
     ds: &[u16],
 )
-    requires { ⌜ (count + more ≤ 2048) × held count issues froms tos lots days × whole is fs ts xs ds ⌝ }
-    ensures { λ _. ⌜ kept (before count issues froms tos lots days ++ before more is fs ts xs ds) (count + more) issues froms tos lots days ⌝ }
+    requires { ⌜ (entries + more ≤ 2048) × held entries issues froms tos lots days × whole is fs ts xs ds ⌝ }
+    ensures { λ _. ⌜ kept (before entries issues froms tos lots days ++ before more is fs ts xs ds) (entries + more) issues froms tos lots days ⌝ }
 {
     let mut j = 0;
     while j < more {
@@ -222,7 +222,7 @@ pub fn append_all(
         let t = ts[j];
         let x = xs[j];
         let d = ds[j];
-        append(count + j, issues, froms, tos, lots, days, i, f, t, x, d);
+        append(entries + j, issues, froms, tos, lots, days, i, f, t, x, d);
         j += 1;
     }
 }

@@ -13,8 +13,8 @@ use Rattle.rules.specs.declared.Phase.{Phase}
 use Rattle.rules.specs.declared.Ticket.{Ticket}
 use Rattle.rules.specs.Measures.{unitLots, mostLifts, outputWords}
 use Rattle.rules.specs.Units.{AccountLots, accountLots}
-use Rattle.rules.specs.Handover.{covered, stock, waiting, firstUnit}
-use Rattle.rules.specs.Lifts.{liftOf, toFront, lift, handedFrom}
+use Rattle.rules.specs.Handover.{covered, stock, waiting, firstUnit, handedFrom}
+use Rattle.rules.specs.Lifts.{liftOf, toFront, lift}
 use Rattle.rules.specs.Book.{isSettling, duesOf, deliveredTotal, liftNumber, countAt, orderIn}
 use Rattle.rules.specs.Records.{handover, words, over}
 use Rattle.rules.specs.Questions.{firstNo, askIssue, askUnhanded, askTicket, askLifts, sameTicket}
@@ -26,9 +26,11 @@ use Rattle.laws.proofs.Handover.{covered-le, waits-short}
 use Rattle.laws.proofs.Lifts.{lift-covered, lift-one}
 use Rattle.laws.proofs.Cells.{length-dues}
 use Rattle.laws.proofs.SoundRows.{order-in}
-use Rattle.lifting.specs.declared.Stand.{Stand}
+use Rattle.tickets.specs.declared.Stand.{Stand}
 use Rattle.lifting.specs.declared.Committed.{Committed}
-use Rattle.lifting.specs.Lifting.{Stands, unhandedTicket, commitNo, CanHandOn, ifCovered, unitOf, HandedOn, refusedBy, Commits}
+use Rattle.tickets.specs.Tickets.{Stands, unhandedTicket, commitNo}
+use Rattle.committing.specs.Committing.{CanHandOn, ifCovered, unitOf, HandedOn}
+use Rattle.lifting.specs.Lifting.{refusedBy, Commits}
 
 -- The unit lifted before all unhanded ones
 
@@ -63,7 +65,6 @@ module _ (us : List AccountLots) (d k : ℕ) (unhanded : covered us d ≤ k) (th
 
   -- it alone is handed over, where the stock covers it
   pub one-handed : handedFrom (lift (liftOf k place) us) place d ≡ ifCovered chosen (stock us d)
-  unfolding handedFrom
   one-handed =
       let n = covered (lift (liftOf k place) us) d in
       let e : n ≡ place + covered (chosen ∷ others) (stock us d) = lift-covered us d k ∙ ap (λ vs. place + covered vs (stock us d)) in-front in
@@ -97,14 +98,6 @@ same-unit t u e =
     let y = eqb (t .day) (u .day) in
     let ax = and-left (a && x) y (and-left (a && x && y) (eqb (t .count) (u .count)) e) in
     (eqb-true (t .account) (u .account) (and-left a x ax), eqb-true (t .lots) (u .lots) (and-right a x ax))
-
--- the ticket's unit handed over, or not
-pub handed-none : (t : Ticket) (left : ℕ) (o : List ℕ) → left < t .lots → HandedOn t left o o 0
-handed-none t left o l = record { count = simp (lt-leb (t .lots) left l); output = simp (lt-leb (t .lots) left l) }
-
-pub handed-one : (t : Ticket) (left : ℕ) (o new : List ℕ) → t .lots ≤ left → new ≡ over (words (handover (t .issue) (unitOf t) ∷ [])) o →
-    HandedOn t left o new 1
-handed-one t left o new l e = record { count = simp (le-leb (t .lots) left l); output = simp (le-leb (t .lots) left l) e }
 
 module _ (new : Bool) (phase : Phase) (today : ℕ) (nets : List ℤ) (delivered lifts : List ℕ) (t : Ticket) where
   abbrev us : List AccountLots

@@ -1,4 +1,2 @@
-pub mod Places
-pub mod Standing
 pub mod Asking
 pub mod Committing

@@ -11,10 +11,10 @@ use Rattle.rules.specs.Calls.{pairOffAsks}
 use Rattle.laws.proofs.Answers.{all-yes}
 use Rattle.ledger.specs.Columns.{Whole}
 use Rattle.ledger.proofs.Books.{book-held, book-entries}
-use Rattle.pairing.specs.Pairs.{Pairable}
+use Rattle.stepping.specs.Steps.{Pairable}
 
 pub book-pairable : (b : Book) → sound b ≡ true → Whole (b .issues) (b .froms) (b .tos) (b .lots) (b .days) → (i a : ℕ) →
-    firstNo (pairOffAsks i a) ≡ 0 → Pairable (b .count) i (b .issues) (b .froms) (b .tos) (b .lots) (b .days)
+    firstNo (pairOffAsks i a) ≡ 0 → Pairable (b .state .entries) i (b .issues) (b .froms) (b .tos) (b .lots) (b .days)
 book-pairable b s w i a q =
     record {
       held = book-held b s w;

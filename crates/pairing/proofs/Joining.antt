@@ -12,8 +12,9 @@ use Rattle.laws.proofs.Sound.{SoundEntry, all-each, entry-parts}
 use Rattle.laws.proofs.Pairing.{pairing-steps}
 use Rattle.ledger.specs.Columns.{Whole, Held, Kept, withoutZeros}
 use Rattle.ledger.proofs.Entries.{kept-held, kept-entries}
-use Rattle.pairing.specs.declared.Made.{Made}
-use Rattle.pairing.specs.Pairs.{Pairable, WasMade, WasPaired}
+use Rattle.stepping.specs.declared.Made.{Made}
+use Rattle.stepping.specs.Steps.{Pairable, WasMade}
+use Rattle.pairing.specs.Pairs.{WasPaired}
 
 -- columns of zeros hold no entry
 pub zeros-held : Held 0 (replicate 2048 0) (replicate 2048 0) (replicate 2048 0) (replicate 2048 0) (replicate 2048 0)
@@ -34,7 +35,7 @@ module _ {p : Pairing} {n : ℕ} {r : Made} {is fs ts xs ds mi mf mt mx md : Lis
   join-held = kept-held (withoutZeros (entries n is fs ts xs ds)) w is′ fs′ ts′ xs′ ds′ q (omega (arith, q .count, join-few))
 
   module _ {i₃ f₃ t₃ x₃ d₃ : List ℕ} (k : Kept (entries w is′ fs′ ts′ xs′ ds′ ++ entries (r .more) mi mf mt mx md) (w + r .more) i₃ f₃ t₃ x₃ d₃) where
-    pub joined : WasPaired p (record { steps = r .steps; cancelled = r .cancelled; count = w + r .more }) i₃ f₃ t₃ x₃ d₃
+    pub joined : WasPaired p (record { steps = r .steps; cancelled = r .cancelled; entries = w + r .more }) i₃ f₃ t₃ x₃ d₃
     joined =
         let e = kept-entries (withoutZeros (entries n is fs ts xs ds)) w is′ fs′ ts′ xs′ ds′ q in
         record {

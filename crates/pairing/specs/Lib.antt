@@ -1,3 +1,2 @@
 -- What pair-off does to the ledger's columns.
-pub mod Places
 pub mod Pairs

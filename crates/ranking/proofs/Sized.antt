@@ -17,9 +17,9 @@ use Rattle.laws.proofs.Basics.{byTest, Every, each-map, each-sort, put-pos, put
 use Rattle.laws.proofs.Units.{Small, smalls-small}
 use Rattle.laws.proofs.Ranking.{Before, Ordered, rising-parts, ordered-sort}
 use Rattle.laws.proofs.Cells.{length-block, getD-block, length-dues}
-use Rattle.units.specs.Runs.{partOf, runsIn, atLeast}
-use Rattle.units.proofs.Units.{smalls-parts}
-use Rattle.units.proofs.Loops.{behind, dues-small}
+use Rattle.runs.specs.Runs.{partOf, runsIn, atLeast}
+use Rattle.runs.proofs.Units.{smalls-parts}
+use Rattle.runs.proofs.Loops.{behind, dues-small}
 use Rattle.ranking.specs.Runs.{unitsOfRun, unitsOfRuns}
 use Rattle.ranking.specs.Orders.{fullAt, smallAt, runsAt, CanOrder, CanRankAt, RankedAt, CanRankAll, RankedIn}
 

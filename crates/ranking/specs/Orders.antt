@@ -8,7 +8,7 @@ use lib.IntN.{ℤ}
 use Rattle.rules.specs.Measures.{mostLots}
 use Rattle.rules.specs.Units.{AccountLots, accountLots, byAccount, largestFirst, units}
 use Rattle.rules.specs.Book.{all, block, withinSize, duesOf}
-use Rattle.units.specs.Runs.{runsIn, atLeast, CanRank}
+use Rattle.runs.specs.Runs.{runsIn, atLeast, CanRank}
 use Rattle.ranking.specs.Runs.{unitsOfRuns}
 
 -- what is full of an account's lots, and what is small of them

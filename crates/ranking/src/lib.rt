@@ -4,7 +4,7 @@ ghost use mathlib.Core.Path.{_≡_};
 ghost use mathlib.Core.List.{map};
 ghost use Prim.Native.Nat.{_≤_};
 ghost use lib.ListN.{length};
-ghost use Rattle.units.specs.Runs.{runsIn};
+ghost use Rattle.runs.specs.Runs.{runsIn};
 ghost use Rattle.ranking.specs.Orders.{fullAt, smallAt, runsAt, CanOrder, CanRankAt, RankedAt, CanRankAll, Table};
 
 // Of each account's lots, those of its small unit.
@@ -37,11 +37,11 @@ fn order(dues: &[u32], runs: &mut [u32], size: u32) -> usize
     requires { ⌜ CanOrder size (now dues) (now runs) ⌝ }
     ensures { λ r. ⌜ (r ≤ 128) × (runsIn (now (runs .exit)) r ≡ runsAt size (now (dues .entry))) ⌝ }
 {
-    let n = units::rank(dues, runs, size);
+    let n = sorting::rank(dues, runs, size);
     fulls(runs, n, size);
     let mut small = [0u32; 64];
     rests(dues, &mut small, size);
-    let m = units::rank(&small, &mut runs[n..], 1);
+    let m = sorting::rank(&small, &mut runs[n..], 1);
     n + m
 }
 

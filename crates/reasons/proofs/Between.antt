@@ -13,7 +13,7 @@ use Rattle.rules.specs.declared.Book.{Book}
 use Rattle.rules.specs.Measures.{sum}
 use Rattle.rules.specs.Units.{AccountLots}
 use Rattle.rules.specs.Handover.{covered, stock, firstUnit}
-use Rattle.rules.specs.Book.{isTaking, isSettling, isCut, deliveredAt, deliveredTotal, orderIn, orderOf, dealtToday, sound, withTurn}
+use Rattle.rules.specs.Book.{isTaking, isSettling, isCut, deliveredAt, deliveredTotal, orderIn, orderOf, dealtToday, sound, withState, withTurn}
 use Rattle.rules.specs.Questions.{ask, firstNo}
 use Rattle.rules.specs.Calls.{Call, Trade, Close, Deliver, Ask, Commit, Cutoff, Resolve, PairOff, Roll, Mark, Turn, asks, effect, called, commitLift}
 use Rattle.laws.proofs.Basics.{byTest, and-left, and-right}
@@ -23,7 +23,7 @@ use Rattle.laws.proofs.LiftColumn.{raised-order, lift-other, same-words}
 use Rattle.laws.proofs.Sound.{sound-parts, parts-sound}
 use Rattle.laws.proofs.Kept.{turn-same}
 use Rattle.laws.proofs.Called.{Sizes, Standing, stands}
-use Rattle.status.specs.Status.{StatusAnswer, isHanded, waitsFor, failsPartly, failsWholly, statusRefused, covers, wanted, takesStock, inSettling, afterCutoff, reason, statusAnswer, status}
+use Rattle.told.specs.Status.{StatusAnswer, isHanded, waitsFor, failsPartly, failsWholly, statusRefused, covers, wanted, takesStock, inSettling, afterCutoff, reason, statusAnswer, status}
 use Rattle.status.proofs.Telling.{exactly}
 use Rattle.reasons.specs.Lists.{after, unlessRefused, noLift, noLiftBetween, lotsIn, ifAccepted, brought, HandedFor}
 use Rattle.reasons.proofs.Phases.{settling-left, settling-not-taking, settling-not-cut}
@@ -82,16 +82,16 @@ handed-covered false w e = absurd (let q = ap caseOf e in omega arith)
 -- what is told is no refusal: the book is sound and not in Taking, and the unit is there
 pub record Tells (b : Book) (i k : ℕ) (t : StatusAnswer) : Type 0 where
   pub good : sound b ≡ true
-  pub later : isTaking (b .phase) ≡ false
+  pub later : isTaking (b .state .phase) ≡ false
   pub issue : i ≤ 15
   pub there : k < length (orderOf b i)
-  pub told : reason (b .phase) (orderOf b i) (deliveredTotal (b .delivered) i) k ≡ t
+  pub told : reason (b .state .phase) (orderOf b i) (deliveredTotal (b .delivered) i) k ≡ t
 
 pub tells-of : (b : Book) (i k : ℕ) (t : StatusAnswer) → caseOf t < 5 → status b i k ≡ t → Tells b i k t
 unfolding status
 tells-of b i k t h e =
     let us = orderOf b i in
-    let q = all-asked (sound b) (not (isTaking (b .phase))) (leb i 15) (ltb k (length us)) _ t h e in
+    let q = all-asked (sound b) (not (isTaking (b .state .phase))) (leb i 15) (ltb k (length us)) _ t h e in
     record {
       good = q .0;
       later = not-true _ (q .1);
@@ -103,7 +103,7 @@ tells-of b i k t h e =
 -- a unit waits for n lots
 record Waits (b : Book) (i k n : ℕ) : Type 0 where
   tells : Tells b i k (waitsFor n)
-  phase : isSettling (b .phase) ≡ true
+  phase : isSettling (b .state .phase) ≡ true
   wants : wanted (orderOf b i) (deliveredTotal (b .delivered) i) k ≡ n
 
 waits-of : (b : Book) (i k n : ℕ) → status b i k ≡ waitsFor n → Waits b i k n
@@ -111,33 +111,33 @@ waits-of b i k n e =
     let us = orderOf b i in
     let d = deliveredTotal (b .delivered) i in
     let q = tells-of b i k (waitsFor n) (omega arith) e in
-    byTest (isCut (b .phase))
+    byTest (isCut (b .state .phase))
     (λ c. absurd (never-cut us d k n (simp c at (q .told))))
-    (λ c. record { tells = q; phase = settling-left (b .phase) (q .later) c; wants = settling-wants us d k n (simp c at (q .told)) })
+    (λ c. record { tells = q; phase = settling-left (b .state .phase) (q .later) c; wants = settling-wants us d k n (simp c at (q .told)) })
 
 -- what is told of a unit of a sound book in Settling
-pub in-settling : (b : Book) (i k : ℕ) → sound b ≡ true → isSettling (b .phase) ≡ true → i ≤ 15 → k < length (orderOf b i) →
+pub in-settling : (b : Book) (i k : ℕ) → sound b ≡ true → isSettling (b .state .phase) ≡ true → i ≤ 15 → k < length (orderOf b i) →
     status b i k ≡ inSettling (orderOf b i) (deliveredTotal (b .delivered) i) k
 unfolding status
 in-settling b i k g p h t =
-    simp (g, settling-not-taking (b .phase) p, settling-not-cut (b .phase) p, le-leb i 15 h, lt-ltb k (length (orderOf b i)) t)
+    simp (g, settling-not-taking (b .state .phase) p, settling-not-cut (b .state .phase) p, le-leb i 15 h, lt-ltb k (length (orderOf b i)) t)
 
 -- A call between
 
 -- the issue's order stays, and x lots more are delivered
 pub record Brings (b b′ : Book) (i x : ℕ) : Type 0 where
-  pub phase : isSettling (b′ .phase) ≡ true
+  pub phase : isSettling (b′ .state .phase) ≡ true
   pub order : orderOf b′ i ≡ orderOf b i
   pub total : deliveredTotal (b′ .delivered) i ≡ deliveredTotal (b .delivered) i + x
 
-nothing : (b : Book) (i : ℕ) → isSettling (b .phase) ≡ true → Brings b b i 0
+nothing : (b : Book) (i : ℕ) → isSettling (b .state .phase) ≡ true → Brings b b i 0
 nothing b i p = record { phase = p; order = refl; total = sym (add-zero (deliveredTotal (b .delivered) i)) }
 
 -- a day after today is named, and the new order is not in force: today's order stays
-pub turn-order : (b : Book) (d : ℕ) → ltb (b .day) d && not (dealtToday b) ≡ true → (i : ℕ) → orderOf (withTurn b d) i ≡ orderOf b i
-turn-order b d h i = ap (λ new. orderIn new (b .nets) (b .lifts) i) (turn-same (b .turn) (b .day) d h)
+pub turn-order : (b : Book) (d : ℕ) → ltb (b .state .day) d && not (dealtToday b) ≡ true → (i : ℕ) → orderOf (withState b (withTurn (b .state) d)) i ≡ orderOf b i
+turn-order b d h i = ap (λ new. orderIn new (b .nets) (b .lifts) i) (turn-same (b .state .turn) (b .state .day) d h)
 
-module _ (b : Book) (z : Sizes b) (i : ℕ) (p : isSettling (b .phase) ≡ true) where
+module _ (b : Book) (z : Sizes b) (i : ℕ) (p : isSettling (b .state .phase) ≡ true) where
   delivers : (j a x : ℕ) (out : List ℕ) → j < 16 → a < 64 → Brings b (effect b (Deliver j a x out) .book) i (cond (eqb j i) x 0)
   delivers j a x out hj ha =
       record {
@@ -154,8 +154,8 @@ module _ (b : Book) (z : Sizes b) (i : ℕ) (p : isSettling (b .phase) ≡ true)
       }
 
   does : (c : Call) → noLift i c ≡ true → AllYes (asks b c) → Brings b (effect b c .book) i (lotsIn i c)
-  does (Trade j f t x) h y = absurd (false≢true (sym (settling-not-taking (b .phase) p) ∙ y .1 .0))
-  does Close h y = absurd (false≢true (sym (settling-not-taking (b .phase) p) ∙ y .1 .0))
+  does (Trade j f t x) h y = absurd (false≢true (sym (settling-not-taking (b .state .phase) p) ∙ y .1 .0))
+  does Close h y = absurd (false≢true (sym (settling-not-taking (b .state .phase) p) ∙ y .1 .0))
   does (Deliver j a x out) h y =
       delivers j a x out (omega (arith, leb-true j 15 (y .1 .1 .1 .0))) (omega (arith, leb-true a 63 (y .1 .1 .1 .1 .0)))
   does (Ask j k) h y = nothing b i p
@@ -171,7 +171,7 @@ module _ (b : Book) (z : Sizes b) (i : ℕ) (p : isSettling (b .phase) ≡ true)
   does (Cutoff out) h y = absurd (false≢true h)
   does (Resolve j a x out) h y = record { phase = p; order = refl; total = sym (add-zero (deliveredTotal (b .delivered) i)) }
   does (PairOff j a) h y = record { phase = p; order = refl; total = sym (add-zero (deliveredTotal (b .delivered) i)) }
-  does (Roll days rate prices) h y = absurd (false≢true (sym (settling-not-cut (b .phase) p) ∙ y .1 .0))
+  does (Roll days rate prices) h y = absurd (false≢true (sym (settling-not-cut (b .state .phase) p) ∙ y .1 .0))
   does (Mark j m) h y = record { phase = p; order = refl; total = sym (add-zero (deliveredTotal (b .delivered) i)) }
   does (Turn d) h y = record { phase = p; order = turn-order b d (y .1 .0) i; total = sym (add-zero (deliveredTotal (b .delivered) i)) }
 
@@ -187,7 +187,7 @@ then : (b b′ b″ : Book) (i x y : ℕ) → Brings b b′ i x → Brings b′ 
 then b b′ b″ i x y p q =
     record { phase = q .phase; order = q .order ∙ p .order; total = omega (arith, p .total, q .total) }
 
-pub brings-all : (cs : List Call) (b : Book) (i : ℕ) → Standing b → isSettling (b .phase) ≡ true → noLiftBetween i b cs ≡ true →
+pub brings-all : (cs : List Call) (b : Book) (i : ℕ) → Standing b → isSettling (b .state .phase) ≡ true → noLiftBetween i b cs ≡ true →
     Brings b (after b cs) i (brought i b cs) × Standing (after b cs)
 brings-all [] b i s p h = (nothing b i p, s)
 brings-all (c ∷ cs) b i s p h =

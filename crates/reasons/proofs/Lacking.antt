@@ -28,7 +28,7 @@ use Rattle.laws.proofs.Ledger.{ledger-written}
 use Rattle.laws.proofs.Sound.{SoundBook, sound-parts, parts-sound}
 use Rattle.laws.proofs.Called.{Sizes, stands}
 use Rattle.tally.proofs.Cutting.{new-to}
-use Rattle.status.specs.Status.{StatusAnswer, failsWholly, afterCutoff, status}
+use Rattle.told.specs.Status.{StatusAnswer, failsWholly, afterCutoff, status}
 use Rattle.reasons.specs.Lists.{after, noRollSince, lackingOf, lackingOver, lacking}
 use Rattle.reasons.proofs.Phases.{cut-not-taking}
 use Rattle.reasons.proofs.Staying.{stays-all}
@@ -125,14 +125,14 @@ lacking-rest a (u ∷ us) d h =
 -- A book in Cut
 
 -- what is told of a unit of a sound book in Cut
-pub in-cut : (b : Book) (i k : ℕ) → sound b ≡ true → isCut (b .phase) ≡ true → i ≤ 15 → k < length (orderOf b i) →
+pub in-cut : (b : Book) (i k : ℕ) → sound b ≡ true → isCut (b .state .phase) ≡ true → i ≤ 15 → k < length (orderOf b i) →
     status b i k ≡ afterCutoff (orderOf b i) (deliveredTotal (b .delivered) i) k
 unfolding status
 in-cut b i k g p h t =
-    simp (g, cut-not-taking (b .phase) p, p, le-leb i 15 h, lt-ltb k (length (orderOf b i)) t)
+    simp (g, cut-not-taking (b .state .phase) p, p, le-leb i 15 h, lt-ltb k (length (orderOf b i)) t)
 
 -- so the units' lacks are those of the orders and totals at the cutoff
-pub lacking-in-cut : (b : Book) (i a : ℕ) → sound b ≡ true → isCut (b .phase) ≡ true → i ≤ 15 →
+pub lacking-in-cut : (b : Book) (i a : ℕ) → sound b ≡ true → isCut (b .state .phase) ≡ true → i ≤ 15 →
     lacking b i a ≡ lackingOver a (afterCutoff (orderOf b i) (deliveredTotal (b .delivered) i)) (orderOf b i)
 unfolding lacking
 lacking-in-cut b i a g p h =
@@ -151,7 +151,7 @@ cuts b out =
 -- what it fails to an account is what the account's units lack
 fails-lack : (b : Book) → Sizes b → SoundBook b → (i a : ℕ) → i < 16 →
     lackingOver a (afterCutoff (orderOf b i) (deliveredTotal (b .delivered) i)) (orderOf b i)
-    ≡ lotsOf (isTo i a) (newEntries (b .day) (orderOf b) (b .nets) (b .delivered))
+    ≡ lotsOf (isTo i a) (newEntries (b .state .day) (orderOf b) (b .nets) (b .delivered))
 unfolding issueFails
 fails-lack b z g i a h =
     let us = orderOf b i in
@@ -170,11 +170,11 @@ module _ (b : Book) (z : Sizes b) (out : List ℕ) (h : called b (Cutoff out) .r
   cut = called b (Cutoff out) .book
 
   pub cutoff-lacks : (cs : List Call) → noRollSince cut cs ≡ true →
-      lacking (after cut cs) i a ≡ lotsOf (isTo i a) (newEntries (b .day) (orderOf b) (b .nets) (b .delivered))
+      lacking (after cut cs) i a ≡ lotsOf (isTo i a) (newEntries (b .state .day) (orderOf b) (b .nets) (b .delivered))
   cutoff-lacks cs r =
       let c = cuts b out h in
       let g = sound-parts b (c .0) in
-      let p : isCut (cut .phase) ≡ true = ap (λ x. isCut (x .phase)) (c .1) in
+      let p : isCut (cut .state .phase) ≡ true = ap (λ x. isCut (x .state .phase)) (c .1) in
       let q = stays-all cs cut (stands b (Cutoff out) (record { sizes = z; parts = g })) p r in
       let e : orderOf (after cut cs) i ≡ orderOf b i = q .0 .order i ∙ ap (λ x. orderOf x i) (c .1) in
       let f : deliveredTotal (after cut cs .delivered) i ≡ deliveredTotal (b .delivered) i = q .0 .total i ∙ ap (λ x. deliveredTotal (x .delivered) i) (c .1) in
@@ -185,7 +185,7 @@ module _ (b : Book) (z : Sizes b) (out : List ℕ) (h : called b (Cutoff out) .r
   pub cutoff-raised : (cs : List Call) → noRollSince cut cs ≡ true →
       lotsOf (isTo i a) (ledgerOf cut) ≡ lotsOf (isTo i a) (ledgerOf b) + lacking (after cut cs) i a
   cutoff-raised cs r =
-      let new = newEntries (b .day) (orderOf b) (b .nets) (b .delivered) in
+      let new = newEntries (b .state .day) (orderOf b) (b .nets) (b .delivered) in
       omega (
         arith,
         ap (λ x. lotsOf (isTo i a) (ledgerOf x)) (cuts b out h .1),

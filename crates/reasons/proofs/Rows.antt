@@ -21,7 +21,7 @@ use Rattle.tally.proofs.Invariant.{cutRow, RowIs}
 use Rattle.tally.proofs.Shown.{units-today}
 use Rattle.tally.proofs.Demand.{reached}
 use Rattle.tally.proofs.Reached.{reached-sound}
-use Rattle.status.specs.Status.{isHanded, covers, wanted, inSettling, afterCutoff, status}
+use Rattle.told.specs.Status.{isHanded, covers, wanted, inSettling, afterCutoff, status}
 use Rattle.reasons.specs.Lists.{HandedByRow, lackingOf}
 use Rattle.reasons.proofs.Phases.{settling-not-cut}
 use Rattle.reasons.proofs.Between.{handed-covered, tells-of, in-settling}
@@ -44,17 +44,17 @@ module _ (us : List AccountLots) (d k : ℕ) where
   unfolding inSettling
   tells-handed e = ltb-true k (covered us d) (handed-covered (covers us d k) (wanted us d k) e)
 
-pub handed-by-row : (cs : List Call) (i k : ℕ) → i < 16 → isSettling (afterAll start cs .book .phase) ≡ true → HandedByRow (afterAll start cs) i k
+pub handed-by-row : (cs : List Call) (i k : ℕ) → i < 16 → isSettling (afterAll start cs .book .state .phase) ≡ true → HandedByRow (afterAll start cs) i k
 handed-by-row cs i k h p =
     let s = afterAll start cs in
     let b = s .book in
     let us = orderOf b i in
     let d = deliveredTotal (b .delivered) i in
     let n : length (s .tally .rows i) ≡ covered us d =
-    ap length (settling-row (b .phase) us d (s .tally .rows i) p (reached cs .rows i h)) ∙ handed-length us d in
+    ap length (settling-row (b .state .phase) us d (s .tally .rows i) p (reached cs .rows i h)) ∙ handed-length us d in
     record {
       told = λ e.
-          omega (arith, n, tells-handed us d k (simp (settling-not-cut (b .phase) p) at (tells-of b i k isHanded (omega arith) e .told)));
+          omega (arith, n, tells-handed us d k (simp (settling-not-cut (b .state .phase) p) at (tells-of b i k isHanded (omega arith) e .told)));
       recorded = λ l.
           let c : k < covered us d = omega (arith, n) in
           in-settling b i k (reached-sound cs) p (omega arith) (omega (arith, covered-le us d)) ∙ handed-tells us d k c;
@@ -96,7 +96,7 @@ row-lacks (u ∷ us) d (suc k) h =
     omega (arith, p, ap (lackingOf (getD us k noLots)) (behind-waiting u us d k e)))
 
 -- what a unit is told to lack, and the lots of the 10 at its place (0 where there is none), are together its lots
-pub lacks-by-row : (cs : List Call) (i k : ℕ) → i < 16 → isCut (afterAll start cs .book .phase) ≡ true →
+pub lacks-by-row : (cs : List Call) (i k : ℕ) → i < 16 → isCut (afterAll start cs .book .state .phase) ≡ true →
     k < length (unitsToday (afterAll start cs .tally) i) →
     getD (afterAll start cs .tally .rows i) k noLots .lots
     + lackingOf (getD (unitsToday (afterAll start cs .tally) i) k noLots) (status (afterAll start cs .book) i k)
@@ -109,4 +109,4 @@ lacks-by-row cs i k h p t =
     let v = reached cs in
     let e : unitsToday (s .tally) i ≡ us = units-today s v i h in
     let l : k < length us = (rw e at t) in
-    rw (e, cut-row (b .phase) us d (s .tally .rows i) p (v .rows i h), in-cut b i k (reached-sound cs) p (omega arith) l) (row-lacks us d k l)
+    rw (e, cut-row (b .state .phase) us d (s .tally .rows i) p (v .rows i h), in-cut b i k (reached-sound cs) p (omega arith) l) (row-lacks us d k l)

@@ -11,7 +11,7 @@ use Rattle.laws.proofs.Basics.{byTest, and-left, and-right}
 use Rattle.laws.proofs.Answers.{AllYes, by-answer}
 use Rattle.laws.proofs.Sound.{sound-parts, parts-sound}
 use Rattle.laws.proofs.Called.{Sizes, Standing, stands}
-use Rattle.status.specs.Status.{status}
+use Rattle.told.specs.Status.{status}
 use Rattle.reasons.specs.Lists.{after, unlessRefused, noRoll, noRollSince}
 use Rattle.reasons.proofs.Phases.{cut-not-taking, cut-not-settling}
 use Rattle.reasons.proofs.Between.{turn-order}
@@ -20,21 +20,21 @@ use Rattle.reasons.proofs.Between.{turn-order}
 
 -- phase, orders and delivered lots stay
 pub record Stays (b b′ : Book) : Type 0 where
-  pub phase : b′ .phase ≡ b .phase
+  pub phase : b′ .state .phase ≡ b .state .phase
   pub order : (i : ℕ) → orderOf b′ i ≡ orderOf b i
   pub total : (i : ℕ) → deliveredTotal (b′ .delivered) i ≡ deliveredTotal (b .delivered) i
 
 as-it-was : (b : Book) → Stays b b
 as-it-was b = record { phase = refl; order = λ i. refl; total = λ i. refl }
 
-module _ (b : Book) (p : isCut (b .phase) ≡ true) where
+module _ (b : Book) (p : isCut (b .state .phase) ≡ true) where
   does : (c : Call) → noRoll c ≡ true → AllYes (asks b c) → Stays b (effect b c .book)
-  does (Trade j f t x) h y = absurd (false≢true (sym (cut-not-taking (b .phase) p) ∙ y .1 .0))
-  does Close h y = absurd (false≢true (sym (cut-not-taking (b .phase) p) ∙ y .1 .0))
-  does (Deliver j a x out) h y = absurd (false≢true (sym (cut-not-settling (b .phase) p) ∙ y .1 .1 .0))
+  does (Trade j f t x) h y = absurd (false≢true (sym (cut-not-taking (b .state .phase) p) ∙ y .1 .0))
+  does Close h y = absurd (false≢true (sym (cut-not-taking (b .state .phase) p) ∙ y .1 .0))
+  does (Deliver j a x out) h y = absurd (false≢true (sym (cut-not-settling (b .state .phase) p) ∙ y .1 .1 .0))
   does (Ask j k) h y = as-it-was b
-  does (Commit t out) h y = absurd (false≢true (sym (cut-not-settling (b .phase) p) ∙ y .1 .1 .0))
-  does (Cutoff out) h y = absurd (false≢true (sym (cut-not-settling (b .phase) p) ∙ y .1 .1 .0))
+  does (Commit t out) h y = absurd (false≢true (sym (cut-not-settling (b .state .phase) p) ∙ y .1 .1 .0))
+  does (Cutoff out) h y = absurd (false≢true (sym (cut-not-settling (b .state .phase) p) ∙ y .1 .1 .0))
   does (Resolve j a x out) h y = record { phase = refl; order = λ i. refl; total = λ i. refl }
   does (PairOff j a) h y = record { phase = refl; order = λ i. refl; total = λ i. refl }
   does (Roll days rate prices) h y = absurd (false≢true h)
@@ -46,7 +46,7 @@ module _ (b : Book) (p : isCut (b .phase) ≡ true) where
 
 -- Lists
 
-pub stays-all : (cs : List Call) (b : Book) → Standing b → isCut (b .phase) ≡ true → noRollSince b cs ≡ true → Stays b (after b cs) × Standing (after b cs)
+pub stays-all : (cs : List Call) (b : Book) → Standing b → isCut (b .state .phase) ≡ true → noRollSince b cs ≡ true → Stays b (after b cs) × Standing (after b cs)
 stays-all [] b s p h = (as-it-was b, s)
 stays-all (c ∷ cs) b s p h =
     let b′ = called b c .book in
@@ -84,13 +84,13 @@ unsound-stays (c ∷ cs) b g =
 -- What is told
 
 -- of two books that agree in soundness, phase, order and delivered lots the same is told
-same-told : (b b′ : Book) (i k : ℕ) → sound b′ ≡ sound b → b′ .phase ≡ b .phase → orderOf b′ i ≡ orderOf b i →
+same-told : (b b′ : Book) (i k : ℕ) → sound b′ ≡ sound b → b′ .state .phase ≡ b .state .phase → orderOf b′ i ≡ orderOf b i →
     deliveredTotal (b′ .delivered) i ≡ deliveredTotal (b .delivered) i → status b′ i k ≡ status b i k
 unfolding status
 same-told b b′ i k g p u d = rw (g, p, u, d)
 
 -- of any unit, and of a unit that there is not, on any book in Cut
-pub told-stays : (b : Book) → Sizes b → isCut (b .phase) ≡ true → (cs : List Call) → noRollSince b cs ≡ true → (i k : ℕ) →
+pub told-stays : (b : Book) → Sizes b → isCut (b .state .phase) ≡ true → (cs : List Call) → noRollSince b cs ≡ true → (i k : ℕ) →
     status (after b cs) i k ≡ status b i k
 told-stays b z p cs h i k =
     byTest (sound b)

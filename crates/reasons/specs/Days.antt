@@ -8,7 +8,7 @@ use lib.ListN.{length}
 use Rattle.rules.specs.declared.Book.{Book}
 use Rattle.rules.specs.Units.{accountLots, units}
 use Rattle.rules.specs.Handover.{handovers, partials}
-use Rattle.rules.specs.Lifts.{lift, handedFrom}
+use Rattle.rules.specs.Lifts.{lift}
 use Rattle.rules.specs.Fails.{lacks, fails}
 use Rattle.rules.specs.Ledger.{pairing}
 use Rattle.rules.specs.Book.{liftConditions, liftsSound, cellsEven, conditions, sound, orderIn}
@@ -17,7 +17,7 @@ use Rattle.rules.specs.Calls.{Call, Deliver, Commit, Cutoff, Resolve, PairOff, 
 use Rattle.rules.specs.Tally.{inIssue}
 use Rattle.rules.specs.Days.{Case, case, Holds}
 use Rattle.days.specs.Books.{lent, traded1, traded2, traded3, closed, delivered1, delivered2, cut, ticket7, committed7, tallied}
-use Rattle.status.specs.Status.{isHanded, waitsFor, failsPartly, failsWholly, statusRefused, inSettling, afterCutoff, status}
+use Rattle.told.specs.Status.{isHanded, waitsFor, failsPartly, failsWholly, statusRefused, inSettling, afterCutoff, status}
 use Rattle.reasons.specs.Lists.{after, noLiftBetween, brought, noRollSince, lacking}
 
 -- P6: three units, stock 45,000; unit 3 waits for 55,000 lots
@@ -98,6 +98,6 @@ reasonDays = settlingDays ++ cutDays ++ liftDays ++ betweenDays ++ rowDays ++ la
 
 -- each by computing what the definitions give
 pub reasonsTold : Holds reasonDays
-unfolding reasonDays units handovers partials lacks fails pairing quotesRight liftConditions liftsSound cellsEven conditions sound lift handedFrom orderIn issuePartials issueFails called inIssue traded1 traded2 traded3 closed delivered1 delivered2 cut committed7 tallied liftedCut inSettling afterCutoff status lacking
+unfolding reasonDays units handovers partials lacks fails pairing quotesRight liftConditions liftsSound cellsEven conditions sound lift orderIn issuePartials issueFails called inIssue traded1 traded2 traded3 closed delivered1 delivered2 cut committed7 tallied liftedCut inSettling afterCutoff status lacking
 reasonsTold =
     (refl, (refl, (refl, (refl, (refl, (refl, (refl, (refl, (refl, (refl, (refl, (refl, (refl, (refl, (refl, (refl, (refl, (refl, (refl, (refl, (refl, (refl, (refl, (refl, (refl, tt)))))))))))))))))))))))))

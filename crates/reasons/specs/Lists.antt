@@ -9,8 +9,8 @@ use Rattle.rules.specs.declared.Book.{Book}
 use Rattle.rules.specs.Units.{AccountLots}
 use Rattle.rules.specs.Book.{orderOf}
 use Rattle.rules.specs.Calls.{Call, Trade, Close, Deliver, Ask, Commit, Cutoff, Resolve, PairOff, Roll, Mark, Turn, called}
-use Rattle.rules.specs.Tally.{State}
-use Rattle.status.specs.Status.{StatusAnswer, isHanded, waitsFor, failsPartly, failsWholly, statusRefused, status}
+use Rattle.rules.specs.Tally.{Tallied}
+use Rattle.told.specs.Status.{StatusAnswer, isHanded, waitsFor, failsPartly, failsWholly, statusRefused, status}
 
 -- the book after a list of calls
 abbrev pub after : Book → List Call → Book
@@ -76,7 +76,7 @@ pub record HandedFor (n x : ℕ) (s : StatusAnswer) : Type 0 where
   pub fewer : x < n → s ≡ waitsFor (n - x)
 
 -- said of the records: a unit is told to be handed exactly if the issue's row of today's 10s has one at its place
-pub record HandedByRow (s : State) (i k : ℕ) : Type 0 where
+pub record HandedByRow (s : Tallied) (i k : ℕ) : Type 0 where
   pub told : status (s .book) i k ≡ isHanded → k < length (s .tally .rows i)
   pub recorded : k < length (s .tally .rows i) → status (s .book) i k ≡ isHanded
 

@@ -5,7 +5,7 @@ use rules::Book;
 ghost use mathlib.Core.List.{[], _∷_};
 ghost use Prim.Native.Nat.{_+_, _*_, _≤_};
 ghost use lib.ListN.{length};
-ghost use Rattle.rules.specs.Book.{entries, LedgerLengths};
+ghost use Rattle.rules.specs.Book.{entries as entriesOf, LedgerLengths};
 ghost use Rattle.rules.specs.Run.{chargeLinesFrom};
 ghost use Rattle.rules.specs.Text.{failsText, chargesText, closingText};
 ghost use Rattle.report.specs.Added.{Added};
@@ -13,19 +13,19 @@ ghost use Rattle.report.specs.Added.{Added};
 // A line for each entry, in ledger order.
 fn fails<'a>(
     text: &mut [u8],
-    count: usize,
+    entries: usize,
     issues: &'a [u8],
     froms: &'a [u8],
     tos: &'a [u8],
     lots: &'a [u32],
     days: &'a [u16],
 ) -> usize
-    requires { ⌜ (count ≤ 2048) × (107 * count ≤ length (now text)) × LedgerLengths (now issues) (now froms) (now tos) (now lots) (now days) ⌝ }
-    ensures { λ r. ⌜ Added (107 * count) (now (text .entry)) (now (text .exit)) 0 r (failsText (entries count (now (issues .entry)) (now (froms .entry)) (now (tos .entry)) (now (lots .entry)) (now (days .entry)))) ⌝ }
+    requires { ⌜ (entries ≤ 2048) × (107 * entries ≤ length (now text)) × LedgerLengths (now issues) (now froms) (now tos) (now lots) (now days) ⌝ }
+    ensures { λ r. ⌜ Added (107 * entries) (now (text .entry)) (now (text .exit)) 0 r (failsText (entriesOf entries (now (issues .entry)) (now (froms .entry)) (now (tos .entry)) (now (lots .entry)) (now (days .entry)))) ⌝ }
 {
     let mut at = 0;
     let mut k = 0;
-    while k < count {
+    while k < entries {
         at = text::fail(text, at, issues[k], froms[k], tos[k], lots[k], days[k]);
         k += 1;
     }
@@ -60,10 +60,10 @@ fn charges(text: &mut [u8], at: usize, charges: &[i64]) -> usize
 
 // All of these lines, for a book; answers where they end.
 pub fn closing(text: &mut [u8], b: Book) -> usize
-    requires { ⌜ (b .count ≤ 2048) × (222016 ≤ length (now text)) ⌝ }
+    requires { ⌜ (b .state .entries ≤ 2048) × (222016 ≤ length (now text)) ⌝ }
     ensures { λ r. ⌜ Added 222016 (now (text .entry)) (now (text .exit)) 0 r (closingText b) ⌝ }
 {
-    let count = b.count;
-    let at = fails(text, count, &b.issues, &b.froms, &b.tos, &b.lots, &b.days);
+    let entries = b.state.entries;
+    let at = fails(text, entries, &b.issues, &b.froms, &b.tos, &b.lots, &b.days);
     charges(text, at, &b.charges)
 }

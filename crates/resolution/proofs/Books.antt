@@ -12,5 +12,5 @@ use Rattle.ledger.proofs.Books.{book-held, book-entries}
 use Rattle.resolution.specs.Resolving.{Resolvable}
 
 pub book-resolvable : (b : Book) → sound b ≡ true → Whole (b .issues) (b .froms) (b .tos) (b .lots) (b .days) → (out : List ℕ) →
-    outputWords ≤ length out → Resolvable (b .count) (b .issues) (b .froms) (b .tos) (b .lots) (b .days) out
+    outputWords ≤ length out → Resolvable (b .state .entries) (b .issues) (b .froms) (b .tos) (b .lots) (b .days) out
 book-resolvable b s w out h = record { held = book-held b s w; sound = book-entries b s; room = h }

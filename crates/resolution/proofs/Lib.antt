@@ -1,3 +1,3 @@
-pub mod Recording
 pub mod Meeting
 pub mod Books
+pub mod Turned

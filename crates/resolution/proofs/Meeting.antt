@@ -24,9 +24,10 @@ use Rattle.ledger.specs.Columns.{entryAt, Held, Kept, withoutZeros}
 use Rattle.ledger.proofs.Entries.{entries-length}
 use Rattle.ledger.proofs.Zeros.{put-zeros}
 use Rattle.ledger.proofs.Lots.{lotsAt, entries-lots, held-lots}
-use Rattle.resolution.specs.declared.Turn.{Turn}
-use Rattle.resolution.specs.Resolving.{alone, CanMeet, WasMet, Resolvable, Resolved}
-use Rattle.resolution.proofs.Recording.{recorded-more}
+use Rattle.meeting.specs.declared.Met.{Met}
+use Rattle.meeting.specs.Meeting.{alone, CanMeet, WasMet}
+use Rattle.resolution.specs.Resolving.{Resolvable, Resolved}
+use Rattle.meeting.proofs.Recording.{recorded-more}
 
 module _ (p : Entry → Bool) where
   -- each entry with its lots less what meets it, those before place k as they are
@@ -165,7 +166,7 @@ module _ {i a x₀ : ℕ} {es₀ : List Entry} {n k r x : ℕ} {is fs ts xs ds o
         }
 
     -- one entry further
-    pub meets-more : {t : Turn} {xs′ o′ : List ℕ} → WasMet i a x k r t (entryAt k is fs ts xs ds) xs xs′ o o′ →
+    pub meets-more : {t : Met} {xs′ o′ : List ℕ} → WasMet i a x k r t (entryAt k is fs ts xs ds) xs xs′ o o′ →
         Meets i a x₀ es₀ n (k + 1) (t .records) (t .left) is fs ts xs′ ds o₀ o′
     meets-more {t} {xs′} {o′} w₀ =
         let p = isFrom i a in

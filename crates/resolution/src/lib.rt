@@ -1,16 +1,18 @@
 // Resolve: the ledger's fails met by an account's lots.
+use answers::Turn;
+use meeting::meet_at;
+use rules::State;
 ghost use mathlib.Core.Path.{_≡_};
-ghost use mathlib.Core.Bool.{cond, _&&_};
 ghost use mathlib.Core.List.{List};
-ghost use Prim.Native.Nat.{ℕ, _+_, _*_, _≤_, _<_, min};
-ghost use lib.Dec.{eqb};
+ghost use Prim.Native.Nat.{ℕ, _≤_};
 ghost use lib.ListN.{length};
-ghost use Rattle.rules.specs.Ledger.{entry};
+ghost use Rattle.rules.specs.Measures.{outputWords};
 ghost use Rattle.rules.specs.Book.{entries};
 ghost use Rattle.rules.specs.Questions.{firstNo};
-ghost use Rattle.rules.specs.Calls.{resolveAsks};
+ghost use Rattle.rules.specs.Calls.{resolveAsks, Resolve};
 ghost use Rattle.ledger.specs.Columns.{before};
-ghost use Rattle.resolution.specs.Resolving.{Recorded, canMeet, wasMet, resolvable, resolved};
+ghost use Rattle.answers.specs.Turns.{Turns, onLedger, ledgerReady};
+ghost use Rattle.resolution.specs.Resolving.{resolvable, resolved};
 
 // What a resolve leaves: the number of entries in the ledger, and of records written.
 pub struct Counts {
@@ -18,70 +20,10 @@ pub struct Counts {
     pub records: usize,
 }
 
-// After one entry: the number of records, and the lots left.
-pub struct Turn {
-    pub records: usize,
-    pub left: u32,
-}
-
-// What of x lots of account a in issue i meets an entry of y lots: where it is of that issue and from
-// that account it is met in a lent slice of entry structs.
-fn met_by(issue: u8, from: u8, to: u8, y: u32, day: u16, i: u32, a: u32, x: u32) -> u32
-    ensures { λ r. ⌜ r ≡ cond (eqb issue i && eqb from a) (min x y) 0 ⌝ }
-{
-    if ledger::is_of(issue, from, i, a) {
-        return y - ledger::left_of(issue, from, to, y, day, x);
-    }
-    0
-}
-
-// A handover's record behind n others, unless its lots are 0; answers the number of records.
-fn hand(out: &mut [u32], n: usize, i: u8, f: u8, t: u8, x: u32) -> usize
-    requires { ⌜ (2 * n + 2 ≤ length (now out)) × (i < 16) × (f < 64) × (t < 64) × (x < 268435456) ⌝ }
-    ensures { λ r. ⌜ ((y d : ℕ) → Recorded (entry i f t y d) x n r (now (out .entry)) (now (out .exit))) ⌝ }
-{
-    if x == 0 {
-        return n;
-    }
-    words::record(&mut out[2 * n..], 11, i as u32, f as u32, t as u32, x);
-    n + 1
-}
-
-// The entry at place k met by x lots of account a in issue i: its lots fall by what meets it, and the
-// record of that stands behind n others.
-fn meet_at(
-    k: usize,
-    n: usize,
-    i: u32,
-    a: u32,
-    x: u32,
-    issues: &[u8],
-    froms: &[u8],
-    tos: &[u8],
-    lots: &mut [u32],
-    days: &[u16],
-    out: &mut [u32],
-) -> Turn
-    requires { ⌜ canMeet k n issues froms tos lots days out ⌝ }
-    ensures { λ r. ⌜ wasMet i a x k n r issues froms tos lots days out ⌝ }
-{
-    let issue = issues[k];
-    let f = froms[k];
-    let t = tos[k];
-    let y = lots[k];
-    let m = met_by(issue, f, t, y, days[k], i, a, x);
-    let records = hand(out, n, issue, f, t, m);
-    lots[k] = y - m;
-    Turn {
-        records,
-        left: x - m,
-    }
-}
-
 // Entries of issue i from account a met by x lots in ledger order, and each that is met gives one
 // record; then entries at 0 go and later ones move up.
-pub fn resolve_in(
-    count: usize,
+fn resolve_in(
+    entries: usize,
     issues: &mut [u8],
     froms: &mut [u8],
     tos: &mut [u8],
@@ -92,30 +34,29 @@ pub fn resolve_in(
     x: u32,
     out: &mut [u32],
 ) -> Counts
-    requires { ⌜ resolvable count issues froms tos lots days out ⌝ }
-    ensures { λ r. ⌜ resolved (before count issues froms tos lots days) i a x r issues froms tos lots days out ⌝ }
+    requires { ⌜ resolvable entries issues froms tos lots days out ⌝ }
+    ensures { λ r. ⌜ resolved (before entries issues froms tos lots days) i a x r issues froms tos lots days out ⌝ }
 {
     let mut k = 0;
     let mut n = 0;
     let mut left = x;
-    while (k < count) & (0 < left) {
+    while (k < entries) & (0 < left) {
         let t = meet_at(k, n, i, a, left, issues, froms, tos, lots, days, out);
         n = t.records;
         left = t.left;
         k += 1;
     }
-    let entries = ledger::remove_zeros(count, issues, froms, tos, lots, days);
+    let stay = ledger::remove_zeros(entries, issues, froms, tos, lots, days);
     Counts {
-        entries,
+        entries: stay,
         records: n,
     }
 }
 
 // The number of the first of resolve's questions answered 'no', from the issue on; 0 where there is
 // none.
-pub fn resolve_asks<'a>(
-    marks: [u8; 16],
-    count: usize,
+fn resolve_asks<'a>(
+    s: State,
     issues: &'a [u8],
     froms: &'a [u8],
     lots: &'a [u32],
@@ -123,8 +64,8 @@ pub fn resolve_asks<'a>(
     a: u32,
     x: u32,
 ) -> u32
-    requires { ⌜ (count ≤ 2048) × (length (now issues) ≡ 2048) × (length (now froms) ≡ 2048) × (length (now lots) ≡ 2048) ⌝ }
-    ensures { λ r. ⌜ ((ts ds : List ℕ) → r ≡ firstNo (resolveAsks marks (entries count (now (issues .entry)) (now (froms .entry)) ts (now (lots .entry)) ds) i a x)) ⌝ }
+    requires { ⌜ (s .entries ≤ 2048) × (length (now issues) ≡ 2048) × (length (now froms) ≡ 2048) × (length (now lots) ≡ 2048) ⌝ }
+    ensures { λ r. ⌜ ((ts ds : List ℕ) → r ≡ firstNo (resolveAsks (s .marks) (entries (s .entries) (now (issues .entry)) (now (froms .entry)) ts (now (lots .entry)) ds) i a x)) ⌝ }
 {
     if 15 < i {
         return 4;
@@ -138,12 +79,42 @@ pub fn resolve_asks<'a>(
     if 20_000_000 < x {
         return 7;
     }
-    if !book::lots_even(marks, i, x) {
+    if !book::even_in(s, i, x) {
         return 19;
     }
-    let owed = ledger::owed_lots(count, issues, froms, lots, i, a);
+    let owed = ledger::owed_lots(s.entries, issues, froms, lots, i, a);
     if owed < x as u64 {
         return 9;
     }
     0
+}
+
+// resolve: the ledger's entries, unless it is refused; the records go to the output.
+pub fn resolve(
+    s: State,
+    issues: &mut [u8],
+    froms: &mut [u8],
+    tos: &mut [u8],
+    lots: &mut [u32],
+    days: &mut [u16],
+    i: u32,
+    a: u32,
+    x: u32,
+    out: &mut [u32],
+) -> Turn
+    requires { ⌜ ledgerReady s issues froms tos lots days × (outputWords ≤ length (now out)) ⌝ }
+    ensures { λ r. ⌜ Turns (onLedger issues froms tos lots days) s (Resolve i a x (now (out .entry))) r (now (out .exit)) ⌝ }
+{
+    let no = resolve_asks(s, issues, froms, lots, i, a, x);
+    if no != 0 {
+        return answers::refused(no, s);
+    }
+    let k = resolve_in(s.entries, issues, froms, tos, lots, days, i, a, x, out);
+    let next = book::with_entries(s, k.entries);
+    Turn {
+        refusal: 0,
+        count: k.records,
+        cancelled: 0,
+        state: next,
+    }
 }

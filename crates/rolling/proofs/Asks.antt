@@ -19,7 +19,7 @@ use Rattle.laws.proofs.Ledger.{sound-at}
 use Rattle.laws.proofs.Charges.{quotes-most}
 use Rattle.measures.proofs.Limits.{termed}
 use Rattle.laws.proofs.Answers.{AllYes, stops, no-no, all-yes}
-use Rattle.rolling.specs.Rolling.{Chargeable}
+use Rattle.charging.specs.Charging.{Chargeable}
 
 and-no : (a b : Bool) → b ≡ false → a && b ≡ false
 and-no true b e = e
@@ -89,14 +89,14 @@ module _ (p : Phase) (today days rate : ℕ) (quotes : List ℕ) where
   not-last h = ltb-true today lastDay (answered h .1 .1 .0)
 
 -- the columns of a sound book
-pub chargeable : (b : Book) (days rate : ℕ) (quotes : List ℕ) → sound b ≡ true → firstNo (rollAsks (b .phase) (b .day) days rate quotes) ≡ 0 → length (b .issues) ≡ 2048 →
+pub chargeable : (b : Book) (days rate : ℕ) (quotes : List ℕ) → sound b ≡ true → firstNo (rollAsks (b .state .phase) (b .state .day) days rate quotes) ≡ 0 → length (b .issues) ≡ 2048 →
     length (b .froms) ≡ 2048 → length (b .tos) ≡ 2048 → length (b .lots) ≡ 2048 → length (b .charges) ≡ 64 →
-    Chargeable days rate quotes (b .count) (b .issues) (b .froms) (b .tos) (b .lots) (b .charges)
+    Chargeable days rate quotes (b .state .entries) (b .issues) (b .froms) (b .tos) (b .lots) (b .charges)
 chargeable b days rate quotes h q li lf lt lx lc =
     let s = sound-parts b h in
-    let t = terms (b .phase) (b .day) days rate quotes q in
-    let d = not-last (b .phase) (b .day) days rate quotes q in
-    let e = sound-at (b .day) (b .count) (b .issues) (b .froms) (b .tos) (b .lots) (b .days) (s .ledger) in
+    let t = terms (b .state .phase) (b .state .day) days rate quotes q in
+    let d = not-last (b .state .phase) (b .state .day) days rate quotes q in
+    let e = sound-at (b .state .day) (b .state .entries) (b .issues) (b .froms) (b .tos) (b .lots) (b .days) (s .ledger) in
     record {
       term = termed days rate (t .term);
       counted = t .count;

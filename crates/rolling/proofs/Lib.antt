@@ -1,2 +1,3 @@
-pub mod Charging
 pub mod Asks
+pub mod Turned
+pub mod Clearing

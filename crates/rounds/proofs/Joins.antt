@@ -13,9 +13,9 @@ use Rattle.rules.specs.Units.{AccountLots, accountLots, prepend, sumLots}
 use Rattle.rules.specs.Handover.{covered, handed, handovers}
 use Rattle.laws.proofs.Basics.{byTest, total-append, total-replicate, total-put, each-append, each-replicate, each-put, each-take, each-drop}
 use Rattle.laws.proofs.Handover.{covered-past, covered-within, covered-le, handed-extends}
-use Rattle.simulation.specs.Desk.{Plan, settlementOf, joined}
+use Rattle.desks.specs.Desk.{Plan, settlementOf, joined}
 use Rattle.ranking.specs.Runs.{unitsOfRun, unitsOfRuns}
-use Rattle.rounds.specs.Runs.{handedOf, addedAt, joinedRuns}
+use Rattle.joining.specs.Runs.{handedOf, addedAt, joinedRuns}
 use Rattle.simulation.proofs.Leaps.{covered-same, covered-whole, take-same, set-self}
 
 abbrev Some : AccountLots → Type 0

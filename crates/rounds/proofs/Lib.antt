@@ -1,5 +1,4 @@
 -- Laws of handing over by runs, of turns and of a round.
 pub mod Joins
-pub mod Joining
 pub mod Turning
 pub mod Rounding

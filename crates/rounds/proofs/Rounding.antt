@@ -17,13 +17,13 @@ use Rattle.laws.proofs.Signed.{size-of}
 use Rattle.laws.proofs.Cells.{getD-row, length-row, getD-block, length-block, within-set}
 use Rattle.laws.proofs.Sound.{within-at}
 use Rattle.book.specs.Cells.{OwedCells}
-use Rattle.units.proofs.Cells.{cell-owed}
-use Rattle.simulation.specs.Desk.{Plan, plan, Desk, desk, amount, turnsFrom, round}
+use Rattle.runs.proofs.Cells.{cell-owed}
+use Rattle.desks.specs.Desk.{Plan, plan, Desk, desk, amount, turnsFrom, round}
 use Rattle.rounds.specs.Turns.{CanTurn, Turned, CanRound}
 use Rattle.simulation.proofs.Stops.{amount-le}
 use Rattle.simulation.proofs.Leaps.{turn-column}
 use Rattle.simulation.proofs.Keeps.{Kept, kept-turn}
-use Rattle.rounds.proofs.Joining.{one-of}
+use Rattle.joining.proofs.Joining.{one-of}
 
 sum-most : (m : ℕ) (l : List ℕ) → ((k : ℕ) → getD l k 0 ≤ m) → sum l ≤ m * length l
 sum-most m [] h = omega arith

@@ -11,10 +11,10 @@ use lib.IntN.{ℤ}
 use Rattle.rules.specs.Units.{units}
 use Rattle.rules.specs.Handover.{handovers}
 use Rattle.rules.specs.Book.{deliveredTotal, duesOf}
-use Rattle.units.specs.Runs.{runsIn}
-use Rattle.simulation.specs.Desk.{plan, desk, amount, joined, delivers}
+use Rattle.runs.specs.Runs.{runsIn}
+use Rattle.desks.specs.Desk.{plan, desk, amount, joined, delivers}
 use Rattle.ranking.specs.Runs.{unitsOfRuns}
-use Rattle.rounds.specs.Runs.{joinedRuns}
+use Rattle.joining.specs.Runs.{joinedRuns}
 use Rattle.rounds.specs.Turns.{amountIn, CanTurn, Delivered, Turned}
 use Rattle.simulation.proofs.Stops.{turn-none, turn-some}
 use Rattle.simulation.proofs.Leaps.{desk-same}

@@ -9,10 +9,10 @@ use Rattle.rules.specs.Units.{units}
 use Rattle.rules.specs.Handover.{stock}
 use Rattle.rules.specs.Book.{block, cell, netAt, deliveredAt, deliveredTotal, duesOf}
 use Rattle.book.specs.Cells.{OwedCells}
-use Rattle.units.specs.Runs.{runsIn}
-use Rattle.simulation.specs.Desk.{plan, desk, inventoryAt, withInventory, turn, round}
+use Rattle.runs.specs.Runs.{runsIn}
+use Rattle.desks.specs.Desk.{plan, desk, inventoryAt, withInventory, turn, round}
 use Rattle.ranking.specs.Runs.{unitsOfRuns}
-use Rattle.rounds.specs.Runs.{joinedRuns}
+use Rattle.joining.specs.Runs.{joinedRuns}
 use Rattle.ranking.specs.Orders.{Table}
 
 -- the smaller of the settlement account's inventory and what is still owed, from columns

@@ -1,4 +1,4 @@
--- The book: its views, when it is sound, its setters, the fresh book.
+-- The book: its views, when it is sound, the setters of its state and its columns, the fresh book.
 use mathlib.Core.Path.{_≡_}
 use mathlib.Core.Bool.{Bool, true, false, cond, not, _&&_}
 use mathlib.Core.List.{List, [], _∷_, _++_, map, tail}
@@ -10,6 +10,7 @@ use Rattle.rules.specs.declared.Book.{Book}
 use Rattle.rules.specs.declared.Entry.{Entry}
 use Rattle.rules.specs.declared.Phase.{Phase}
 use Rattle.rules.specs.declared.Phase.the-variants.{Taking, Settling, Cut}
+use Rattle.rules.specs.declared.State.{State}
 use Rattle.rules.specs.Measures.{issueCount, lastIssue, accountCount, lastAccount, cellCount, unitLots, mostLots, mostEntries, mostLifts, liftWords, liftCells, mostCharge, between, sum, dueOf, owedOf}
 use Rattle.rules.specs.Units.{AccountLots, unitsOfNets}
 use Rattle.rules.specs.Handover.{covered, stock}
@@ -93,7 +94,7 @@ abbrev pub inForce : ℕ → ℕ → Bool
 inForce turn day = ltb 0 turn && leb turn day
 
 abbrev pub dealtToday : Book → Bool
-dealtToday b = inForce (b .turn) (b .day)
+dealtToday b = inForce (b .state .turn) (b .state .day)
 
 -- the units of accounts with these nets, in the new order or the old
 abbrev pub unitsBy : Bool → List ℤ → List AccountLots
@@ -125,7 +126,7 @@ entries (suc n) is fs ts xs ds =
     ∷ entries n (tail is) (tail fs) (tail ts) (tail xs) (tail ds)
 
 abbrev pub ledgerOf : Book → List Entry
-ledgerOf b = entries (b .count) (b .issues) (b .froms) (b .tos) (b .lots) (b .days)
+ledgerOf b = entries (b .state .entries) (b .issues) (b .froms) (b .tos) (b .lots) (b .days)
 
 -- Soundness
 
@@ -209,27 +210,27 @@ conditions b =
     -- delivered lots are at most what is owed
     ∷ withinOwed (b .nets) (b .delivered)
     -- and are 0 throughout in Taking
-    ∷ cond (isTaking (b .phase)) (all isZero (b .delivered)) true
+    ∷ cond (isTaking (b .state .phase)) (all isZero (b .delivered)) true
     -- the entry count is at most 2,048
-    ∷ leb (b .count) mostEntries
+    ∷ leb (b .state .entries) mostEntries
     ∷ all entrySound (ledgerOf b)
-    ∷ daysSound 0 (b .day) (ledgerOf b)
+    ∷ daysSound 0 (b .state .day) (ledgerOf b)
     -- unused entries are zero
-    ∷ all isZero (drop (b .count) (b .issues))
-    ∷ all isZero (drop (b .count) (b .froms))
-    ∷ all isZero (drop (b .count) (b .tos))
-    ∷ all isZero (drop (b .count) (b .lots))
-    ∷ all isZero (drop (b .count) (b .days))
+    ∷ all isZero (drop (b .state .entries) (b .issues))
+    ∷ all isZero (drop (b .state .entries) (b .froms))
+    ∷ all isZero (drop (b .state .entries) (b .tos))
+    ∷ all isZero (drop (b .state .entries) (b .lots))
+    ∷ all isZero (drop (b .state .entries) (b .days))
     -- charges sum to 0
     ∷ balanced (b .charges)
     -- each of size at most 134,663,013,697,536 × day
-    ∷ all (withinSize (mostCharge * b .day)) (b .charges)
+    ∷ all (withinSize (mostCharge * b .state .day)) (b .charges)
     -- each issue's lifts are sound
-    ∷ all (liftsSound (b .phase) (orderOf b) (b .delivered) (b .lifts)) (tabulate (λ i. i) 0 issueCount)
+    ∷ all (liftsSound (b .state .phase) (orderOf b) (b .delivered) (b .lifts)) (tabulate (λ i. i) 0 issueCount)
     -- nets and delivered lots of a marked issue are even
-    ∷ all (cellsEven (b .marks) (b .nets) (b .delivered)) (tabulate (λ i. i) 0 issueCount)
+    ∷ all (cellsEven (b .state .marks) (b .nets) (b .delivered)) (tabulate (λ i. i) 0 issueCount)
     -- and so are its entries' lots
-    ∷ all (entryEven (b .marks)) (ledgerOf b)
+    ∷ all (entryEven (b .state .marks)) (ledgerOf b)
     ∷ []
 
 -- a book is sound when all of them hold
@@ -237,22 +238,38 @@ unfoldable pub sound : Book → Bool
 unfolding conditions
 sound b = all (λ c. c) (conditions b)
 
--- Setters: nobody else writes a book out field by field
+-- Setters: nobody else writes a state or a book out field by field
 
--- a book of all its columns
-abbrev pub bookOf :
-    ℕ → Phase → ℕ → List ℕ → List ℤ → List ℕ → List ℕ → List ℤ → ℕ → List ℕ → List ℕ → List ℕ → List ℕ → List ℕ → Book
-bookOf day phase turn marks nets delivered lifts charges count issues froms tos lots days =
+-- a state of its numbers
+abbrev pub stateOf : ℕ → Phase → ℕ → ℕ → List ℕ → State
+stateOf day phase n turn marks = record { day = day; phase = phase; entries = n; turn = turn; marks = marks }
+
+abbrev pub withPhase : State → Phase → State
+withPhase s p = stateOf (s .day) p (s .entries) (s .turn) (s .marks)
+
+abbrev pub withEntries : State → ℕ → State
+withEntries s n = stateOf (s .day) (s .phase) n (s .turn) (s .marks)
+
+-- the first day of the new order
+abbrev pub withTurn : State → ℕ → State
+withTurn s t = stateOf (s .day) (s .phase) (s .entries) t (s .marks)
+
+abbrev pub withMarks : State → List ℕ → State
+withMarks s ms = stateOf (s .day) (s .phase) (s .entries) (s .turn) ms
+
+-- day rises by 1, to Taking
+abbrev pub nextDay : State → State
+nextDay s = stateOf (s .day + 1) Taking (s .entries) (s .turn) (s .marks)
+
+-- a book of its state and all its columns
+abbrev pub bookOf : State → List ℤ → List ℕ → List ℕ → List ℤ → List ℕ → List ℕ → List ℕ → List ℕ → List ℕ → Book
+bookOf s nets delivered lifts charges issues froms tos lots days =
     record {
-      day = day;
-      phase = phase;
-      turn = turn;
-      marks = marks;
+      state = s;
       nets = nets;
       delivered = delivered;
       lifts = lifts;
       charges = charges;
-      count = count;
       issues = issues;
       froms = froms;
       tos = tos;
@@ -260,37 +277,20 @@ bookOf day phase turn marks nets delivered lifts charges count issues froms tos 
       days = days;
     }
 
-abbrev pub withDay : Book → ℕ → Phase → Book
-withDay b d p =
-    bookOf d p (b .turn) (b .marks) (b .nets) (b .delivered) (b .lifts) (b .charges) (b .count) (b .issues) (b .froms) (b .tos) (b .lots) (b .days)
-
-abbrev pub withPhase : Book → Phase → Book
-withPhase b p = withDay b (b .day) p
-
-abbrev pub withMarks : Book → List ℕ → Book
-withMarks b ms =
-    bookOf (b .day) (b .phase) (b .turn) ms (b .nets) (b .delivered) (b .lifts) (b .charges) (b .count) (b .issues) (b .froms) (b .tos) (b .lots) (b .days)
+abbrev pub withState : Book → State → Book
+withState b s = bookOf s (b .nets) (b .delivered) (b .lifts) (b .charges) (b .issues) (b .froms) (b .tos) (b .lots) (b .days)
 
 abbrev pub withNets : Book → List ℤ → Book
-withNets b ns =
-    bookOf (b .day) (b .phase) (b .turn) (b .marks) ns (b .delivered) (b .lifts) (b .charges) (b .count) (b .issues) (b .froms) (b .tos) (b .lots) (b .days)
+withNets b ns = bookOf (b .state) ns (b .delivered) (b .lifts) (b .charges) (b .issues) (b .froms) (b .tos) (b .lots) (b .days)
 
 abbrev pub withDelivered : Book → List ℕ → Book
-withDelivered b ds =
-    bookOf (b .day) (b .phase) (b .turn) (b .marks) (b .nets) ds (b .lifts) (b .charges) (b .count) (b .issues) (b .froms) (b .tos) (b .lots) (b .days)
+withDelivered b ds = bookOf (b .state) (b .nets) ds (b .lifts) (b .charges) (b .issues) (b .froms) (b .tos) (b .lots) (b .days)
 
 abbrev pub withLifts : Book → List ℕ → Book
-withLifts b ls =
-    bookOf (b .day) (b .phase) (b .turn) (b .marks) (b .nets) (b .delivered) ls (b .charges) (b .count) (b .issues) (b .froms) (b .tos) (b .lots) (b .days)
+withLifts b ls = bookOf (b .state) (b .nets) (b .delivered) ls (b .charges) (b .issues) (b .froms) (b .tos) (b .lots) (b .days)
 
 abbrev pub withCharges : Book → List ℤ → Book
-withCharges b cs =
-    bookOf (b .day) (b .phase) (b .turn) (b .marks) (b .nets) (b .delivered) (b .lifts) cs (b .count) (b .issues) (b .froms) (b .tos) (b .lots) (b .days)
-
--- the first day of the new order
-abbrev pub withTurn : Book → ℕ → Book
-withTurn b t =
-    bookOf (b .day) (b .phase) t (b .marks) (b .nets) (b .delivered) (b .lifts) (b .charges) (b .count) (b .issues) (b .froms) (b .tos) (b .lots) (b .days)
+withCharges b cs = bookOf (b .state) (b .nets) (b .delivered) (b .lifts) cs (b .issues) (b .froms) (b .tos) (b .lots) (b .days)
 
 -- a column of a ledger, 0 where it is not used
 abbrev pub column : (Entry → ℕ) → List Entry → List ℕ
@@ -298,7 +298,7 @@ column f es = map f es ++ replicate (mostEntries - length es) 0
 
 abbrev pub withLedger : Book → List Entry → Book
 withLedger b es =
-    bookOf (b .day) (b .phase) (b .turn) (b .marks) (b .nets) (b .delivered) (b .lifts) (b .charges) (length es)
+    bookOf (withEntries (b .state) (length es)) (b .nets) (b .delivered) (b .lifts) (b .charges)
     (column (λ e. e .issue) es) (column (λ e. e .from) es) (column (λ e. e .to) es) (column (λ e. e .lots) es)
     (column (λ e. e .day) es)
 
@@ -324,5 +324,5 @@ pub record Lengths (ns : List ℤ) (ds ls : List ℕ) (cs : List ℤ) (is fs ts 
 -- a fresh book is day 0, Taking, all zero, ledger empty, no issue marked
 abbrev pub fresh : Book
 fresh =
-    bookOf 0 Taking 0 (replicate issueCount 0) (replicate cellCount (pos 0)) (replicate cellCount 0) (replicate liftCells 0) (replicate accountCount (pos 0)) 0
+    bookOf (stateOf 0 Taking 0 0 (replicate issueCount 0)) (replicate cellCount (pos 0)) (replicate cellCount 0) (replicate liftCells 0) (replicate accountCount (pos 0))
     (replicate mostEntries 0) (replicate mostEntries 0) (replicate mostEntries 0) (replicate mostEntries 0) (replicate mostEntries 0)

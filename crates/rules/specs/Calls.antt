@@ -1,6 +1,6 @@
 -- The calls: of each its questions and its effect; then one answer for all of them.
 use mathlib.Core.Path.{_≡_}
-use mathlib.Core.Bool.{Bool, true, false}
+use mathlib.Core.Bool.{Bool, true, false, cond}
 use mathlib.Core.List.{List, [], _∷_, _++_, map}
 use Prim.Native.Nat.{ℕ, zero, suc, _+_, _*_, min}
 use lib.ListN.{length, set, drop, replicate}
@@ -14,15 +14,15 @@ use Rattle.rules.specs.declared.Entry.{Entry}
 use Rattle.rules.specs.declared.Found.{Found}
 use Rattle.rules.specs.declared.Found.the-variants as found
 use Rattle.rules.specs.declared.Phase.{Phase}
-use Rattle.rules.specs.declared.Phase.the-variants.{Taking, Settling, Cut}
+use Rattle.rules.specs.declared.Phase.the-variants.{Settling, Cut}
 use Rattle.rules.specs.declared.Ticket.{Ticket}
 use Rattle.rules.specs.Measures.{issueCount, cellCount, liftCells, unitLots, outputWords, valueOf, chargeOf}
 use Rattle.rules.specs.Units.{AccountLots}
-use Rattle.rules.specs.Handover.{covered, firstUnit, handovers, partials}
-use Rattle.rules.specs.Lifts.{Lift, liftOf, lift, handedFrom}
+use Rattle.rules.specs.Handover.{covered, firstUnit, handovers, partials, handedFrom}
+use Rattle.rules.specs.Lifts.{Lift, liftOf, lift}
 use Rattle.rules.specs.Fails.{Fail, fails}
 use Rattle.rules.specs.Ledger.{entry, isFrom, meet, met, Pairing, pairing, charged}
-use Rattle.rules.specs.Book.{tabulate, row, cell, netAt, deliveredAt, obligationsOf, deliveredTotal, liftCell, liftNumber, countAt, Orders, orderOf, ledgerOf, withDay, withPhase, withMarks, withTurn, withNets, withDelivered, withLifts, withCharges, withLedger}
+use Rattle.rules.specs.Book.{tabulate, row, cell, netAt, deliveredAt, obligationsOf, deliveredTotal, liftCell, liftNumber, countAt, Orders, orderOf, ledgerOf, withPhase, withTurn, withMarks, nextDay, withState, withNets, withDelivered, withLifts, withCharges, withLedger}
 use Rattle.rules.specs.Records.{Rec, handover, recordOf, words, over}
 use Rattle.rules.specs.Questions.{Question, firstNo, askOutput, askSound, askTaking, askSettling, askCut, askIssue, askAccount, askAccounts, askDiffer, askLots, askNets, askOwedToday, askOwedInLedger, askEntries, askRoll, askQuote, askTerm, askDay, askUnhanded, askTicket, askLifts, askEven, askUnused, askTurn}
 
@@ -178,14 +178,13 @@ rollAsks phase today days rate quotes = askCut phase ∷ askRoll days rate quote
 
 abbrev pub rolled : Book → ℕ → ℕ → List ℕ → Book
 rolled b days rate quotes =
-    withDay
+    withState
     (withLifts
     (withDelivered
     (withNets (withCharges b (charged days rate quotes (ledgerOf b) (b .charges))) (replicate cellCount (pos 0)))
     (replicate cellCount 0))
     (replicate liftCells 0))
-    (b .day + 1)
-    Taking
+    (nextDay (b .state))
 
 -- mark issue, mark (any phase): sets the issue's mark, which stays over days
 abbrev pub markAsks : List ℤ → List Entry → ℕ → List Question
@@ -214,19 +213,23 @@ lentTo (Roll days rate quotes) = []
 lentTo (Mark i m) = []
 lentTo (Turn d) = []
 
--- question 1 is asked of deliver, commit, cutoff and resolve
+-- deliver, commit, cutoff and resolve are lent one, and write their records to it
+abbrev pub lends : Call → Bool
+lends (Trade i f t x) = false
+lends Close = false
+lends (Deliver i a x out) = true
+lends (Ask i k) = false
+lends (Commit t out) = true
+lends (Cutoff out) = true
+lends (Resolve i a x out) = true
+lends (PairOff i a) = false
+lends (Roll days rate quotes) = false
+lends (Mark i m) = false
+lends (Turn d) = false
+
+-- question 1 is asked of them
 abbrev pub outputAsks : Call → List Question
-outputAsks (Trade i f t x) = []
-outputAsks Close = []
-outputAsks (Deliver i a x out) = askOutput outputWords out ∷ []
-outputAsks (Ask i k) = []
-outputAsks (Commit t out) = askOutput outputWords out ∷ []
-outputAsks (Cutoff out) = askOutput outputWords out ∷ []
-outputAsks (Resolve i a x out) = askOutput outputWords out ∷ []
-outputAsks (PairOff i a) = []
-outputAsks (Roll days rate quotes) = []
-outputAsks (Mark i m) = []
-outputAsks (Turn d) = []
+outputAsks c = cond (lends c) (askOutput outputWords (lentTo c) ∷ []) []
 
 -- and is answered 'yes'
 abbrev pub HasRoom : Call → Type 0
@@ -234,17 +237,17 @@ HasRoom c = firstNo (outputAsks c) ≡ 0
 
 -- the questions after soundness
 abbrev pub ownAsks : Book → Call → List Question
-ownAsks b (Trade i f t x) = tradeAsks (b .phase) (b .marks) (b .nets) i f t x
-ownAsks b Close = closeAsks (b .phase)
-ownAsks b (Deliver i a x out) = deliverAsks (b .phase) (b .marks) (b .nets) (b .delivered) i a x
-ownAsks b (Ask i k) = liftAsks (b .phase) (orderOf b) (b .delivered) i k
-ownAsks b (Commit t out) = commitAsks (b .phase) (b .day) (orderOf b) (b .delivered) (b .lifts) t
-ownAsks b (Cutoff out) = cutoffAsks (b .phase) (b .count) (length (newEntries (b .day) (orderOf b) (b .nets) (b .delivered)))
-ownAsks b (Resolve i a x out) = resolveAsks (b .marks) (ledgerOf b) i a x
+ownAsks b (Trade i f t x) = tradeAsks (b .state .phase) (b .state .marks) (b .nets) i f t x
+ownAsks b Close = closeAsks (b .state .phase)
+ownAsks b (Deliver i a x out) = deliverAsks (b .state .phase) (b .state .marks) (b .nets) (b .delivered) i a x
+ownAsks b (Ask i k) = liftAsks (b .state .phase) (orderOf b) (b .delivered) i k
+ownAsks b (Commit t out) = commitAsks (b .state .phase) (b .state .day) (orderOf b) (b .delivered) (b .lifts) t
+ownAsks b (Cutoff out) = cutoffAsks (b .state .phase) (b .state .entries) (length (newEntries (b .state .day) (orderOf b) (b .nets) (b .delivered)))
+ownAsks b (Resolve i a x out) = resolveAsks (b .state .marks) (ledgerOf b) i a x
 ownAsks b (PairOff i a) = pairOffAsks i a
-ownAsks b (Roll days rate quotes) = rollAsks (b .phase) (b .day) days rate quotes
+ownAsks b (Roll days rate quotes) = rollAsks (b .state .phase) (b .state .day) days rate quotes
 ownAsks b (Mark i m) = markAsks (b .nets) (ledgerOf b) i
-ownAsks b (Turn d) = turnAsks (b .turn) (b .day) d
+ownAsks b (Turn d) = turnAsks (b .state .turn) (b .state .day) d
 
 abbrev pub asks : Book → Call → List Question
 asks b c = outputAsks c ++ (askSound b ∷ ownAsks b c)
@@ -256,7 +259,7 @@ pairedOff b p = record { book = withLedger b (p .ledger); records = []; count = 
 -- and what it does where none is answered 'no'
 abbrev pub effect : Book → Call → Effect
 effect b (Trade i f t x) = changes (withNets b (tradedNets (b .nets) i f t x))
-effect b Close = changes (withPhase b Settling)
+effect b Close = changes (withState b (withPhase (b .state) Settling))
 effect b (Deliver i a x out) =
     writes (withLifts (withDelivered b (raisedDelivered (b .delivered) i a x)) (raisedCount (b .lifts) i))
     (deliverRecords (orderOf b) (b .delivered) i x)
@@ -265,13 +268,13 @@ effect b (Commit t out) =
     writes (withLifts b (withLift (b .lifts) (t .issue) (commitLift (orderOf b) (b .delivered) t)))
     (commitRecords (orderOf b) (b .delivered) t)
 effect b (Cutoff out) =
-    writes (withPhase (withLedger b (ledgerOf b ++ newEntries (b .day) (orderOf b) (b .nets) (b .delivered))) Cut)
-    (cutoffRecords (b .day) (orderOf b) (b .nets) (b .delivered))
+    writes (withLedger (withState b (withPhase (b .state) Cut)) (ledgerOf b ++ newEntries (b .state .day) (orderOf b) (b .nets) (b .delivered)))
+    (cutoffRecords (b .state .day) (orderOf b) (b .nets) (b .delivered))
 effect b (Resolve i a x out) = writes (withLedger b (meet (isFrom i a) x (ledgerOf b))) (resolveRecords (ledgerOf b) i a x)
-effect b (PairOff i a) = pairedOff b (pairing (b .day) i a (ledgerOf b))
+effect b (PairOff i a) = pairedOff b (pairing (b .state .day) i a (ledgerOf b))
 effect b (Roll days rate quotes) = changes (rolled b days rate quotes)
-effect b (Mark i m) = changes (withMarks b (markedAs (b .marks) i m))
-effect b (Turn d) = changes (withTurn b d)
+effect b (Mark i m) = changes (withState b (withMarks (b .state) (markedAs (b .state .marks) i m)))
+effect b (Turn d) = changes (withState b (withTurn (b .state) d))
 
 -- a call's answer, on any book and any output
 unfoldable pub called : Book → Call → Answer
@@ -296,7 +299,7 @@ ticketAnswer zero t = someTicket t
 ticketAnswer (suc r) t = noTicket (suc r)
 
 unfoldable pub asked : Book → ℕ → ℕ → AskAnswer
-asked b i k = ticketAnswer (firstNo (asks b (Ask i k))) (ticketOf (b .day) (orderOf b) (b .lifts) i k)
+asked b i k = ticketAnswer (firstNo (asks b (Ask i k))) (ticketOf (b .state .day) (orderOf b) (b .lifts) i k)
 
 -- the paper's number and ticket for each case of the enum
 abbrev pub askedAnswer : Asked → AskAnswer

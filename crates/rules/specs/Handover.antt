@@ -23,9 +23,13 @@ handed us d = take (covered us d) us
 abbrev pub waiting : List AccountLots → ℕ → List AccountLots
 waiting us d = drop (covered us d) us
 
+-- the units that a total covers after the first h
+abbrev pub handedFrom : List AccountLots → ℕ → ℕ → List AccountLots
+handedFrom us h d = take (covered us d - h) (drop h us)
+
 -- the units that x more lots hand over: those that the new total covers, after those handed already
 unfoldable pub handovers : List AccountLots → ℕ → ℕ → List AccountLots
-handovers us d x = take (covered us (d + x) - covered us d) (waiting us d)
+handovers us d x = handedFrom us (covered us d) (d + x)
 
 -- the first of a list of units, or no lots of account 0
 abbrev pub firstUnit : List AccountLots → AccountLots

@@ -3,7 +3,6 @@ use mathlib.Core.List.{List, [], _∷_, _++_}
 use Prim.Native.Nat.{ℕ, suc, _-_, _≤_, _<_}
 use lib.ListN.{take, drop}
 use Rattle.rules.specs.Units.{AccountLots}
-use Rattle.rules.specs.Handover.{covered}
 
 -- the book keeps each as old and new place
 pub record Lift : Type 0 where
@@ -30,7 +29,3 @@ lift l us = take (l .new) us ++ toFront (l .old - l .new) (drop (l .new) us)
 abbrev pub lifted : List Lift → List AccountLots → List AccountLots
 lifted [] us = us
 lifted (l ∷ ls) us = lifted ls (lift l us)
-
--- the units that a total covers after the first h
-unfoldable pub handedFrom : List AccountLots → ℕ → ℕ → List AccountLots
-handedFrom us h d = take (covered us d - h) (drop h us)

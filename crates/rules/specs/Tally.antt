@@ -150,13 +150,13 @@ settlingWith c true s = settlingAfter c s
 settlingWith c false s = s
 
 -- what a list of calls has led to: the book that the last one returned, and beside it the tally
-pub record State : Type 0 where
+pub record Tallied : Type 0 where
   pub book : Book
   pub tally : Tally
   pub settling : Bool
 
 -- after an answer, with the records as they stand in the words returned
-abbrev pub answered : Call → Answer → State → State
+abbrev pub answered : Call → Answer → Tallied → Tallied
 answered c r s =
     record {
       book = r .book;
@@ -164,15 +164,15 @@ answered c r s =
       settling = settlingWith c (accepted (r .refusal)) (s .settling);
     }
 
-abbrev pub after : State → Call → State
+abbrev pub after : Tallied → Call → Tallied
 after s c = answered c (called (s .book) c) s
 
 -- each call gets the book that the last one returned
-abbrev pub afterAll : State → List Call → State
+abbrev pub afterAll : Tallied → List Call → Tallied
 afterAll s [] = s
 afterAll s (c ∷ cs) = afterAll (after s c) cs
 
-abbrev pub start : State
+abbrev pub start : Tallied
 start = record { book = fresh; tally = freshTally; settling = false }
 
 -- What demand 3 says of a state.
@@ -221,7 +221,7 @@ failsTo b i a = lotsOf (isTo i a) (ledgerOf b)
 abbrev pub failsBy : Book → ℕ → ℕ → ℕ
 failsBy b i a = lotsOf (isFrom i a) (ledgerOf b)
 
-pub record Demand3 (s : State) : Type 0 where
+pub record Demand3 (s : Tallied) : Type 0 where
   -- the bonds delivered today less those handed on are 0 to 99,999 lots, and 0 except between close and cutoff
   pub stock : (i : ℕ) → i < issueCount →
       StockHeld (inIssue (s .tally .today .given) i) (sumLots (s .tally .rows i)) (s .settling)

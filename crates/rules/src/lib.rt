@@ -19,21 +19,27 @@ pub enum Phase {
     Cut,
 }
 
-// The book. Nets and delivered lots of issue i and account a stand at i * 64 + a. Of issue i the words
-// of lifts from i * 18 on are: the number of lifts, the count of the day's accepted deliveries and lifts,
-// and of each lift its old and its new place. The ledger's entries are the first `count` of five columns:
-// issue, from, to, lots, day. An issue's mark is 0, or another number where it is marked. `turn` is the
-// first day on which full units are dealt in turn, 0 where none is named.
-pub struct Book {
+// What of a book stands beside its columns: the day, the phase, the number of the ledger's entries, the
+// first day on which full units are dealt in turn (0 where none is named), and of each issue its mark: 0,
+// or another number where it is marked.
+pub struct State {
     pub day: u16,
     pub phase: Phase,
+    pub entries: usize,
     pub turn: u32,
     pub marks: [u8; 16],
+}
+
+// The book: its state and nine columns. Nets and delivered lots of issue i and account a stand at
+// i * 64 + a. Of issue i the words of lifts from i * 18 on are: the number of lifts, the count of the
+// day's accepted deliveries and lifts, and of each lift its old and its new place. The ledger's entries
+// are the first `entries` of five columns: issue, from, to, lots, day.
+pub struct Book {
+    pub state: State,
     pub nets: [i32; 1024],
     pub delivered: [u32; 1024],
     pub lifts: [u32; 288],
     pub charges: [i64; 64],
-    pub count: usize,
     pub issues: [u8; 2048],
     pub froms: [u8; 2048],
     pub tos: [u8; 2048],

@@ -1,30 +1,21 @@
 -- Demand 3 speaks of this code: what `answer` gives, fed to the tally, leads to the states of a list of calls.
 use mathlib.Core.Path.{_≡_, refl}
+use mathlib.Core.Bool.{cond}
 use mathlib.Core.List.{List, []}
 use Prim.Native.Nat.{ℕ}
 use Rattle.rules.specs.declared.Book.{Book}
 use Rattle.rules.specs.declared.Instruction.{Instruction}
-use Rattle.rules.specs.Calls.{Call, Trade, Close, Deliver, Ask, Commit, Cutoff, Resolve, PairOff, Roll, Mark, Turn as NameTurn, Answer, called}
+use Rattle.rules.specs.Calls.{Call, Trade, Close, Deliver, Ask, Commit, Cutoff, Resolve, PairOff, Roll, Mark, Turn as NameTurn, Answer, lends, called}
 use Rattle.rules.specs.Run.{callOf}
-use Rattle.rules.specs.Tally.{State, Demand3}
+use Rattle.rules.specs.Tally.{Tallied, Demand3}
 use Rattle.laws.proofs.Answers.{by-answer}
 use Rattle.tally.proofs.Made.{Made, Step, asCalled, demand3-of}
-use Rattle.running.specs.declared.Turn.{Turn}
-use Rattle.running.specs.Turns.{Gives}
+use Rattle.answers.specs.declared.Turn.{Turn}
+use Rattle.answers.specs.Turns.{Gives}
 
 -- the words that a call wrote its records to: those of the lent output, none where none is lent
 abbrev pub wordsLent : Call → List ℕ → List ℕ
-wordsLent (Trade i f t x) out = []
-wordsLent Close out = []
-wordsLent (Deliver i a x lent) out = out
-wordsLent (Ask i k) out = []
-wordsLent (Commit t lent) out = out
-wordsLent (Cutoff lent) out = out
-wordsLent (Resolve i a x lent) out = out
-wordsLent (PairOff i a) out = []
-wordsLent (Roll days rate quotes) out = []
-wordsLent (Mark i m) out = []
-wordsLent (NameTurn day) out = []
+wordsLent c out = cond (lends c) out []
 
 -- a turn, the book and the words that it left, as an answer
 abbrev pub gave : Call → Turn → Book → List ℕ → Answer
@@ -34,11 +25,11 @@ gave c r b out =
 words-lent : (b : Book) (c : Call) (r : Turn) (b′ : Book) (out out′ : List ℕ) → Gives b c r b′ out out′ → wordsLent c out′ ≡ called b c .out
 words-lent b (Trade i f t x) r b′ out out′ g = by-answer (λ d. [] ≡ d .out) b (Trade i f t x) (λ y. refl) (λ n. refl)
 words-lent b Close r b′ out out′ g = by-answer (λ d. [] ≡ d .out) b Close (λ y. refl) (λ n. refl)
-words-lent b (Deliver i a x lent) r b′ out out′ g = g .words
+words-lent b (Deliver i a x lent) r b′ out out′ g = g .out
 words-lent b (Ask i k) r b′ out out′ g = by-answer (λ d. [] ≡ d .out) b (Ask i k) (λ y. refl) (λ n. refl)
-words-lent b (Commit t lent) r b′ out out′ g = g .words
-words-lent b (Cutoff lent) r b′ out out′ g = g .words
-words-lent b (Resolve i a x lent) r b′ out out′ g = g .words
+words-lent b (Commit t lent) r b′ out out′ g = g .out
+words-lent b (Cutoff lent) r b′ out out′ g = g .out
+words-lent b (Resolve i a x lent) r b′ out out′ g = g .out
 words-lent b (PairOff i a) r b′ out out′ g = by-answer (λ d. [] ≡ d .out) b (PairOff i a) (λ y. refl) (λ n. refl)
 words-lent b (Roll days rate quotes) r b′ out out′ g =
     by-answer (λ d. [] ≡ d .out) b (Roll days rate quotes) (λ y. refl) (λ n. refl)
@@ -62,7 +53,7 @@ pub data InPlace (b : Book) : Call → Answer → Type 0 where
       InPlace b (callOf x quotes out) (gave (callOf x quotes out) r b′ out′)
 
 -- so demand 3 holds after every list of instructions made through it
-pub demand3-in-place : {s : State} → Made InPlace s → Demand3 s
+pub demand3-in-place : {s : Tallied} → Made InPlace s → Demand3 s
 demand3-in-place m = demand3-of InPlace step m
   where
     step : (b : Book) (c : Call) (r : Answer) → InPlace b c r → Step b c r

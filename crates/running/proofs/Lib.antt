@@ -1,3 +1,2 @@
--- What a call in place answers, and demand 3 of it.
-pub mod Turning
+-- Demand 3 of what is answered in place.
 pub mod Fed

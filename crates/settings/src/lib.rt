@@ -1,14 +1,17 @@
 // mark: its questions over nets and ledger, and its effect on the marks. turn: its question.
+use answers::Turn;
+use rules::State;
 ghost use mathlib.Core.Path.{_≡_};
-ghost use mathlib.Core.List.{List};
+ghost use mathlib.Core.List.{List, []};
 ghost use Prim.Native.Nat.{ℕ, _≤_, _<_, min};
 ghost use lib.IntN.{natAbs};
 ghost use lib.ListN.{length};
 ghost use mathlib.Core.Bool.{_&&_, not};
 ghost use lib.Dec.{ltb};
-ghost use Rattle.rules.specs.Book.{all, isZero, entries, inForce};
+ghost use Rattle.rules.specs.Book.{all, isZero, entries as entriesOf, inForce};
 ghost use Rattle.rules.specs.Questions.{firstNo, noEntry};
-ghost use Rattle.rules.specs.Calls.{markAsks, markedAs, turnAsks};
+ghost use Rattle.rules.specs.Calls.{markAsks, markedAs, turnAsks, Mark, Turn as NameTurn};
+ghost use Rattle.answers.specs.Turns.{Turns, onState, onMarks, markReady};
 
 // Is a net 0?
 fn is_none(n: i32) -> bool
@@ -34,13 +37,13 @@ fn no_net(net: &[i32]) -> bool
 }
 
 // Is no entry of the ledger in this issue?
-fn no_entry(count: usize, issues: &[u8], i: u32) -> bool
-    requires { ⌜ count ≤ length (now issues) ⌝ }
-    ensures { λ r. ⌜ ((fs ts xs ds : List ℕ) → r ≡ noEntry (entries count (now (issues .entry)) fs ts xs ds) i) ⌝ }
+fn no_entry(entries: usize, issues: &[u8], i: u32) -> bool
+    requires { ⌜ entries ≤ length (now issues) ⌝ }
+    ensures { λ r. ⌜ ((fs ts xs ds : List ℕ) → r ≡ noEntry (entriesOf entries (now (issues .entry)) fs ts xs ds) i) ⌝ }
 {
     let mut good = true;
     let mut k: usize = 0;
-    while k < count {
+    while k < entries {
         let j = issues[k];
         good = good & (j as u32 != i);
         k += 1;
@@ -49,17 +52,17 @@ fn no_entry(count: usize, issues: &[u8], i: u32) -> bool
 }
 
 // Questions 4 and 20 of a mark: the number of the first 'no', 0 where there is none.
-pub fn mark_asks<'a>(nets: &'a [i32], count: usize, issues: &'a [u8], i: u32) -> u32
-    requires { ⌜ (length (now nets) ≡ 1024) × (count ≤ 2048) × (length (now issues) ≡ 2048) ⌝ }
-    ensures { λ r. ⌜ ((fs ts xs ds : List ℕ) → r ≡ firstNo (markAsks (now (nets .entry)) (entries count (now (issues .entry)) fs ts xs ds) i)) ⌝ }
+fn mark_asks<'a>(s: State, nets: &'a [i32], issues: &'a [u8], i: u32) -> u32
+    requires { ⌜ (s .entries ≤ 2048) × (length (now nets) ≡ 1024) × (length (now issues) ≡ 2048) ⌝ }
+    ensures { λ r. ⌜ ((fs ts xs ds : List ℕ) → r ≡ firstNo (markAsks (now (nets .entry)) (entriesOf (s .entries) (now (issues .entry)) fs ts xs ds) i)) ⌝ }
 {
     if 15 < i {
         return 4;
     }
-    let s = i as usize * 64;
-    let e = s + 64;
-    let flat = no_net(&nets[s..e]);
-    let clear = no_entry(count, issues, i);
+    let b = i as usize * 64;
+    let e = b + 64;
+    let flat = no_net(&nets[b..e]);
+    let clear = no_entry(s.entries, issues, i);
     if !(flat & clear) {
         return 20;
     }
@@ -74,7 +77,7 @@ fn bit(m: u32) -> u8
 }
 
 // The marks with that of an issue set.
-pub fn mark_in(marks: [u8; 16], i: u32, m: u32) -> [u8; 16]
+fn mark_in(marks: [u8; 16], i: u32, m: u32) -> [u8; 16]
     requires { ⌜ i < 16 ⌝ }
     ensures { λ r. ⌜ r ≡ markedAs marks i m ⌝ }
 {
@@ -84,16 +87,42 @@ pub fn mark_in(marks: [u8; 16], i: u32, m: u32) -> [u8; 16]
 }
 
 // Is a day after today, and is the new order not yet in force?
-fn can_be_named(turn: u32, today: u16, d: u32) -> bool
-    ensures { λ r. ⌜ r ≡ (ltb today d && not (inForce turn today)) ⌝ }
+fn can_be_named(s: State, d: u32) -> bool
+    ensures { λ r. ⌜ r ≡ (ltb (s .day) d && not (inForce (s .turn) (s .day))) ⌝ }
 {
-    let now = today as u32;
-    (now < d) & !((0 < turn) & (turn <= now))
+    let today = s.day as u32;
+    (today < d) & !((0 < s.turn) & (s.turn <= today))
 }
 
 // Question 26 of a turn: the number, or 0 where the day can be named.
-pub fn turn_asks(turn: u32, today: u16, d: u32) -> u32
-    ensures { λ r. ⌜ r ≡ firstNo (turnAsks turn today d) ⌝ }
+fn turn_asks(s: State, d: u32) -> u32
+    ensures { λ r. ⌜ r ≡ firstNo (turnAsks (s .turn) (s .day) d) ⌝ }
 {
-    if can_be_named(turn, today, d) { 0 } else { 26 }
+    if can_be_named(s, d) { 0 } else { 26 }
+}
+
+// mark: the issue's mark, unless it is refused.
+pub fn mark<'a>(s: State, nets: &'a [i32], issues: &'a [u8], i: u32, m: u32) -> Turn
+    requires { ⌜ markReady s nets issues ⌝ }
+    ensures { λ r. ⌜ Turns (onMarks nets issues) s (Mark i m) r [] ⌝ }
+{
+    let no = mark_asks(s, nets, issues, i);
+    if no != 0 {
+        return answers::refused(no, s);
+    }
+    let marks = s.marks;
+    let next = book::with_marks(s, mark_in(marks, i, m));
+    answers::done(next)
+}
+
+// turn: the first day on which full units are dealt in turn, unless it is refused.
+pub fn turn(s: State, d: u32) -> Turn
+    ensures { λ r. ⌜ Turns onState s (NameTurn d) r [] ⌝ }
+{
+    let no = turn_asks(s, d);
+    if no != 0 {
+        return answers::refused(no, s);
+    }
+    let next = book::with_turn(s, d);
+    answers::done(next)
 }

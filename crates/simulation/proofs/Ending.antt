@@ -12,7 +12,7 @@ use Rattle.laws.proofs.Basics.{byTest}
 use Rattle.laws.proofs.Cells.{within-set}
 use Rattle.laws.proofs.Sound.{within-at}
 use Rattle.simulation.specs.Repeated.{left, ending, later}
-use Rattle.simulation.specs.Desk.{Plan, Desk, ended, oneMore, settlementOf, amount, turn, turnsFrom, round, roundsOf, opening, owedLots, simulated}
+use Rattle.desks.specs.Desk.{Plan, Desk, ended, oneMore, settlementOf, amount, turn, turnsFrom, round, roundsOf, opening, owedLots, simulated}
 use Rattle.simulation.proofs.Stops.{Whole, goes-round, amount-le, left-owed}
 use Rattle.simulation.proofs.Leaps.{shift, Repeats, round-again, leap, rounds-on, turn-column, shift-shift}
 use Rattle.simulation.proofs.Keeps.{kept-turn, lotsOf}

@@ -20,7 +20,7 @@ use Rattle.laws.proofs.Units.{smallPart, total-smalls}
 use Rattle.laws.proofs.Fails.{getD-shorts}
 use Rattle.laws.proofs.Cutoff.{balance-sum}
 use Rattle.laws.proofs.Cells.{getD-block, block-other, getD-row, length-row, row-same, row-other, owed-at, length-oweds}
-use Rattle.simulation.specs.Desk.{Plan, Desk, unitsAt, inventoryAt, settlementOf, stillOwed, amount, joined, delivers, turn, turnsFrom, round, Ended, roundsOf, opening, owedLots, simulated}
+use Rattle.desks.specs.Desk.{Plan, Desk, unitsAt, inventoryAt, settlementOf, stillOwed, amount, joined, delivers, turn, turnsFrom, round, Ended, roundsOf, opening, owedLots, simulated}
 use Rattle.simulation.specs.Shared.{sharedBy, sharedOwed, Holds}
 use Rattle.simulation.proofs.Stops.{Whole, amount-le, goes-round, turn-none, turn-some}
 use Rattle.simulation.proofs.Keeps.{kept-turn, other-joined}

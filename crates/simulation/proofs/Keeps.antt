@@ -13,7 +13,7 @@ use Rattle.rules.specs.Book.{block, cell, deliveredAt, deliveredTotal}
 use Rattle.laws.proofs.Basics.{byTest}
 use Rattle.laws.proofs.Handover.{handed-stock, handovers-sum}
 use Rattle.laws.proofs.Cells.{block-same, block-other, getD-block, length-block, total-set, delivered-rises, row-other, row-zeros}
-use Rattle.simulation.specs.Desk.{Plan, Desk, unitsAt, settlementOf, inventoryAt, amount, joined, delivers, turn, turnsFrom, round, roundsOf, opening, owedLots, simulated}
+use Rattle.desks.specs.Desk.{Plan, Desk, unitsAt, settlementOf, inventoryAt, amount, joined, delivers, turn, turnsFrom, round, roundsOf, opening, owedLots, simulated}
 use Rattle.simulation.proofs.Stops.{Whole, turn-none, turn-some}
 
 -- the inventories of an issue

@@ -17,7 +17,7 @@ use Rattle.rules.specs.Book.{cell, row, netAt, deliveredAt, deliveredTotal}
 use Rattle.laws.proofs.Basics.{byTest}
 use Rattle.laws.proofs.Handover.{covered-past}
 use Rattle.laws.proofs.Cells.{length-row, row-other, delivered-rises}
-use Rattle.simulation.specs.Desk.{Plan, Desk, desk, unitsAt, Ended, ended, oneMore, inventoryAt, withInventory, settlementOf, stillOwed, amount, joined, delivers, turn, turnsFrom, round, roundsOf}
+use Rattle.desks.specs.Desk.{Plan, Desk, desk, unitsAt, Ended, ended, oneMore, inventoryAt, withInventory, settlementOf, stillOwed, amount, joined, delivers, turn, turnsFrom, round, roundsOf}
 use Rattle.simulation.specs.Repeated.{later, Again, plusTimes}
 use Rattle.simulation.proofs.Stops.{amount-le, Whole, goes-turn, turn-none, turn-some}
 

@@ -14,8 +14,8 @@ use Rattle.rules.specs.Book.{all}
 use Rattle.rules.specs.Questions.{ask, firstNo}
 use Rattle.laws.proofs.Basics.{and-left, and-right, each-map}
 use Rattle.laws.proofs.Sound.{all-each, each-getD}
-use Rattle.simulation.specs.Desk.{Plan, plan, Ended, inventoryAt, settlementOf, stillOwed, round, owedLots, simulated}
-use Rattle.simulation.specs.Simulation.{Tried, outcome, triedAnswer, simulationAsks, simulationWhere}
+use Rattle.desks.specs.Desk.{Plan, plan, Ended, inventoryAt, settlementOf, stillOwed, round, owedLots, simulated}
+use Rattle.desks.specs.Simulation.{Tried, outcome, triedAnswer, simulationAsks, simulationWhere}
 use Rattle.simulation.proofs.Stops.{none-left, simulated-stops, simulated-few}
 use Rattle.simulation.proofs.Keeps.{LotsKept, lots-kept}
 

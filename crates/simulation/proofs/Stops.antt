@@ -14,7 +14,7 @@ use Rattle.rules.specs.Fails.{undelivered}
 use Rattle.rules.specs.Book.{cell, deliveredAt}
 use Rattle.laws.proofs.Basics.{byTest}
 use Rattle.simulation.specs.Repeated.{left}
-use Rattle.simulation.specs.Desk.{Plan, Desk, Ended, inventoryAt, settlementOf, stillOwed, amount, delivers, turn, turnsFrom, round, roundsOf, opening, owedLots, simulated}
+use Rattle.desks.specs.Desk.{Plan, Desk, Ended, inventoryAt, settlementOf, stillOwed, amount, delivers, turn, turnsFrom, round, roundsOf, opening, owedLots, simulated}
 
 -- a number set higher by x within its limit: what is left falls by x
 left-set : (os ds : List ℕ) (k x : ℕ) → k < length ds → getD ds k 0 + x ≤ getD os k 0 →

@@ -1,6 +1,3 @@
--- Unit sizes on a simulated desk: document 02, F-7, as definitions.
-pub mod Desk
-pub mod Simulation
+-- What the theorems of a simulated desk cite: rounds that do the same again, and inventories that are shared.
 pub mod Repeated
 pub mod Shared
-pub mod Days

@@ -8,7 +8,7 @@ use Rattle.rules.specs.Measures.{sum, owedOf}
 use Rattle.rules.specs.Units.{AccountLots}
 use Rattle.rules.specs.Handover.{handovers}
 use Rattle.rules.specs.Fails.{undelivered}
-use Rattle.simulation.specs.Desk.{Plan, Desk, Ended, ended, roundsOf}
+use Rattle.desks.specs.Desk.{Plan, Desk, Ended, ended, roundsOf}
 
 -- the lots still owed in all, and the end of a desk: with more rounds than that
 unfoldable pub left : Plan → Desk → ℕ

@@ -5,7 +5,7 @@ use Prim.Native.Nat.{ℕ, _+_, _≤_, _<_}
 use lib.Dec.{eqb}
 use Rattle.rules.specs.Fails.{undelivered}
 use Rattle.rules.specs.Book.{row, obligationsOf}
-use Rattle.simulation.specs.Desk.{Plan, Desk, inventoryAt}
+use Rattle.desks.specs.Desk.{Plan, Desk, inventoryAt}
 
 -- the numbers of those accounts whose settlement account is s
 abbrev pub sharedBy : ℕ → List ℕ → List ℕ → ℕ

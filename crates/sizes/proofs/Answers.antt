@@ -8,31 +8,13 @@ use lib.ListN.{length, replicate}
 use lib.IntN.{ℤ}
 use borrow.Author.Tests.{le-leb, lt-leb, eq-eqb, ne-eqb}
 use Rattle.rules.specs.declared.Book.{Book}
-use Rattle.rules.specs.declared.Phase.the-variants.{Cut}
-use Rattle.rules.specs.Book.{all}
+use Rattle.rules.specs.Book.{all, sound}
 use Rattle.rules.specs.Questions.{firstNo}
-use Rattle.book.specs.declared.State.{State}
-use Rattle.laws.proofs.Basics.{and-right}
-use Rattle.soundness.specs.Sound.{soundIn}
-use Rattle.soundness.proofs.Told.{sound-lengths, sound-book}
-use Rattle.units.proofs.Cells.{nets-sized}
-use Rattle.simulation.specs.Desk.{plan, simulated}
+use Rattle.runs.proofs.Cells.{nets-sized}
+use Rattle.desks.specs.Desk.{plan, simulated}
 use Rattle.simulation.proofs.Shown.{accepted}
-use Rattle.simulation.specs.Simulation.{Tried, tried, outcome, refused, triedAnswer, simulationAsks, simulationWhere}
+use Rattle.desks.specs.Simulation.{Tried, tried, outcome, refused, triedAnswer, simulationAsks, simulationWhere}
 use Rattle.sizes.specs.Steps.{CanSimulate, SimulatedIs}
-use Rattle.sizes.specs.Host.{phaseOf, soundAt}
-
--- any other number is given Cut, and asked before
-pub others : (n : ℕ) → (n ≡ 0 → ⊥) → (n ≡ 1 → ⊥) → Cut ≡ phaseOf n
-others zero a b = absurd (a refl)
-others (suc zero) a b = absurd (b refl)
-others (suc (suc n)) a b = refl
-
-pub no-phase : (phase : ℕ) (b : Book) → 2 < phase → false ≡ soundAt phase b
-no-phase phase b h = rw (lt-leb phase 2 h) refl
-
-pub sound-in : (phase : ℕ) (f : State → Book) (s t : State) (r : Bool) → phase ≤ 2 → t ≡ s → r ≡ soundIn (f t) → r ≡ soundAt phase (f s)
-sound-in phase f s t r h e q = rw (le-leb phase 2 h) (q ∙ ap (λ u. soundIn (f u)) e)
 
 -- The number of the first 'no'
 
@@ -72,14 +54,14 @@ module _ (ss vs : List ℕ) (size : ℕ) where
 
 -- Nothing is refused
 
-pub can-simulate : (phase : ℕ) (b : Book) (ss vs : List ℕ) (size : ℕ) (owed : List ℕ) → 0 ≡ firstNo (simulationAsks (soundAt phase b) ss vs size) → length owed ≡ 16 →
-    CanSimulate (b .nets) ss vs size owed
-can-simulate phase b ss vs size owed e room =
-    let c = accepted (soundAt phase b) ss vs size (sym e) in
-    let good = and-right (leb phase 2) (soundIn b) (c .sound) in
+-- a book with columns of its lengths can be simulated
+pub can-simulate : (b : Book) (ss vs : List ℕ) (size : ℕ) (good : Bool) (owed : List ℕ) → length (b .nets) ≡ 1024 → sound b ≡ true →
+    0 ≡ firstNo (simulationAsks good ss vs size) → length owed ≡ 16 → CanSimulate (b .nets) ss vs size owed
+can-simulate b ss vs size good owed cells s e room =
+    let c = accepted good ss vs size (sym e) in
     record {
-      cells = sound-lengths b good .cells .nets;
-      sized = nets-sized b (sound-book b good);
+      cells = cells;
+      sized = nets-sized b s;
       accounts = c .accounts;
       settled = c .settled;
       stocks = c .stocks;

@@ -21,8 +21,8 @@ use Rattle.laws.proofs.Fails.{length-shorts, each-shorts}
 use Rattle.laws.proofs.Cells.{length-block, length-row, row-zeros, within-row, within-zeros}
 use Rattle.laws.proofs.Sound.{within-at}
 use Rattle.book.specs.Cells.{OwedCells}
-use Rattle.units.proofs.Cells.{row-part, owed-sized}
-use Rattle.simulation.specs.Desk.{plan, desk, ended, opening, owedLots, simulated, owedOfIssue, owedOfEach}
+use Rattle.runs.proofs.Cells.{row-part, owed-sized}
+use Rattle.desks.specs.Desk.{plan, desk, ended, opening, owedLots, simulated, owedOfIssue, owedOfEach}
 use Rattle.simulation.specs.Repeated.{ending}
 use Rattle.simulation.proofs.Stops.{left-owed}
 use Rattle.simulation.proofs.Ending.{simulated-ending}

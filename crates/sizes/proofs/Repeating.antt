@@ -15,7 +15,7 @@ use Rattle.rules.specs.Fails.{undelivered}
 use Rattle.rules.specs.Book.{deliveredTotal, duesOf}
 use Rattle.laws.proofs.Basics.{byTest}
 use Rattle.laws.proofs.Fails.{getD-shorts}
-use Rattle.simulation.specs.Desk.{Plan, plan, Desk, desk, stillOwed, turnsFrom, round}
+use Rattle.desks.specs.Desk.{Plan, plan, Desk, desk, stillOwed, turnsFrom, round}
 use Rattle.simulation.specs.Repeated.{plusTimes, Again, AgainFor, OwedFor}
 use Rattle.rounds.specs.Turns.{Rounded}
 use Rattle.simulation.proofs.Stops.{Whole, goes-turn, goes-round}

@@ -9,7 +9,7 @@ use lib.IntN.{ℤ}
 use Rattle.rules.specs.Units.{units}
 use Rattle.rules.specs.Fails.{undelivered}
 use Rattle.rules.specs.Book.{deliveredTotal}
-use Rattle.simulation.specs.Desk.{Plan, plan, desk, ended, oneMore, round}
+use Rattle.desks.specs.Desk.{Plan, plan, desk, ended, oneMore, round}
 use Rattle.simulation.specs.Repeated.{left, ending, later}
 use Rattle.rounds.specs.Turns.{CanRound, Rounded}
 use Rattle.leaps.specs.Rooms.{LeapIs, CanLeapAll, CanAdvance}
@@ -19,7 +19,7 @@ use Rattle.leaps.proofs.Columns.{length-less}
 use Rattle.rounds.proofs.Rounding.{total-most, total-bounded, net-most, past-end}
 use Rattle.laws.proofs.Basics.{byTest}
 use Rattle.laws.proofs.Fails.{getD-shorts}
-use Rattle.units.proofs.Cells.{cell-owed}
+use Rattle.runs.proofs.Cells.{cell-owed}
 use lib.Dec.{ltb}
 use borrow.Author.Tests.{ltb-true, ltb-false}
 use Rattle.simulation.proofs.Stops.{goes-round}

@@ -1,3 +1,2 @@
 -- What the contracts of the whole simulation cite.
 pub mod Steps
-pub mod Host

@@ -9,7 +9,7 @@ use Rattle.rules.specs.Measures.{Every, mostLots, sum, owedOf}
 use Rattle.rules.specs.Fails.{undelivered}
 use Rattle.rules.specs.Book.{all, withinSize}
 use Rattle.book.specs.Cells.{OwedCells}
-use Rattle.simulation.specs.Desk.{plan, desk, Ended, ended, owedOfEach}
+use Rattle.desks.specs.Desk.{plan, desk, Ended, ended, owedOfEach}
 use Rattle.simulation.specs.Repeated.{left, ending, later}
 use Rattle.rounds.specs.Turns.{CanRound}
 

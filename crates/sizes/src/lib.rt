@@ -11,11 +11,11 @@ ghost use mathlib.Core.Path.{_≡_};
 ghost use mathlib.Core.List.{map};
 ghost use Rattle.rules.specs.Measures.{sum, owedOf};
 ghost use Rattle.rules.specs.Fails.{undelivered};
-ghost use Rattle.simulation.specs.Desk.{plan, simulated, owedOfEach};
+ghost use Rattle.desks.specs.Desk.{plan, simulated, owedOfEach};
 ghost use Rattle.rounds.specs.Turns.{CanRound};
 ghost use Rattle.sizes.specs.Steps.{Stepped, CanEnd, EndIs, CanSum, CanSumEach, CanSimulate, SimulatedIs};
 
-pub mod host;
+pub mod asks;
 
 // What a round did: the deliveries made, and how many more rounds that deliver the same were made with it.
 pub struct Step {

@@ -1,232 +1,23 @@
-// The scan of a book for soundness: one pass over each column. Any content is scanned, no sum wraps.
-use crate::evens::cells_even;
-use crate::evens::entries_even;
-use crate::lifts::lifts_sound;
-use book::due;
-use book::owed;
-use book::taking;
-use book::within;
-use rules::Phase;
+// The scan of a book for soundness, column by column.
+use balancing::cells_even;
+use balancing::entries_even;
+use balancing::nets_sound;
+use bookkeeping::charges_sound;
+use bookkeeping::delivered_sound;
+use bookkeeping::ledger_sound;
+use placing::lifts_sound;
+use rules::State;
 ghost use mathlib.Core.Path.{_≡_};
-ghost use Prim.Native.Nat.{_≤_};
-ghost use lib.ListN.{length};
-ghost use Rattle.rules.specs.Measures.{dueOf, owedOf};
-ghost use Rattle.rules.specs.Ledger.{entry};
-ghost use Rattle.rules.specs.Book.{all, isZero, entries, entrySound, sound as soundOf, CellLengths, LedgerLengths, Lengths};
-ghost use Rattle.book.specs.States.{stateOf, columns};
-ghost use Rattle.soundness.specs.Scan.{rowSound, netsSound, deliveredSound, entriesSound, unusedZero, ledgerSound, chargesSound, RowLengths};
+ghost use Rattle.rules.specs.Book.{sound as soundOf, Lengths};
+ghost use Rattle.book.specs.States.{columns};
 
-// Is each net of an issue in bounds, are they in balance, and is no more delivered than owed?
-fn row_sound<'a>(net: &'a [i32], delivered: &'a [u32]) -> bool
-    requires { ⌜ RowLengths (now net) (now delivered) ⌝ }
-    ensures { λ r. ⌜ r ≡ rowSound (now (net .entry)) (now (delivered .entry)) ⌝ }
-{
-    let mut good = true;
-    let mut dues: u64 = 0;
-    let mut oweds: u64 = 0;
-    let mut i: usize = 0;
-    while i < 64 {
-        let n = net[i];
-        let d = due(n);
-        let o = owed(n);
-        dues += d as u64;
-        oweds += o as u64;
-        good = good & within(n) & (delivered[i] <= o);
-        i += 1;
-    }
-    good & (dues == oweds)
-}
-
-// The same of each issue.
-fn nets_sound<'a>(nets: &'a [i32], delivered: &'a [u32]) -> bool
-    requires { ⌜ CellLengths (now nets) (now delivered) ⌝ }
-    ensures { λ r. ⌜ r ≡ netsSound (now (nets .entry)) (now (delivered .entry)) ⌝ }
-{
-    let mut good = true;
-    let mut i: usize = 0;
-    while i < 16 {
-        let s = i * 64;
-        let e = s + 64;
-        good = good & row_sound(&nets[s..e], &delivered[s..e]);
-        i += 1;
-    }
-    good
-}
-
-// Are all 0? At three widths.
-fn zeros8(xs: &[u8]) -> bool
-    ensures { λ r. ⌜ r ≡ all isZero (now (xs .entry)) ⌝ }
-{
-    let mut good = true;
-    let mut i: usize = 0;
-    while i < xs.len() {
-        good = good & (xs[i] == 0);
-        i += 1;
-    }
-    good
-}
-
-fn zeros16(xs: &[u16]) -> bool
-    ensures { λ r. ⌜ r ≡ all isZero (now (xs .entry)) ⌝ }
-{
-    let mut good = true;
-    let mut i: usize = 0;
-    while i < xs.len() {
-        good = good & (xs[i] == 0);
-        i += 1;
-    }
-    good
-}
-
-fn zeros32(xs: &[u32]) -> bool
-    ensures { λ r. ⌜ r ≡ all isZero (now (xs .entry)) ⌝ }
-{
-    let mut good = true;
-    let mut i: usize = 0;
-    while i < xs.len() {
-        good = good & (xs[i] == 0);
-        i += 1;
-    }
-    good
-}
-
-// Are delivered lots 0 throughout, if the phase is Taking?
-fn delivered_sound(phase: Phase, delivered: &[u32]) -> bool
-    ensures { λ r. ⌜ r ≡ deliveredSound phase (now (delivered .entry)) ⌝ }
-{
-    if taking(phase) {
-        return zeros32(delivered);
-    }
-    true
-}
-
-// Has an entry numbers in range, from unlike to, lots 1..20,000,000?
-fn entry_sound(i: u8, f: u8, t: u8, x: u32) -> bool
-    ensures { λ r. ⌜ r ≡ entrySound (entry i f t x 0) ⌝ }
-{
-    (i <= 15) & (f <= 63) & (t <= 63) & (f != t) & (1 <= x) & (x <= 20_000_000)
-}
-
-// Are the entries right, do days never fall along them, nor lie above today?
-fn entries_sound<'a>(
-    today: u16,
-    count: usize,
-    issues: &'a [u8],
-    froms: &'a [u8],
-    tos: &'a [u8],
-    lots: &'a [u32],
-    days: &'a [u16],
-) -> bool
-    requires { ⌜ (count ≤ 2048) × LedgerLengths (now issues) (now froms) (now tos) (now lots) (now days) ⌝ }
-    ensures { λ r. ⌜ r ≡ entriesSound today (entries count (now (issues .entry)) (now (froms .entry)) (now (tos .entry)) (now (lots .entry)) (now (days .entry))) ⌝ }
-{
-    let mut good = true;
-    let mut last: u16 = 0;
-    let mut k: usize = 0;
-    while k < count {
-        let d = days[k];
-        good = good & entry_sound(issues[k], froms[k], tos[k], lots[k]) & (last <= d);
-        last = d;
-        k += 1;
-    }
-    good & (last <= today)
-}
-
-// Are the unused entries zero?
-fn unused_zero<'a>(
-    count: usize,
-    issues: &'a [u8],
-    froms: &'a [u8],
-    tos: &'a [u8],
-    lots: &'a [u32],
-    days: &'a [u16],
-) -> bool
-    requires { ⌜ (count ≤ 2048) × LedgerLengths (now issues) (now froms) (now tos) (now lots) (now days) ⌝ }
-    ensures { λ r. ⌜ r ≡ unusedZero count (now (issues .entry)) (now (froms .entry)) (now (tos .entry)) (now (lots .entry)) (now (days .entry)) ⌝ }
-{
-    let i = zeros8(&issues[count..]);
-    let f = zeros8(&froms[count..]);
-    let t = zeros8(&tos[count..]);
-    let x = zeros32(&lots[count..]);
-    let d = zeros16(&days[count..]);
-    i & f & t & x & d
-}
-
-// Is the ledger sound? A count above 2,048 is not.
-fn ledger_sound<'a>(
-    today: u16,
-    count: usize,
-    issues: &'a [u8],
-    froms: &'a [u8],
-    tos: &'a [u8],
-    lots: &'a [u32],
-    days: &'a [u16],
-) -> bool
-    requires { ⌜ LedgerLengths (now issues) (now froms) (now tos) (now lots) (now days) ⌝ }
-    ensures { λ r. ⌜ r ≡ ledgerSound today count (now (issues .entry)) (now (froms .entry)) (now (tos .entry)) (now (lots .entry)) (now (days .entry)) ⌝ }
-{
-    if 2048 < count {
-        return false;
-    }
-    let used = entries_sound(today, count, issues, froms, tos, lots, days);
-    let unused = unused_zero(count, issues, froms, tos, lots, days);
-    used & unused
-}
-
-// The yen that an account is to get, 0 where its charge is not positive.
-fn credit(c: i64) -> u64
-    ensures { λ r. ⌜ r ≡ dueOf c ⌝ }
-{
-    if 0 < c { c as u64 } else { 0 }
-}
-
-// The yen that an account is to pay, 0 where its charge is not negative.
-fn debit(c: i64) -> u64
-    ensures { λ r. ⌜ r ≡ owedOf c ⌝ }
-{
-    if c < 0 { (-1 - c) as u64 + 1 } else { 0 }
-}
-
-// Are the charges in balance, and each in bounds? Sums of 64 charges do not fit 64 bits: they are
-// taken in high and low halves, and compared with the low halves' carry.
-fn charges_sound(today: u16, charges: &[i64]) -> bool
-    requires { ⌜ length (now charges) ≡ 64 ⌝ }
-    ensures { λ r. ⌜ r ≡ chargesSound today (now (charges .entry)) ⌝ }
-{
-    let most = 134_663_013_697_536 * (today as u64);
-    let mut good = true;
-    let mut got_high: u64 = 0;
-    let mut got_low: u64 = 0;
-    let mut paid_high: u64 = 0;
-    let mut paid_low: u64 = 0;
-    let mut i: usize = 0;
-    while i < 64 {
-        let c = charges[i];
-        let got = credit(c);
-        let paid = debit(c);
-        good = good & (got <= most) & (paid <= most);
-        got_high += got / 4_294_967_296;
-        got_low += got % 4_294_967_296;
-        paid_high += paid / 4_294_967_296;
-        paid_low += paid % 4_294_967_296;
-        i += 1;
-    }
-    let high = got_high + got_low / 4_294_967_296 == paid_high + paid_low / 4_294_967_296;
-    let low = got_low % 4_294_967_296 == paid_low % 4_294_967_296;
-    high & low & good
-}
-
-// Is a book of these columns sound?
+// Is the book of a state and these columns sound?
 pub fn sound_columns<'a>(
-    day: u16,
-    phase: Phase,
-    turn: u32,
-    marks: [u8; 16],
+    s: State,
     nets: &'a [i32],
     delivered: &'a [u32],
     lifts: &'a [u32],
     charges: &'a [i64],
-    count: usize,
     issues: &'a [u8],
     froms: &'a [u8],
     tos: &'a [u8],
@@ -234,17 +25,19 @@ pub fn sound_columns<'a>(
     days: &'a [u16],
 ) -> bool
     requires { ⌜ Lengths (now nets) (now delivered) (now lifts) (now charges) (now issues) (now froms) (now tos) (now lots) (now days) ⌝ }
-    ensures { λ r. ⌜ r ≡ soundOf (columns nets delivered lifts charges issues froms tos lots days .before (stateOf day phase count turn marks)) ⌝ }
+    ensures { λ r. ⌜ r ≡ soundOf (columns nets delivered lifts charges issues froms tos lots days .before s) ⌝ }
 {
+    let day = s.day;
+    let phase = s.phase;
     let cells = nets_sound(nets, delivered);
     let taken = delivered_sound(phase, delivered);
-    let ledger = ledger_sound(day, count, issues, froms, tos, lots, days);
+    let ledger = ledger_sound(s, issues, froms, tos, lots, days);
     let yen = charges_sound(day, charges);
     if !(cells & taken & ledger & yen) {
         return false;
     }
     let lifted = lifts_sound(phase, nets, delivered, lifts);
-    let cells = cells_even(marks, nets, delivered);
-    let entries = entries_even(marks, count, issues, lots);
+    let cells = cells_even(s, nets, delivered);
+    let entries = entries_even(s, issues, lots);
     lifted & cells & entries
 }

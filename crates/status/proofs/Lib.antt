@@ -1,3 +1,2 @@
 pub mod UpTo
 pub mod Telling
-pub mod Numbers

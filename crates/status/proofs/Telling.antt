@@ -13,15 +13,14 @@ use Rattle.rules.specs.declared.Phase.{Phase}
 use Rattle.rules.specs.Units.{AccountLots, accountLots, sumLots}
 use Rattle.rules.specs.Handover.{covered, stock, firstUnit}
 use Rattle.rules.specs.Questions.{ask, firstNo, askIssue}
-use Rattle.rules.specs.Book.{isTaking, isCut, headOr0, deliveredTotal, inForce, orderIn, orderOf, dealtToday, sound, withTurn}
+use Rattle.rules.specs.Book.{isTaking, isCut, headOr0, deliveredTotal, inForce, orderIn, orderOf, dealtToday, sound, withState, withTurn}
 use Rattle.laws.proofs.Basics.{byTest, either}
 use Rattle.laws.proofs.Handover.{stock-below, waits-short}
 use Rattle.laws.proofs.Dealt.{lotsIn, same-covered, same-stock, same-length, same-sum}
 use Rattle.laws.proofs.SoundRows.{order-lots}
 use Rattle.laws.proofs.Carried.{sound-turn}
-use Rattle.soundness.specs.Sound.{lengthsRight, soundIn}
-use Rattle.status.specs.Status.{StatusAnswer, isHanded, waitsFor, failsPartly, failsWholly, statusRefused, wanted, inSettling, afterCutoff, reason, askNotTaking, statusAsks, statusAnswer, status}
-use Rattle.status.specs.Columns.{reasonAt, statusOf, statusWhere, statusIn}
+use Rattle.told.specs.Status.{StatusAnswer, isHanded, waitsFor, failsPartly, failsWholly, statusRefused, wanted, inSettling, afterCutoff, reason, askNotTaking, statusAsks, statusAnswer, status}
+use Rattle.status.specs.Columns.{reasonAt, statusOf}
 
 -- a unit is handed exactly if the units up to it, it included, have no more lots than are delivered
 pub record Exactly (us : List AccountLots) (d k : ℕ) : Type 0 where
@@ -115,20 +114,15 @@ module _ (new : Bool) (phase : Phase) (nets : List ℤ) (delivered lifts : List 
   of-unit us d p q e l =
       by-lots phase us (orderIn new nets lifts i) d k (ap lotsIn p ∙ sym (order-lots new nets lifts i)) ∙ simp (q, e, le-leb i 15 l)
 
--- Question 2
-module _ (good : Bool) (b : Book) (i k : ℕ) where
-  pub unsound : good ≡ false → statusRefused 2 ≡ statusWhere good b i k
-  unfolding statusWhere
-  unsound e = rw e
+-- of a sound book it is the book's
+pub told-sound : (b : Book) (i k : ℕ) → sound b ≡ true → statusOf (dealtToday b) (b .state .phase) (b .nets) (b .delivered) (b .lifts) i k ≡ status b i k
+unfolding status statusOf
+told-sound b i k e = rw e
 
-  pub told-sound : good ≡ true → statusOf (dealtToday b) (b .phase) (b .nets) (b .delivered) (b .lifts) i k ≡ statusWhere good b i k
-  unfolding statusWhere statusOf
-  told-sound e = rw e
-
--- on columns of the right lengths it is what is told of the book in them
-pub status-in : (b : Book) (i k : ℕ) → lengthsRight b ≡ true → statusIn b i k ≡ status b i k
-unfolding statusWhere status soundIn
-status-in b i k h = rw h
+-- and one that is not sound is refused by 2
+pub told-unsound : (b : Book) (i k : ℕ) → sound b ≡ false → statusRefused 2 ≡ status b i k
+unfolding status
+told-unsound b i k e = rw e
 
 -- what is told is the same whatever day is named for the new order
 abbrev toldOf : Bool → Phase → List AccountLots → ℕ → ℕ → ℕ → StatusAnswer
@@ -145,11 +139,11 @@ told-by-lots good phase us vs d i k e =
     ap (λ n. statusAnswer (firstNo (ask 2 good ∷ askNotTaking phase ∷ askIssue i ∷ ask 16 (ltb k n) ∷ [])) (reason phase us d k)) (same-length us vs e)
     ∙ ap (statusAnswer (firstNo (ask 2 good ∷ statusAsks phase (λ j. vs) i k))) (same-reason phase us vs d k e)
 
-pub told-turned : (b : Book) (t i k : ℕ) → status (withTurn b t) i k ≡ status b i k
+pub told-turned : (b : Book) (t i k : ℕ) → status (withState b (withTurn (b .state) t)) i k ≡ status b i k
 unfolding status
 told-turned b t i k =
-    let us = orderIn (inForce t (b .day)) (b .nets) (b .lifts) i in
+    let us = orderIn (inForce t (b .state .day)) (b .nets) (b .lifts) i in
     let d = deliveredTotal (b .delivered) i in
-    ap (λ good. toldOf good (b .phase) us d i k) (sound-turn b t)
-    ∙ told-by-lots (sound b) (b .phase) us (orderOf b i) d i k
-    (order-lots (inForce t (b .day)) (b .nets) (b .lifts) i ∙ sym (order-lots (dealtToday b) (b .nets) (b .lifts) i))
+    ap (λ good. toldOf good (b .state .phase) us d i k) (sound-turn b t)
+    ∙ told-by-lots (sound b) (b .state .phase) us (orderOf b i) d i k
+    (order-lots (inForce t (b .state .day)) (b .nets) (b .lifts) i ∙ sym (order-lots (dealtToday b) (b .nets) (b .lifts) i))

@@ -7,9 +7,9 @@ use native.Mathlib.Numerals.{add-one}
 use lib.ListN.{length, take, drop, getD}
 use Rattle.rules.specs.Units.{AccountLots, sumLots}
 use Rattle.laws.proofs.Basics.{total-append, total-split}
-use Rattle.units.specs.Runs.{partOf, runsIn, unitsOfRun, unitsOfRuns}
-use Rattle.units.proofs.Units.{run-lots, run-drop, unit-past}
-use Rattle.units.proofs.Loops.{units-at}
+use Rattle.runs.specs.Runs.{partOf, runsIn, unitsOfRun, unitsOfRuns}
+use Rattle.runs.proofs.Units.{run-lots, run-drop, unit-past}
+use Rattle.runs.proofs.Loops.{units-at}
 
 abbrev lotsOf : AccountLots → ℕ
 lotsOf u = u .lots

@@ -1,18 +1,16 @@
--- What is told of a unit, from the columns of a sound book and from columns of any length.
+-- What is told of a unit, from the columns of a sound book.
 use mathlib.Core.Path.{_≡_}
 use mathlib.Core.Bool.{Bool}
 use mathlib.Core.List.{List, [], _∷_}
 use Prim.Native.Nat.{ℕ, _≤_, _<_}
 use lib.ListN.{length}
 use lib.IntN.{ℤ}
-use Rattle.rules.specs.declared.Book.{Book}
 use Rattle.rules.specs.declared.Phase.{Phase}
 use Rattle.rules.specs.Units.{AccountLots, sumLots}
-use Rattle.rules.specs.Book.{deliveredTotal, orderIn, orderOf}
-use Rattle.rules.specs.Questions.{ask, firstNo}
-use Rattle.units.specs.Runs.{unitsIn, Held}
-use Rattle.soundness.specs.Sound.{soundIn}
-use Rattle.status.specs.Status.{StatusAnswer, reason, askUnit, statusAsks, statusAnswer}
+use Rattle.rules.specs.Book.{deliveredTotal, orderIn}
+use Rattle.rules.specs.Questions.{firstNo}
+use Rattle.runs.specs.Runs.{unitsIn, Held}
+use Rattle.told.specs.Status.{StatusAnswer, reason, askUnit, statusAsks, statusAnswer}
 
 -- units in a lent array whose lots fit a word
 pub record CanSum (runs : List ℕ) (n : ℕ) : Type 0 where
@@ -36,13 +34,3 @@ statusOf new phase nets delivered lifts i k =
 -- what is told is the same in both, since it goes by lots alone
 abbrev pub InEither : (Bool → StatusAnswer) → StatusAnswer → Type 0
 InEither f s = (new : Bool) → s ≡ f new
-
--- where question 2 is answered so
-unfoldable pub statusWhere : Bool → Book → ℕ → ℕ → StatusAnswer
-statusWhere good b i k =
-    statusAnswer (firstNo (ask 2 good ∷ statusAsks (b .phase) (orderOf b) i k))
-    (reason (b .phase) (orderOf b i) (deliveredTotal (b .delivered) i) k)
-
--- columns of another length are no sound book
-abbrev pub statusIn : Book → ℕ → ℕ → StatusAnswer
-statusIn b = statusWhere (soundIn b) b

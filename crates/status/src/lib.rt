@@ -1,30 +1,17 @@
 // The reason a unit has not come: for issue and unit number the book tells one of handed, waiting, partly
 // failed and wholly failed. The units are those of the order as lifted, in Settling and in Cut. It goes by
 // lots alone, and those are the same, place by place, whether full units are dealt in turn or not.
-use book::State;
+use handover::NextUnit;
 use rules::Phase;
-use units::NextUnit;
+use told::Told;
 ghost use mathlib.Core.Path.{_≡_};
 ghost use Prim.Native.Nat.{suc};
 ghost use lib.ListN.{take};
 ghost use Rattle.rules.specs.Units.{sumLots};
 ghost use Rattle.book.specs.Cells.{SoundCells};
-ghost use Rattle.book.specs.States.{columns};
-ghost use Rattle.units.specs.Runs.{unitsIn};
-ghost use Rattle.status.specs.Status.{toldAnswer};
-ghost use Rattle.status.specs.Columns.{CanTell, CanSum, reasonAt, statusOf, InEither, statusIn};
-
-pub mod host;
-
-// What is told of a unit: handed; waiting, with so many lots; partly failed, with the lots lacking; wholly
-// failed; or the refusal's number.
-pub enum Told {
-    Handed,
-    Waiting(u32),
-    PartlyFailed(u32),
-    WhollyFailed,
-    Refused(u32),
-}
+ghost use Rattle.runs.specs.Runs.{unitsIn};
+ghost use Rattle.told.specs.Status.{toldAnswer};
+ghost use Rattle.status.specs.Columns.{CanTell, CanSum, reasonAt, statusOf, InEither};
 
 // The lots of all units up to unit k, it included.
 fn lots_up_to(runs: &[u32], n: usize, k: u32) -> u32
@@ -56,11 +43,11 @@ fn tell(phase: Phase, runs: &[u32], n: usize, d: u32, k: u32) -> Told
     requires { ⌜ CanTell (now runs) n ⌝ }
     ensures { λ r. ⌜ toldAnswer r ≡ reasonAt phase (unitsIn (now (runs .entry)) n) d k ⌝ }
 {
-    let s = units::seek(k);
-    let NextUnit::Unit(_, x, _) = units::next_unit(runs, n, s) else {
+    let s = handover::seek(k);
+    let NextUnit::Unit(_, x, _) = handover::next_unit(runs, n, s) else {
         return Told::Refused(16);
     };
-    let h = units::handover(runs, n, d);
+    let h = handover::handover(runs, n, d);
     if k < h.count {
         return Told::Handed;
     }
@@ -97,40 +84,4 @@ pub fn status_in<'a>(
     let n = units::prepare(nets, lifts, i as usize, &mut runs);
     let d = book::total(&delivered[s..e]);
     tell(phase, &runs, n, d, k)
-}
-
-// What is told of unit k of an issue, k from 0, on columns of any length and content. Refuses a book that is
-// not sound (2), Taking (3), an issue above 15 (4) and a missing unit (16).
-pub fn status<'a>(
-    s: State,
-    nets: &'a [i32],
-    delivered: &'a [u32],
-    lifts: &'a [u32],
-    charges: &'a [i64],
-    issues: &'a [u8],
-    froms: &'a [u8],
-    tos: &'a [u8],
-    lots: &'a [u32],
-    days: &'a [u16],
-    i: u32,
-    k: u32,
-) -> Told
-    ensures { λ r. ⌜ toldAnswer r ≡ statusIn (columns nets delivered lifts charges issues froms tos lots days .before s) i k ⌝ }
-{
-    if !soundness::sound(
-        s,
-        nets,
-        delivered,
-        lifts,
-        charges,
-        issues,
-        froms,
-        tos,
-        lots,
-        days,
-    ) {
-        return Told::Refused(2);
-    }
-    let phase = s.phase;
-    status_in(phase, nets, delivered, lifts, i, k)
 }

@@ -16,8 +16,8 @@ use Rattle.laws.proofs.Basics.{byTest, and-left, and-right, and-both, each-appe
 use Rattle.laws.proofs.Fails.{additive-account}
 use Rattle.laws.proofs.Stretches.{total-stretches}
 use Rattle.laws.proofs.DealtStretches.{joinLast, join-new, join-small, join-at, stretches-last, run-last, stretches-front}
-use Rattle.units.specs.Runs.{partOf, runsIn, unitsOfRun, Plain}
-use Rattle.units.proofs.Gathers.{run-account}
+use Rattle.runs.specs.Runs.{partOf, runsIn, unitsOfRun, Plain}
+use Rattle.units.proofs.Begins.{run-account}
 use Rattle.stretching.specs.Adding.{StretchesOf, NoneOf, FirstOf, Indexed, Fits, Room, Joined, CanAdd, Added}
 
 -- what the stores ask, and what they do

@@ -12,8 +12,8 @@ use Rattle.rules.specs.Measures.{Every, unitLots}
 use Rattle.rules.specs.Units.{AccountLots, accountLots}
 use Rattle.rules.specs.Fails.{stretches}
 use Rattle.laws.proofs.Basics.{either, each-drop}
-use Rattle.units.specs.Runs.{partOf, runsIn, unitsOfRun, unitsOfRuns, Plain, PlainIn}
-use Rattle.units.proofs.Loops.{runs-at, runs-end}
+use Rattle.runs.specs.Runs.{partOf, runsIn, unitsOfRun, unitsOfRuns, Plain, PlainIn}
+use Rattle.runs.proofs.Loops.{runs-at, runs-end}
 use Rattle.stretching.specs.Adding.{StretchesOf, Indexed, Fits, Room, Joined, shareOf, sharesIn, CanAdd, Added, CanFeed, Fed}
 use Rattle.stretching.proofs.Adding.{fits-front}
 

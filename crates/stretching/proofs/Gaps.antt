@@ -13,7 +13,7 @@ use Rattle.rules.specs.Units.{AccountLots, accountLots, ofAccount}
 use Rattle.rules.specs.Fails.{isFullOf, stretches}
 use Rattle.laws.proofs.Basics.{byTest, and-left, and-right, and-both, each-map}
 use Rattle.laws.proofs.DealtStretches.{joinLast, stretches-last}
-use Rattle.units.specs.Runs.{partOf, runsIn}
+use Rattle.runs.specs.Runs.{partOf, runsIn}
 use Rattle.stretching.specs.Adding.{NoneOf}
 use Rattle.stretching.specs.Gaps.{Has, more, less, mores}
 

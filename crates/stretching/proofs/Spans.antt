@@ -17,11 +17,11 @@ use Rattle.laws.proofs.Basics.{byTest, each-take, each-drop, each-map, put-pos}
 use Rattle.laws.proofs.Fails.{additive-account}
 use Rattle.laws.proofs.Stretches.{total-stretches}
 use Rattle.laws.proofs.DealtStretches.{together, rounds-together}
-use Rattle.units.specs.Runs.{partOf, runsIn, unitsOfRun, unitsOfRuns, Plain, PlainIn}
-use Rattle.units.proofs.Loops.{runs-length}
-use Rattle.dealing.specs.declared.Deal.{Deal}
-use Rattle.dealing.specs.Dealing.{Narrowed, fullUnit, mostRounds, CanDeal, smallsOf, dealtRuns, SeatAt}
-use Rattle.dealing.proofs.Dealing.{each-runs, rounds-add}
+use Rattle.runs.specs.Runs.{partOf, runsIn, unitsOfRun, unitsOfRuns, Plain, PlainIn}
+use Rattle.runs.proofs.Loops.{runs-length}
+use Rattle.inturn.specs.declared.Deal.{Deal}
+use Rattle.inturn.specs.InTurn.{Narrowed, fullUnit, mostRounds, CanDeal, smallsOf, dealtRuns, SeatAt}
+use Rattle.inturn.proofs.Dealing.{each-runs, rounds-add}
 use Rattle.stretching.specs.Adding.{StretchesOf, Fits, Room, Joined, shareOf, sharesIn, CanFeed, Fed}
 use Rattle.stretching.specs.Spans.{Parted, spanIn, CanFeedSpan, FedSpan}
 use Rattle.stretching.proofs.Adding.{fits-front}

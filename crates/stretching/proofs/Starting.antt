@@ -24,15 +24,18 @@ use Rattle.laws.proofs.Lifts.{length-lifted}
 use Rattle.laws.proofs.Overlaps.{skip-skip0}
 use Rattle.laws.proofs.Room.{part-stretches}
 use Rattle.laws.proofs.SoundRows.{order-in, order-lots}
-use Rattle.units.specs.declared.Handed.{Handed}
-use Rattle.units.specs.Runs.{partOf, runsIn, unitsIn, CanOrder, Prepared, HandedIs}
+use Rattle.handover.specs.declared.Handed.{Handed}
+use Rattle.runs.specs.Runs.{partOf, runsIn, unitsIn, CanOrder, Prepared}
+use Rattle.handover.specs.Walking.{HandedIs}
 use Rattle.units.specs.Cursor.{position, Started}
-use Rattle.units.proofs.Loops.{runs-at, dues-small}
-use Rattle.units.proofs.Gathers.{cursor-lacks, skip0-cons}
+use Rattle.runs.proofs.Loops.{runs-at, dues-small}
+use Rattle.units.proofs.Begins.{cursor-lacks, skip0-cons}
 use Rattle.dealing.specs.declared.Ranks.{Ranks}
-use Rattle.dealing.specs.declared.Span.{Span}
-use Rattle.dealing.specs.Dealing.{dealtRuns, liftedRuns, SpanIs, fullNumber, IsRanked}
-use Rattle.dealing.proofs.Places as places
+use Rattle.unlifting.specs.declared.Span.{Span}
+use Rattle.inturn.specs.InTurn.{dealtRuns}
+use Rattle.dealing.specs.Dealing.{liftedRuns, fullNumber, IsRanked}
+use Rattle.unlifting.specs.Unlifting.{SpanIs}
+use Rattle.unlifting.proofs.Places as places
 use Rattle.dealing.proofs.Dealer.{can-deal-out, order-short, ranked-lifted, ranked-length, ranked-number, ranked-smalls}
 use Rattle.stretching.specs.declared.Pending.{Pending}
 use Rattle.stretching.specs.declared.Passed.{Passed}

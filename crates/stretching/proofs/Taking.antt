@@ -16,11 +16,11 @@ use Rattle.rules.specs.Fails.{isFullOf, stretches}
 use Rattle.laws.proofs.Basics.{byTest, and-left, and-right, each-map, each-append}
 use Rattle.laws.proofs.Fails.{additive-account}
 use Rattle.laws.proofs.Stretches.{total-stretches}
-use Rattle.units.specs.Runs.{partOf, runsIn}
+use Rattle.runs.specs.Runs.{partOf, runsIn}
 use Rattle.stretching.specs.Adding.{StretchesOf, NoneOf, FirstOf, Indexed, Fits, Room, Joined}
 use Rattle.stretching.specs.Spans.{Parted, spanIn, CanFeedSpan, FedSpan}
-use Rattle.dealing.specs.declared.Deal.{Deal}
-use Rattle.dealing.specs.Dealing.{fullUnit, mostRounds, smallsOf, dealtRuns, dealtFrom, Seated}
+use Rattle.inturn.specs.declared.Deal.{Deal}
+use Rattle.inturn.specs.InTurn.{fullUnit, mostRounds, smallsOf, dealtRuns, dealtFrom, Seated}
 use Rattle.rules.specs.Dealt.{rounds}
 use Rattle.stretching.specs.declared.Pending.{Pending}
 use Rattle.stretching.specs.Gaps.{Has, more, less, mores, CanTake, Taken, CanTakeAll, TakenAll, Waiting, CanFeedPending, FedPending, CanGap, Gap}

@@ -8,7 +8,7 @@ use lib.ListN.{length, drop, getD}
 use Rattle.rules.specs.Measures.{Every, unitLots, total}
 use Rattle.rules.specs.Units.{AccountLots, accountLots, ofAccount}
 use Rattle.rules.specs.Fails.{isFullOf, stretches}
-use Rattle.units.specs.Runs.{partOf, runsIn, unitsOfRun, unitsOfRuns, Plain, PlainIn}
+use Rattle.runs.specs.Runs.{partOf, runsIn, unitsOfRun, unitsOfRuns, Plain, PlainIn}
 
 -- the first c words of a lent array are the stretches of these units
 abbrev pub StretchesOf : List ℕ → ℕ → List AccountLots → Type 0

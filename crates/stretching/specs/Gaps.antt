@@ -7,8 +7,8 @@ use lib.ListN.{length, take, drop, getD}
 use Rattle.rules.specs.Measures.{Every, unitLots, mostLots, total}
 use Rattle.rules.specs.Units.{AccountLots, accountLots, ofAccount}
 use Rattle.rules.specs.Fails.{isFullOf, stretches}
-use Rattle.units.specs.Runs.{runsIn}
-use Rattle.dealing.specs.Dealing.{dealtRuns}
+use Rattle.runs.specs.Runs.{runsIn}
+use Rattle.inturn.specs.InTurn.{dealtRuns}
 use Rattle.stretching.specs.declared.Pending.{Pending}
 use Rattle.stretching.specs.declared.Passed.{Passed}
 use Rattle.stretching.specs.Adding.{StretchesOf, Indexed}

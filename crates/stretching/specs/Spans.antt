@@ -10,9 +10,11 @@ use Rattle.rules.specs.Units.{AccountLots, ofAccount}
 use Rattle.rules.specs.Fails.{stretches}
 use Rattle.rules.specs.Lifts.{Among}
 use Rattle.rules.specs.Book.{placesIn, orderIn}
-use Rattle.units.specs.Runs.{runsIn, PlainIn, CanOrder}
+use Rattle.runs.specs.Runs.{runsIn, PlainIn, CanOrder}
 use Rattle.units.specs.Cursor.{Started}
-use Rattle.dealing.specs.Dealing.{CanDeal, smallsOf, dealtRuns, liftedRuns, CanSpan}
+use Rattle.inturn.specs.InTurn.{CanDeal, smallsOf, dealtRuns}
+use Rattle.dealing.specs.Dealing.{liftedRuns}
+use Rattle.unlifting.specs.Unlifting.{CanSpan}
 use Rattle.stretching.specs.declared.Begun.{Begun}
 use Rattle.stretching.specs.Adding.{StretchesOf, Room, Joined}
 

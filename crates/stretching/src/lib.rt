@@ -1,12 +1,12 @@
 // The cutoff where full units are dealt in turn: the stretches of what waits, made from the front, one run
 // after the other. Units are never listed: of whole rounds each account's are taken together.
-use dealing::before_lifts;
-use dealing::least;
-use dealing::seat;
+use inturn::seat;
 use units::Position;
 use units::stand;
+use unlifting::before_lifts;
+use unlifting::least;
 ghost use mathlib.Core.Path.{_≡_};
-ghost use Rattle.units.specs.Runs.{partOf};
+ghost use Rattle.runs.specs.Runs.{partOf};
 ghost use Rattle.stretching.specs.Adding.{CanAdd, Added, shareOf, CanFeed, Fed};
 ghost use Rattle.stretching.specs.Gaps.{CanTake, Taken, CanTakeAll, TakenAll, CanFeedPending, FedPending, CanGap, GapIs, CanPass, HasPassed};
 ghost use Rattle.stretching.specs.Spans.{CanFeedSpan, FedSpan, CanFeedWaiting, FedWaiting, CanStart, HasStarted};
@@ -270,10 +270,10 @@ pub fn start(nets: &[i32], lifts: &[u32], i: usize, d: u32, out: &mut [u32]) -> 
     let mut keys = [0u32; 128];
     let mut at = [0usize; 64];
     let p = dealing::prepare(nets, lifts, i, &mut keys, out);
-    let h = units::handover(out, p.lifted, d);
+    let h = handover::handover(out, p.lifted, d);
     let k = p.ranks;
     let n = k.n;
-    let count = units::number(&keys, n);
+    let count = handover::number(&keys, n);
     let s = i * 18;
     let e = s + 18;
     let c = feed_waiting(&keys, n, k.full, &lifts[s..e], h.count, count, out, &mut at);

@@ -16,7 +16,7 @@ use Rattle.rules.specs.Units.{AccountLots, ofAccount}
 use Rattle.rules.specs.Handover.{covered, handed, partials}
 use Rattle.rules.specs.Book.{cell, row, netAt, deliveredTotal, orderOf, stockOf, ledgerOf, isMarked, sound, dealtToday}
 use Rattle.rules.specs.Calls.{Call, Commit, Cutoff, called}
-use Rattle.rules.specs.Tally.{State, after, afterAll, start, noLots, unitsToday}
+use Rattle.rules.specs.Tally.{Tallied, after, afterAll, start, noLots, unitsToday}
 use Rattle.laws.proofs.Basics.{byTest, and-left, and-right, total-append, Every, each-map}
 use Rattle.laws.proofs.Fails.{additive-account}
 use Rattle.laws.proofs.Cutoff.{settled}
@@ -45,7 +45,7 @@ pub record EvenIssue (b : Book) (i : ℕ) : Type 0 where
   pub fails : Every (λ e. e .issue ≡ i → Even (e .lots)) (ledgerOf b)
 
 -- of every book that a list of calls reaches, a marked issue has even lots only
-pub a-marked-issue-is-even : (cs : List Call) (i : ℕ) → i < 16 → isMarked (afterAll start cs .book .marks) i ≡ true → EvenIssue (afterAll start cs .book) i
+pub a-marked-issue-is-even : (cs : List Call) (i : ℕ) → i < 16 → isMarked (afterAll start cs .book .state .marks) i ≡ true → EvenIssue (afterAll start cs .book) i
 a-marked-issue-is-even cs i h m =
     let b = afterAll start cs .book in
     let g = reached-standing cs .parts in
@@ -57,11 +57,11 @@ a-marked-issue-is-even cs i h m =
       delivered = ds;
       units = us;
       stock = stock-even (orderOf b i) (deliveredTotal (b .delivered) i) us (total-even (λ x. x) (row i (b .delivered)) ds);
-      fails = each-map (EvenEntry (b .marks)) (λ e. e .issue ≡ i → Even (e .lots)) (λ e p q. p (rw q m)) (ledgerOf b) (g .evenEntries);
+      fails = each-map (EvenEntry (b .state .marks)) (λ e. e .issue ≡ i → Even (e .lots)) (λ e p q. p (rw q m)) (ledgerOf b) (g .evenEntries);
     }
 
 module _ (cs : List Call) where
-  abbrev s : State
+  abbrev s : Tallied
   s = afterAll start cs
 
   -- no unit is handed to two accounts: the k-th handover of a day is to the account of the k-th unit
@@ -93,7 +93,7 @@ module _ (cs : List Call) where
       (omega (
         arith,
         v .handed i a,
-        row-most (s .book .phase) (orderOf (s .book) i) (deliveredTotal (s .book .delivered) i) (s .tally .rows i) a (v .rows i hi),
+        row-most (s .book .state .phase) (orderOf (s .book) i) (deliveredTotal (s .book .delivered) i) (s .tally .rows i) a (v .rows i hi),
         order-in (dealtToday (s .book)) (s .book .nets) (s .book .lifts) i .due a,
         due-at (s .book .nets) i a ha,
       ))

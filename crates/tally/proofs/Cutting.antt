@@ -15,10 +15,10 @@ use Rattle.rules.specs.Units.{ofAccount}
 use Rattle.rules.specs.Handover.{handed, partials}
 use Rattle.rules.specs.Fails.{Fail}
 use Rattle.rules.specs.Ledger.{isFrom, isTo, lotsOf}
-use Rattle.rules.specs.Book.{isSettling, tabulate, netAt, deliveredTotal, orderOf, ledgerOf, withPhase, withLedger}
+use Rattle.rules.specs.Book.{isSettling, tabulate, netAt, deliveredTotal, orderOf, ledgerOf, withState, withPhase, withLedger}
 use Rattle.rules.specs.Records.{Rec, handover, recordOf}
 use Rattle.rules.specs.Calls.{writes, Cutoff, issuePartials, issueFails, failEntry, issueEntries, issueRecords, joined, newEntries, cutoffRecords, called}
-use Rattle.rules.specs.Tally.{State, recordsOf}
+use Rattle.rules.specs.Tally.{Tallied, recordsOf}
 use Rattle.laws.proofs.Basics.{byTest, total-append, Every}
 use Rattle.laws.proofs.Fails.{lotsTo, lotsFrom}
 use Rattle.laws.proofs.Sound.{SoundBook, sound-parts}
@@ -90,26 +90,26 @@ other-to day i j a (f ∷ fs) ne = simp (ne-eqb i j ne) (omega (arith, other-to 
 
 -- the fails of an issue among the new entries
 pub new-from : (b : Book) (j a : ℕ) → j < 16 →
-    lotsOf (isFrom j a) (newEntries (b .day) (orderOf b) (b .nets) (b .delivered)) ≡ total (lotsFrom a) (issueFails (orderOf b) (b .nets) (b .delivered) j)
+    lotsOf (isFrom j a) (newEntries (b .state .day) (orderOf b) (b .nets) (b .delivered)) ≡ total (lotsFrom a) (issueFails (orderOf b) (b .nets) (b .delivered) j)
 new-from b j a hj =
-    total-joined (λ e. cond (isFrom j a e) (e .lots) 0) j (issueEntries (b .day) (orderOf b) (b .nets) (b .delivered)) 0 16
-    (λ i ne. other-from (b .day) i j a (issueFails (orderOf b) (b .nets) (b .delivered) i) ne) (omega arith) (omega arith)
-    ∙ entries-from (b .day) j a (issueFails (orderOf b) (b .nets) (b .delivered) j)
+    total-joined (λ e. cond (isFrom j a e) (e .lots) 0) j (issueEntries (b .state .day) (orderOf b) (b .nets) (b .delivered)) 0 16
+    (λ i ne. other-from (b .state .day) i j a (issueFails (orderOf b) (b .nets) (b .delivered) i) ne) (omega arith) (omega arith)
+    ∙ entries-from (b .state .day) j a (issueFails (orderOf b) (b .nets) (b .delivered) j)
 
 pub new-to : (b : Book) (j a : ℕ) → j < 16 →
-    lotsOf (isTo j a) (newEntries (b .day) (orderOf b) (b .nets) (b .delivered)) ≡ total (lotsTo a) (issueFails (orderOf b) (b .nets) (b .delivered) j)
+    lotsOf (isTo j a) (newEntries (b .state .day) (orderOf b) (b .nets) (b .delivered)) ≡ total (lotsTo a) (issueFails (orderOf b) (b .nets) (b .delivered) j)
 new-to b j a hj =
-    total-joined (λ e. cond (isTo j a e) (e .lots) 0) j (issueEntries (b .day) (orderOf b) (b .nets) (b .delivered)) 0 16
-    (λ i ne. other-to (b .day) i j a (issueFails (orderOf b) (b .nets) (b .delivered) i) ne) (omega arith) (omega arith)
-    ∙ entries-to (b .day) j a (issueFails (orderOf b) (b .nets) (b .delivered) j)
+    total-joined (λ e. cond (isTo j a e) (e .lots) 0) j (issueEntries (b .state .day) (orderOf b) (b .nets) (b .delivered)) 0 16
+    (λ i ne. other-to (b .state .day) i j a (issueFails (orderOf b) (b .nets) (b .delivered) i) ne) (omega arith) (omega arith)
+    ∙ entries-to (b .state .day) j a (issueFails (orderOf b) (b .nets) (b .delivered) j)
 
 -- an issue's 10s among all records
 pub cutoff-tens : (b : Book) (j : ℕ) → j < 16 →
-    recordsOf 10 j (cutoffRecords (b .day) (orderOf b) (b .nets) (b .delivered)) ≡ issuePartials (orderOf b) (b .delivered) j
+    recordsOf 10 j (cutoffRecords (b .state .day) (orderOf b) (b .nets) (b .delivered)) ≡ issuePartials (orderOf b) (b .delivered) j
 cutoff-tens b j hj =
     let ps = issuePartials (orderOf b) (b .delivered) in
-    let es = issueEntries (b .day) (orderOf b) (b .nets) (b .delivered) in
-    records-joined 10 j (issueRecords (b .day) (orderOf b) (b .nets) (b .delivered)) 0 16
+    let es = issueEntries (b .state .day) (orderOf b) (b .nets) (b .delivered) in
+    records-joined 10 j (issueRecords (b .state .day) (orderOf b) (b .nets) (b .delivered)) 0 16
     (λ i ne.
     recordsOf-append 10 j (map (handover i) (ps i)) (map (recordOf 12) (es i))
     ∙ ap (λ l. l ++ recordsOf 10 j (map (recordOf 12) (es i))) (tens-other i j (ps i) ne)
@@ -120,25 +120,25 @@ cutoff-tens b j hj =
     ∙ append-nil (recordsOf 10 j (map (handover j) (ps j)))
     ∙ tens-same j (ps j)
 
-module _ (s : State) (v : Inv s) (g : SoundBook (s .book)) (p : isSettling (s .book .phase) ≡ true) where
+module _ (s : Tallied) (v : Inv s) (g : SoundBook (s .book)) (p : isSettling (s .book .state .phase) ≡ true) where
   abbrev b : Book
   b = s .book
 
   abbrev rs : List Rec
-  rs = cutoffRecords (b .day) (orderOf b) (b .nets) (b .delivered)
+  rs = cutoffRecords (b .state .day) (orderOf b) (b .nets) (b .delivered)
 
   abbrev new : List Entry
-  new = newEntries (b .day) (orderOf b) (b .nets) (b .delivered)
+  new = newEntries (b .state .day) (orderOf b) (b .nets) (b .delivered)
 
   pub all-fit : Every Fits rs
   all-fit =
-      each-joined Fits (issueRecords (b .day) (orderOf b) (b .nets) (b .delivered)) 0 16
-      (λ j h. records-fit b g (v .sizeNets) (v .sizeDelivered) j (omega arith) (b .day))
+      each-joined Fits (issueRecords (b .state .day) (orderOf b) (b .nets) (b .delivered)) 0 16
+      (λ j h. records-fit b g (v .sizeNets) (v .sizeDelivered) j (omega arith) (b .state .day))
 
   row-cut : (j : ℕ) → j < 16 → s .tally .rows j ++ recordsOf 10 j rs ≡ cutRow (orderOf b j) (deliveredTotal (b .delivered) j)
   unfolding issuePartials
   row-cut j hj =
-      let l = to-settling (b .phase) (orderOf b j) (deliveredTotal (b .delivered) j) (s .tally .rows j) p (v .rows j hj) in
+      let l = to-settling (b .state .phase) (orderOf b j) (deliveredTotal (b .delivered) j) (s .tally .rows j) p (v .rows j hj) in
       ap (λ z. z ++ recordsOf 10 j rs) (l .0)
       ∙ ap (λ z. handed (orderOf b j) (deliveredTotal (b .delivered) j) ++ z) (cutoff-tens b j hj)
 
@@ -155,7 +155,7 @@ module _ (s : State) (v : Inv s) (g : SoundBook (s .book)) (p : isSettling (s .b
         new-to b j a hj,
       )
 
-  pub cut-inv : Inv (did (Cutoff []) (writes (withPhase (withLedger b (ledgerOf b ++ new)) Cut) rs) s)
+  pub cut-inv : Inv (did (Cutoff []) (writes (withLedger (withState b (withPhase (b .state) Cut)) (ledgerOf b ++ new)) rs) s)
   cut-inv = record {
     sizeNets = v .sizeNets;
     sizeDelivered = v .sizeDelivered;
@@ -187,10 +187,10 @@ module _ (s : State) (v : Inv s) (g : SoundBook (s .book)) (p : isSettling (s .b
     charges = v .charges;
   }
 
-pub keeps-cutoff : (s : State) → Inv s → (out : List ℕ) → Keeps (Cutoff out) s (called (s .book) (Cutoff out))
+pub keeps-cutoff : (s : Tallied) → Inv s → (out : List ℕ) → Keeps (Cutoff out) s (called (s .book) (Cutoff out))
 keeps-cutoff s v out =
     let b = s .book in
-    let rs = cutoffRecords (b .day) (orderOf b) (b .nets) (b .delivered) in
+    let rs = cutoffRecords (b .state .day) (orderOf b) (b .nets) (b .delivered) in
     by-answer (Keeps (Cutoff out) s) b (Cutoff out)
     (λ y.
     let g = sound-parts b (y .1 .0) in

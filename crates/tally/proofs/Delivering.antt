@@ -16,7 +16,7 @@ use Rattle.rules.specs.Handover.{handed, handovers}
 use Rattle.rules.specs.Book.{isSettling, cell, netAt, deliveredAt, deliveredTotal, orderIn, orderOf, withDelivered, withLifts, dealtToday}
 use Rattle.rules.specs.Records.{Rec, handover}
 use Rattle.rules.specs.Calls.{writes, Deliver, raisedDelivered, raisedCount, deliverRecords, called}
-use Rattle.rules.specs.Tally.{State, recordsOf}
+use Rattle.rules.specs.Tally.{Tallied, recordsOf}
 use Rattle.laws.proofs.Basics.{byTest, total-append, Every}
 use Rattle.laws.proofs.Handover.{handed-extends, each-handovers}
 use Rattle.laws.proofs.Fails.{each-of-map}
@@ -38,8 +38,8 @@ of-settling Taking us d l h x = absurd (false≢true h)
 of-settling Settling us d l h x = x
 of-settling Cut us d l h x = absurd (false≢true h)
 
-module _ (s : State) (v : Inv s) (i a x : ℕ) (hi : i < 16) (ha : a < 64) (g : SoundBook (s .book))
-    (p : isSettling (s .book .phase) ≡ true)
+module _ (s : Tallied) (v : Inv s) (i a x : ℕ) (hi : i < 16) (ha : a < 64) (g : SoundBook (s .book))
+    (p : isSettling (s .book .state .phase) ≡ true)
     (o : deliveredAt (s .book .delivered) i a + x ≤ owedOf (netAt (s .book .nets) i a)) where
   abbrev us : List AccountLots
   us = orderOf (s .book) i
@@ -60,7 +60,7 @@ module _ (s : State) (v : Inv s) (i a x : ℕ) (hi : i < 16) (ha : a < 64) (g : 
 
   row-here : RowIs Settling us (deliveredTotal ds i) (s .tally .rows i ++ recordsOf 10 i rs)
   row-here =
-      let l = to-settling (s .book .phase) us d (s .tally .rows i) p (v .rows i hi) in
+      let l = to-settling (s .book .state .phase) us d (s .tally .rows i) p (v .rows i hi) in
       let e = delivered-rises (s .book .delivered) i a x (v .sizeDelivered) hi ha in (
         (
             ap (λ z. z ++ recordsOf 10 i rs) (l .0)
@@ -73,11 +73,11 @@ module _ (s : State) (v : Inv s) (i a x : ℕ) (hi : i < 16) (ha : a < 64) (g : 
       )
 
   row-at : (j : ℕ) → j < 16 →
-      RowIs (s .book .phase) (orderIn (dealtToday (s .book)) (s .book .nets) (raisedCount (s .book .lifts) i) j) (deliveredTotal ds j) (s .tally .rows j ++ recordsOf 10 j rs)
+      RowIs (s .book .state .phase) (orderIn (dealtToday (s .book)) (s .book .nets) (raisedCount (s .book .lifts) i) j) (deliveredTotal ds j) (s .tally .rows j ++ recordsOf 10 j rs)
   row-at j hj =
       rw (raised-order (s .book .lifts) i (dealtToday (s .book)) (s .book .nets) j)
       (byTest (eqb j i)
-      (λ e. rw (eqb-true j i e) (of-settling (s .book .phase) us (deliveredTotal ds i) (s .tally .rows i ++ recordsOf 10 i rs) p row-here))
+      (λ e. rw (eqb-true j i e) (of-settling (s .book .state .phase) us (deliveredTotal ds i) (s .tally .rows i ++ recordsOf 10 i rs) p row-here))
       (λ e.
       let ne = eqb-false j i e in
       rw (
@@ -109,7 +109,7 @@ module _ (s : State) (v : Inv s) (i a x : ℕ) (hi : i < 16) (ha : a < 64) (g : 
     charges = v .charges;
   }
 
-pub keeps-deliver : (s : State) → Inv s → (i a x : ℕ) (out : List ℕ) → Keeps (Deliver i a x out) s (called (s .book) (Deliver i a x out))
+pub keeps-deliver : (s : Tallied) → Inv s → (i a x : ℕ) (out : List ℕ) → Keeps (Deliver i a x out) s (called (s .book) (Deliver i a x out))
 keeps-deliver s v i a x out =
     let b = s .book in
     let rs = deliverRecords (orderOf b) (b .delivered) i x in

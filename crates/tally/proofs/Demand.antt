@@ -2,7 +2,7 @@
 -- says what demand 3 asks.
 use mathlib.Core.List.{List, [], _∷_}
 use Rattle.rules.specs.Calls.{Call, Trade, Close, Deliver, Ask, Commit, Cutoff, Resolve, PairOff, Roll, Mark, Turn}
-use Rattle.rules.specs.Tally.{State, after, afterAll, start, Demand3OfAll}
+use Rattle.rules.specs.Tally.{Tallied, after, afterAll, start, Demand3OfAll}
 use Rattle.tally.proofs.Invariant.{Inv}
 use Rattle.tally.proofs.Shown.{shown}
 use Rattle.tally.proofs.Taking.{starts, keeps-trade, keeps-close}
@@ -14,7 +14,7 @@ use Rattle.tally.proofs.PairingOff.{keeps-pair-off}
 use Rattle.tally.proofs.Rolling.{keeps-roll}
 use Rattle.tally.proofs.Marking.{keeps-mark, keeps-turn}
 
-pub keeps : (s : State) (c : Call) → Inv s → Inv (after s c)
+pub keeps : (s : Tallied) (c : Call) → Inv s → Inv (after s c)
 keeps s (Trade i f t x) v = keeps-trade s v i f t x
 keeps s Close v = keeps-close s v
 keeps s (Deliver i a x out) v = keeps-deliver s v i a x out
@@ -27,7 +27,7 @@ keeps s (Roll days rate quotes) v = keeps-roll s v days rate quotes
 keeps s (Mark i m) v = keeps-mark s v i m
 keeps s (Turn d) v = keeps-turn s v d
 
-keeps-all : (s : State) (cs : List Call) → Inv s → Inv (afterAll s cs)
+keeps-all : (s : Tallied) (cs : List Call) → Inv s → Inv (afterAll s cs)
 keeps-all s [] v = v
 keeps-all s (c ∷ cs) v = keeps-all (after s c) cs (keeps s c v)
 

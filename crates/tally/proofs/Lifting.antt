@@ -12,12 +12,12 @@ use Rattle.rules.specs.declared.Book.{Book}
 use Rattle.rules.specs.declared.Phase.the-variants.{Settling}
 use Rattle.rules.specs.declared.Ticket.{Ticket}
 use Rattle.rules.specs.Units.{AccountLots, ofAccount}
-use Rattle.rules.specs.Handover.{covered, handed}
-use Rattle.rules.specs.Lifts.{Lift, lift, handedFrom}
+use Rattle.rules.specs.Handover.{covered, handed, handedFrom}
+use Rattle.rules.specs.Lifts.{Lift, lift}
 use Rattle.rules.specs.Book.{isSettling, placesIn, deliveredTotal, liftNumber, liftsAt, orderIn, orderOf, withLifts, dealtToday}
 use Rattle.rules.specs.Records.{Rec, handover}
 use Rattle.rules.specs.Calls.{writes, Ask, Commit, commitLift, withLift, commitRecords, called}
-use Rattle.rules.specs.Tally.{State, recordsOf, joinLift}
+use Rattle.rules.specs.Tally.{Tallied, recordsOf, joinLift}
 use Rattle.laws.proofs.Basics.{byTest, total-append, Every}
 use Rattle.laws.proofs.Handover.{handed-length}
 use Rattle.laws.proofs.Lifts.{total-lift, each-lift, each-handed-from, lift-handed}
@@ -29,10 +29,10 @@ use Rattle.laws.proofs.Answers.{by-answer}
 use Rattle.tally.proofs.Invariant.{RowIs, Inv, Keeps, did}
 use Rattle.tally.proofs.Delivering.{to-settling, of-settling}
 
-pub keeps-ask : (s : State) → Inv s → (i k : ℕ) → Keeps (Ask i k) s (called (s .book) (Ask i k))
+pub keeps-ask : (s : Tallied) → Inv s → (i k : ℕ) → Keeps (Ask i k) s (called (s .book) (Ask i k))
 keeps-ask s v i k = by-answer (Keeps (Ask i k) s) (s .book) (Ask i k) (λ y. v) (λ r. v)
 
-module _ (s : State) (v : Inv s) (t : Ticket) (hi : t .issue < 16) (p : isSettling (s .book .phase) ≡ true)
+module _ (s : Tallied) (v : Inv s) (t : Ticket) (hi : t .issue < 16) (p : isSettling (s .book .state .phase) ≡ true)
     (few : liftNumber (s .book .lifts) (t .issue) < 8) where
   abbrev b : Book
   b = s .book
@@ -62,7 +62,7 @@ module _ (s : State) (v : Inv s) (t : Ticket) (hi : t .issue < 16) (p : isSettli
       (each-lift (λ u. Fits (handover i u)) l us (units-fit (dealtToday b) (b .nets) (b .lifts) i hi (v .sizeNets))))
 
   row-before : RowIs Settling us d (s .tally .rows i)
-  row-before = to-settling (b .phase) us d (s .tally .rows i) p (v .rows i hi)
+  row-before = to-settling (b .state .phase) us d (s .tally .rows i) p (v .rows i hi)
 
   row-here : RowIs Settling (lift l us) d (s .tally .rows i ++ recordsOf 10 i rs)
   row-here = (
@@ -75,12 +75,12 @@ module _ (s : State) (v : Inv s) (t : Ticket) (hi : t .issue < 16) (p : isSettli
   )
 
   row-at : (j : ℕ) → j < 16 →
-      RowIs (b .phase) (orderIn (dealtToday b) (b .nets) new j) (deliveredTotal (b .delivered) j) (s .tally .rows j ++ recordsOf 10 j rs)
+      RowIs (b .state .phase) (orderIn (dealtToday b) (b .nets) new j) (deliveredTotal (b .delivered) j) (s .tally .rows j ++ recordsOf 10 j rs)
   row-at j hj =
       byTest (eqb j i)
       (λ e.
       rw (eqb-true j i e, lift-in-order (b .lifts) i l few (v .sizeLifts) hi (dealtToday b) (b .nets))
-      (of-settling (b .phase) (lift l us) d (s .tally .rows i ++ recordsOf 10 i rs) p row-here))
+      (of-settling (b .state .phase) (lift l us) d (s .tally .rows i ++ recordsOf 10 i rs) p row-here))
       (λ e.
       let ne = eqb-false j i e in
       rw (
@@ -119,7 +119,7 @@ module _ (s : State) (v : Inv s) (t : Ticket) (hi : t .issue < 16) (p : isSettli
     charges = v .charges;
   }
 
-pub keeps-commit : (s : State) → Inv s → (t : Ticket) (out : List ℕ) → Keeps (Commit t out) s (called (s .book) (Commit t out))
+pub keeps-commit : (s : Tallied) → Inv s → (t : Ticket) (out : List ℕ) → Keeps (Commit t out) s (called (s .book) (Commit t out))
 keeps-commit s v t out =
     let b = s .book in
     let rs = commitRecords (orderOf b) (b .delivered) t in

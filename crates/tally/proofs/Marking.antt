@@ -4,12 +4,12 @@ use mathlib.Core.Path.{refl, sym, subst}
 use Prim.Native.Nat.{ℕ}
 use Rattle.rules.specs.Calls.{Mark, Turn, called}
 use Rattle.rules.specs.Book.{orderIn, deliveredTotal}
-use Rattle.rules.specs.Tally.{State}
+use Rattle.rules.specs.Tally.{Tallied}
 use Rattle.laws.proofs.Answers.{by-answer}
 use Rattle.laws.proofs.Kept.{turn-same}
 use Rattle.tally.proofs.Invariant.{Inv, Keeps, RowIs}
 
-pub keeps-mark : (s : State) → Inv s → (i m : ℕ) → Keeps (Mark i m) s (called (s .book) (Mark i m))
+pub keeps-mark : (s : Tallied) → Inv s → (i m : ℕ) → Keeps (Mark i m) s (called (s .book) (Mark i m))
 keeps-mark s v i m =
     by-answer (Keeps (Mark i m) s) (s .book) (Mark i m)
     (λ y. record {
@@ -30,7 +30,7 @@ keeps-mark s v i m =
     })
     (λ r. v)
 
-pub keeps-turn : (s : State) → Inv s → (d : ℕ) → Keeps (Turn d) s (called (s .book) (Turn d))
+pub keeps-turn : (s : Tallied) → Inv s → (d : ℕ) → Keeps (Turn d) s (called (s .book) (Turn d))
 keeps-turn s v d =
     let b = s .book in
     by-answer (Keeps (Turn d) s) b (Turn d)
@@ -44,8 +44,8 @@ keeps-turn s v d =
       handed = v .handed;
       phase = v .phase;
       rows = λ i h.
-          subst (λ new. RowIs (b .phase) (orderIn new (b .nets) (b .lifts) i) (deliveredTotal (b .delivered) i) (s .tally .rows i))
-          (sym (turn-same (b .turn) (b .day) d (y .1 .0))) (v .rows i h);
+          subst (λ new. RowIs (b .state .phase) (orderIn new (b .nets) (b .lifts) i) (deliveredTotal (b .delivered) i) (s .tally .rows i))
+          (sym (turn-same (b .state .turn) (b .state .day) d (y .1 .0))) (v .rows i h);
       lifts = v .lifts;
       day = v .day;
       turn = refl;

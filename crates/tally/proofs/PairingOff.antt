@@ -14,7 +14,7 @@ use Rattle.rules.specs.Measures.{total}
 use Rattle.rules.specs.Ledger.{isFrom, isTo, lotsOf, countOf, firstOf, lower, smallerLots, appended, stepped, hasBoth, paired, pairing}
 use Rattle.rules.specs.Book.{ledgerOf}
 use Rattle.rules.specs.Calls.{PairOff, called}
-use Rattle.rules.specs.Tally.{State}
+use Rattle.rules.specs.Tally.{Tallied}
 use Rattle.laws.proofs.Basics.{byTest, either, total-append, Every, each-map}
 use Rattle.laws.proofs.Sound.{SoundEntry, sound-parts}
 use Rattle.laws.proofs.Ledger.{ledger-written}
@@ -143,10 +143,10 @@ unfolding pairing
 pairing-balance today i a es ss j c =
     paired-balance (inAndOut i a es) today i a es (each-map SoundEntry Apart (λ e s. s .apart) es ss) j c
 
-pub keeps-pair-off : (s : State) → Inv s → (i a : ℕ) → Keeps (PairOff i a) s (called (s .book) (PairOff i a))
+pub keeps-pair-off : (s : Tallied) → Inv s → (i a : ℕ) → Keeps (PairOff i a) s (called (s .book) (PairOff i a))
 keeps-pair-off s v i a =
     let b = s .book in
-    let p = pairing (b .day) i a (ledgerOf b) in
+    let p = pairing (b .state .day) i a (ledgerOf b) in
     by-answer (Keeps (PairOff i a) s) b (PairOff i a)
     (λ y. record {
       sizeNets = v .sizeNets;
@@ -164,7 +164,7 @@ keeps-pair-off s v i a =
       balance = λ j c hj hc.
           rw (ledger-written b (p .ledger))
           (shift _ _ _ _ _ _ (v .balance j c hj hc)
-          (pairing-balance (b .day) i a (ledgerOf b) (sound-parts b (y .0) .ledger .each) j c));
+          (pairing-balance (b .state .day) i a (ledgerOf b) (sound-parts b (y .0) .ledger .each) j c));
       charges = v .charges;
     })
     (λ r. v)

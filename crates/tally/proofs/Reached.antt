@@ -12,7 +12,7 @@ use Rattle.rules.specs.Measures.{mostEntries}
 use Rattle.rules.specs.Ledger.{isFrom, meet, pairing}
 use Rattle.rules.specs.Book.{orderOf, ledgerOf, sound, column, LedgerLengths, Lengths, fresh}
 use Rattle.rules.specs.Calls.{Call, Trade, Close, Deliver, Ask, Commit, Cutoff, Resolve, PairOff, Roll, Mark, Turn, newEntries, effect, called}
-use Rattle.rules.specs.Tally.{State, answered, after, afterAll, start}
+use Rattle.rules.specs.Tally.{Tallied, answered, after, afterAll, start}
 use Rattle.laws.proofs.Sound.{SoundBook, sound-parts, parts-sound}
 use Rattle.laws.proofs.Ledger.{length-column}
 use Rattle.laws.proofs.Answers.{by-answer}
@@ -26,7 +26,7 @@ start-standing =
       parts = sound-parts fresh fresh-sound;
     }
 
-stands-all : (s : State) (cs : List Call) → Standing (s .book) → Standing (afterAll s cs .book)
+stands-all : (s : Tallied) (cs : List Call) → Standing (s .book) → Standing (afterAll s cs .book)
 stands-all s [] g = g
 stands-all s (c ∷ cs) g = stands-all (after s c) cs (stands (s .book) c g)
 
@@ -65,14 +65,14 @@ ledger-kept b (Deliver i a x out) g l = l
 ledger-kept b (Ask i k) g l = l
 ledger-kept b (Commit t out) g l = l
 ledger-kept b (Cutoff out) g l =
-    written (ledgerOf b ++ newEntries (b .day) (orderOf b) (b .nets) (b .delivered)) (g .ledger .count)
+    written (ledgerOf b ++ newEntries (b .state .day) (orderOf b) (b .nets) (b .delivered)) (g .ledger .count)
 ledger-kept b (Resolve i a x out) g l = written (meet (isFrom i a) x (ledgerOf b)) (g .ledger .count)
-ledger-kept b (PairOff i a) g l = written (pairing (b .day) i a (ledgerOf b) .ledger) (g .ledger .count)
+ledger-kept b (PairOff i a) g l = written (pairing (b .state .day) i a (ledgerOf b) .ledger) (g .ledger .count)
 ledger-kept b (Roll days rate quotes) g l = l
 ledger-kept b (Mark i m) g l = l
 ledger-kept b (Turn d) g l = l
 
-ledger-all : (s : State) (cs : List Call) → Standing (s .book) → LedgerOf (s .book) → LedgerOf (afterAll s cs .book)
+ledger-all : (s : Tallied) (cs : List Call) → Standing (s .book) → LedgerOf (s .book) → LedgerOf (afterAll s cs .book)
 ledger-all s [] g l = l
 ledger-all s (c ∷ cs) g l =
     let h = stands (s .book) c g in
@@ -98,6 +98,6 @@ reached cs =
     }
 
 -- a refused call leaves everything as it was
-pub refused-state : (s : State) (c : Call) → 0 < called (s .book) c .refusal → after s c ≡ s
+pub refused-state : (s : Tallied) (c : Call) → 0 < called (s .book) c .refusal → after s c ≡ s
 refused-state s c =
     by-answer (λ r. 0 < r .refusal → answered c r s ≡ s) (s .book) c (λ y h. absurd (omega arith)) (λ r h. refl)

@@ -12,7 +12,7 @@ use Rattle.rules.specs.Ledger.{isFrom, isTo, lotsOf, meet, met}
 use Rattle.rules.specs.Book.{ledgerOf, withLedger}
 use Rattle.rules.specs.Records.{recordOf}
 use Rattle.rules.specs.Calls.{writes, Resolve, resolveRecords, called}
-use Rattle.rules.specs.Tally.{State}
+use Rattle.rules.specs.Tally.{Tallied}
 use Rattle.laws.proofs.Basics.{each-map}
 use Rattle.laws.proofs.Fails.{each-of-map}
 use Rattle.laws.proofs.Sound.{SoundEntry, sound-parts}
@@ -22,7 +22,7 @@ use Rattle.laws.proofs.Records.{Fits, entry-fits, records-read, elevens-to}
 use Rattle.laws.proofs.Answers.{by-answer}
 use Rattle.tally.proofs.Invariant.{Inv, Keeps, did}
 
-module _ (s : State) (v : Inv s) (i a x : ℕ) (o : x ≤ lotsOf (isFrom i a) (ledgerOf (s .book))) where
+module _ (s : Tallied) (v : Inv s) (i a x : ℕ) (o : x ≤ lotsOf (isFrom i a) (ledgerOf (s .book))) where
   abbrev es : List Entry
   es = ledgerOf (s .book)
 
@@ -53,7 +53,7 @@ module _ (s : State) (v : Inv s) (i a x : ℕ) (o : x ≤ lotsOf (isFrom i a) (l
     charges = v .charges;
   }
 
-pub keeps-resolve : (s : State) → Inv s → (i a x : ℕ) (out : List ℕ) → Keeps (Resolve i a x out) s (called (s .book) (Resolve i a x out))
+pub keeps-resolve : (s : Tallied) → Inv s → (i a x : ℕ) (out : List ℕ) → Keeps (Resolve i a x out) s (called (s .book) (Resolve i a x out))
 keeps-resolve s v i a x out =
     let b = s .book in
     let rs = resolveRecords (ledgerOf b) i a x in

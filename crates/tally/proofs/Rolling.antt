@@ -10,7 +10,7 @@ use Rattle.rules.specs.declared.Phase.{Phase}
 use Rattle.rules.specs.declared.Phase.the-variants.{Taking, Settling, Cut}
 use Rattle.rules.specs.Book.{isSettling, isCut, ledgerOf}
 use Rattle.rules.specs.Calls.{Roll, called}
-use Rattle.rules.specs.Tally.{State}
+use Rattle.rules.specs.Tally.{Tallied}
 use Rattle.laws.proofs.Cells.{row-zeros}
 use Rattle.laws.proofs.LiftColumn.{no-lifts}
 use Rattle.laws.proofs.Sound.{sound-parts}
@@ -24,7 +24,7 @@ cut-not-settling Taking h = refl
 cut-not-settling Settling h = absurd (false≢true h)
 cut-not-settling Cut h = refl
 
-pub keeps-roll : (s : State) → Inv s → (days rate : ℕ) (quotes : List ℕ) → Keeps (Roll days rate quotes) s (called (s .book) (Roll days rate quotes))
+pub keeps-roll : (s : Tallied) → Inv s → (days rate : ℕ) (quotes : List ℕ) → Keeps (Roll days rate quotes) s (called (s .book) (Roll days rate quotes))
 keeps-roll s v days rate quotes =
     let b = s .book in
     by-answer (Keeps (Roll days rate quotes) s) b (Roll days rate quotes)
@@ -36,7 +36,7 @@ keeps-roll s v days rate quotes =
       nets = λ i a h k. rw (no-net i a h k) refl;
       given = none-delivered;
       handed = λ i a. refl;
-      phase = v .phase ∙ cut-not-settling (b .phase) (y .1 .0);
+      phase = v .phase ∙ cut-not-settling (b .state .phase) (y .1 .0);
       rows = λ i h. (refl, row-zeros i 1024);
       lifts = λ i h. sym (no-lifts i 288);
       day = ap (λ n. n + 1) (v .day);

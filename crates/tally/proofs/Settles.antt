@@ -10,9 +10,9 @@ use Rattle.rules.specs.declared.Phase.the-variants.{Cut}
 use Rattle.rules.specs.Measures.{dueOf, owedOf}
 use Rattle.rules.specs.Units.{sumLots, ofAccount}
 use Rattle.rules.specs.Ledger.{isFrom, isTo}
-use Rattle.rules.specs.Book.{isSettling, netAt, orderOf, ledgerOf, withPhase, withLedger}
+use Rattle.rules.specs.Book.{isSettling, netAt, orderOf, ledgerOf, withState, withPhase, withLedger}
 use Rattle.rules.specs.Calls.{writes, Cutoff, called, newEntries, cutoffRecords}
-use Rattle.rules.specs.Tally.{State, Tally, answered, after, recordsOf, inIssue, failsTo, failsBy}
+use Rattle.rules.specs.Tally.{Tallied, Tally, answered, after, recordsOf, inIssue, failsTo, failsBy}
 use Rattle.laws.proofs.Basics.{total-append}
 use Rattle.laws.proofs.Sound.{SoundBook, sound-parts}
 use Rattle.laws.proofs.Ledger.{ledger-written}
@@ -29,7 +29,7 @@ abbrev pub netToday : Tally → ℕ → ℕ → ℤ
 netToday t i a = pos (t .today .bought i a) -ℤ pos (t .today .sold i a)
 
 -- a state before a cutoff and one after it
-pub record Settled (s t : State) : Type 0 where
+pub record Settled (s t : Tallied) : Type 0 where
   -- all that was delivered is handed on
   pub nothingHeld : (i : ℕ) → i < 16 → inIssue (t .tally .today .given) i ≡ sumLots (t .tally .rows i)
   -- an account's due is what it was handed, and what is newly failed to it
@@ -39,7 +39,7 @@ pub record Settled (s t : State) : Type 0 where
   pub owed : (i a : ℕ) → i < 16 → a < 64 →
       t .tally .today .given i a + failsBy (t .book) i a ≡ owedOf (netToday (t .tally) i a) + failsBy (s .book) i a
 
-module _ (s : State) (v : Inv s) (g : SoundBook (s .book)) (p : isSettling (s .book .phase) ≡ true) where
+module _ (s : Tallied) (v : Inv s) (g : SoundBook (s .book)) (p : isSettling (s .book .state .phase) ≡ true) where
   abbrev b : Book
   b = s .book
 
@@ -49,11 +49,11 @@ module _ (s : State) (v : Inv s) (g : SoundBook (s .book)) (p : isSettling (s .b
   settles :
       Settled s
       (did (Cutoff [])
-      (writes (withPhase (withLedger b (ledgerOf b ++ newEntries (b .day) (orderOf b) (b .nets) (b .delivered))) Cut)
-      (cutoffRecords (b .day) (orderOf b) (b .nets) (b .delivered))) s)
+      (writes (withLedger (withState b (withPhase (b .state) Cut)) (ledgerOf b ++ newEntries (b .state .day) (orderOf b) (b .nets) (b .delivered)))
+      (cutoffRecords (b .state .day) (orderOf b) (b .nets) (b .delivered))) s)
   settles =
-      let rs = cutoffRecords (b .day) (orderOf b) (b .nets) (b .delivered) in
-      let new = newEntries (b .day) (orderOf b) (b .nets) (b .delivered) in
+      let rs = cutoffRecords (b .state .day) (orderOf b) (b .nets) (b .delivered) in
+      let new = newEntries (b .state .day) (orderOf b) (b .nets) (b .delivered) in
       record {
         nothingHeld = λ i h. shown _ (cut-inv s v g p) .stock i h .handedOn refl;
         due = λ i a hi ha.
@@ -76,10 +76,10 @@ module _ (s : State) (v : Inv s) (g : SoundBook (s .book)) (p : isSettling (s .b
             ));
       }
 
-pub cutoff-settles : (s : State) → Inv s → (out : List ℕ) → called (s .book) (Cutoff out) .refusal ≡ 0 → Settled s (after s (Cutoff out))
+pub cutoff-settles : (s : Tallied) → Inv s → (out : List ℕ) → called (s .book) (Cutoff out) .refusal ≡ 0 → Settled s (after s (Cutoff out))
 cutoff-settles s v out =
     let b = s .book in
-    let rs = cutoffRecords (b .day) (orderOf b) (b .nets) (b .delivered) in
+    let rs = cutoffRecords (b .state .day) (orderOf b) (b .nets) (b .delivered) in
     by-answer (λ r. r .refusal ≡ 0 → Settled s (answered (Cutoff out) r s)) b (Cutoff out)
     (λ y h.
     let g = sound-parts b (y .1 .0) in

@@ -15,7 +15,7 @@ use Rattle.rules.specs.Units.{AccountLots, prepend, sumLots, unitsOfNets}
 use Rattle.rules.specs.Handover.{stock, handed, partials}
 use Rattle.rules.specs.Lifts.{lifted}
 use Rattle.rules.specs.Book.{isSettling, row, netAt, deliveredTotal, liftsAt, orderIn, orderOf, dealtToday, unitsBy, inForce}
-use Rattle.rules.specs.Tally.{State, Demand3, StockHeld, InTurn, netsToday, unitsToday, inIssue}
+use Rattle.rules.specs.Tally.{Tallied, Demand3, StockHeld, InTurn, netsToday, unitsToday, inIssue}
 use Rattle.laws.proofs.Basics.{byTest, total-append, Every, each-map}
 use Rattle.laws.proofs.Units.{UnitSized}
 use Rattle.laws.proofs.Handover.{handed-stock, stock-bound, total-partials}
@@ -98,7 +98,7 @@ row-facts Cut us d row ss l =
       turns = turns-cut us d ss (l .1);
     })
 
-module _ (s : State) (v : Inv s) (i : ℕ) (h : i < 16) where
+module _ (s : Tallied) (v : Inv s) (i : ℕ) (h : i < 16) where
   pub given-sum : inIssue (s .tally .today .given) i ≡ deliveredTotal (s .book .delivered) i
   unfolding inIssue
   given-sum = ap sum (tab-row (s .tally .today .given i) (s .book .delivered) i 0 (v .sizeDelivered) h (λ a k. v .given i a h k))
@@ -114,14 +114,14 @@ module _ (s : State) (v : Inv s) (i : ℕ) (h : i < 16) where
       ap (λ ls. lifted ls (unitsBy (inForce (s .tally .turn) (s .tally .day)) (netsToday (s .tally) i))) (v .lifts i h)
       ∙ ap (λ l. lifted (liftsAt (s .book .lifts) i) (unitsBy (inForce (s .tally .turn) (s .tally .day)) l)) nets-today
       ∙ ap (λ t. lifted (liftsAt (s .book .lifts) i) (unitsBy (inForce t (s .tally .day)) (row i (s .book .nets)))) (v .turn)
-      ∙ ap (λ d. lifted (liftsAt (s .book .lifts) i) (unitsBy (inForce (s .book .turn) d) (row i (s .book .nets)))) (v .day)
+      ∙ ap (λ d. lifted (liftsAt (s .book .lifts) i) (unitsBy (inForce (s .book .state .turn) d) (row i (s .book .nets)))) (v .day)
 
-  facts : Facts (orderOf (s .book) i) (deliveredTotal (s .book .delivered) i) (s .tally .rows i) (isSettling (s .book .phase))
+  facts : Facts (orderOf (s .book) i) (deliveredTotal (s .book .delivered) i) (s .tally .rows i) (isSettling (s .book .state .phase))
   facts =
-      row-facts (s .book .phase) (orderOf (s .book) i) (deliveredTotal (s .book .delivered) i) (s .tally .rows i)
+      row-facts (s .book .state .phase) (orderOf (s .book) i) (deliveredTotal (s .book .delivered) i) (s .tally .rows i)
       (order-in (dealtToday (s .book)) (s .book .nets) (s .book .lifts) i .sized) (v .rows i h)
 
-pub shown : (s : State) → Inv s → Demand3 s
+pub shown : (s : Tallied) → Inv s → Demand3 s
 shown s v = record {
   stock = λ i h. rw (given-sum s v i h, v .phase) (facts s v i h .stock);
   turns = λ i h k l. rw (units-today s v i h) (turns-at (s .tally .rows i) (orderOf (s .book) i) k (facts s v i h .turns) l);

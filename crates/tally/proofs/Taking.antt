@@ -15,7 +15,7 @@ use Rattle.rules.specs.Units.{AccountLots}
 use Rattle.rules.specs.Handover.{handed}
 use Rattle.rules.specs.Book.{isTaking, cell, netAt, dealtToday}
 use Rattle.rules.specs.Calls.{Trade, Close, tradedNets, called}
-use Rattle.rules.specs.Tally.{State, start}
+use Rattle.rules.specs.Tally.{Tallied, start}
 use Rattle.laws.proofs.Basics.{byTest, and-left, and-right, Every}
 use Rattle.laws.proofs.Units.{UnitSized}
 use Rattle.laws.proofs.Cells.{here, here-eq, cell-set, row-zeros}
@@ -58,7 +58,7 @@ taking-row Taking us us′ d l h x = x
 taking-row Settling us us′ d l h x = absurd (false≢true h)
 taking-row Cut us us′ d l h x = absurd (false≢true h)
 
-module _ (s : State) (v : Inv s) (i f c x : ℕ) (hi : i < 16) (hf : f < 64) (hc : c < 64) (ne : f ≡ c → ⊥) where
+module _ (s : Tallied) (v : Inv s) (i f c x : ℕ) (hi : i < 16) (hf : f < 64) (hc : c < 64) (ne : f ≡ c → ⊥) where
   abbrev ns : List ℤ
   ns = s .book .nets
 
@@ -85,7 +85,7 @@ module _ (s : State) (v : Inv s) (i f c x : ℕ) (hi : i < 16) (hf : f < 64) (hc
       (λ q. simp (p, q) (let r = here-eq i f j e q in rw (r .0, r .1) (omega (arith, falls (netAt ns i f) x, v .nets i f hi hf))))
       (λ q. simp (p, q) (omega (arith, v .nets j e hj he)))))
 
-pub keeps-trade : (s : State) → Inv s → (i f c x : ℕ) → Keeps (Trade i f c x) s (called (s .book) (Trade i f c x))
+pub keeps-trade : (s : Tallied) → Inv s → (i f c x : ℕ) → Keeps (Trade i f c x) s (called (s .book) (Trade i f c x))
 keeps-trade s v i f c x =
     let b = s .book in
     by-answer (Keeps (Trade i f c x) s) b (Trade i f c x)
@@ -103,7 +103,7 @@ keeps-trade s v i f c x =
       given = v .given;
       handed = v .handed;
       phase = v .phase;
-      rows = λ j h. taking-row (b .phase) _ _ _ (s .tally .rows j) (y .1 .0) (v .rows j h);
+      rows = λ j h. taking-row (b .state .phase) _ _ _ (s .tally .rows j) (y .1 .0) (v .rows j h);
       lifts = v .lifts;
       day = v .day;
       turn = v .turn;
@@ -123,7 +123,7 @@ closed-row Taking us d l ss h x = rw (x .0, x .1) (sym (none-handed us ss), omeg
 closed-row Settling us d l ss h x = absurd (false≢true h)
 closed-row Cut us d l ss h x = absurd (false≢true h)
 
-pub keeps-close : (s : State) → Inv s → Keeps Close s (called (s .book) Close)
+pub keeps-close : (s : Tallied) → Inv s → Keeps Close s (called (s .book) Close)
 keeps-close s v =
     let b = s .book in
     by-answer (Keeps Close s) b Close
@@ -136,7 +136,7 @@ keeps-close s v =
       given = v .given;
       handed = v .handed;
       phase = refl;
-      rows = λ j h. closed-row (b .phase) _ _ (s .tally .rows j) (order-in (dealtToday b) (b .nets) (b .lifts) j .sized) (y .1 .0) (v .rows j h);
+      rows = λ j h. closed-row (b .state .phase) _ _ (s .tally .rows j) (order-in (dealtToday b) (b .nets) (b .lifts) j .sized) (y .1 .0) (v .rows j h);
       lifts = v .lifts;
       day = v .day;
       turn = v .turn;

@@ -1,23 +1,20 @@
 // trade and close: of each its own questions, and trade's effect in place.
+use answers::Turn;
 use rules::Phase;
+use rules::State;
 ghost use mathlib.Core.Path.{_≡_};
+ghost use mathlib.Core.List.{[]};
 ghost use Rattle.rules.specs.Questions.{firstNo};
-ghost use Rattle.rules.specs.Calls.{tradeAsks, tradedNets, closeAsks};
+ghost use Rattle.rules.specs.Calls.{tradeAsks, tradedNets, closeAsks, Trade, Close};
+ghost use Rattle.answers.specs.Turns.{Turns, onState, onNets, tradeReady};
 ghost use Rattle.trading.specs.Trading.{SmallNets, Tradable};
 
 // trade's questions but that of soundness: the number of the first 'no', 0 where there is none.
-pub fn trade_asks(
-    phase: Phase,
-    marks: [u8; 16],
-    nets: &[i32],
-    i: u32,
-    f: u32,
-    t: u32,
-    x: u32,
-) -> u32
+fn trade_asks(s: State, nets: &[i32], i: u32, f: u32, t: u32, x: u32) -> u32
     requires { ⌜ SmallNets (now nets) ⌝ }
-    ensures { λ r. ⌜ r ≡ firstNo (tradeAsks phase marks (now (nets .entry)) i f t x) ⌝ }
+    ensures { λ r. ⌜ r ≡ firstNo (tradeAsks (s .phase) (s .marks) (now (nets .entry)) i f t x) ⌝ }
 {
+    let phase = s.phase;
     if !book::taking(phase) {
         return 3;
     }
@@ -39,7 +36,7 @@ pub fn trade_asks(
     if 20_000_000 < x {
         return 7;
     }
-    if !book::lots_even(marks, i, x) {
+    if !book::even_in(s, i, x) {
         return 19;
     }
     let from = nets[(i * 64 + f) as usize];
@@ -54,7 +51,7 @@ pub fn trade_asks(
 }
 
 // From's net falls by the lots, to's rises.
-pub fn trade_in(nets: &mut [i32], i: u32, f: u32, t: u32, x: u32)
+fn trade_in(nets: &mut [i32], i: u32, f: u32, t: u32, x: u32)
     requires { ⌜ Tradable (now nets) i f t x ⌝ }
     ensures { λ _. ⌜ now (nets .exit) ≡ tradedNets (now (nets .entry)) i f t x ⌝ }
 {
@@ -67,8 +64,34 @@ pub fn trade_in(nets: &mut [i32], i: u32, f: u32, t: u32, x: u32)
 }
 
 // close's question but that of soundness.
-pub fn close_asks(phase: Phase) -> u32
-    ensures { λ r. ⌜ r ≡ firstNo (closeAsks phase) ⌝ }
+fn close_asks(s: State) -> u32
+    ensures { λ r. ⌜ r ≡ firstNo (closeAsks (s .phase)) ⌝ }
 {
+    let phase = s.phase;
     if book::taking(phase) { 0 } else { 3 }
+}
+
+// trade: the nets of from and to, unless it is refused.
+pub fn trade(s: State, nets: &mut [i32], i: u32, f: u32, t: u32, x: u32) -> Turn
+    requires { ⌜ tradeReady s nets ⌝ }
+    ensures { λ r. ⌜ Turns (onNets nets) s (Trade i f t x) r [] ⌝ }
+{
+    let no = trade_asks(s, nets, i, f, t, x);
+    if no != 0 {
+        return answers::refused(no, s);
+    }
+    trade_in(nets, i, f, t, x);
+    answers::done(s)
+}
+
+// close: the phase, unless it is refused.
+pub fn close(s: State) -> Turn
+    ensures { λ r. ⌜ Turns onState s Close r [] ⌝ }
+{
+    let no = close_asks(s);
+    if no != 0 {
+        return answers::refused(no, s);
+    }
+    let next = book::with_phase(s, Phase::Settling);
+    answers::done(next)
 }

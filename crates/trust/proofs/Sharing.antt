@@ -13,13 +13,14 @@ use Rattle.rules.specs.Records.{over}
 use Rattle.rules.specs.Questions.{firstNo}
 use Rattle.laws.proofs.Basics.{byTest, and-left, and-right}
 use Rattle.laws.proofs.Answers.{all-yes, said-yes, said-no}
-use Rattle.trust.specs.Reports.{mostReports, lastSub, Reports, reports, numberOf, receipts, deliveries, netReceiver, kept, subAt, receivedBy, eligible, sizeOf, eligibleLots, faces}
-use Rattle.trust.specs.Allotting.{Allotment, allotment, allot}
-use Rattle.trust.specs.Trust.{columnsRight, drawRight, askEligible, reportAsks, trustAsks, facing, others, noShares, sharesOf, answered, trustAnswer, trust}
-use Rattle.trust.specs.Steps.{unfaced, inGroup, group, allotGroup, sharedOut}
-use Rattle.trust.proofs.Allotting.{those-below, those-same, allot-same, allot-length, allot-beyond}
+use Rattle.reports.specs.Reports.{mostReports, lastSub, Reports, reports, numberOf, receipts, deliveries, netReceiver, kept, subAt, receivedBy, eligible, sizeOf, eligibleLots, faces}
+use Rattle.reports.specs.Allotting.{Allotment, allotment, allot}
+use Rattle.reports.specs.Trust.{columnsRight, drawRight, askEligible, reportAsks, trustAsks, facing, others, noShares, sharesOf, answered, trustAnswer, trust}
+use Rattle.eligible.specs.Steps.{unfaced}
+use Rattle.sharing.specs.Steps.{inGroup, group, allotGroup, sharedOut}
+use Rattle.reports.proofs.Allotting.{those-below, those-same, allot-same, allot-length, allot-beyond}
 use Rattle.trust.proofs.Asks.{no-before, yes-before}
-use Rattle.trust.proofs.Shares.{facing-below, others-below, shares-length}
+use Rattle.reports.proofs.Shares.{facing-below, others-below, shares-length}
 
 sized : (a n : Bool) (r : ℕ) → ltb 0 (cond (a && ltb 0 r && n) r 0) ≡ a && ltb 0 r && n
 sized a n r =

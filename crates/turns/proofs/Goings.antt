@@ -24,12 +24,12 @@ use Rattle.rules.specs.Run.{Ran, callOf, nameOf, line, anyOutput, answerOf, end
 use Rattle.rules.specs.Text.{lineText, linesText}
 use Rattle.report.specs.Added.{Added}
 use Rattle.laws.proofs.Called.{Sizes, called-sound}
-use Rattle.tape.proofs.Rolls.{roll-quotes}
-use Rattle.tape.proofs.Run.{run-ended, run-refused, run-instruction, not-ended, answer-lent}
-use Rattle.tape.proofs.Sized.{read-sized}
-use Rattle.tape.proofs.Window.{read-append, quotes-append}
-use Rattle.running.specs.declared.Turn.{Turn}
-use Rattle.running.specs.Turns.{Gives}
+use Rattle.rereading.proofs.Rolls.{roll-quotes}
+use Rattle.rereading.proofs.Run.{run-ended, run-refused, run-instruction, not-ended, answer-lent}
+use Rattle.rereading.proofs.Sized.{read-sized}
+use Rattle.rereading.proofs.Window.{read-append, quotes-append}
+use Rattle.answers.specs.declared.Turn.{Turn}
+use Rattle.answers.specs.Turns.{Gives}
 use Rattle.turns.specs.declared.Step.{Step}
 use Rattle.turns.specs.Going.{Begins, rollsOf, Quoted, Stepped, enough, strayText, Follows, Goes, onward, Went}
 

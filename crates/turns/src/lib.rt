@@ -1,10 +1,11 @@
 // The instructions of some words, each answered in place on the book's columns, and their lines. More words
 // may come behind them.
-use book::State;
 use report::text;
+use rules::Book;
 use rules::Instruction;
 use rules::Name;
 use rules::Read;
+use rules::State;
 ghost use mathlib.Core.Path.{_≡_};
 ghost use Prim.Native.Nat.{_+_, _*_, _≤_, _<_, _^_};
 ghost use lib.ListN.{length};
@@ -12,6 +13,9 @@ ghost use Rattle.rules.specs.Run.{nameOf};
 ghost use Rattle.book.specs.States.{columns, ready};
 ghost use Rattle.report.specs.Added.{Added};
 ghost use Rattle.turns.specs.Going.{Begins, rollsOf, Quoted, Stepped, refusalOf, enough, strayText, Went};
+ghost use mathlib.Core.Bool.{true};
+ghost use Rattle.rules.specs.Measures.{outputWords};
+ghost use Rattle.rules.specs.Book.{sound};
 
 // After an instruction: where the text ends, and the state.
 pub struct Step {
@@ -212,5 +216,75 @@ pub fn run(
         end,
         over: last,
         state,
+    }
+}
+
+// Behind some words: how many were used, where their lines end, whether the run is over, and the book.
+pub struct Ran {
+    pub used: usize,
+    pub end: usize,
+    pub over: bool,
+    pub book: Book,
+}
+
+// The book's columns are lent to the run of some words, and put together again.
+pub fn run_on(
+    b: Book,
+    words: &[u32],
+    last: bool,
+    stray: bool,
+    index: u64,
+    text: &mut [u8],
+    out: &mut [u32],
+) -> Ran
+    requires { ⌜ (sound b ≡ true) × (outputWords ≤ length (now out)) × (72 * (length (now words) + 1) ≤ length (now text)) × (index + length (now words) < 2 ^ 64) ⌝ }
+    ensures { λ r. ⌜ Went (now (words .entry)) last stray index b (now (text .exit)) (r .used) (r .end) (r .over) (r .book) ⌝ }
+{
+    let s = b.state;
+    let mut nets = b.nets;
+    let mut delivered = b.delivered;
+    let mut lifts = b.lifts;
+    let mut charges = b.charges;
+    let mut issues = b.issues;
+    let mut froms = b.froms;
+    let mut tos = b.tos;
+    let mut lots = b.lots;
+    let mut days = b.days;
+    let t = run(
+        words,
+        last,
+        stray,
+        index,
+        s,
+        &mut nets,
+        &mut delivered,
+        &mut lifts,
+        &mut charges,
+        &mut issues,
+        &mut froms,
+        &mut tos,
+        &mut lots,
+        &mut days,
+        out,
+        text,
+    );
+    let after = t.state;
+    let book = book::book_in(
+        after,
+        nets,
+        delivered,
+        lifts,
+        charges,
+        issues,
+        froms,
+        tos,
+        lots,
+        days,
+    );
+    Ran {
+        used: t.used,
+        end: t.end,
+        over: t.over,
+        book,
     }
 }

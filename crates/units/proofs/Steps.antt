@@ -15,10 +15,10 @@ use Rattle.laws.proofs.Overlaps.{overlaps-short0, overlaps-lack0, overlaps-end,
 use Rattle.units.specs.declared.Cursor.{Cursor}
 use Rattle.units.specs.declared.Next.{Next}
 use Rattle.units.specs.declared.Next.the-variants.{Overlap, Done}
-use Rattle.units.specs.Runs.{runsIn}
+use Rattle.runs.specs.Runs.{runsIn}
 use Rattle.units.specs.Cursor.{overlapsFrom, overlapsOf, overlapAt, AtShort, AtRun, Advanced, OverlapInRange}
-use Rattle.units.proofs.Ranking.{parts-at}
-use Rattle.units.proofs.Loops.{runs-at, runs-end}
+use Rattle.sorting.proofs.Ranking.{parts-at}
+use Rattle.runs.proofs.Loops.{runs-at, runs-end}
 
 -- what is left of the shortfalls, and of the runs
 abbrev pub ahead : ℕ → ℕ → ℕ → List ℕ → List AccountLots

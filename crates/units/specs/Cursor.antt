@@ -11,7 +11,7 @@ use Rattle.units.specs.declared.Cursor.{Cursor}
 use Rattle.units.specs.declared.Next.{Next}
 use Rattle.units.specs.declared.Next.the-variants.{Overlap, Done}
 use Rattle.units.specs.declared.Position.{Position}
-use Rattle.units.specs.Runs.{runsIn}
+use Rattle.runs.specs.Runs.{runsIn}
 
 -- what is still to be handed out: the rest of a shortfall and the later ones, against the rest of a run and the later ones
 abbrev pub overlapsOn : List AccountLots → List ℕ → Cursor → List Fail

@@ -37,14 +37,5 @@ returns c =
 pub total-spec : {M : Type 1} → statement M
 total-spec =
     tie.close
-    (tie.spec
-    Inv-loop
-    μ-loop
-    (λ c. search needs)
-    (λ c. search needs)
-    (λ c. search needs)
-    add-t
-    (λ c. search needs)
-    (λ c. search needs)
-    loop-again
-    returns)
+    (tie.spec Inv-loop μ-loop (λ c. search needs) (λ c. search needs) (λ c. search needs) add-t (λ c. search needs)
+    (λ c. search needs) loop-again returns)

@@ -5,7 +5,7 @@ use native.Mathlib.Omega.{arith}
 use borrow.Author.Needs.{needs}
 use denote.Ref.{now}
 use lib.ListN.{length}
-use Rattle.cutoff.proofs.Issues.{few}
+use Rattle.cutting.proofs.Issues.{few}
 use Rattle.cutoff.proofs.Going.{entriesFrom, entries-all, entries-none, count-on}
 use Rattle.cutoff.proofs.count.Statement.{statement}
 use Rattle.cutoff.proofs.count.Tie as tie

@@ -9,25 +9,25 @@ use Rattle.cutoff.proofs.Going.{no-phase, no-room, all-yes}
 use Rattle.cutoff.proofs.cutoff_asks.Statement.{statement}
 use Rattle.cutoff.proofs.cutoff_asks.Tie as tie
 
-right : (c : tie.Else1) → isSettling (c .before .before .before .before .args .phase) ≡ true
+right : (c : tie.Else1) → isSettling (c .before .before .before .before .args .s .phase) ≡ true
 right c = sym (c .before .settling .ensures) ∙ not-false _ (c .if1 .left)
 
 returns : tie.Need-returns
 returns c =
     let a = c .before .before .before .before .args in
-    no-phase (a .dealt) (a .phase) (a .old) (now (a .nets)) (now (a .delivered)) (now (a .lifts)) (sym (c .before .settling .ensures) ∙ not-true _ (c .if1 .taken))
+    no-phase (a .dealt) (a .s .phase) (a .s .entries) (now (a .nets)) (now (a .delivered)) (now (a .lifts)) (sym (c .before .settling .ensures) ∙ not-true _ (c .if1 .taken))
 
 returns-2 : tie.Need-returns-2
 returns-2 c =
     let a = c .before .before .before .before .before .before .args in
     let k = c .before .count in
-    no-room (a .dealt) (a .phase) (a .old) (now (a .nets)) (now (a .delivered)) (now (a .lifts)) (k .result) (right (c .before .before)) (k .ensures) (c .if2 .taken)
+    no-room (a .dealt) (a .s .phase) (a .s .entries) (now (a .nets)) (now (a .delivered)) (now (a .lifts)) (k .result) (right (c .before .before)) (k .ensures) (c .if2 .taken)
 
 returns-3 : tie.Need-returns-3
 returns-3 c =
     let a = c .before .before .before .before .before .before .args in
     let k = c .before .count in
-    all-yes (a .dealt) (a .phase) (a .old) (now (a .nets)) (now (a .delivered)) (now (a .lifts)) (k .result) (right (c .before .before)) (k .ensures) (c .if2 .left)
+    all-yes (a .dealt) (a .s .phase) (a .s .entries) (now (a .nets)) (now (a .delivered)) (now (a .lifts)) (k .result) (right (c .before .before)) (k .ensures) (c .if2 .left)
 
 pub cutoff-asks-spec : {M : Type 1} → statement M
 cutoff-asks-spec =

@@ -1,6 +1,6 @@
 -- The lines behind the run are of its own book.
 use borrow.Author.Needs.{needs}
-use Rattle.dayrun.proofs.Sofar.{whole}
+use Rattle.dayrun.proofs.Closing.{whole}
 use Rattle.dayrun.proofs.day.Statement.{statement}
 use Rattle.dayrun.proofs.day.Tie as tie
 
@@ -10,6 +10,5 @@ returns c = let k = c .before .before in whole (k .before .before .before .befor
 pub day-spec : {M : Type 1} → statement M
 day-spec =
     tie.close
-    (tie.spec
-    (λ c κs. search needs) (λ c κs. search needs) (λ c. search needs) (λ c. search needs) (λ c. search needs)
+    (tie.spec (λ c κs. search needs) (λ c κs. search needs) (λ c. search needs) (λ c. search needs) (λ c. search needs)
     (λ c. search needs) returns)

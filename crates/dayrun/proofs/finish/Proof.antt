@@ -5,7 +5,7 @@ use Prim.Native.Nat.{ℕ, _+_, _≤_}
 use native.Mathlib.Omega.{arith}
 use lib.ListN.{length}
 use lib.Seq.{length-take-le}
-use Rattle.dayrun.proofs.Sofar.{closing-shown}
+use Rattle.dayrun.proofs.Closing.{closing-shown}
 use borrow.Author.Needs.{needs}
 use Rattle.dayrun.proofs.finish.Statement.{statement}
 use Rattle.dayrun.proofs.finish.Tie as tie
@@ -37,5 +37,4 @@ returns c =
 pub finish-spec : {M : Type 1} → statement M
 finish-spec =
     tie.close
-    (tie.spec
-    (λ c κs. search needs) (λ c. search needs) slice-aggregate-show show-requires (λ c. search needs) returns)
+    (tie.spec (λ c κs. search needs) (λ c. search needs) slice-aggregate-show show-requires (λ c. search needs) returns)

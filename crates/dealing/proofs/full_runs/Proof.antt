@@ -5,9 +5,9 @@ use native.Mathlib.Omega.{arith}
 use borrow.Author.Needs.{needs}
 use denote.Ref.{now}
 use lib.ListN.{drop}
-use Rattle.units.specs.Runs.{runsIn}
+use Rattle.runs.specs.Runs.{runsIn}
 use Rattle.dealing.specs.Dealing.{fullNumber}
-use Rattle.dealing.proofs.Dealing.{number-full, number-small, number-end}
+use Rattle.dealing.proofs.Fulls.{number-full, number-small, number-end}
 use Rattle.dealing.proofs.full_runs.Statement.{statement}
 use Rattle.dealing.proofs.full_runs.Tie as tie
 
@@ -41,5 +41,5 @@ returns-2 c =
 pub full-runs-spec : {M : Type 1} → statement M
 full-runs-spec =
     tie.close
-    (tie.spec Inv-loop μ-loop loop-holds (λ c. search needs) (λ c. search needs) returns (λ c. search needs) (λ c. search needs) loop-again
-    returns-2)
+    (tie.spec Inv-loop μ-loop loop-holds (λ c. search needs) (λ c. search needs) returns (λ c. search needs)
+    (λ c. search needs) loop-again returns-2)

@@ -2,7 +2,7 @@
 use native.Mathlib.Omega.{arith}
 use borrow.Author.Needs.{needs}
 use denote.Ref.{now}
-use Rattle.units.proofs.Lifted.{can-lift-all, prepared}
+use Rattle.lifted.proofs.Lifted.{can-lift-all, prepared}
 use Rattle.dealing.proofs.Dealer.{copy-ranked}
 use Rattle.dealing.proofs.prepare.Statement.{statement}
 use Rattle.dealing.proofs.prepare.Tie as tie

@@ -32,5 +32,5 @@ returns-2 c =
 pub unit-spec : {M : Type 1} → statement M
 unit-spec =
     tie.close
-    (tie.spec (λ c. search needs) (λ c κs. search needs) (λ c. search needs) (λ c κs. search needs) returns (λ c. search needs)
-    (λ c. search needs) units-from-requires (λ c. search needs) returns-2)
+    (tie.spec (λ c. search needs) (λ c κs. search needs) (λ c. search needs) (λ c κs. search needs) returns
+    (λ c. search needs) (λ c. search needs) units-from-requires (λ c. search needs) returns-2)

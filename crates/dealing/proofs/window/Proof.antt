@@ -9,9 +9,10 @@ use lib.ListN.{length, take, drop, getD, length-take, length-drop}
 use lib.Seq.{take-all}
 use borrow.Rule.Slice.PartMut.{same-len-mid}
 use Rattle.rules.specs.Book.{placesIn}
-use Rattle.units.specs.Runs.{partOf}
-use Rattle.dealing.specs.Dealing.{dealtRuns, liftedRuns}
-use Rattle.dealing.proofs.Places.{span-part, window-next}
+use Rattle.runs.specs.Runs.{partOf}
+use Rattle.inturn.specs.InTurn.{dealtRuns}
+use Rattle.dealing.specs.Dealing.{liftedRuns}
+use Rattle.unlifting.proofs.Places.{span-part, window-next}
 use Rattle.dealing.proofs.window.Statement.{statement}
 use Rattle.dealing.proofs.window.Tie as tie
 

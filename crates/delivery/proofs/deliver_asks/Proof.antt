@@ -12,19 +12,19 @@ use lib.Dec.{leb}
 use Rattle.rules.specs.Measures.{mostLots, between, owedOf}
 use Rattle.rules.specs.Book.{isSettling, netAt, lotsEven}
 use Rattle.laws.proofs.Basics.{and-right}
-use Rattle.units.proofs.Cells.{cell-owed}
+use Rattle.runs.proofs.Cells.{cell-owed}
 use Rattle.delivery.proofs.deliver_asks.Statement.{statement}
 use Rattle.delivery.proofs.deliver_asks.Tie as tie
 
 -- what the answers so far say
-yes3 : (c : tie.Else1) → isSettling (c .before .before .before .args .phase) ≡ true
+yes3 : (c : tie.Else1) → isSettling (c .before .before .before .args .s .phase) ≡ true
 yes3 c = sym (c .before .settling .ensures) ∙ not-false _ (c .if1 .left)
 
 yes7 : (c : tie.Else4) → between 1 mostLots (c .before .before .before .before .before .before .before .args .x) ≡ true
 yes7 c = sym (c .before .lots-right .ensures) ∙ not-false _ (c .if4 .left)
 
-yes19 : (c : tie.Else5) → let a = c .before .before .before .before .before .before .before .before .before .args in lotsEven (a .marks) (a .i) (a .x) ≡ true
-yes19 c = sym (c .before .lots-even .ensures) ∙ not-false _ (c .if5 .left)
+yes19 : (c : tie.Else5) → let a = c .before .before .before .before .before .before .before .before .before .args in lotsEven (a .s .marks) (a .i) (a .x) ≡ true
+yes19 c = sym (c .before .even-in .ensures) ∙ not-false _ (c .if5 .left)
 
 owes : (c : tie.After-owed) →
     let s = c .before .before .before .before .before .before .before .before .before .before .before in
@@ -61,7 +61,7 @@ returns-5 c =
       le-leb _ 15 (l .before .if2 .left),
       le-leb _ 63 (l .if3 .left),
       yes7 k,
-      sym (c .before .lots-even .ensures) ∙ not-true _ (c .if5 .taken),
+      sym (c .before .even-in .ensures) ∙ not-true _ (c .if5 .taken),
     )
 
 add-if6 : tie.Need-add-if6

@@ -6,7 +6,7 @@ use borrow.Author.Needs.{needs}
 use denote.Ref.{now}
 use Rattle.rules.specs.Book.{deliveredTotal}
 use Rattle.rules.specs.Measures.{sum}
-use Rattle.units.proofs.Cells.{row-part, owed-cells, cell-owed, total-small}
+use Rattle.runs.proofs.Cells.{row-part, owed-cells, cell-owed, total-small}
 use Rattle.delivery.proofs.Serving.{raised-count, count-fits, can-serve, served-after}
 use Rattle.delivery.proofs.deliver_in.Statement.{statement}
 use Rattle.delivery.proofs.deliver_in.Tie as tie

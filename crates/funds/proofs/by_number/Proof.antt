@@ -5,9 +5,9 @@ use Prim.Native.Nat.{_-_, _≤_, _<_}
 use native.Mathlib.Omega.{arith}
 use denote.Ref.{now}
 use lib.ListN.{length, take, drop, length-set}
-use Rattle.funds.specs.Funds.{numbered}
-use Rattle.funds.proofs.Lists.{copy-more, copy-end}
-use Rattle.funds.proofs.Turns.{length-numbered, share-wanted}
+use Rattle.contributions.specs.Funds.{numbered}
+use Rattle.apportioning.proofs.Lists.{copy-more, copy-end}
+use Rattle.apportioning.proofs.Turns.{length-numbered, share-wanted}
 use borrow.Author.Needs.{needs}
 use Rattle.funds.proofs.by_number.Statement.{statement}
 use Rattle.funds.proofs.by_number.Tie as tie
@@ -43,15 +43,5 @@ returns c =
 pub by-number-spec : {M : Type 1} → statement M
 by-number-spec =
     tie.close
-    (tie.spec
-    Inv-loop
-    μ-loop
-    (λ c. search needs)
-    (λ c κs. search needs)
-    (λ c. search needs)
-    (λ c. search needs)
-    (λ c. search needs)
-    (λ c. search needs)
-    loop-again
-    (λ c. search needs)
-    returns)
+    (tie.spec Inv-loop μ-loop (λ c. search needs) (λ c κs. search needs) (λ c. search needs) (λ c. search needs)
+    (λ c. search needs) (λ c. search needs) loop-again (λ c. search needs) returns)

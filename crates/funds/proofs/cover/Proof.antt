@@ -2,7 +2,7 @@
 use mathlib.Core.Path.{_≡_, ap, _∙_}
 use native.Mathlib.Omega.{arith}
 use denote.Ref.{now}
-use Rattle.funds.specs.Funds.{answered}
+use Rattle.contributions.specs.Funds.{answered}
 use Rattle.funds.proofs.Answers.{uncovered-refused, covered-done}
 use borrow.Author.Needs.{needs}
 use Rattle.funds.proofs.cover.Statement.{statement}

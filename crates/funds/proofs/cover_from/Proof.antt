@@ -2,10 +2,10 @@
 use mathlib.Core.Path.{_≡_, sym, ap, _∙_}
 use native.Mathlib.Omega.{arith}
 use denote.Ref.{now}
-use Rattle.funds.specs.Bases.{basesOf}
+use Rattle.contributions.specs.Bases.{basesOf}
 use Rattle.funds.specs.Steps.{coveredAnswer}
-use Rattle.funds.proofs.Lists.{over-all}
-use Rattle.funds.proofs.Turns.{length-bases}
+use Rattle.apportioning.proofs.Lists.{over-all}
+use Rattle.apportioning.proofs.Turns.{length-bases}
 use borrow.Author.Needs.{needs}
 use Rattle.funds.proofs.cover_from.Statement.{statement}
 use Rattle.funds.proofs.cover_from.Tie as tie

@@ -6,7 +6,7 @@ use borrow.Author.Needs.{needs}
 use borrow.Author.Tests.{lt-leb, le-leb, not-true, not-false}
 use Rattle.laws.proofs.Basics.{and-both}
 use Rattle.laws.proofs.Scans.{and-false}
-use Rattle.funds.specs.Funds.{participantsRight, cleared, answered}
+use Rattle.contributions.specs.Funds.{participantsRight, cleared, answered}
 use Rattle.funds.proofs.Answers.{few-of, small-of, bases-refused, bases-done}
 use Rattle.funds.proofs.day_bases.Statement.{statement}
 use Rattle.funds.proofs.day_bases.Tie as tie

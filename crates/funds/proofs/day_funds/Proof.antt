@@ -8,8 +8,8 @@ use borrow.Author.Needs.{needs}
 use borrow.Author.Tests.{lt-leb, le-leb, not-true, not-false}
 use Rattle.laws.proofs.Basics.{and-both}
 use Rattle.laws.proofs.Scans.{and-false}
-use Rattle.funds.specs.Funds.{participantsRight}
-use Rattle.funds.proofs.Lists.{first-places}
+use Rattle.contributions.specs.Funds.{participantsRight}
+use Rattle.apportioning.proofs.Lists.{first-places}
 use Rattle.funds.proofs.Answers.{few-of, small-of, funds-refused, funds-asked}
 use Rattle.funds.proofs.day_funds.Statement.{statement}
 use Rattle.funds.proofs.day_funds.Tie as tie
@@ -64,12 +64,5 @@ returns-4 c =
 pub day-funds-spec : {M : Type 1} → statement M
 day-funds-spec =
     tie.close
-    (tie.spec
-    (λ c κs. search needs)
-    returns
-    returns-2
-    returns-3
-    few
-    slice-aggregate-cover-from
-    cover-from-requires
+    (tie.spec (λ c κs. search needs) returns returns-2 returns-3 few slice-aggregate-cover-from cover-from-requires
     returns-4)

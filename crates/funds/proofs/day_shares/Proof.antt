@@ -6,7 +6,7 @@ use borrow.Author.Needs.{needs}
 use borrow.Author.Tests.{lt-leb, le-leb, eq-eqb, ne-eqb, not-true, not-false}
 use Rattle.laws.proofs.Basics.{and-both}
 use Rattle.laws.proofs.Scans.{and-false}
-use Rattle.funds.specs.Funds.{participantsRight}
+use Rattle.contributions.specs.Funds.{participantsRight}
 use Rattle.funds.proofs.Answers.{few-of, shares-refused, shares-asked}
 use Rattle.funds.proofs.day_shares.Statement.{statement}
 use Rattle.funds.proofs.day_shares.Tie as tie

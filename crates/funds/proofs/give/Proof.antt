@@ -2,7 +2,7 @@
 use mathlib.Core.Path.{_≡_, _∙_}
 use native.Mathlib.Omega.{arith}
 use denote.Ref.{now}
-use Rattle.funds.specs.Order.{orderOf}
+use Rattle.contributions.specs.Order.{orderOf}
 use Rattle.funds.proofs.Giving.{ranked, can-allot, places-kept, order-room, given-shares}
 use borrow.Author.Needs.{needs}
 use Rattle.funds.proofs.give.Statement.{statement}
@@ -49,11 +49,5 @@ returns c =
 pub give-spec : {M : Type 1} → statement M
 give-spec =
     tie.close
-    (tie.spec
-    (λ c κs. search needs)
-    allot-requires
-    by-number-requires
-    (λ c. search needs)
-    (λ c. search needs)
-    (λ c. search needs)
-    returns)
+    (tie.spec (λ c κs. search needs) allot-requires by-number-requires (λ c. search needs) (λ c. search needs)
+    (λ c. search needs) returns)

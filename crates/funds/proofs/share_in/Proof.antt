@@ -5,8 +5,8 @@ use native.Mathlib.Omega.{arith}
 use denote.Ref.{now}
 use lib.ListN.{length, drop}
 use borrow.Author.Tests.{eq-eqb, ne-eqb}
-use Rattle.funds.specs.Funds.{shareIn}
-use Rattle.funds.proofs.Turns.{share-found, share-on, share-none}
+use Rattle.contributions.specs.Funds.{shareIn}
+use Rattle.apportioning.proofs.Turns.{share-found, share-on, share-none}
 use borrow.Author.Needs.{needs}
 use Rattle.funds.proofs.share_in.Statement.{statement}
 use Rattle.funds.proofs.share_in.Tie as tie
@@ -42,16 +42,5 @@ returns-2 c =
 pub share-in-spec : {M : Type 1} → statement M
 share-in-spec =
     tie.close
-    (tie.spec
-    Inv-loop
-    μ-loop
-    (λ c. search needs)
-    (λ c. search needs)
-    (λ c. search needs)
-    (λ c. search needs)
-    (λ c. search needs)
-    returns
-    (λ c. search needs)
-    (λ c. search needs)
-    loop-again
-    returns-2)
+    (tie.spec Inv-loop μ-loop (λ c. search needs) (λ c. search needs) (λ c. search needs) (λ c. search needs)
+    (λ c. search needs) returns (λ c. search needs) (λ c. search needs) loop-again returns-2)

@@ -2,8 +2,8 @@
 use mathlib.Core.Path.{sym}
 use denote.Ref.{now}
 use lib.ListN.{length}
-use Rattle.funds.specs.Funds.{cleared}
-use Rattle.funds.proofs.Lists.{take-cleared, first-places}
+use Rattle.contributions.specs.Funds.{cleared}
+use Rattle.apportioning.proofs.Lists.{take-cleared, first-places}
 use borrow.Author.Needs.{needs}
 use Rattle.funds.proofs.share_out.Statement.{statement}
 use Rattle.funds.proofs.share_out.Tie as tie
@@ -34,10 +34,4 @@ returns c = c .before .before .give .ensures
 pub share-out-spec : {M : Type 1} → statement M
 share-out-spec =
     tie.close
-    (tie.spec
-    (λ c. search needs)
-    slice-aggregate-give
-    (λ c. search needs)
-    slice-aggregate-give-2
-    give-requires
-    returns)
+    (tie.spec (λ c. search needs) slice-aggregate-give (λ c. search needs) slice-aggregate-give-2 give-requires returns)

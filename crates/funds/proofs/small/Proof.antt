@@ -8,7 +8,7 @@ use lib.Dec.{leb}
 use lib.ListN.{length, drop}
 use Rattle.rules.specs.Book.{all}
 use Rattle.laws.proofs.Scans.{all-more, all-end}
-use Rattle.funds.specs.Funds.{mostAmount}
+use Rattle.contributions.specs.Funds.{mostAmount}
 use borrow.Author.Needs.{needs}
 use Rattle.funds.proofs.small.Statement.{statement}
 use Rattle.funds.proofs.small.Tie as tie
@@ -35,13 +35,5 @@ returns c =
 pub small-spec : {M : Type 1} → statement M
 small-spec =
     tie.close
-    (tie.spec
-    Inv-loop
-    μ-loop
-    (λ c. search needs)
-    (λ c. search needs)
-    (λ c. search needs)
-    (λ c. search needs)
-    (λ c. search needs)
-    loop-again
-    returns)
+    (tie.spec Inv-loop μ-loop (λ c. search needs) (λ c. search needs) (λ c. search needs) (λ c. search needs)
+    (λ c. search needs) loop-again returns)

@@ -5,7 +5,7 @@ use native.Mathlib.Omega.{arith}
 use denote.Ref.{now}
 use lib.ListN.{length, drop}
 use Rattle.rules.specs.Measures.{sum}
-use Rattle.funds.proofs.Turns.{sum-at, sum-end}
+use Rattle.apportioning.proofs.Turns.{sum-at, sum-end}
 use borrow.Author.Needs.{needs}
 use Rattle.funds.proofs.uncovered.Statement.{statement}
 use Rattle.funds.proofs.uncovered.Tie as tie
@@ -34,15 +34,5 @@ returns c =
 pub uncovered-spec : {M : Type 1} → statement M
 uncovered-spec =
     tie.close
-    (tie.spec
-    Inv-loop
-    μ-loop
-    (λ c. search needs)
-    (λ c. search needs)
-    (λ c. search needs)
-    (λ c κs. search needs)
-    sub-left
-    (λ c. search needs)
-    (λ c. search needs)
-    loop-again
-    returns)
+    (tie.spec Inv-loop μ-loop (λ c. search needs) (λ c. search needs) (λ c. search needs) (λ c κs. search needs)
+    sub-left (λ c. search needs) (λ c. search needs) loop-again returns)

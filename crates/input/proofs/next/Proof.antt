@@ -22,6 +22,5 @@ decode-requires c κs =
 pub next-spec : {M : Type 1} → statement M
 next-spec =
     tie.close
-    (tie.spec
-    (λ c κs. search needs) (λ c. search needs) slice-aggregate-decode decode-requires (λ c. search needs)
+    (tie.spec (λ c κs. search needs) (λ c. search needs) slice-aggregate-decode decode-requires (λ c. search needs)
     (λ c. search needs) (λ c. search needs))

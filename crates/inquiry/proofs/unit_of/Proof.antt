@@ -1,7 +1,7 @@
 -- The issue's units are prepared, and the one behind the place in front of unit k is the answer.
 use borrow.Author.Needs.{needs}
 use denote.Ref.{now}
-use Rattle.units.proofs.Questions.{unit-list, unit-end, found-is}
+use Rattle.handover.proofs.Questions.{unit-list, unit-end, found-is}
 use Rattle.inquiry.proofs.unit_of.Statement.{statement}
 use Rattle.inquiry.proofs.unit_of.Tie as tie
 
@@ -26,13 +26,5 @@ returns-2 c =
 pub unit-of-spec : {M : Type 1} → statement M
 unit-of-spec =
     tie.close
-    (tie.spec
-    (λ c. search needs)
-    (λ c κs. search needs)
-    (λ c κs. search needs)
-    (λ c. search needs)
-    (λ c κs. search needs)
-    (λ c. search needs)
-    (λ c. search needs)
-    returns
-    returns-2)
+    (tie.spec (λ c. search needs) (λ c κs. search needs) (λ c κs. search needs) (λ c. search needs)
+    (λ c κs. search needs) (λ c. search needs) (λ c. search needs) returns returns-2)

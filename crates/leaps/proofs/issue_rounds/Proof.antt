@@ -1,9 +1,9 @@
 -- An issue of which nothing was delivered has room for any number of rounds.
 use native.Mathlib.Omega.{arith}
 use denote.Ref.{now}
-use Rattle.units.specs.Runs.{runsIn}
+use Rattle.runs.specs.Runs.{runsIn}
 use Rattle.ranking.specs.Runs.{unitsOfRuns}
-use Rattle.leaps.proofs.Leaping.{again-none-for, again-fewer}
+use Rattle.leaping.proofs.Leaping.{again-none-for, again-fewer}
 use borrow.Author.Needs.{needs}
 use Rattle.leaps.proofs.issue_rounds.Statement.{statement}
 use Rattle.leaps.proofs.issue_rounds.Tie as tie

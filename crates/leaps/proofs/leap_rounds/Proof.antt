@@ -8,11 +8,11 @@ use Rattle.rules.specs.Measures.{sum}
 use Rattle.rules.specs.Units.{units}
 use Rattle.rules.specs.Book.{deliveredTotal, duesOf}
 use Rattle.laws.proofs.Cells.{length-block}
-use Rattle.units.specs.Runs.{runsIn}
-use Rattle.units.proofs.Cells.{row-part}
+use Rattle.runs.specs.Runs.{runsIn}
+use Rattle.runs.proofs.Cells.{row-part}
 use Rattle.ranking.specs.Runs.{unitsOfRuns}
 use Rattle.simulation.specs.Repeated.{AgainFor, OwedFor}
-use Rattle.leaps.proofs.Leaping.{again-more, moved}
+use Rattle.leaping.proofs.Leaping.{again-more, moved}
 use Rattle.rounds.proofs.Rounding.{part-block}
 use Rattle.leaps.proofs.Columns.{room-fewer}
 use borrow.Author.Needs.{needs}
@@ -88,34 +88,9 @@ returns c =
 pub leap-rounds-spec : {M : Type 1} → statement M
 leap-rounds-spec =
     tie.close
-    (tie.spec
-    Inv-loop
-    μ-loop
-    (λ c κs. search needs)
-    loop-holds
-    (λ c. search needs)
-    (λ c. search needs)
-    (λ c. search needs)
-    (λ c. search needs)
-    (λ c. search needs)
-    (λ c. search needs)
-    total-requires
-    (λ c. search needs)
-    (λ c. search needs)
-    (λ c. search needs)
-    (λ c. search needs)
-    total-requires-2
-    (λ c. search needs)
-    (λ c. search needs)
-    (λ c. search needs)
-    (λ c. search needs)
-    (λ c. search needs)
-    (λ c. search needs)
-    (λ c. search needs)
-    (λ c. search needs)
-    cast-issue-rounds
-    issue-rounds-requires
-    (λ c. search needs)
-    (λ c. search needs)
-    loop-again
+    (tie.spec Inv-loop μ-loop (λ c κs. search needs) loop-holds (λ c. search needs) (λ c. search needs)
+    (λ c. search needs) (λ c. search needs) (λ c. search needs) (λ c. search needs) total-requires (λ c. search needs)
+    (λ c. search needs) (λ c. search needs) (λ c. search needs) total-requires-2 (λ c. search needs) (λ c. search needs)
+    (λ c. search needs) (λ c. search needs) (λ c. search needs) (λ c. search needs) (λ c. search needs)
+    (λ c. search needs) cast-issue-rounds issue-rounds-requires (λ c. search needs) (λ c. search needs) loop-again
     returns)

@@ -10,11 +10,5 @@ returns c = held-append _ _ _ _ _ _ _ _ _ _ _ _ (c .before .before .before .befo
 pub append-spec : {M : Type 1} → statement M
 append-spec =
     tie.close
-    (tie.spec
-    (λ c κs. search needs)
-    (λ c. search needs)
-    (λ c. search needs)
-    (λ c. search needs)
-    (λ c. search needs)
-    (λ c. search needs)
-    returns)
+    (tie.spec (λ c κs. search needs) (λ c. search needs) (λ c. search needs) (λ c. search needs) (λ c. search needs)
+    (λ c. search needs) returns)

@@ -16,17 +16,6 @@ returns-3 c = moved-one _ _ _ _ _ _ _ _ _ _ _ _ (c .before .before .before .befo
 pub move-up-spec : {M : Type 1} → statement M
 move-up-spec =
     tie.close
-    (tie.spec
-    (λ c. search needs)
-    (λ c. search needs)
-    returns
-    (λ c. search needs)
-    returns-2
-    (λ c κs. search needs)
-    (λ c. search needs)
-    (λ c. search needs)
-    (λ c. search needs)
-    (λ c. search needs)
-    (λ c. search needs)
-    (λ c. search needs)
-    returns-3)
+    (tie.spec (λ c. search needs) (λ c. search needs) returns (λ c. search needs) returns-2 (λ c κs. search needs)
+    (λ c. search needs) (λ c. search needs) (λ c. search needs) (λ c. search needs) (λ c. search needs)
+    (λ c. search needs) returns-3)

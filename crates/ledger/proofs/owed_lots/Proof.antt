@@ -38,17 +38,5 @@ returns c = owing-ends _ _ _ _ _ _ _ _ (c .before .loop .inv) (c .loop-test .lef
 pub owed-lots-spec : {M : Type 1} → statement M
 owed-lots-spec =
     tie.close
-    (tie.spec
-    Inv-loop
-    μ-loop
-    loop-holds
-    (λ c. search needs)
-    (λ c. search needs)
-    (λ c. search needs)
-    (λ c. search needs)
-    (λ c κs. search needs)
-    add-t
-    (λ c. search needs)
-    (λ c. search needs)
-    loop-again
-    returns)
+    (tie.spec Inv-loop μ-loop loop-holds (λ c. search needs) (λ c. search needs) (λ c. search needs) (λ c. search needs)
+    (λ c κs. search needs) add-t (λ c. search needs) (λ c. search needs) loop-again returns)

@@ -31,18 +31,6 @@ returns c = sweep-ends (c .before .before .before .before .before .before .befor
 pub remove-zeros-spec : {M : Type 1} → statement M
 remove-zeros-spec =
     tie.close
-    (tie.spec
-    Inv-loop
-    μ-loop
-    loop-holds
-    move-up-requires
-    (λ c. search needs)
-    (λ c. search needs)
-    loop-again
-    clear-requires
-    (λ c. search needs)
-    (λ c. search needs)
-    (λ c. search needs)
-    (λ c. search needs)
-    (λ c. search needs)
+    (tie.spec Inv-loop μ-loop loop-holds move-up-requires (λ c. search needs) (λ c. search needs) loop-again
+    clear-requires (λ c. search needs) (λ c. search needs) (λ c. search needs) (λ c. search needs) (λ c. search needs)
     returns)

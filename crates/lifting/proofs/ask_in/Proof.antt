@@ -3,7 +3,7 @@ use mathlib.Core.Path.{sym, _∙_}
 use native.Mathlib.Omega.{arith}
 use borrow.Author.Tests.{not-true, not-false}
 use denote.Ref.{now}
-use Rattle.units.proofs.Cells.{can-order}
+use Rattle.runs.proofs.Cells.{can-order}
 use Rattle.lifting.proofs.Asking.{not-settling, no-issue, asked-unit}
 use borrow.Author.Needs.{needs}
 use Rattle.lifting.proofs.ask_in.Statement.{statement}

@@ -9,8 +9,8 @@ use denote.Ref.{now}
 use Rattle.rules.specs.Book.{isSettling, orderIn}
 use Rattle.rules.specs.Questions.{firstNo}
 use Rattle.rules.specs.Calls.{commitAsks}
-use Rattle.units.proofs.Cells.{can-order}
-use Rattle.lifting.proofs.Places.{number-at}
+use Rattle.runs.proofs.Cells.{can-order}
+use Rattle.tickets.proofs.Places.{number-at}
 use Rattle.lifting.proofs.Committing.{not-settling, no-issue, by-ticket, Unhanded, all-yes, can-hand-on, is-refused, is-done}
 use Rattle.lifting.proofs.commit_in.Statement.{statement}
 use Rattle.lifting.proofs.commit_in.Tie as tie
@@ -109,7 +109,7 @@ returns-4 c =
 pub commit-in-spec : {M : Type 1} → statement M
 commit-in-spec =
     tie.close
-    (tie.spec (λ c κs. search needs) (λ c κs. search needs) returns (λ c κs. search needs) returns-2 (λ c. search needs) (λ c. search needs)
-    (λ c κs. search needs) (λ c. search needs) ticket-in-requires (λ c. search needs) (λ c. search needs) (λ c. search needs)
-    (λ c κs. search needs) (λ c κs. search needs) (λ c. search needs) returns-3 hand-on-requires put-lift-requires (λ c. search needs)
-    (λ c. search needs) returns-4)
+    (tie.spec (λ c κs. search needs) (λ c κs. search needs) returns (λ c κs. search needs) returns-2 (λ c. search needs)
+    (λ c. search needs) (λ c κs. search needs) (λ c. search needs) ticket-in-requires (λ c. search needs)
+    (λ c. search needs) (λ c. search needs) (λ c κs. search needs) (λ c κs. search needs) (λ c. search needs) returns-3
+    hand-on-requires put-lift-requires (λ c. search needs) (λ c. search needs) returns-4)

@@ -32,24 +32,7 @@ returns c = (
 pub pair-all-spec : {M : Type 1} → statement M
 pair-all-spec =
     tie.close
-    (tie.spec
-    (λ c. search needs)
-    (λ c. search needs)
-    (λ c. search needs)
-    (λ c. search needs)
-    (λ c. search needs)
-    make-steps-requires
-    (λ c κs. search needs)
-    (λ c. search needs)
-    (λ c. search needs)
-    (λ c. search needs)
-    (λ c. search needs)
-    (λ c. search needs)
-    append-all-requires
-    add-t69
-    (λ c. search needs)
-    (λ c. search needs)
-    (λ c. search needs)
-    same-length-4
-    (λ c. search needs)
-    returns)
+    (tie.spec (λ c. search needs) (λ c. search needs) (λ c. search needs) (λ c. search needs) (λ c. search needs)
+    make-steps-requires (λ c κs. search needs) (λ c. search needs) (λ c. search needs) (λ c. search needs)
+    (λ c. search needs) (λ c. search needs) append-all-requires add-t69 (λ c. search needs) (λ c. search needs)
+    (λ c. search needs) same-length-4 (λ c. search needs) returns)

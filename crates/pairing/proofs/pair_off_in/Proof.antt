@@ -1,7 +1,8 @@
 -- Where an entry to the account, or one from it, is missing no step is made; else all are.
 use native.Mathlib.Omega.{arith}
 use denote.Ref.{now}
-use Rattle.pairing.proofs.Turns.{turns-start, ends-in, ends-out, none-paired}
+use Rattle.stepping.proofs.Turns.{turns-start, ends-in, ends-out}
+use Rattle.pairing.proofs.NoStep.{none-paired}
 use Rattle.pairing.proofs.Joining.{zeros-held}
 use borrow.Author.Needs.{needs}
 use Rattle.pairing.proofs.pair_off_in.Statement.{statement}

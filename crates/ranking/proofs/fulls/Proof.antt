@@ -7,8 +7,8 @@ use borrow.Author.Needs.{needs}
 use denote.Ref.{now}
 use lib.ListN.{length, take, getD, length-set}
 use lib.Seq.{getD-set-other}
-use Rattle.units.specs.Runs.{partOf}
-use Rattle.units.proofs.Loops.{turn-more}
+use Rattle.runs.specs.Runs.{partOf}
+use Rattle.runs.proofs.Loops.{turn-more}
 use Rattle.ranking.specs.Orders.{fullAt}
 use Rattle.ranking.proofs.Sized.{full-key, full-fits, full-keys}
 use Rattle.ranking.proofs.fulls.Statement.{statement}

@@ -58,5 +58,5 @@ pub rank-all-spec : {M : Type 1} → statement M
 rank-all-spec =
     tie.close
     (tie.spec Inv-loop μ-loop loop-holds (λ c. search needs) (λ c. search needs) (λ c. search needs) (λ c. search needs)
-    (λ c. search needs) (λ c. search needs) rank-issue-requires cast-counts (λ c. search needs) (λ c. search needs) (λ c. search needs)
-    (λ c. search needs) loop-again (λ c. search needs) (λ c. search needs) returns)
+    (λ c. search needs) (λ c. search needs) rank-issue-requires cast-counts (λ c. search needs) (λ c. search needs)
+    (λ c. search needs) (λ c. search needs) loop-again (λ c. search needs) (λ c. search needs) returns)

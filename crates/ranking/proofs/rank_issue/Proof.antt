@@ -4,7 +4,7 @@ use mathlib.Core.List.{map}
 use borrow.Author.Needs.{needs}
 use denote.Ref.{now}
 use Rattle.rules.specs.Measures.{dueOf}
-use Rattle.units.proofs.Cells.{row-part}
+use Rattle.runs.proofs.Cells.{row-part}
 use Rattle.ranking.proofs.Sized.{can-order, ranked-at}
 use Rattle.ranking.proofs.rank_issue.Statement.{statement}
 use Rattle.ranking.proofs.rank_issue.Tie as tie

@@ -7,7 +7,7 @@ use borrow.Author.Needs.{needs}
 use denote.Ref.{now}
 use lib.ListN.{length, take, length-set}
 use lib.Seq.{take-all}
-use Rattle.units.proofs.Loops.{fill-more}
+use Rattle.runs.proofs.Loops.{fill-more}
 use Rattle.ranking.specs.Orders.{smallAt}
 use Rattle.ranking.proofs.rests.Statement.{statement}
 use Rattle.ranking.proofs.rests.Tie as tie

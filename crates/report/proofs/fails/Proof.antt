@@ -25,7 +25,7 @@ abbrev μ-loop : tie.MeasureT-loop
 loop-holds : tie.Need-loop-holds Inv-loop μ-loop
 loop-holds c =
     let a = c .before .before .before .before .before .before .args in
-    let z : a .count - 0 ≡ a .count = omega arith in
+    let z : a .entries - 0 ≡ a .entries = omega arith in
     (omega arith, refl, omega arith, rw z (left-all _ _ _))
 
 loop-again : tie.Need-loop-again Inv-loop μ-loop
@@ -34,21 +34,20 @@ loop-again c =
     let l = c .before .before .before .before .before .before .before .before .before .before .loop in
     let a = s .args in
     let k = c .before .before .fail in
-    let e = ap failsText (left-next (l .k) (a .count) (now (a .issues)) (now (a .froms)) (now (a .tos)) (now (a .lots)) (now (a .days)) (omega arith)) in
+    let e = ap failsText (left-next (l .k) (a .entries) (now (a .issues)) (now (a .froms)) (now (a .tos)) (now (a .lots)) (now (a .days)) (omega arith)) in
     (omega arith, search needs, omega (arith, k .ensures .few), left-on 107 _ _ _ _ _ _ _ _ _ (rw e at (l .inv .3)) (k .ensures))
 
 returns : tie.Need-returns Inv-loop μ-loop
 returns c =
     let a = c .before .before .before .before .before .before .before .before .args in
     let l = c .before .loop in
-    let z : a .count - l .k ≡ 0 = omega arith in
-    left-none _ _ _ _ _ (failsText (left (l .k) (a .count) (now (a .issues)) (now (a .froms)) (now (a .tos)) (now (a .lots)) (now (a .days)))) _ (omega arith)
+    let z : a .entries - l .k ≡ 0 = omega arith in
+    left-none _ _ _ _ _ (failsText (left (l .k) (a .entries) (now (a .issues)) (now (a .froms)) (now (a .tos)) (now (a .lots)) (now (a .days)))) _ (omega arith)
     (rw z refl) (l .inv .3)
 
 pub fails-spec : {M : Type 1} → statement M
 fails-spec =
     tie.close
-    (tie.spec
-    Inv-loop μ-loop loop-holds (λ c. search needs) (λ c. search needs) (λ c. search needs) (λ c. search needs)
+    (tie.spec Inv-loop μ-loop loop-holds (λ c. search needs) (λ c. search needs) (λ c. search needs) (λ c. search needs)
     (λ c. search needs) (λ c. search needs) (λ c. search needs) (λ c κs. search needs) (λ c. search needs)
     (λ c. search needs) loop-again (λ c. search needs) returns)

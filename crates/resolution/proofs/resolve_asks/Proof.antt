@@ -31,11 +31,11 @@ returns-5 c =
       le-leb _ _ (e .before .before .if2 .left),
       le-leb _ _ (e .before .if3 .left),
       le-leb _ _ (e .if4 .left),
-      sym (c .before .lots-even .ensures) ∙ not-true _ (c .if5 .taken),
+      sym (c .before .even-in .ensures) ∙ not-true _ (c .if5 .taken),
     )
 
-yes19 : (c : tie.Else5) → let a = c .before .before .before .before .before .before .before .before .before .args in lotsEven (a .marks) (a .i) (a .x) ≡ true
-yes19 c = sym (c .before .lots-even .ensures) ∙ not-false _ (c .if5 .left)
+yes19 : (c : tie.Else5) → let a = c .before .before .before .before .before .before .before .before .before .args in lotsEven (a .s .marks) (a .i) (a .x) ≡ true
+yes19 c = sym (c .before .even-in .ensures) ∙ not-false _ (c .if5 .left)
 
 returns-6 : tie.Need-returns-6
 returns-6 c =

@@ -28,19 +28,7 @@ returns c = meets-end (c .before .before .before .before .before .before .before
 pub resolve-in-spec : {M : Type 1} → statement M
 resolve-in-spec =
     tie.close
-    (tie.spec
-    Inv-loop
-    μ-loop
-    loop-holds
-    meet-at-requires
-    (λ c. search needs)
+    (tie.spec Inv-loop μ-loop loop-holds meet-at-requires (λ c. search needs)
     (λ c. nearer _ _ (c .before .before .before .before .before .before .before .before .before .before .before .before .loop .left) (c .before .before .before .before .before .before .before .before .before .before .before .loop-test .taken))
-    loop-again
-    (λ c κs. search needs)
-    (λ c. search needs)
-    (λ c. search needs)
-    (λ c. search needs)
-    (λ c. search needs)
-    (λ c. search needs)
-    (λ c. search needs)
-    returns)
+    loop-again (λ c κs. search needs) (λ c. search needs) (λ c. search needs) (λ c. search needs) (λ c. search needs)
+    (λ c. search needs) (λ c. search needs) returns)

@@ -4,7 +4,7 @@ use Prim.Native.Nat.{_-_, _≤_}
 use native.Mathlib.Omega.{arith}
 use lib.ListN.{length, take, replicate, length-set}
 use lib.IntN.{pos}
-use Rattle.rolling.proofs.Charging.{clear-more, clear-end}
+use Rattle.rolling.proofs.Clearing.{clear-more, clear-end}
 use borrow.Author.Needs.{needs}
 use Rattle.rolling.proofs.clear_nets.Statement.{statement}
 use Rattle.rolling.proofs.clear_nets.Tie as tie
@@ -29,14 +29,5 @@ returns c =
 pub clear-nets-spec : {M : Type 1} → statement M
 clear-nets-spec =
     tie.close
-    (tie.spec
-    Inv-loop
-    μ-loop
-    (λ c. search needs)
-    (λ c. search needs)
-    (λ c. search needs)
-    (λ c. search needs)
-    (λ c. search needs)
-    loop-again
-    (λ c. search needs)
-    returns)
+    (tie.spec Inv-loop μ-loop (λ c. search needs) (λ c. search needs) (λ c. search needs) (λ c. search needs)
+    (λ c. search needs) loop-again (λ c. search needs) returns)

@@ -3,7 +3,7 @@ use mathlib.Core.Path.{_≡_}
 use Prim.Native.Nat.{_-_, _≤_}
 use native.Mathlib.Omega.{arith}
 use lib.ListN.{length, take, replicate, length-set}
-use Rattle.rolling.proofs.Charging.{clear-more, clear-end}
+use Rattle.rolling.proofs.Clearing.{clear-more, clear-end}
 use borrow.Author.Needs.{needs}
 use Rattle.rolling.proofs.clear_words.Statement.{statement}
 use Rattle.rolling.proofs.clear_words.Tie as tie
@@ -28,14 +28,5 @@ returns c =
 pub clear-words-spec : {M : Type 1} → statement M
 clear-words-spec =
     tie.close
-    (tie.spec
-    Inv-loop
-    μ-loop
-    (λ c. search needs)
-    (λ c. search needs)
-    (λ c. search needs)
-    (λ c. search needs)
-    (λ c. search needs)
-    loop-again
-    (λ c. search needs)
-    returns)
+    (tie.spec Inv-loop μ-loop (λ c. search needs) (λ c. search needs) (λ c. search needs) (λ c. search needs)
+    (λ c. search needs) loop-again (λ c. search needs) returns)

@@ -18,7 +18,7 @@ at2 c = at1 (c .before .before)
 abbrev at4 : tie.Else4 → tie.Start
 at4 c = at2 (c .before .before .before)
 
-cut : (c : tie.Else1) → isCut (at1 c .args .phase) ≡ true
+cut : (c : tie.Else1) → isCut (at1 c .args .s .phase) ≡ true
 cut c = sym (c .before .cut .ensures) ∙ not-false (c .before .cut .result) (c .if1 .left)
 
 terms : (c : tie.Else4) → let a = at4 c .args in Terms (a .days) (a .rate) (now (a .quotes))
@@ -33,49 +33,41 @@ terms c =
 returns : tie.Need-returns
 returns c =
     let a = c .before .before .before .args in
-    no3 (a .phase) (a .today) (a .days) (a .rate) (now (a .quotes))
+    no3 (a .s .phase) (a .s .day) (a .days) (a .rate) (now (a .quotes))
     (sym (c .before .cut .ensures) ∙ not-true (c .before .cut .result) (c .if1 .taken))
 
 returns-2 : tie.Need-returns-2
 returns-2 c =
     let a = at1 (c .before .before) .args in
-    no11-term (a .phase) (a .today) (a .days) (a .rate) (now (a .quotes)) (cut (c .before .before))
+    no11-term (a .s .phase) (a .s .day) (a .days) (a .rate) (now (a .quotes)) (cut (c .before .before))
     (sym (c .before .term-right .ensures) ∙ not-true (c .before .term-right .result) (c .if2 .taken))
 
 returns-3 : tie.Need-returns-3
 returns-3 c =
     let a = at2 (c .before) .args in
-    no11-count (a .phase) (a .today) (a .days) (a .rate) (now (a .quotes)) (cut (c .before .before .before)) (c .if3 .taken)
+    no11-count (a .s .phase) (a .s .day) (a .days) (a .rate) (now (a .quotes)) (cut (c .before .before .before)) (c .if3 .taken)
 
 returns-4 : tie.Need-returns-4
 returns-4 c =
     let e = c .before .before .before in
     let a = at2 e .args in
-    no11-quote (a .phase) (a .today) (a .days) (a .rate) (now (a .quotes)) (cut (e .before .before))
+    no11-quote (a .s .phase) (a .s .day) (a .days) (a .rate) (now (a .quotes)) (cut (e .before .before))
     (sym (c .before .quotes-right .ensures) ∙ not-true (c .before .quotes-right .result) (c .if4 .taken))
 
 returns-5 : tie.Need-returns-5
 returns-5 c =
     let a = at4 (c .before) .args in
-    none (a .phase) (a .today) (a .days) (a .rate) (now (a .quotes))
+    none (a .s .phase) (a .s .day) (a .days) (a .rate) (now (a .quotes))
     (cut (c .before .before .before .before .before .before)) (terms (c .before)) (c .if5 .taken)
 
 returns-6 : tie.Need-returns-6
 returns-6 c =
     let a = at4 (c .before) .args in
-    no12 (a .phase) (a .today) (a .days) (a .rate) (now (a .quotes))
+    no12 (a .s .phase) (a .s .day) (a .days) (a .rate) (now (a .quotes))
     (cut (c .before .before .before .before .before .before)) (terms (c .before)) (c .if5 .left)
 
 pub roll-asks-spec : {M : Type 1} → statement M
 roll-asks-spec =
     tie.close
-    (tie.spec
-    (λ c κs. search needs)
-    returns
-    (λ c κs. search needs)
-    returns-2
-    returns-3
-    (λ c κs. search needs)
-    returns-4
-    returns-5
-    returns-6)
+    (tie.spec (λ c κs. search needs) returns (λ c κs. search needs) returns-2 returns-3 (λ c κs. search needs) returns-4
+    returns-5 returns-6)

@@ -36,21 +36,6 @@ returns c =
 pub amount-spec : {M : Type 1} → statement M
 amount-spec =
     tie.close
-    (tie.spec
-    (λ c. search needs)
-    (λ c. search needs)
-    (λ c. search needs)
-    (λ c. search needs)
-    (λ c. search needs)
-    cast-k
-    add-k
-    (λ c. search needs)
-    (λ c. search needs)
-    (λ c κs. search needs)
-    (λ c. search needs)
-    (λ c. search needs)
-    (λ c κs. search needs)
-    mul-smaller
-    shared-slice-read-smaller
-    (λ c κs. search needs)
-    returns)
+    (tie.spec (λ c. search needs) (λ c. search needs) (λ c. search needs) (λ c. search needs) (λ c. search needs) cast-k
+    add-k (λ c. search needs) (λ c. search needs) (λ c κs. search needs) (λ c. search needs) (λ c. search needs)
+    (λ c κs. search needs) mul-smaller shared-slice-read-smaller (λ c κs. search needs) returns)

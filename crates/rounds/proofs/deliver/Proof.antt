@@ -6,10 +6,10 @@ use denote.Ref.{now}
 use lib.ListN.{length, getD, set, length-set}
 use Rattle.rules.specs.Measures.{sum}
 use Rattle.rules.specs.Book.{deliveredTotal}
-use Rattle.units.specs.Runs.{runsIn}
-use Rattle.units.proofs.Cells.{row-part}
-use Rattle.rounds.specs.Runs.{joinedRuns}
-use Rattle.rounds.proofs.Joining.{lowered-small, cell-total, length-joined}
+use Rattle.runs.specs.Runs.{runsIn}
+use Rattle.runs.proofs.Cells.{row-part}
+use Rattle.joining.specs.Runs.{joinedRuns}
+use Rattle.joining.proofs.Joining.{lowered-small, cell-total, length-joined}
 use borrow.Author.Needs.{needs}
 use Rattle.rounds.proofs.deliver.Statement.{statement}
 use Rattle.rounds.proofs.deliver.Tie as tie
@@ -82,29 +82,8 @@ returns c =
 pub deliver-spec : {M : Type 1} → statement M
 deliver-spec =
     tie.close
-    (tie.spec
-    (λ c. search needs)
-    (λ c. search needs)
-    (λ c. search needs)
-    (λ c. search needs)
-    (λ c. search needs)
-    (λ c. search needs)
-    total-requires
-    (λ c. search needs)
-    (λ c. search needs)
-    (λ c. search needs)
-    (λ c. search needs)
-    cast-k
-    add-k
-    (λ c. search needs)
-    (λ c. search needs)
-    add-delivered
-    (λ c. search needs)
-    mul-inventories
-    slice-read-inventories
-    (λ c. search needs)
-    slice-write-inventories
-    join-requires
-    (λ c. search needs)
-    same-length-2
+    (tie.spec (λ c. search needs) (λ c. search needs) (λ c. search needs) (λ c. search needs) (λ c. search needs)
+    (λ c. search needs) total-requires (λ c. search needs) (λ c. search needs) (λ c. search needs) (λ c. search needs)
+    cast-k add-k (λ c. search needs) (λ c. search needs) add-delivered (λ c. search needs) mul-inventories
+    slice-read-inventories (λ c. search needs) slice-write-inventories join-requires (λ c. search needs) same-length-2
     returns)

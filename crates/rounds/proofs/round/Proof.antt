@@ -4,7 +4,7 @@ use Prim.Native.Nat.{ℕ, _+_, _-_, _/_, _%_, _≤_}
 use native.Mathlib.Omega.{arith}
 use denote.Ref.{now}
 use borrow.Author.Needs.{needs}
-use Rattle.simulation.specs.Desk.{plan, desk, turnsFrom, round}
+use Rattle.desks.specs.Desk.{plan, desk, turnsFrom, round}
 use Rattle.rounds.specs.Turns.{CanRound}
 use Rattle.rounds.proofs.Rounding.{can-turn, can-again, round-begin, round-step, round-end}
 use Rattle.rounds.proofs.round.Statement.{statement}
@@ -63,24 +63,7 @@ returns c =
 pub round-spec : {M : Type 1} → statement M
 round-spec =
     tie.close
-    (tie.spec
-    Inv-loop
-    μ-loop
-    loop-holds
-    (λ c. search needs)
-    (λ c. search needs)
-    (λ c. search needs)
-    (λ c. search needs)
-    cast-n
-    (λ c. search needs)
-    (λ c. search needs)
-    (λ c. search needs)
-    (λ c. search needs)
-    turn-requires
-    (λ c. search needs)
-    (λ c. search needs)
-    (λ c. search needs)
-    loop-again
-    (λ c. search needs)
-    (λ c. search needs)
+    (tie.spec Inv-loop μ-loop loop-holds (λ c. search needs) (λ c. search needs) (λ c. search needs) (λ c. search needs)
+    cast-n (λ c. search needs) (λ c. search needs) (λ c. search needs) (λ c. search needs) turn-requires
+    (λ c. search needs) (λ c. search needs) (λ c. search needs) loop-again (λ c. search needs) (λ c. search needs)
     returns)

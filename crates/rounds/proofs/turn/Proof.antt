@@ -43,12 +43,5 @@ returns-2 c =
 pub turn-spec : {M : Type 1} → statement M
 turn-spec =
     tie.close
-    (tie.spec
-    (λ c κs. search needs)
-    (λ c. search needs)
-    (λ c. search needs)
-    returns
-    deliver-requires
-    (λ c. search needs)
-    (λ c. search needs)
-    returns-2)
+    (tie.spec (λ c κs. search needs) (λ c. search needs) (λ c. search needs) returns deliver-requires
+    (λ c. search needs) (λ c. search needs) returns-2)

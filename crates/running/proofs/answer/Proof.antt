@@ -3,11 +3,11 @@ use mathlib.Core.Path.{_≡_, refl, subst}
 use denote.Ref.{now}
 use Rattle.rules.specs.declared.Book.{Book}
 use Rattle.rules.specs.declared.Instruction.{Instruction}
+use Rattle.rules.specs.Book.{bookOf}
 use Rattle.rules.specs.Calls.{HasRoom}
 use Rattle.rules.specs.Run.{callOf}
 use Rattle.laws.proofs.Answers.{room-in}
-use Rattle.book.specs.States.{bookIn}
-use Rattle.running.proofs.Turning.{gives}
+use Rattle.answers.proofs.Turning.{gives}
 use borrow.Author.Needs.{needs}
 use Rattle.running.proofs.answer.Statement.{statement}
 use Rattle.running.proofs.answer.Tie as tie
@@ -15,7 +15,7 @@ use Rattle.running.proofs.answer.Tie as tie
 abbrev book : tie.Start → Book
 book s =
     let a = s .args in
-    bookIn (a .s) (now (a .nets)) (now (a .delivered)) (now (a .lifts)) (now (a .charges)) (now (a .issues)) (now (a .froms)) (now (a .tos)) (now (a .lots)) (now (a .days))
+    bookOf (a .s) (now (a .nets)) (now (a .delivered)) (now (a .lifts)) (now (a .charges)) (now (a .issues)) (now (a .froms)) (now (a .tos)) (now (a .lots)) (now (a .days))
 
 -- where the columns are lent
 abbrev begin : tie.After-slice-known8 → tie.Start
@@ -74,114 +74,62 @@ mark-requires c κs =
 returns : tie.Need-returns
 returns c =
     let s = begin (c .before .before .before .before .before .before) in
-    rw (c .before .before .before .before .x .given .1) (gives refl (c .before .trade .ensures (book s) (s .pre .0 .sound)))
+    rw (c .before .before .before .before .x .given .1) (gives (book s) _ (now (s .args .out)) refl (c .before .trade .ensures (book s) (s .pre .0 .sound)))
 
 returns-2 : tie.Need-returns-2
 returns-2 c =
     let s = begin (c .before .before .before .before .before .before .before .before .before .before .before .before .before .before) in
     let t = c .before .before .before .before .before .before .deliver .ensures (book s) (s .pre .0 .sound) in
-    rw (c .before .before .before .before .before .before .before .before .before .before .before .before .x2 .given .1) (gives (t .out) t)
+    rw (c .before .before .before .before .before .before .before .before .before .before .before .before .x2 .given .1) (gives (book s) _ (now (s .args .out)) (t .out) t)
 
 returns-3 : tie.Need-returns-3
 returns-3 c =
     let s = begin (c .before .before .before .before .before .before .before .before .before .before .before .before .before .before .before .before .before .before .before .before .before .before) in
     let t = c .before .before .before .before .before .before .before .before .before .before .before .before .resolve .ensures (book s) (s .pre .0 .sound) in
-    rw (c .before .before .before .before .before .before .before .before .before .before .before .before .before .before .before .before .before .before .before .before .x3 .given .1) (gives (t .out) t)
+    rw (c .before .before .before .before .before .before .before .before .before .before .before .before .before .before .before .before .before .before .before .before .x3 .given .1) (gives (book s) _ (now (s .args .out)) (t .out) t)
 
 returns-4 : tie.Need-returns-4
 returns-4 c =
     let s = begin (c .before .before .before .before .before .before .before .before .before .before .before .before .before .before .before .before .before .before .before) in
-    rw (c .before .before .before .before .before .before .before .before .before .before .before .before .before .before .before .before .before .x4 .given .1) (gives refl (c .before .before .before .before .before .before .before .before .before .before .pair-off .ensures (book s) (s .pre .0 .sound)))
+    rw (c .before .before .before .before .before .before .before .before .before .before .before .before .before .before .before .before .before .x4 .given .1) (gives (book s) _ (now (s .args .out)) refl (c .before .before .before .before .before .before .before .before .before .before .pair-off .ensures (book s) (s .pre .0 .sound)))
 
 returns-5 : tie.Need-returns-5
 returns-5 c =
     let s = begin (c .before .before .before) in
-    rw (c .before .enum-told .given .1) (gives refl (c .close .ensures (book s) (s .pre .0 .sound)))
+    rw (c .before .enum-told .given .1) (gives (book s) _ (now (s .args .out)) refl (c .close .ensures (book s) (s .pre .0 .sound)))
 
 returns-6 : tie.Need-returns-6
 returns-6 c =
     let s = begin (c .before .before .before .before .before .before .before .before .before .before .before .before .before .before .before .before .before .before .before .before .before .before .before .before) in
     let t = c .before .before .before .before .before .before .before .before .before .before .before .before .cutoff .ensures (book s) (s .pre .0 .sound) in
-    rw (c .before .before .before .before .before .before .before .before .before .before .before .before .before .before .before .before .before .before .before .before .before .before .enum-told2 .given .1) (gives (t .out) t)
+    rw (c .before .before .before .before .before .before .before .before .before .before .before .before .before .before .before .before .before .before .before .before .before .before .enum-told2 .given .1) (gives (book s) _ (now (s .args .out)) (t .out) t)
 
 returns-7 : tie.Need-returns-7
 returns-7 c =
     let s = begin (c .before .before .before .before .before .before .before .before .before .before .before .before .before .before .before .before .before .before) in
-    rw (c .before .before .before .before .before .before .before .before .before .before .before .before .before .before .before .before .x5 .given .1) (gives refl (c .before .before .before .before .before .before .roll .ensures (book s) (s .pre .0 .sound)))
+    rw (c .before .before .before .before .before .before .before .before .before .before .before .before .before .before .before .before .x5 .given .1) (gives (book s) _ (now (s .args .out)) refl (c .before .before .before .before .before .before .roll .ensures (book s) (s .pre .0 .sound)))
 
 returns-8 : tie.Need-returns-8
 returns-8 c =
     let s = begin (c .before .before .before .before .before .before) in
-    rw (c .before .before .before .before .x6 .given .1) (gives refl (c .mark .ensures (book s) (s .pre .0 .sound)))
+    rw (c .before .before .before .before .x6 .given .1) (gives (book s) _ (now (s .args .out)) refl (c .mark .ensures (book s) (s .pre .0 .sound)))
 
 returns-9 : tie.Need-returns-9
 returns-9 c =
     let s = begin (c .before .before .before .before) in
-    rw (c .before .before .x7 .given .1) (gives refl (c .name-turn .ensures (book s) (s .pre .0 .sound)))
+    rw (c .before .before .x7 .given .1) (gives (book s) _ (now (s .args .out)) refl (c .turn .ensures (book s) (s .pre .0 .sound)))
 
 pub answer-spec : {M : Type 1} → statement M
 answer-spec =
     tie.close
-    (tie.spec
-    (λ c. search needs)
-    trade-requires
-    (λ c. search needs)
-    deliver-requires
-    (λ c. search needs)
-    resolve-requires
-    (λ c. search needs)
-    pair-off-requires
-    enum-told
-    (λ c κs. search needs)
-    (λ c. search needs)
-    cutoff-requires
-    (λ c. search needs)
-    roll-requires
-    (λ c. search needs)
-    mark-requires
-    (λ c. search needs)
-    (λ c κs. search needs)
-    (λ c. search needs)
-    returns
-    (λ c. search needs)
-    (λ c. search needs)
-    (λ c. search needs)
-    (λ c. search needs)
-    returns-2
-    (λ c. search needs)
-    (λ c. search needs)
-    (λ c. search needs)
-    (λ c. search needs)
-    (λ c. search needs)
-    (λ c. search needs)
-    returns-3
-    (λ c. search needs)
-    (λ c. search needs)
-    (λ c. search needs)
-    (λ c. search needs)
-    (λ c. search needs)
-    returns-4
-    returns-5
-    (λ c. search needs)
-    (λ c. search needs)
-    (λ c. search needs)
-    (λ c. search needs)
-    (λ c. search needs)
-    (λ c. search needs)
-    (λ c. search needs)
-    (λ c. search needs)
-    (λ c. search needs)
-    returns-6
-    (λ c. search needs)
-    (λ c. search needs)
-    (λ c. search needs)
-    (λ c. search needs)
-    (λ c. search needs)
-    (λ c. search needs)
-    (λ c. search needs)
-    (λ c. search needs)
-    returns-7
-    (λ c. search needs)
-    (λ c. search needs)
-    returns-8
-    returns-9)
+    (tie.spec (λ c. search needs) trade-requires (λ c. search needs) deliver-requires (λ c. search needs)
+    resolve-requires (λ c. search needs) pair-off-requires enum-told (λ c κs. search needs) (λ c. search needs)
+    cutoff-requires (λ c. search needs) roll-requires (λ c. search needs) mark-requires (λ c. search needs)
+    (λ c κs. search needs) (λ c. search needs) returns (λ c. search needs) (λ c. search needs) (λ c. search needs)
+    (λ c. search needs) returns-2 (λ c. search needs) (λ c. search needs) (λ c. search needs) (λ c. search needs)
+    (λ c. search needs) (λ c. search needs) returns-3 (λ c. search needs) (λ c. search needs) (λ c. search needs)
+    (λ c. search needs) (λ c. search needs) returns-4 returns-5 (λ c. search needs) (λ c. search needs)
+    (λ c. search needs) (λ c. search needs) (λ c. search needs) (λ c. search needs) (λ c. search needs)
+    (λ c. search needs) (λ c. search needs) returns-6 (λ c. search needs) (λ c. search needs) (λ c. search needs)
+    (λ c. search needs) (λ c. search needs) (λ c. search needs) (λ c. search needs) (λ c. search needs) returns-7
+    (λ c. search needs) (λ c. search needs) returns-8 returns-9)

@@ -31,13 +31,13 @@ loop-again : tie.Need-loop-again Inv-loop μ-loop
 loop-again c =
     let a = c .before .before .before .args in
     let l = c .before .before .loop in
-    (search needs, λ fs ts xs ds. other-more (a .count) (now (a .issues)) fs ts xs ds (a .i) (l .k) (l .good) _ (omega arith) (l .inv .1 fs ts xs ds))
+    (search needs, λ fs ts xs ds. other-more (a .entries) (now (a .issues)) fs ts xs ds (a .i) (l .k) (l .good) _ (omega arith) (l .inv .1 fs ts xs ds))
 
 returns : tie.Need-returns Inv-loop μ-loop
 returns c =
     let a = c .before .before .args in
     let l = c .before .loop in
-    λ fs ts xs ds. other-end (a .count) (now (a .issues)) fs ts xs ds (a .i) (l .k) (l .good) _ (omega arith) (l .inv .1 fs ts xs ds)
+    λ fs ts xs ds. other-end (a .entries) (now (a .issues)) fs ts xs ds (a .i) (l .k) (l .good) _ (omega arith) (l .inv .1 fs ts xs ds)
 
 pub no-entry-spec : {M : Type 1} → statement M
 no-entry-spec =

@@ -29,5 +29,5 @@ pub simulate-spec : {M : Type 1} → statement M
 simulate-spec =
     tie.close
     (tie.spec (λ c. search needs) (λ c. search needs) (λ c κs. search needs) (λ c. search needs) (λ c κs. search needs)
-    (λ c. search needs) (λ c. search needs) (λ c. search needs) (λ c. search needs) to-the-end-requires (λ c. search needs)
-    (λ c κs. search needs) (λ c. search needs) returns)
+    (λ c. search needs) (λ c. search needs) (λ c. search needs) (λ c. search needs) to-the-end-requires
+    (λ c. search needs) (λ c κs. search needs) (λ c. search needs) returns)

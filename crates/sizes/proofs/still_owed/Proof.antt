@@ -4,7 +4,7 @@ use Prim.Native.Nat.{ℕ, _-_, _≤_, _<_}
 use native.Mathlib.Omega.{arith}
 use denote.Ref.{now}
 use lib.ListN.{length, getD, length-set}
-use Rattle.simulation.specs.Desk.{owedOfIssue}
+use Rattle.desks.specs.Desk.{owedOfIssue}
 use Rattle.leaps.proofs.Columns.{filled}
 use Rattle.sizes.proofs.Opening.{can-sum-part, missing-row, each-owed}
 use borrow.Author.Needs.{needs}

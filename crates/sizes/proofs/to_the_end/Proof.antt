@@ -4,7 +4,7 @@ use Prim.Native.Nat.{_+_, _≤_, _<_}
 use native.Mathlib.Omega.{arith}
 use denote.Ref.{now}
 use borrow.Author.Needs.{needs}
-use Rattle.simulation.specs.Desk.{plan, desk}
+use Rattle.desks.specs.Desk.{plan, desk}
 use Rattle.simulation.specs.Repeated.{left, ending, later}
 use Rattle.rounds.specs.Turns.{CanRound}
 use Rattle.sizes.proofs.Stepping.{loop-begin, loop-more, loop-last, times-more}
@@ -55,21 +55,6 @@ loop-again c =
 pub to-the-end-spec : {M : Type 1} → statement M
 to-the-end-spec =
     tie.close
-    (tie.spec
-    Inv-loop
-    μ-loop
-    loop-holds
-    (λ c κs. search needs)
-    (λ c. search needs)
-    (λ c. search needs)
-    (λ c. search needs)
-    (λ c. search needs)
-    (λ c. search needs)
-    returns
-    (λ c. search needs)
-    (λ c. search needs)
-    (λ c. search needs)
-    (λ c. search needs)
-    (λ c. search needs)
-    loop-less
-    loop-again)
+    (tie.spec Inv-loop μ-loop loop-holds (λ c κs. search needs) (λ c. search needs) (λ c. search needs)
+    (λ c. search needs) (λ c. search needs) (λ c. search needs) returns (λ c. search needs) (λ c. search needs)
+    (λ c. search needs) (λ c. search needs) (λ c. search needs) loop-less loop-again)

@@ -5,8 +5,8 @@ use native.Mathlib.Omega.{arith}
 use denote.Ref.{now}
 use lib.ListN.{take, getD}
 use Rattle.rules.specs.Units.{sumLots}
-use Rattle.units.specs.Runs.{unitsOfRuns, unitsIn}
-use Rattle.units.proofs.Loops.{runs-end}
+use Rattle.runs.specs.Runs.{unitsOfRuns, unitsIn}
+use Rattle.runs.proofs.Loops.{runs-end}
 use Rattle.status.proofs.UpTo.{from, sum-next, up-next, up-last}
 use borrow.Author.Needs.{needs}
 use Rattle.status.proofs.lots_up_to.Statement.{statement}
@@ -81,21 +81,5 @@ returns-3 c =
 pub lots-up-to-spec : {M : Type 1} → statement M
 lots-up-to-spec =
     tie.close
-    (tie.spec
-    Inv-loop
-    μ-loop
-    (λ c. search needs)
-    (λ c. search needs)
-    (λ c. search needs)
-    add-c
-    add-end
-    mul-end
-    add-result
-    returns
-    add-result-2
-    returns-2
-    add-sum
-    (λ c. search needs)
-    (λ c. search needs)
-    loop-again
-    returns-3)
+    (tie.spec Inv-loop μ-loop (λ c. search needs) (λ c. search needs) (λ c. search needs) add-c add-end mul-end
+    add-result returns add-result-2 returns-2 add-sum (λ c. search needs) (λ c. search needs) loop-again returns-3)

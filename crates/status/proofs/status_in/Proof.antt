@@ -6,7 +6,7 @@ use denote.Ref.{now}
 use Rattle.rules.specs.Measures.{sum}
 use Rattle.rules.specs.Book.{deliveredTotal}
 use Rattle.laws.proofs.SoundRows.{order-in}
-use Rattle.units.proofs.Cells.{row-part, can-order, dues-sum, total-small}
+use Rattle.runs.proofs.Cells.{row-part, can-order, dues-sum, total-small}
 use Rattle.status.proofs.Telling.{is-taking, no-issue, of-unit}
 use borrow.Author.Needs.{needs}
 use Rattle.status.proofs.status_in.Statement.{statement}
@@ -63,19 +63,6 @@ returns-3 c new =
 pub status-in-spec : {M : Type 1} → statement M
 status-in-spec =
     tie.close
-    (tie.spec
-    (λ c κs. search needs)
-    returns
-    returns-2
-    (λ c. search needs)
-    (λ c. search needs)
-    (λ c. search needs)
-    prepare-requires
-    (λ c. search needs)
-    (λ c. search needs)
-    (λ c. search needs)
-    (λ c. search needs)
-    total-requires
-    (λ c. search needs)
-    tell-requires
-    returns-3)
+    (tie.spec (λ c κs. search needs) returns returns-2 (λ c. search needs) (λ c. search needs) (λ c. search needs)
+    prepare-requires (λ c. search needs) (λ c. search needs) (λ c. search needs) (λ c. search needs) total-requires
+    (λ c. search needs) tell-requires returns-3)

@@ -11,8 +11,9 @@ use Rattle.rules.specs.Units.{AccountLots, accountLots}
 use Rattle.rules.specs.Handover.{firstUnit}
 use Rattle.rules.specs.Book.{isCut}
 use Rattle.laws.proofs.Basics.{and-left}
-use Rattle.units.specs.Runs.{unitsIn, unitsFrom}
-use Rattle.units.proofs.Questions.{unit-list, unit-end}
+use Rattle.runs.specs.Runs.{unitsIn}
+use Rattle.handover.specs.Walking.{unitsFrom}
+use Rattle.handover.proofs.Questions.{unit-list, unit-end}
 use Rattle.status.proofs.Telling.{wanted-some, stock-less, is-missing, is-handed, is-waiting, is-partly, is-wholly}
 use borrow.Author.Needs.{needs}
 use Rattle.status.proofs.tell.Statement.{statement}
@@ -119,18 +120,6 @@ returns-5 c =
 pub tell-spec : {M : Type 1} → statement M
 tell-spec =
     tie.close
-    (tie.spec
-    (λ c κs. search needs)
-    (λ c κs. search needs)
-    (λ c. search needs)
-    (λ c. search needs)
-    returns
-    (λ c κs. search needs)
-    returns-2
-    (λ c κs. search needs)
-    (λ c κs. search needs)
-    sub-t13
-    returns-3
-    sub-t15
-    returns-4
+    (tie.spec (λ c κs. search needs) (λ c κs. search needs) (λ c. search needs) (λ c. search needs) returns
+    (λ c κs. search needs) returns-2 (λ c κs. search needs) (λ c κs. search needs) sub-t13 returns-3 sub-t15 returns-4
     returns-5)

@@ -51,5 +51,5 @@ returns c =
 pub feed-spec : {M : Type 1} → statement M
 feed-spec =
     tie.close
-    (tie.spec Inv-loop μ-loop loop-holds (λ c. search needs) (λ c. search needs) (λ c κs. search needs) add-requires (λ c. search needs)
-    (λ c. search needs) loop-again same-length same-length-2 returns)
+    (tie.spec Inv-loop μ-loop loop-holds (λ c. search needs) (λ c. search needs) (λ c κs. search needs) add-requires
+    (λ c. search needs) (λ c. search needs) loop-again same-length same-length-2 returns)

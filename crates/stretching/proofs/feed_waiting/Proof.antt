@@ -96,20 +96,6 @@ returns c =
 pub feed-waiting-spec : {M : Type 1} → statement M
 feed-waiting-spec =
     tie.close
-    (tie.spec
-    Inv-loop
-    μ-loop
-    loop-holds
-    before-lifts-requires
-    sub-least
-    least-requires
-    slice-aggregate-pass
-    pass-requires
-    add-p
-    loop-less
-    loop-again
-    slice-aggregate-feed-pending
-    feed-pending-requires
-    same-length
-    same-length-2
-    returns)
+    (tie.spec Inv-loop μ-loop loop-holds before-lifts-requires sub-least least-requires slice-aggregate-pass
+    pass-requires add-p loop-less loop-again slice-aggregate-feed-pending feed-pending-requires same-length
+    same-length-2 returns)

@@ -3,7 +3,7 @@ use mathlib.Core.Path.{refl}
 use native.Mathlib.Omega.{arith}
 use borrow.Author.Needs.{needs}
 use denote.Ref.{now}
-use Rattle.units.proofs.Gathers.{zeros}
+use Rattle.gathering.proofs.Gathers.{zeros}
 use Rattle.stretching.proofs.Starting.{can-wait, starts-none, starts-fits, starts-some}
 use Rattle.stretching.proofs.start.Statement.{statement}
 use Rattle.stretching.proofs.start.Tie as tie

@@ -43,5 +43,5 @@ returns c =
 pub take-all-spec : {M : Type 1} → statement M
 take-all-spec =
     tie.close
-    (tie.spec Inv-loop μ-loop loop-holds (λ c. search needs) (λ c. search needs) (λ c. search needs) take-off-requires (λ c. search needs) loop-again
-    same-length returns)
+    (tie.spec Inv-loop μ-loop loop-holds (λ c. search needs) (λ c. search needs) (λ c. search needs) take-off-requires
+    (λ c. search needs) loop-again same-length returns)

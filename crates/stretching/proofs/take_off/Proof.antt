@@ -54,5 +54,5 @@ returns c =
 pub take-off-spec : {M : Type 1} → statement M
 take-off-spec =
     tie.close
-    (tie.spec (λ c. search needs) (λ c. search needs) (λ c. search needs) mul-out slice-read-out sub-out-2 (λ c. search needs) mul-out-2
-    slice-write-out (λ c. search needs) returns)
+    (tie.spec (λ c. search needs) (λ c. search needs) (λ c. search needs) mul-out slice-read-out sub-out-2
+    (λ c. search needs) mul-out-2 slice-write-out (λ c. search needs) returns)

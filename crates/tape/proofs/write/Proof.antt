@@ -7,8 +7,8 @@ use denote.Ref.{now}
 use Rattle.rules.specs.declared.Instruction.{Instruction}
 use Rattle.rules.specs.declared.Written.{Written}
 use Rattle.rules.specs.Tape.{fieldsFit, wordsOf, writeOf}
-use Rattle.tape.specs.Answers.{WriteAnswerIs, fitted}
-use Rattle.tape.proofs.Writing.{short-output, room-enough}
+use Rattle.writing.specs.Answers.{WriteAnswerIs, fitted}
+use Rattle.writing.proofs.Writing.{short-output, room-enough}
 use Rattle.tape.proofs.write.Statement.{statement}
 use Rattle.tape.proofs.write.Tie as tie
 

@@ -35,10 +35,10 @@ abbrev at8 : tie.Else8 → tie.Start
 at8 c = at7 (c .before .before)
 
 -- that the phase is Taking
-taking : (c : tie.Else1) → isTaking (at1 c .args .phase) ≡ true
+taking : (c : tie.Else1) → isTaking (at1 c .args .s .phase) ≡ true
 taking c = sym (c .before .taking .ensures) ∙ not-false (c .before .taking .result) (c .if1 .left)
 
-named : (c : tie.Else8) → Named (at8 c .args .phase) (at8 c .args .marks) (at8 c .args .i) (at8 c .args .f) (at8 c .args .t) (at8 c .args .x)
+named : (c : tie.Else8) → Named (at8 c .args .s .phase) (at8 c .args .s .marks) (at8 c .args .i) (at8 c .args .f) (at8 c .args .t) (at8 c .args .x)
 named c =
     let e = c .before .before in
     record {
@@ -49,7 +49,7 @@ named c =
       differ = e .before .before .if5 .left;
       some = e .before .if6 .left;
       most = e .if7 .left;
-      even = sym (c .before .lots-even .ensures) ∙ not-false (c .before .lots-even .result) (c .if8 .left);
+      even = sym (c .before .even-in .ensures) ∙ not-false (c .before .even-in .result) (c .if8 .left);
     }
 
 -- a net that is read comes as its bits
@@ -85,42 +85,42 @@ rises c =
 returns : tie.Need-returns
 returns c =
     let a = c .before .before .args in
-    no3 (a .phase) (a .marks) (now (a .nets)) (a .i) (a .f) (a .t) (a .x)
+    no3 (a .s .phase) (a .s .marks) (now (a .nets)) (a .i) (a .f) (a .t) (a .x)
     (sym (c .before .taking .ensures) ∙ not-true (c .before .taking .result) (c .if1 .taken))
 
 returns-2 : tie.Need-returns-2
 returns-2 c =
     let a = at1 (c .before) .args in
-    no4 (a .phase) (a .marks) (now (a .nets)) (a .i) (a .f) (a .t) (a .x) (taking (c .before)) (c .if2 .taken)
+    no4 (a .s .phase) (a .s .marks) (now (a .nets)) (a .i) (a .f) (a .t) (a .x) (taking (c .before)) (c .if2 .taken)
 
 returns-3 : tie.Need-returns-3
 returns-3 c =
     let a = at2 (c .before) .args in
-    no5 (a .phase) (a .marks) (now (a .nets)) (a .i) (a .f) (a .t) (a .x) (taking (c .before .before)) (c .before .if2 .left) (c .if3 .taken)
+    no5 (a .s .phase) (a .s .marks) (now (a .nets)) (a .i) (a .f) (a .t) (a .x) (taking (c .before .before)) (c .before .if2 .left) (c .if3 .taken)
 
 returns-4 : tie.Need-returns-4
 returns-4 c =
     let a = at2 (c .before .before) .args in
-    no5-to (a .phase) (a .marks) (now (a .nets)) (a .i) (a .f) (a .t) (a .x) (taking (c .before .before .before))
+    no5-to (a .s .phase) (a .s .marks) (now (a .nets)) (a .i) (a .f) (a .t) (a .x) (taking (c .before .before .before))
     (c .before .before .if2 .left) (c .if4 .taken)
 
 returns-5 : tie.Need-returns-5
 returns-5 c =
     let a = at4 (c .before) .args in
-    no6 (a .phase) (a .marks) (now (a .nets)) (a .i) (a .f) (a .t) (a .x) (taking (c .before .before .before .before))
+    no6 (a .s .phase) (a .s .marks) (now (a .nets)) (a .i) (a .f) (a .t) (a .x) (taking (c .before .before .before .before))
     (c .before .before .before .if2 .left) (c .before .before .if3 .left) (c .before .if4 .left) (c .if5 .taken)
 
 returns-6 : tie.Need-returns-6
 returns-6 c =
     let a = at5 (c .before) .args in
-    no7 (a .phase) (a .marks) (now (a .nets)) (a .i) (a .f) (a .t) (a .x) (taking (c .before .before .before .before .before))
+    no7 (a .s .phase) (a .s .marks) (now (a .nets)) (a .i) (a .f) (a .t) (a .x) (taking (c .before .before .before .before .before))
     (c .before .before .before .before .if2 .left) (c .before .before .before .if3 .left)
     (c .before .before .if4 .left) (c .before .if5 .left) (c .if6 .taken)
 
 returns-7 : tie.Need-returns-7
 returns-7 c =
     let a = at5 (c .before .before) .args in
-    no7-most (a .phase) (a .marks) (now (a .nets)) (a .i) (a .f) (a .t) (a .x)
+    no7-most (a .s .phase) (a .s .marks) (now (a .nets)) (a .i) (a .f) (a .t) (a .x)
     (taking (c .before .before .before .before .before .before)) (c .before .before .before .before .before .if2 .left)
     (c .before .before .before .before .if3 .left) (c .before .before .before .if4 .left)
     (c .before .before .if5 .left) (c .if7 .taken)
@@ -129,10 +129,10 @@ returns-8 : tie.Need-returns-8
 returns-8 c =
     let e = c .before .before in
     let a = at7 e .args in
-    no19 (a .phase) (a .marks) (now (a .nets)) (a .i) (a .f) (a .t) (a .x)
+    no19 (a .s .phase) (a .s .marks) (now (a .nets)) (a .i) (a .f) (a .t) (a .x)
     (taking (e .before .before .before .before .before .before)) (e .before .before .before .before .before .if2 .left)
     (e .before .before .before .before .if3 .left) (e .before .before .before .if4 .left) (e .before .before .if5 .left)
-    (e .before .if6 .left) (e .if7 .left) (sym (c .before .lots-even .ensures) ∙ not-true (c .before .lots-even .result) (c .if8 .taken))
+    (e .before .if6 .left) (e .if7 .left) (sym (c .before .even-in .ensures) ∙ not-true (c .before .even-in .result) (c .if8 .taken))
 
 lowered-requires : tie.Need-lowered-requires
 lowered-requires c κs =
@@ -142,7 +142,7 @@ lowered-requires c κs =
 returns-9 : tie.Need-returns-9
 returns-9 c =
     let a = at8 (c .before .before .before .before) .args in
-    no8 (a .phase) (a .marks) (now (a .nets)) (a .i) (a .f) (a .t) (a .x) (named (c .before .before .before .before))
+    no8 (a .s .phase) (a .s .marks) (now (a .nets)) (a .i) (a .f) (a .t) (a .x) (named (c .before .before .before .before))
     (sym (falls (c .before)) ∙ not-true (c .before .within .result) (c .if9 .taken))
 
 raised-requires : tie.Need-raised-requires
@@ -157,45 +157,22 @@ returns-10 : tie.Need-returns-10
 returns-10 c =
     let e = c .before .before .before .before in
     let a = at9 e .args in
-    no8-to (a .phase) (a .marks) (now (a .nets)) (a .i) (a .f) (a .t) (a .x) (named (e .before .before .before .before))
+    no8-to (a .s .phase) (a .s .marks) (now (a .nets)) (a .i) (a .f) (a .t) (a .x) (named (e .before .before .before .before))
     (sym (rises (c .before)) ∙ not-true (c .before .within2 .result) (c .if10 .taken))
 
 returns-11 : tie.Need-returns-11
 returns-11 c =
     let e = c .before .before .before .before in
     let a = at9 e .args in
-    none (a .phase) (a .marks) (now (a .nets)) (a .i) (a .f) (a .t) (a .x) (named (e .before .before .before .before))
+    none (a .s .phase) (a .s .marks) (now (a .nets)) (a .i) (a .f) (a .t) (a .x) (named (e .before .before .before .before))
     (sym (falls (e .before)) ∙ not-false (e .before .within .result) (e .if9 .left))
     (sym (rises (c .before)) ∙ not-false (c .before .within2 .result) (c .if10 .left))
 
 pub trade-asks-spec : {M : Type 1} → statement M
 trade-asks-spec =
     tie.close
-    (tie.spec
-    (λ c κs. search needs)
-    returns
-    returns-2
-    returns-3
-    returns-4
-    returns-5
-    returns-6
-    returns-7
-    (λ c κs. search needs)
-    returns-8
-    (λ c. search needs)
-    (λ c. search needs)
-    (λ c. search needs)
-    (λ c. search needs)
-    (λ c. search needs)
-    lowered-requires
-    (λ c κs. search needs)
-    returns-9
-    (λ c. search needs)
-    (λ c. search needs)
-    (λ c. search needs)
-    (λ c. search needs)
-    (λ c. search needs)
-    raised-requires
-    (λ c κs. search needs)
-    returns-10
+    (tie.spec (λ c κs. search needs) returns returns-2 returns-3 returns-4 returns-5 returns-6 returns-7
+    (λ c κs. search needs) returns-8 (λ c. search needs) (λ c. search needs) (λ c. search needs) (λ c. search needs)
+    (λ c. search needs) lowered-requires (λ c κs. search needs) returns-9 (λ c. search needs) (λ c. search needs)
+    (λ c. search needs) (λ c. search needs) (λ c. search needs) raised-requires (λ c κs. search needs) returns-10
     returns-11)

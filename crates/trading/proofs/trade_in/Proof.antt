@@ -49,22 +49,7 @@ returns c =
 pub trade-in-spec : {M : Type 1} → statement M
 trade-in-spec =
     tie.close
-    (tie.spec
-    (λ c. search needs)
-    (λ c. search needs)
-    (λ c. search needs)
-    (λ c. search needs)
-    (λ c. search needs)
-    (λ c. search needs)
-    (λ c. search needs)
-    (λ c. search needs)
-    (λ c. search needs)
-    (λ c. search needs)
-    lowered-requires
-    (λ c. search needs)
-    (λ c. search needs)
-    raised-requires
-    (λ c. search needs)
-    slice-set-from-nets-2
-    (λ c. search needs)
-    returns)
+    (tie.spec (λ c. search needs) (λ c. search needs) (λ c. search needs) (λ c. search needs) (λ c. search needs)
+    (λ c. search needs) (λ c. search needs) (λ c. search needs) (λ c. search needs) (λ c. search needs) lowered-requires
+    (λ c. search needs) (λ c. search needs) raised-requires (λ c. search needs) slice-set-from-nets-2
+    (λ c. search needs) returns)

@@ -5,9 +5,9 @@ use native.Mathlib.Omega.{arith}
 use denote.Ref.{now}
 use lib.ListN.{length, getD}
 use Rattle.rules.specs.Questions.{firstNo}
-use Rattle.trust.specs.Reports.{Reports, reports, numberOf, sizeOf, eligibleLots}
-use Rattle.trust.specs.Trust.{answered, reportAsks}
-use Rattle.trust.proofs.Draws.{right-draw}
+use Rattle.reports.specs.Reports.{Reports, reports, numberOf, sizeOf, eligibleLots}
+use Rattle.reports.specs.Trust.{answered, reportAsks}
+use Rattle.reports.proofs.Draws.{right-draw}
 use Rattle.trust.proofs.Sharing.{Admitted, size-unfaced, lots-unfaced, shared-over, refused-first, refused-last, allotted, admitted}
 use borrow.Author.Needs.{needs}
 use Rattle.trust.proofs.day_trust.Statement.{statement}
@@ -86,15 +86,5 @@ returns-3 c =
 pub day-trust-spec : {M : Type 1} → statement M
 day-trust-spec =
     tie.close
-    (tie.spec
-    (λ c κs. search needs)
-    (λ c. search needs)
-    returns
-    (λ c. search needs)
-    sizes-of-requires
-    (λ c. search needs)
-    returns-2
-    (λ c. search needs)
-    share-requires
-    (λ c. search needs)
-    returns-3)
+    (tie.spec (λ c κs. search needs) (λ c. search needs) returns (λ c. search needs) sizes-of-requires
+    (λ c. search needs) returns-2 (λ c. search needs) share-requires (λ c. search needs) returns-3)

@@ -3,7 +3,7 @@ use mathlib.Core.Path.{_∙_}
 use denote.Ref.{now}
 use borrow.Author.Needs.{needs}
 use borrow.Author.Tests.{lt-leb, le-leb}
-use Rattle.trust.specs.Reports.{lastSub}
+use Rattle.reports.specs.Reports.{lastSub}
 use Rattle.trust.proofs.Asks.{below-most}
 use Rattle.trust.proofs.few.Statement.{statement}
 use Rattle.trust.proofs.few.Tie as tie

@@ -11,8 +11,8 @@ use Rattle.rules.specs.Questions.{Question}
 use Rattle.laws.proofs.Basics.{and-both}
 use Rattle.laws.proofs.Scans.{and-false}
 use Rattle.laws.proofs.Answers.{AllYes, stops, no-no}
-use Rattle.trust.specs.Reports.{Reports, reports}
-use Rattle.trust.specs.Trust.{reportAsks}
+use Rattle.reports.specs.Reports.{Reports, reports}
+use Rattle.reports.specs.Trust.{reportAsks}
 use Rattle.trust.proofs.Asks.{below-most}
 use borrow.Author.Needs.{needs}
 use Rattle.trust.proofs.report_asks.Statement.{statement}
@@ -118,17 +118,5 @@ returns-9 c =
 pub report-asks-spec : {M : Type 1} → statement M
 report-asks-spec =
     tie.close
-    (tie.spec
-    returns
-    returns-2
-    (λ c κs. search needs)
-    returns-3
-    returns-4
-    returns-5
-    (λ c κs. search needs)
-    returns-6
-    (λ c κs. search needs)
-    returns-7
-    (λ c κs. search needs)
-    returns-8
-    returns-9)
+    (tie.spec returns returns-2 (λ c κs. search needs) returns-3 returns-4 returns-5 (λ c κs. search needs) returns-6
+    (λ c κs. search needs) returns-7 (λ c κs. search needs) returns-8 returns-9)

@@ -3,16 +3,17 @@ use mathlib.Core.Path.{_≡_, refl, sym, ap, _∙_}
 use mathlib.Core.Bool.{true}
 use mathlib.Core.List.{List}
 use Rattle.rules.specs.declared.Read.the-variants.{Instr, Refused}
+use Rattle.rules.specs.Book.{bookOf}
 use Rattle.rules.specs.Tape.{readOf}
 use Rattle.turns.specs.Going.{enough, refusalOf}
 use Prim.Native.Nat.{ℕ, _+_, _-_, _≤_}
 use native.Mathlib.Omega.{arith}
 use denote.Ref.{now}
-use Rattle.tape.proofs.Sized.{read-sized}
-use Rattle.book.specs.States.{bookIn, Ready}
+use Rattle.rereading.proofs.Sized.{read-sized}
+use Rattle.book.specs.States.{Ready}
 use Rattle.turns.proofs.Goings.{Going, going-starts, going-again, going-refused, going-ends, rest-part, rest-enough}
 use lib.ListN as list
-use Rattle.tape.proofs.Sized.{same-read}
+use Rattle.rereading.proofs.Sized.{same-read}
 use borrow.Author.Needs.{needs}
 use Rattle.turns.proofs.run.Statement.{statement}
 use Rattle.turns.proofs.run.Tie as tie
@@ -22,8 +23,8 @@ Inv-loop words last stray index nets₀ delivered₀ lifts₀ charges₀ issues�
     Ready state nets delivered lifts charges issues froms tos lots days out
     × (list.length out ≡ list.length out₀)
     × (list.length text ≡ list.length text₀)
-    × Going words last stray index (bookIn state₀ nets₀ delivered₀ lifts₀ charges₀ issues₀ froms₀ tos₀ lots₀ days₀)
-    (bookIn state nets delivered lifts charges issues froms tos lots days) text at end
+    × Going words last stray index (bookOf state₀ nets₀ delivered₀ lifts₀ charges₀ issues₀ froms₀ tos₀ lots₀ days₀)
+    (bookOf state nets delivered lifts charges issues froms tos lots days) text at end
 
 abbrev μ-loop : tie.MeasureT-loop
 μ-loop words last stray index nets₀ delivered₀ lifts₀ charges₀ issues₀ froms₀ tos₀ lots₀ days₀ out₀ text₀ at₀ end₀ state₀ nets delivered lifts charges issues froms tos lots days out text at end state =
@@ -154,12 +155,12 @@ returns-2 c =
 pub run-spec : {M : Type 1} → statement M
 run-spec =
     tie.close
-    (tie.spec
-    Inv-loop μ-loop loop-holds (λ c. search needs) (λ c κs. search needs) (λ c. search needs) (λ c. search needs) (λ c. search needs)
-    (λ c. search needs) (λ c κs. search needs) (λ c. search needs) enum-told (λ c κs. search needs) (λ c. search needs) line-requires
-    (λ c. search needs) (λ c. search needs) (λ c. search needs) (λ c. search needs) (λ c. search needs) (λ c. search needs)
-    (λ c. search needs) (λ c. search needs) (λ c. search needs) (λ c. search needs) (λ c. search needs) returns (λ c. search needs)
-    (λ c. search needs) (λ c. search needs) (λ c. search needs) (λ c. search needs) turn-requires add-at loop-less loop-again
-    (λ c. search needs) stray-line-requires (λ c. search needs) (λ c. search needs) (λ c. search needs) (λ c. search needs)
-    (λ c. search needs) (λ c. search needs) (λ c. search needs) (λ c. search needs) (λ c. search needs) (λ c. search needs)
-    (λ c. search needs) returns-2)
+    (tie.spec Inv-loop μ-loop loop-holds (λ c. search needs) (λ c κs. search needs) (λ c. search needs)
+    (λ c. search needs) (λ c. search needs) (λ c. search needs) (λ c κs. search needs) (λ c. search needs) enum-told
+    (λ c κs. search needs) (λ c. search needs) line-requires (λ c. search needs) (λ c. search needs) (λ c. search needs)
+    (λ c. search needs) (λ c. search needs) (λ c. search needs) (λ c. search needs) (λ c. search needs)
+    (λ c. search needs) (λ c. search needs) (λ c. search needs) returns (λ c. search needs) (λ c. search needs)
+    (λ c. search needs) (λ c. search needs) (λ c. search needs) turn-requires add-at loop-less loop-again
+    (λ c. search needs) stray-line-requires (λ c. search needs) (λ c. search needs) (λ c. search needs)
+    (λ c. search needs) (λ c. search needs) (λ c. search needs) (λ c. search needs) (λ c. search needs)
+    (λ c. search needs) (λ c. search needs) (λ c. search needs) returns-2)

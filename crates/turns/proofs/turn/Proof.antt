@@ -2,8 +2,8 @@
 use native.Mathlib.Omega.{arith}
 use denote.Ref.{now}
 use Rattle.rules.specs.declared.Book.{Book}
+use Rattle.rules.specs.Book.{bookOf}
 use Rattle.laws.proofs.Answers.{has-room}
-use Rattle.book.specs.States.{bookIn}
 use Rattle.report.proofs.Texts.{added-as}
 use Rattle.turns.proofs.Goings.{run-answer, answer-sound, same-line}
 use borrow.Author.Needs.{needs}
@@ -13,7 +13,7 @@ use Rattle.turns.proofs.turn.Tie as tie
 abbrev book : tie.Start → Book
 book s =
     let a = s .args in
-    bookIn (a .s) (now (a .nets)) (now (a .delivered)) (now (a .lifts)) (now (a .charges)) (now (a .issues)) (now (a .froms)) (now (a .tos)) (now (a .lots)) (now (a .days))
+    bookOf (a .s) (now (a .nets)) (now (a .delivered)) (now (a .lifts)) (now (a .charges)) (now (a .issues)) (now (a .froms)) (now (a .tos)) (now (a .lots)) (now (a .days))
 
 -- where the instruction was answered
 abbrev begin : tie.After-answer → tie.Start
@@ -47,7 +47,7 @@ returns c =
 pub turn-spec : {M : Type 1} → statement M
 turn-spec =
     tie.close
-    (tie.spec
-    (λ c. search needs) (λ c κs. search needs) (λ c. search needs) answer-requires (λ c κs. search needs)
+    (tie.spec (λ c. search needs) (λ c κs. search needs) (λ c. search needs) answer-requires (λ c κs. search needs)
     line-requires (λ c. search needs) (λ c. search needs) (λ c. search needs) (λ c. search needs) (λ c. search needs)
-    (λ c. search needs) (λ c. search needs) (λ c. search needs) (λ c. search needs) (λ c. search needs) (λ c. search needs) returns)
+    (λ c. search needs) (λ c. search needs) (λ c. search needs) (λ c. search needs) (λ c. search needs)
+    (λ c. search needs) returns)

@@ -57,5 +57,5 @@ loop-again c = (shorter c .1, omega (arith, c .before .before .before .before .l
 pub count-spec : {M : Type 1} → statement M
 count-spec =
     tie.close
-    (tie.spec Inv-loop μ-loop (λ c. search needs) (λ c κs. search needs) (λ c. search needs) (λ c. search needs) returns add-k loop-less
-    loop-again)
+    (tie.spec Inv-loop μ-loop (λ c. search needs) (λ c κs. search needs) (λ c. search needs) (λ c. search needs) returns
+    add-k loop-less loop-again)

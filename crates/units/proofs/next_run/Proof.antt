@@ -7,7 +7,7 @@ use borrow.Author.Needs.{needs}
 use denote.Ref.{now}
 use Rattle.rules.specs.Units.{AccountLots}
 use Rattle.rules.specs.Fails.{overlaps}
-use Rattle.units.specs.Runs.{runsIn}
+use Rattle.runs.specs.Runs.{runsIn}
 use Rattle.units.proofs.Steps.{ahead, behind, run-next, run-end}
 use Rattle.units.proofs.next_run.Statement.{statement}
 use Rattle.units.proofs.next_run.Tie as tie
@@ -61,5 +61,5 @@ returns-2 c =
 pub next-run-spec : {M : Type 1} → statement M
 next-run-spec =
     tie.close
-    (tie.spec Inv-loop μ-loop loop-holds returns (λ c. search needs) (λ c. search needs) (λ c. search needs) (λ c. search needs) loop-again
-    returns-2)
+    (tie.spec Inv-loop μ-loop loop-holds returns (λ c. search needs) (λ c. search needs) (λ c. search needs)
+    (λ c. search needs) loop-again returns-2)

@@ -2,7 +2,7 @@
 use native.Mathlib.Omega.{arith}
 use borrow.Author.Needs.{needs}
 use denote.Ref.{now}
-use Rattle.units.proofs.Lifted.{can-lift-all, prepared}
+use Rattle.lifted.proofs.Lifted.{can-lift-all, prepared}
 use Rattle.units.proofs.prepare.Statement.{statement}
 use Rattle.units.proofs.prepare.Tie as tie
 
@@ -24,5 +24,5 @@ returns c =
 pub prepare-spec : {M : Type 1} → statement M
 prepare-spec =
     tie.close
-    (tie.spec (λ c κs. search needs) (λ c. search needs) (λ c. search needs) (λ c. search needs) (λ c. search needs) (λ c. search needs)
-    (λ c. search needs) lift-all-requires (λ c. search needs) returns)
+    (tie.spec (λ c κs. search needs) (λ c. search needs) (λ c. search needs) (λ c. search needs) (λ c. search needs)
+    (λ c. search needs) (λ c. search needs) lift-all-requires (λ c. search needs) returns)

@@ -3,7 +3,7 @@ use Prim.Native.Nat.{_-_}
 use native.Mathlib.Omega.{arith}
 use borrow.Author.Needs.{needs}
 use denote.Ref.{now}
-use Rattle.units.proofs.Gathers.{begins-none, can-gather, fits-lent, begins-lent}
+use Rattle.units.proofs.Begins.{begins-none, can-gather, fits-lent, begins-lent}
 use Rattle.units.proofs.start.Statement.{statement}
 use Rattle.units.proofs.start.Tie as tie
 
@@ -44,6 +44,6 @@ returns-2 c =
 pub start-spec : {M : Type 1} → statement M
 start-spec =
     tie.close
-    (tie.spec hand-requires (λ c κs. search needs) (λ c. search needs) returns (λ c. search needs) (λ c. search needs) (λ c. search needs)
-    (λ c. search needs) gather-requires (λ c. search needs) (λ c. search needs) (λ c. search needs) sub-stand (λ c κs. search needs)
-    (λ c. search needs) returns-2)
+    (tie.spec hand-requires (λ c κs. search needs) (λ c. search needs) returns (λ c. search needs) (λ c. search needs)
+    (λ c. search needs) (λ c. search needs) gather-requires (λ c. search needs) (λ c. search needs) (λ c. search needs)
+    sub-stand (λ c κs. search needs) (λ c. search needs) returns-2)

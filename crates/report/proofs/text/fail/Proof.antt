@@ -20,7 +20,6 @@ returns c =
 pub fail-spec : {M : Type 1} → statement M
 fail-spec =
     tie.close
-    (tie.spec
-    (λ c. search needs) (λ c κs. search needs) (λ c κs. search needs) (λ c κs. search needs) (λ c κs. search needs)
-    (λ c κs. search needs) (λ c κs. search needs) (λ c. search needs) (λ c κs. search needs) (λ c. search needs)
-    returns)
+    (tie.spec (λ c. search needs) (λ c κs. search needs) (λ c κs. search needs) (λ c κs. search needs)
+    (λ c κs. search needs) (λ c κs. search needs) (λ c κs. search needs) (λ c. search needs) (λ c κs. search needs)
+    (λ c. search needs) returns)

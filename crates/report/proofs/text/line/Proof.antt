@@ -19,6 +19,6 @@ returns c =
 pub line-spec : {M : Type 1} → statement M
 line-spec =
     tie.close
-    (tie.spec
-    (λ c κs. search needs) (λ c. search needs) (λ c κs. search needs) (λ c κs. search needs) (λ c κs. search needs)
-    (λ c κs. search needs) (λ c. search needs) (λ c κs. search needs) (λ c. search needs) returns)
+    (tie.spec (λ c κs. search needs) (λ c. search needs) (λ c κs. search needs) (λ c κs. search needs)
+    (λ c κs. search needs) (λ c κs. search needs) (λ c. search needs) (λ c κs. search needs) (λ c. search needs)
+    returns)

@@ -9,13 +9,13 @@ use Rattle.report.proofs.text.name.Tie as tie
 pub name-spec : {M : Type 1} → statement M
 name-spec =
     tie.close
-    (tie.spec
-    (λ c. search needs) (λ c. search needs) (λ c κs. search needs) (λ c. search needs) (λ c. search needs)
+    (tie.spec (λ c. search needs) (λ c. search needs) (λ c κs. search needs) (λ c. search needs) (λ c. search needs)
     (λ c κs. search needs) (λ c. search needs) (λ c. search needs) (λ c κs. search needs) (λ c. search needs)
     (λ c. search needs) (λ c κs. search needs) (λ c. search needs) (λ c. search needs) (λ c κs. search needs)
     (λ c. search needs) (λ c. search needs) (λ c κs. search needs) (λ c. search needs) (λ c. search needs)
     (λ c κs. search needs) (λ c. search needs) (λ c. search needs) (λ c κs. search needs) (λ c. search needs)
-    (λ c. search needs) (λ c κs. search needs) (λ c. search needs) (λ c. search needs) (λ c κs. search needs) (λ c. search needs)
+    (λ c. search needs) (λ c κs. search needs) (λ c. search needs) (λ c. search needs) (λ c κs. search needs)
+    (λ c. search needs)
     (λ c. rw (c .before .before .before .before .before .enum-told .given .1) (added-as 5 8 _ _ _ _ _ _ (omega arith) refl (c .before .before .put .ensures)))
     (λ c. search needs)
     (λ c. rw (c .before .before .before .before .before .enum-told2 .given .1) (added-as 7 8 _ _ _ _ _ _ (omega arith) refl (c .before .before .put2 .ensures)))

@@ -8,7 +8,7 @@ use borrow.Author.Tests.{not-true, not-false}
 use Rattle.rules.specs.declared.Book.{Book}
 use Rattle.rules.specs.Book.{bookOf}
 use Rattle.soundness.proofs.ScanLaws.{others, others-as, others-no, others-yes, nets-yes, count-yes}
-use Rattle.soundness.proofs.EvenLaws.{lots-entries}
+use Rattle.balancing.proofs.EvenLaws.{lots-entries}
 use Rattle.soundness.proofs.scan.sound_columns.Statement.{statement}
 use Rattle.soundness.proofs.scan.sound_columns.Tie as tie
 
@@ -18,8 +18,7 @@ start c = c .before .before .before .before .before .before .before .before .bef
 abbrev book : tie.Start → Book
 book s =
     let a = s .args in
-    bookOf (a .day) (a .phase) (a .turn) (a .marks) (now (a .nets)) (now (a .delivered)) (now (a .lifts)) (now (a .charges)) (a .count) (now (a .issues))
-    (now (a .froms)) (now (a .tos)) (now (a .lots)) (now (a .days))
+    bookOf (a .s) (now (a .nets)) (now (a .delivered)) (now (a .lifts)) (now (a .charges)) (now (a .issues)) (now (a .froms)) (now (a .tos)) (now (a .lots)) (now (a .days))
 
 -- what the four parts found
 told : (c : tie.After-charges-sound) →
@@ -58,10 +57,10 @@ returns-2 c =
     let b = book (start (e .before)) in
     others-yes b (sym (told (e .before)) ∙ not-false _ (e .if1 .left)) (l .lifts-sound .result) (c .before .cells-even .result) (c .entries-even .result)
     (l .lifts-sound .ensures) (c .before .cells-even .ensures)
-    (lots-entries (b .marks) (b .count) (b .issues) (b .froms) (b .tos) (b .lots) (b .days) (c .entries-even .result) (c .entries-even .ensures))
+    (lots-entries (b .state .marks) (b .state .entries) (b .issues) (b .froms) (b .tos) (b .lots) (b .days) (c .entries-even .result) (c .entries-even .ensures))
 
 pub sound-columns-spec : {M : Type 1} → statement M
 sound-columns-spec =
     tie.close
-    (tie.spec (λ c κs. search needs) (λ c κs. search needs) (λ c κs. search needs) (λ c κs. search needs) returns lifts-sound-requires (λ c κs. search needs)
-    entries-even-requires returns-2)
+    (tie.spec (λ c κs. search needs) (λ c κs. search needs) (λ c κs. search needs) (λ c κs. search needs) returns
+    lifts-sound-requires (λ c κs. search needs) entries-even-requires returns-2)

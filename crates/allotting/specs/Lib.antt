@@ -1,0 +1,2 @@
+-- What the contracts of bases and rounds cite.
+pub mod Steps

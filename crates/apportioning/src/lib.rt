@@ -1,0 +1,1 @@
+// Why base contributions and shares are right: theorems, no code.

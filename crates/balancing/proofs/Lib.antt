@@ -1,0 +1,3 @@
+-- Why the scan of nets and delivered lots is the definition.
+pub mod RowLaws
+pub mod EvenLaws

@@ -1,0 +1,118 @@
+// The scan of nets and delivered lots for soundness: in bounds, in balance, no more delivered than owed, and even where
+// an issue is marked, entries' lots too.
+use book::due;
+use book::even_in;
+use book::owed;
+use book::within;
+use rules::State;
+ghost use mathlib.Core.Path.{_≡_};
+ghost use Prim.Native.Nat.{_≤_, _<_};
+ghost use lib.ListN.{length};
+ghost use Rattle.rules.specs.Book.{CellLengths, isEven, cellsEven};
+ghost use Rattle.balancing.specs.Scan.{rowSound, netsSound, RowLengths};
+ghost use lib.IntN.{natAbs};
+ghost use Rattle.balancing.specs.EvenScan.{rowEven, allCells, allLots};
+
+// Is each net of an issue in bounds, are they in balance, and is no more delivered than owed?
+fn row_sound<'a>(net: &'a [i32], delivered: &'a [u32]) -> bool
+    requires { ⌜ RowLengths (now net) (now delivered) ⌝ }
+    ensures { λ r. ⌜ r ≡ rowSound (now (net .entry)) (now (delivered .entry)) ⌝ }
+{
+    let mut good = true;
+    let mut dues: u64 = 0;
+    let mut oweds: u64 = 0;
+    let mut i: usize = 0;
+    while i < 64 {
+        let n = net[i];
+        let d = due(n);
+        let o = owed(n);
+        dues += d as u64;
+        oweds += o as u64;
+        good = good & within(n) & (delivered[i] <= o);
+        i += 1;
+    }
+    good & (dues == oweds)
+}
+
+// The same of each issue.
+pub fn nets_sound<'a>(nets: &'a [i32], delivered: &'a [u32]) -> bool
+    requires { ⌜ CellLengths (now nets) (now delivered) ⌝ }
+    ensures { λ r. ⌜ r ≡ netsSound (now (nets .entry)) (now (delivered .entry)) ⌝ }
+{
+    let mut good = true;
+    let mut i: usize = 0;
+    while i < 16 {
+        let s = i * 64;
+        let e = s + 64;
+        good = good & row_sound(&nets[s..e], &delivered[s..e]);
+        i += 1;
+    }
+    good
+}
+
+// Is a net even?
+fn net_even(n: i32) -> bool
+    ensures { λ r. ⌜ r ≡ isEven (natAbs n) ⌝ }
+{
+    let d = due(n);
+    let o = owed(n);
+    (d % 2 == 0) & (o % 2 == 0)
+}
+
+// Are the nets and the delivered lots of an issue even?
+fn row_even<'a>(net: &'a [i32], delivered: &'a [u32]) -> bool
+    requires { ⌜ RowLengths (now net) (now delivered) ⌝ }
+    ensures { λ r. ⌜ r ≡ rowEven (now (net .entry)) (now (delivered .entry)) ⌝ }
+{
+    let mut good = true;
+    let mut i: usize = 0;
+    while i < 64 {
+        let n = net[i];
+        good = good & net_even(n) & (delivered[i] % 2 == 0);
+        i += 1;
+    }
+    good
+}
+
+// Are they, if the issue is marked?
+fn issue_even<'a>(s: State, nets: &'a [i32], delivered: &'a [u32], i: usize) -> bool
+    requires { ⌜ CellLengths (now nets) (now delivered) × (i < 16) ⌝ }
+    ensures { λ r. ⌜ r ≡ cellsEven (s .marks) (now (nets .entry)) (now (delivered .entry)) i ⌝ }
+{
+    if s.marks[i] == 0 {
+        return true;
+    }
+    let b = i * 64;
+    let e = b + 64;
+    row_even(&nets[b..e], &delivered[b..e])
+}
+
+// The same of each issue.
+pub fn cells_even<'a>(s: State, nets: &'a [i32], delivered: &'a [u32]) -> bool
+    requires { ⌜ CellLengths (now nets) (now delivered) ⌝ }
+    ensures { λ r. ⌜ r ≡ allCells (s .marks) (now (nets .entry)) (now (delivered .entry)) ⌝ }
+{
+    let mut good = true;
+    let mut i: usize = 0;
+    while i < 16 {
+        good = good & issue_even(s, nets, delivered, i);
+        i += 1;
+    }
+    good
+}
+
+// Are the lots of each entry even, if its issue is marked?
+pub fn entries_even<'a>(s: State, issues: &'a [u8], lots: &'a [u32]) -> bool
+    requires { ⌜ (s .entries ≤ length (now issues)) × (s .entries ≤ length (now lots)) ⌝ }
+    ensures { λ r. ⌜ r ≡ allLots (s .marks) (s .entries) (now (issues .entry)) (now (lots .entry)) ⌝ }
+{
+    let n = s.entries;
+    let mut good = true;
+    let mut k: usize = 0;
+    while k < n {
+        let i = issues[k];
+        good = good & even_in(s, i as u32, lots[k]);
+        k += 1;
+    }
+    good
+}

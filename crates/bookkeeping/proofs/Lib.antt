@@ -1,0 +1,3 @@
+-- Why the scan of ledger and charges is the definition.
+pub mod LedgerLaws
+pub mod Halves

@@ -1,0 +1,2 @@
+-- Why the charges are the definition's.
+pub mod Charging

@@ -1,0 +1,2 @@
+-- What the contracts of charges cite.
+pub mod Charging

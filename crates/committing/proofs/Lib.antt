@@ -1,0 +1,2 @@
+-- What a commit hands on.
+pub mod HandedOn

@@ -1,0 +1,2 @@
+-- What the contracts of a commit's parts cite.
+pub mod Committing

@@ -1,0 +1,1 @@
+// Obligated funds for a default: definitions and worked defaults, no code.

@@ -1,0 +1,3 @@
+-- What the contracts of an issue's cutoff cite.
+pub mod Write
+pub mod Issue

@@ -1,0 +1,1 @@
+// A simulated desk at any size of units: definitions and worked desks, no code.

@@ -1,0 +1,2 @@
+-- Why a number that is drawn twice is seen.
+pub mod Marks

@@ -1,0 +1,2 @@
+-- What the marks' contracts cite.
+pub mod Marks

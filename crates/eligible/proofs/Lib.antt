@@ -1,0 +1,2 @@
+-- Why a report's size is as the definition says.
+pub mod Sizes

@@ -1,0 +1,2 @@
+-- What the contracts of sizes cite.
+pub mod Steps

@@ -1,4 +1,0 @@
-pub mod Fields
-pub mod Host
-pub mod Words
-pub mod Lifts

@@ -1,0 +1,4 @@
+-- Laws of places and falls.
+pub mod Places
+pub mod Seeking
+pub mod Falling

@@ -1,0 +1,2 @@
+-- What the contracts of places and falls cite.
+pub mod Places

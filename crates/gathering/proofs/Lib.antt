@@ -1,0 +1,2 @@
+-- Why gathered runs are the stretches.
+pub mod Gathers

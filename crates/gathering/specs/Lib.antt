@@ -1,0 +1,2 @@
+-- What the contracts of gathering cite.
+pub mod Gathering

@@ -1,0 +1,2 @@
+-- Units handed over one by one.
+pub mod Handing

@@ -1,0 +1,2 @@
+-- What the contracts of handing over cite.
+pub mod Handing

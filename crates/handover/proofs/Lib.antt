@@ -1,0 +1,2 @@
+-- What a step along the units says.
+pub mod Questions

@@ -1,0 +1,2 @@
+-- What the contracts of the handover cite.
+pub mod Walking

@@ -1,0 +1,96 @@
+// Along an issue's units: the unit behind a place, how many there are, and what a delivered total covers.
+ghost use mathlib.Core.Path.{_≡_};
+ghost use Prim.Native.Nat.{_≤_};
+ghost use lib.ListN.{length};
+ghost use Rattle.runs.specs.Runs.{unitsIn, Held};
+ghost use Rattle.handover.specs.Walking.{SeatIs, NextIs, HandedIs};
+
+// A place in front of a unit: behind so many units of the runs from `run` on.
+pub struct Seat {
+    pub run: usize,
+    pub passed: u32,
+}
+
+// The next unit: account, lots, and the place behind it; or none is left.
+pub enum NextUnit {
+    Unit(u32, u32, Seat),
+    Nothing,
+}
+
+// The place in front of unit k, k from 0.
+pub fn seek(k: u32) -> Seat
+    ensures { λ r. ⌜ SeatIs k r ⌝ }
+{
+    Seat { run: 0, passed: k }
+}
+
+// The unit behind a place.
+pub fn next_unit(runs: &[u32], n: usize, s: Seat) -> NextUnit
+    requires { ⌜ n ≤ length (now runs) ⌝ }
+    ensures { λ r. ⌜ NextIs (now (runs .entry)) n s r ⌝ }
+{
+    let mut j = s.run;
+    let mut k = s.passed;
+    while j < n {
+        let key = runs[j];
+        let lots = key / 64;
+        let c = (lots + 99999) / 100000;
+        if k < c {
+            let left = lots - k * 100000;
+            let next = Seat {
+                run: j,
+                passed: k + 1,
+            };
+            if left < 100000 {
+                return NextUnit::Unit(key % 64, left, next);
+            }
+            return NextUnit::Unit(key % 64, 100000, next);
+        }
+        k -= c;
+        j += 1;
+    }
+    NextUnit::Nothing
+}
+
+// How many units n runs stand for.
+pub fn number(runs: &[u32], n: usize) -> u32
+    requires { ⌜ (n ≤ length (now runs)) × (n ≤ 144) ⌝ }
+    ensures { λ r. ⌜ r ≡ length (unitsIn (now (runs .entry)) n) ⌝ }
+{
+    let mut count: u32 = 0;
+    let mut j = 0;
+    while j < n {
+        count += (runs[j] / 64 + 99999) / 100000;
+        j += 1;
+    }
+    count
+}
+
+// How many units a delivered total covers, and the stock: what is then left of it.
+pub struct Handed {
+    pub count: u32,
+    pub stock: u32,
+}
+
+// What a delivered total covers of the units.
+pub fn handover(runs: &[u32], n: usize, d: u32) -> Handed
+    requires { ⌜ Held (now runs) n ⌝ }
+    ensures { λ r. ⌜ HandedIs (unitsIn (now (runs .entry)) n) d r ⌝ }
+{
+    let mut left = d;
+    let mut count: u32 = 0;
+    let mut j = 0;
+    while j < n {
+        let lots = runs[j] / 64;
+        if left < lots {
+            return Handed {
+                count: count + left / 100000,
+                stock: left % 100000,
+            };
+        }
+        left -= lots;
+        count += (lots + 99999) / 100000;
+        j += 1;
+    }
+    Handed { count, stock: left }
+}

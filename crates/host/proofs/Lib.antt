@@ -1,0 +1,6 @@
+pub mod Holding
+pub mod Asking
+pub mod Calling
+pub mod Lifting
+pub mod Fed
+pub mod Contracts

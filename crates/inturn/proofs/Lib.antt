@@ -1,0 +1,2 @@
+-- Why units are dealt as the definition deals them.
+pub mod Dealing

@@ -1,0 +1,2 @@
+-- What the contracts of dealing in turn cite.
+pub mod InTurn

@@ -1,0 +1,2 @@
+-- Laws of handing over by runs.
+pub mod Joining

@@ -1,0 +1,2 @@
+-- What the contracts of handing on cite.
+pub mod Runs

@@ -1,0 +1,2 @@
+-- What the contract of equal rounds cites.
+pub mod Room

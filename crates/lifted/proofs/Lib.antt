@@ -1,0 +1,2 @@
+-- Why lifted runs are the order as lifted.
+pub mod Lifted

@@ -1,0 +1,2 @@
+-- What the contracts of lifts cite.
+pub mod Lifting

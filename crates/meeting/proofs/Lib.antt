@@ -1,0 +1,2 @@
+-- What a record of one entry is.
+pub mod Recording

@@ -1,0 +1,2 @@
+-- What the contracts of one entry cite.
+pub mod Meeting

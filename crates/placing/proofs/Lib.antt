@@ -1,0 +1,2 @@
+-- Why the scan of lifts is the definition.
+pub mod LiftLaws

@@ -1,0 +1,2 @@
+-- What the contracts of the scan of lifts cite.
+pub mod LiftScan

@@ -1,0 +1,2 @@
+-- Why the lines of a run are the definition's.
+pub mod Sofar

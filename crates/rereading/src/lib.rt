@@ -1,0 +1,1 @@
+// Tapes written and read again: theorems, no code.

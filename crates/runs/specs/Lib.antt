@@ -1,0 +1,2 @@
+-- What the contracts of the order cite.
+pub mod Runs

@@ -1,0 +1,2 @@
+-- What the contracts of serving cite.
+pub mod Serving

@@ -1,0 +1,2 @@
+-- Why a group takes lots as the definition says.
+pub mod Groups

@@ -1,0 +1,2 @@
+-- What the contracts of shares cite.
+pub mod Steps

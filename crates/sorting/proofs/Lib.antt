@@ -1,0 +1,2 @@
+-- Why keys put in one by one are ranked as the definition ranks.
+pub mod Ranking

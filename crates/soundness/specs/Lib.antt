@@ -1,4 +1,0 @@
-pub mod Sound
-pub mod Scan
-pub mod LiftScan
-pub mod EvenScan

@@ -1,0 +1,3 @@
+-- Why the steps are the definition's.
+pub mod Stepping
+pub mod Turns

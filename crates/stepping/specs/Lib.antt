@@ -1,0 +1,2 @@
+-- What the contract of the steps cites.
+pub mod Steps

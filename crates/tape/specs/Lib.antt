@@ -1,2 +1,0 @@
--- What the tape's functions promise.
-pub mod Answers

@@ -1,0 +1,2 @@
+-- What the contracts of tickets cite.
+pub mod Tickets

@@ -1,0 +1,3 @@
+-- The reason a unit has not come, as definitions.
+pub mod Status
+pub mod Days

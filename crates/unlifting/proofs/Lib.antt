@@ -1,0 +1,2 @@
+-- Why places are those before all lifts.
+pub mod Places

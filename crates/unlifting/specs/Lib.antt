@@ -1,0 +1,2 @@
+-- What the contracts of places before lifts cite.
+pub mod Unlifting

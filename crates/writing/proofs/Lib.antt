@@ -1,0 +1,3 @@
+-- Laws of the writer.
+pub mod Fitting
+pub mod Writing

@@ -1,0 +1,2 @@
+-- What the tape's writer promises.
+pub mod Answers
