@@ -238,13 +238,47 @@ static int change_over(void)
            dealt.state.turn == 1 && day_book_sound(&dealt) == 1;
 }
 
+/* What participant 0 sees of account 5, which is its own. */
+static int look(struct day_caller caller)
+{
+    struct day_seen seen = day_book_look(caller, &book, ISSUE, 5, 0);
+    if (seen.refusal != DAY_DONE) {
+        return 0;
+    }
+    printf("account 5: net %" PRId32 ", charge %" PRId64 " yen\n", seen.net, seen.charge);
+    for (uint32_t k = 0; seen.some == 1; k++) {
+        printf("  entry %" PRIu32 ": account %d fails account %d %" PRIu32 " lots since day %d\n", k,
+               seen.entry.from, seen.entry.to, seen.entry.lots, seen.entry.day);
+        seen = day_book_look(caller, &book, ISSUE, 5, k + 1);
+    }
+    return seen.refusal == DAY_DONE;
+}
+
+/* A login: participant 0 reads and resolves for its own account, and for no other; closing the book is the
+ * operator's. */
+static int login(void)
+{
+    struct day_caller caller;
+    struct day_answer other = {0, 0, 0};
+    caller.number = 0;
+    memset(caller.owners, DAY_NOBODY, sizeof caller.owners);
+    caller.owners[5] = 0;
+    printf("participant 0, whose account is 5:\n");
+    other.refusal = day_book_look(caller, &book, ISSUE, 2, 0).refusal;
+    return look(caller) && refused("account 2", other, DAY_REFUSED_RIGHT) &&
+           refused("a close", day_book_call_as(caller, &book, DAY_CLOSE, 0, 0, 0, 0, out, 0, out, 0),
+                   DAY_REFUSED_RIGHT) &&
+           done("resolve", day_book_resolve_as(caller, &book, ISSUE, 5, 30000, out)) &&
+           look(caller) && day_book_sound(&book) == 1;
+}
+
 int main(void)
 {
     day_book_fresh(&book);
     int as_expected = take_trades(&book) && show_units(&book) && deliver(&book, 5, 345000) &&
                       tell(2) && tell(3) && deliver(&book, 4, 200000) && deliver_too_much() &&
                       lift() && cut(&book) && tell(5) && tell(6) && tell(8) &&
-                      roll(1, 300, 100000, 0) && mark(1) && change_over();
+                      roll(1, 300, 100000, 0) && mark(1) && change_over() && login();
     if (fflush(stdout) != 0 || ferror(stdout)) {
         perror("day: the lines could not be written");
         return NOT_WRITTEN;

@@ -3,7 +3,8 @@
  * The functions are in static libraries, which `make libraries` makes:
  *
  *     target/staticlib/libhost.a      day_sound day_unit day_status day_simulate day_call day_ask
- *                                     day_commit
+ *                                     day_commit, all but the first with a caller too (day_unit_as,
+ *                                     ..), and day_look
  *     target/staticlib/libdesk.a      day_value day_charge day_read day_quotes day_write
  *     target/staticlib/libentries.a   entry_meet
  *     target/staticlib/libfunds.a     day_bases day_shares day_funds
@@ -121,6 +122,13 @@ extern "C" {
 #define DAY_REFUSED_BASES 25u   /* the funds are above all bases together */
 
 #define DAY_REFUSED_CHANGE_OVER 26u /* the day is not after today, or the new order is in force (turn) */
+#define DAY_REFUSED_RIGHT 27u   /* the caller has not the right: the account is not its own, or the call
+                                 * is the operator's */
+
+/* ---- callers and owners */
+
+#define DAY_OPERATOR 16u /* the caller that may make every call; 0 to 15 are participants */
+#define DAY_NOBODY 255u  /* an owner number that names nobody, as every number above 15 */
 
 /* ---- why a unit has not come: the cases of day_status */
 
@@ -297,6 +305,121 @@ struct day_entry {
 /* Lowers the lots of the entry at a place by at most so many, and answers how many were met; 0 where
  * there is no such entry. */
 uint32_t entry_meet(struct day_entry *entries, size_t length, size_t at, uint32_t lots);
+
+/* ---- the same with a caller
+ *
+ * Each call on a book has a form with its caller and the owners of the 64 accounts, by value and in front
+ * of all else. The operator may make every call and is answered as without a caller. A participant may
+ * deliver and resolve for accounts that are its own, and read them; everything else, and everything of any
+ * other number, is refused by 27, straight after 5.
+ *
+ * Who may see what: of a call a participant is told the refusal and nothing else. count, cancelled, the
+ * state after it and the output are the house's: they tell of other accounts. */
+
+struct day_caller {
+    uint32_t number;              /* 0 to 15 a participant, DAY_OPERATOR, any other nobody */
+    uint8_t owners[DAY_ACCOUNTS]; /* of each account: 0 to 15 a participant, any other none */
+};
+
+struct day_turned day_call_as(struct day_caller caller,
+                              uint32_t kind, uint32_t a, uint32_t b, uint32_t c, uint32_t d,
+                              const uint32_t *quotes, size_t quotes_length,
+                              struct day_state state,
+                              int32_t *nets, size_t nets_length,
+                              uint32_t *delivered, size_t delivered_length,
+                              uint32_t *lifts, size_t lifts_length,
+                              int64_t *charges, size_t charges_length,
+                              uint8_t *issues, size_t issues_length,
+                              uint8_t *froms, size_t froms_length,
+                              uint8_t *tos, size_t tos_length,
+                              uint32_t *lots, size_t lots_length,
+                              uint16_t *days, size_t days_length,
+                              uint32_t *out, size_t out_length);
+
+uint32_t day_unit_as(struct day_caller caller, struct day_state state,
+                     const int32_t *nets, size_t nets_length,
+                     const uint32_t *delivered, size_t delivered_length,
+                     const uint32_t *lifts, size_t lifts_length,
+                     const int64_t *charges, size_t charges_length,
+                     const uint8_t *issues, size_t issues_length,
+                     const uint8_t *froms, size_t froms_length,
+                     const uint8_t *tos, size_t tos_length,
+                     const uint32_t *lots, size_t lots_length,
+                     const uint16_t *days, size_t days_length,
+                     uint32_t issue, uint32_t k, uint32_t answer[3]);
+
+uint32_t day_status_as(struct day_caller caller, struct day_state state,
+                       const int32_t *nets, size_t nets_length,
+                       const uint32_t *delivered, size_t delivered_length,
+                       const uint32_t *lifts, size_t lifts_length,
+                       const int64_t *charges, size_t charges_length,
+                       const uint8_t *issues, size_t issues_length,
+                       const uint8_t *froms, size_t froms_length,
+                       const uint8_t *tos, size_t tos_length,
+                       const uint32_t *lots, size_t lots_length,
+                       const uint16_t *days, size_t days_length,
+                       uint32_t issue, uint32_t k, uint32_t answer[2]);
+
+uint32_t day_simulate_as(struct day_caller caller, struct day_state state,
+                         const int32_t *nets, size_t nets_length,
+                         const uint32_t *delivered, size_t delivered_length,
+                         const uint32_t *lifts, size_t lifts_length,
+                         const int64_t *charges, size_t charges_length,
+                         const uint8_t *issues, size_t issues_length,
+                         const uint8_t *froms, size_t froms_length,
+                         const uint8_t *tos, size_t tos_length,
+                         const uint32_t *lots, size_t lots_length,
+                         const uint16_t *days, size_t days_length,
+                         const uint32_t *settles, size_t settles_length,
+                         const uint32_t *inventories, size_t inventories_length, uint32_t size,
+                         uint64_t *deliveries, uint64_t *rounds, uint32_t owed[16]);
+
+uint32_t day_ask_as(struct day_caller caller, struct day_state state,
+                    const int32_t *nets, size_t nets_length,
+                    const uint32_t *delivered, size_t delivered_length,
+                    const uint32_t *lifts, size_t lifts_length,
+                    const int64_t *charges, size_t charges_length,
+                    const uint8_t *issues, size_t issues_length,
+                    const uint8_t *froms, size_t froms_length,
+                    const uint8_t *tos, size_t tos_length,
+                    const uint32_t *lots, size_t lots_length,
+                    const uint16_t *days, size_t days_length,
+                    uint32_t issue, uint32_t unit, uint32_t ticket[6]);
+
+uint32_t day_commit_as(struct day_caller caller, const uint32_t ticket[6], struct day_state state,
+                       const int32_t *nets, size_t nets_length,
+                       const uint32_t *delivered, size_t delivered_length,
+                       uint32_t *lifts, size_t lifts_length,
+                       const int64_t *charges, size_t charges_length,
+                       const uint8_t *issues, size_t issues_length,
+                       const uint8_t *froms, size_t froms_length,
+                       const uint8_t *tos, size_t tos_length,
+                       const uint32_t *lots, size_t lots_length,
+                       const uint16_t *days, size_t days_length,
+                       uint32_t *out, size_t out_length, size_t *count);
+
+/* What is seen of an account. */
+struct day_seen {
+    uint32_t refusal;       /* 0 where it is done; else all else is 0 */
+    uint32_t some;          /* 1 where the account has more than k entries in the issue, else 0 */
+    int32_t net;            /* in the issue */
+    int64_t charge;         /* the account's, in yen */
+    struct day_entry entry; /* its k-th entry in the issue, from it or to it; 0 where there is none */
+};
+
+/* Reads an account, in any phase: k counts its entries in the issue from 0, in ledger order. A participant
+ * reads its own accounts, the operator any. Refused by 2, 4, 5 and 27. */
+struct day_seen day_look(struct day_caller caller, struct day_state state,
+                         const int32_t *nets, size_t nets_length,
+                         const uint32_t *delivered, size_t delivered_length,
+                         const uint32_t *lifts, size_t lifts_length,
+                         const int64_t *charges, size_t charges_length,
+                         const uint8_t *issues, size_t issues_length,
+                         const uint8_t *froms, size_t froms_length,
+                         const uint8_t *tos, size_t tos_length,
+                         const uint32_t *lots, size_t lots_length,
+                         const uint16_t *days, size_t days_length,
+                         uint32_t issue, uint32_t account, uint32_t k);
 
 /* Each trade report's share of a fail inside a trust account, at the place of its number in out, 0
  * where it takes none. Of one issue's reports of the day the columns have a place each: sub-account,
@@ -609,6 +732,60 @@ static inline struct day_answer day_book_turn(struct day_book *book, uint32_t da
     return day_book_plain(book, DAY_TURN, day, 0, 0, 0);
 }
 
+/* The call of an instruction by a caller. Of the answer a participant is told the refusal alone. */
+static inline struct day_answer day_book_call_as(struct day_caller caller, struct day_book *book,
+                                                 uint32_t kind, uint32_t a, uint32_t b, uint32_t c,
+                                                 uint32_t d, const uint32_t *quotes,
+                                                 size_t quotes_length, uint32_t *out,
+                                                 size_t out_length)
+{
+    struct day_answer answer;
+    struct day_turned turned =
+        day_call_as(caller, kind, a, b, c, d, quotes, quotes_length, book->state,
+                    book->nets, DAY_PLACES, book->delivered, DAY_PLACES,
+                    book->lifts, DAY_LIFT_PLACES, book->charges, DAY_ACCOUNTS,
+                    book->issues, DAY_ENTRIES, book->froms, DAY_ENTRIES,
+                    book->tos, DAY_ENTRIES, book->lots, DAY_ENTRIES,
+                    book->days, DAY_ENTRIES, out, out_length);
+    if (turned.refusal == DAY_DONE) {
+        book->state = turned.state; /* else it is as it came */
+    }
+    answer.refusal = turned.refusal;
+    answer.count = turned.count;
+    answer.cancelled = turned.cancelled;
+    return answer;
+}
+
+static inline struct day_answer day_book_deliver_as(struct day_caller caller, struct day_book *book,
+                                                    uint32_t issue, uint32_t account, uint32_t lots,
+                                                    uint32_t out[DAY_OUT_WORDS])
+{
+    uint32_t none = 0;
+    return day_book_call_as(caller, book, DAY_DELIVER, issue, account, lots, 0, &none, 0, out,
+                            DAY_OUT_WORDS);
+}
+
+static inline struct day_answer day_book_resolve_as(struct day_caller caller, struct day_book *book,
+                                                    uint32_t issue, uint32_t account, uint32_t lots,
+                                                    uint32_t out[DAY_OUT_WORDS])
+{
+    uint32_t none = 0;
+    return day_book_call_as(caller, book, DAY_RESOLVE, issue, account, lots, 0, &none, 0, out,
+                            DAY_OUT_WORDS);
+}
+
+/* Reads an account: its net in the issue, its charge, its k-th entry there. */
+static inline struct day_seen day_book_look(struct day_caller caller, const struct day_book *book,
+                                            uint32_t issue, uint32_t account, uint32_t k)
+{
+    return day_look(caller, book->state,
+                    book->nets, DAY_PLACES, book->delivered, DAY_PLACES,
+                    book->lifts, DAY_LIFT_PLACES, book->charges, DAY_ACCOUNTS,
+                    book->issues, DAY_ENTRIES, book->froms, DAY_ENTRIES,
+                    book->tos, DAY_ENTRIES, book->lots, DAY_ENTRIES,
+                    book->days, DAY_ENTRIES, issue, account, k);
+}
+
 /* The record at a place of an output, 0 the first. */
 static inline struct day_record day_record_at(const uint32_t *out, size_t at)
 {
@@ -653,6 +830,7 @@ static inline const char *day_refusal_text(uint32_t refusal)
     case DAY_REFUSED_PARTICIPANTS: return "more than 64 participants, or an amount above 1,000,000";
     case DAY_REFUSED_BASES: return "the funds are above all bases together";
     case DAY_REFUSED_CHANGE_OVER: return "the day is not after today, or the new order is in force";
+    case DAY_REFUSED_RIGHT: return "the caller has not the right";
     default: return "no refusal of the rules";
     }
 }

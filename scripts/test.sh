@@ -43,6 +43,7 @@ step 'a trust account beside the second engine' build/release/trust
 step 'simulated desks beside the second engine' build/release/simulation
 step 'funds for a default beside the second engine' build/release/funds
 step 'the calls beside the second engine' build/release/calls
+step 'callers beside the second engine' build/release/callers
 step 'the program beside the second engine' build/release/tapes
 step 'the program where input or output fails' build/release/failures
 

@@ -105,7 +105,12 @@ pub fn unit(book: &Book, issue: u32, k: u32) -> UnitAnswer {
 /// Why the k-th unit of an issue, k from 0, has not come, in Settling and in Cut; the order is that as
 /// lifted. After the cutoff, what it lacked then is told, whatever was resolved since.
 pub fn status(book: &Book, issue: u32, k: u32) -> StatusAnswer {
-    let raw::StatusAnswer { refusal, case, lots } = raw::status(&book.columns(), issue, k);
+    status_of(raw::status(&book.columns(), issue, k))
+}
+
+/// What is told of a unit, of its plain numbers.
+pub(crate) fn status_of(answer: raw::StatusAnswer) -> StatusAnswer {
+    let raw::StatusAnswer { refusal, case, lots } = answer;
     let status = match case {
         1 => Some(Status::Handed),
         2 => Some(Status::Waiting { lots }),

@@ -1,5 +1,5 @@
 //! The proved library, called safely from Rust: a book and the calls on it, lifts of one unit, why a
-//! unit has not come, unit sizes tried on a simulated desk, the tape's reader and writer, value and
+//! unit has not come, who may call and who may look, unit sizes tried on a simulated desk, the tape's reader and writer, value and
 //! charge, entries met, a fail inside a trust account, obligated funds for a default.
 //!
 //! ```
@@ -16,6 +16,7 @@
 //! A book may hold any numbers: one that is not sound is refused by 2. Nothing here stops a program,
 //! whatever the book, the numbers and the words are; `raw` takes columns of any length too.
 
+pub mod access;
 mod book;
 pub mod calls;
 mod declarations;
@@ -29,6 +30,7 @@ pub mod simulation;
 pub mod tape;
 pub mod trust;
 
+pub use access::Caller;
 pub use book::{place, Book, Lift, Phase};
 pub use calls::{Status, Ticket};
 pub use entries::Entry;

@@ -4,10 +4,11 @@
 //! is damaged: the library refuses it by 2. There are always sixteen marks.
 
 use crate::declarations::{
-    day_ask, day_call, day_commit, day_quotes, day_read, day_simulate, day_sound, day_status,
-    day_unit, day_write,
+    day_ask, day_ask_as, day_call, day_call_as, day_commit, day_commit_as, day_look, day_quotes,
+    day_read, day_simulate, day_simulate_as, day_sound, day_status, day_status_as, day_unit,
+    day_unit_as, day_write,
 };
-use crate::{Fields, ISSUES, QUOTES};
+use crate::{Caller, Entry, Fields, ISSUES, QUOTES};
 
 /// What stands in a count before the library writes it: no answer has it.
 const NOT_WRITTEN: usize = usize::MAX;
@@ -32,6 +33,18 @@ pub struct Turned {
     pub count: usize,
     pub cancelled: u64,
     pub state: State,
+}
+
+/// What is seen of an account: the refusal's number; 1 where there is an entry, else 0; its net in the
+/// issue, its charge, and the entry, 0 throughout where there is none.
+#[repr(C)]
+#[derive(Clone, Copy, Debug, PartialEq, Eq)]
+pub struct Seen {
+    pub refusal: u32,
+    pub some: u32,
+    pub net: i32,
+    pub charge: i64,
+    pub entry: Entry,
 }
 
 /// A book as it is lent to a question: four numbers, of them the change-over day 0 where none is
@@ -165,11 +178,18 @@ pub struct WriteAnswer {
     pub count: usize,
 }
 
-/// Calls a function that takes a book to be read: its state and each column with its length, then what
-/// else it takes.
+/// Calls a function that takes a book to be read: its caller, where it has one, its state and each column
+/// with its length, then what else it takes.
 macro_rules! on_book {
+    (by $caller:expr, $function:ident, $book:expr $(, $more:expr)*) => {
+        on_book!(@ [$caller] $function, $book $(, $more)*)
+    };
     ($function:ident, $book:expr $(, $more:expr)*) => {
+        on_book!(@ [] $function, $book $(, $more)*)
+    };
+    (@ [$($caller:expr)?] $function:ident, $book:expr $(, $more:expr)*) => {
         $function(
+            $($caller,)?
             $book.state(),
             $book.nets.as_ptr(),
             $book.nets.len(),
@@ -210,43 +230,68 @@ pub fn unit(book: &Columns, issue: u32, k: u32) -> UnitAnswer {
     UnitAnswer { refusal, found, account, lots }
 }
 
-/// The call of an instruction given by its fields, made in place on any book.
-pub fn call(book: &mut ColumnsMut, fields: &Fields, quotes: &[u32], out: &mut [u32]) -> Answer {
-    let [kind, a, b, c, d] = *fields;
-    // SAFETY: columns, quotes and output are given with their lengths. All live through the call, and
-    // none of those that it may write overlaps another: each is a reference of its own.
-    let turned = unsafe {
-        day_call(
+/// Makes a call on a book that is lent to be changed: its caller, where it has one, the instruction's
+/// fields, quotes, state, columns and output, each with its length.
+macro_rules! call_on {
+    ([$($caller:expr)?] $function:ident, $book:expr, $fields:expr, $quotes:expr, $out:expr) => {{
+        let [kind, a, b, c, d] = *$fields;
+        $function(
+            $($caller,)?
             kind,
             a,
             b,
             c,
             d,
-            quotes.as_ptr(),
-            quotes.len(),
-            book.state(),
-            book.nets.as_mut_ptr(),
-            book.nets.len(),
-            book.delivered.as_mut_ptr(),
-            book.delivered.len(),
-            book.lifts.as_mut_ptr(),
-            book.lifts.len(),
-            book.charges.as_mut_ptr(),
-            book.charges.len(),
-            book.issues.as_mut_ptr(),
-            book.issues.len(),
-            book.froms.as_mut_ptr(),
-            book.froms.len(),
-            book.tos.as_mut_ptr(),
-            book.tos.len(),
-            book.lots.as_mut_ptr(),
-            book.lots.len(),
-            book.days.as_mut_ptr(),
-            book.days.len(),
-            out.as_mut_ptr(),
-            out.len(),
+            $quotes.as_ptr(),
+            $quotes.len(),
+            $book.state(),
+            $book.nets.as_mut_ptr(),
+            $book.nets.len(),
+            $book.delivered.as_mut_ptr(),
+            $book.delivered.len(),
+            $book.lifts.as_mut_ptr(),
+            $book.lifts.len(),
+            $book.charges.as_mut_ptr(),
+            $book.charges.len(),
+            $book.issues.as_mut_ptr(),
+            $book.issues.len(),
+            $book.froms.as_mut_ptr(),
+            $book.froms.len(),
+            $book.tos.as_mut_ptr(),
+            $book.tos.len(),
+            $book.lots.as_mut_ptr(),
+            $book.lots.len(),
+            $book.days.as_mut_ptr(),
+            $book.days.len(),
+            $out.as_mut_ptr(),
+            $out.len(),
         )
-    };
+    }};
+}
+
+/// The call of an instruction given by its fields, made in place on any book.
+pub fn call(book: &mut ColumnsMut, fields: &Fields, quotes: &[u32], out: &mut [u32]) -> Answer {
+    // SAFETY: columns, quotes and output are given with their lengths. All live through the call, and
+    // none of those that it may write overlaps another: each is a reference of its own.
+    let turned = unsafe { call_on!([] day_call, book, fields, quotes, out) };
+    answered(book, turned)
+}
+
+/// The call of an instruction by a caller; the answer is the house's.
+pub fn call_as(
+    caller: &Caller,
+    book: &mut ColumnsMut,
+    fields: &Fields,
+    quotes: &[u32],
+    out: &mut [u32],
+) -> Answer {
+    // SAFETY: as for `call`; the caller goes in by value.
+    let turned = unsafe { call_on!([*caller] day_call_as, book, fields, quotes, out) };
+    answered(book, turned)
+}
+
+/// Puts the state after a call in its place; the answer without it.
+fn answered(book: &mut ColumnsMut, turned: Turned) -> Answer {
     book.put(turned.state);
     let Turned { refusal, count, cancelled, .. } = turned;
     Answer { refusal, count, cancelled }
@@ -294,39 +339,118 @@ pub fn ask(book: &Columns, issue: u32, unit: u32) -> AskAnswer {
     AskAnswer { refusal, ticket }
 }
 
+/// Makes a commit on a book of which the lifts are lent to be changed.
+macro_rules! commit_on {
+    ([$($caller:expr)?] $function:ident, $ticket:expr, $book:expr, $out:expr, $count:expr) => {
+        $function(
+            $($caller,)?
+            $ticket,
+            $book.state(),
+            $book.nets.as_ptr(),
+            $book.nets.len(),
+            $book.delivered.as_ptr(),
+            $book.delivered.len(),
+            $book.lifts.as_mut_ptr(),
+            $book.lifts.len(),
+            $book.charges.as_ptr(),
+            $book.charges.len(),
+            $book.issues.as_ptr(),
+            $book.issues.len(),
+            $book.froms.as_ptr(),
+            $book.froms.len(),
+            $book.tos.as_ptr(),
+            $book.tos.len(),
+            $book.lots.as_ptr(),
+            $book.lots.len(),
+            $book.days.as_ptr(),
+            $book.days.len(),
+            $out.as_mut_ptr(),
+            $out.len(),
+            &mut $count,
+        )
+    };
+}
+
 /// The lift of a ticket, made in place on any book; of the book only the lifts are lent to be written.
 pub fn commit(book: &mut ColumnsMut, ticket: &TicketNumbers, out: &mut [u32]) -> Answer {
     let mut count = NOT_WRITTEN;
     // SAFETY: columns and output are given with their lengths. All live through the call, and neither
     // of the two that it may write overlaps another: each is a reference of its own.
+    let refusal = unsafe { commit_on!([] day_commit, ticket, book, out, count) };
+    Answer { refusal, count, cancelled: 0 }
+}
+
+/// The lift of a ticket by a caller.
+pub fn commit_as(
+    caller: &Caller,
+    book: &mut ColumnsMut,
+    ticket: &TicketNumbers,
+    out: &mut [u32],
+) -> Answer {
+    let mut count = NOT_WRITTEN;
+    // SAFETY: as for `commit`; the caller goes in by value.
+    let refusal = unsafe { commit_on!([*caller] day_commit_as, ticket, book, out, count) };
+    Answer { refusal, count, cancelled: 0 }
+}
+
+/// The k-th unit of an issue, k from 0, for a caller.
+pub fn unit_as(caller: &Caller, book: &Columns, issue: u32, k: u32) -> UnitAnswer {
+    let mut answer = [u32::MAX; 3];
+    // SAFETY: as for `unit`; the caller goes in by value.
+    let refusal = unsafe { on_book!(by * caller, day_unit_as, book, issue, k, &mut answer) };
+    let [found, account, lots] = answer;
+    UnitAnswer { refusal, found, account, lots }
+}
+
+/// What is told of the k-th unit of an issue, k from 0, for a caller.
+pub fn status_as(caller: &Caller, book: &Columns, issue: u32, k: u32) -> StatusAnswer {
+    let mut answer = [u32::MAX; 2];
+    // SAFETY: as for `status`; the caller goes in by value.
+    let refusal = unsafe { on_book!(by * caller, day_status_as, book, issue, k, &mut answer) };
+    let [case, lots] = answer;
+    StatusAnswer { refusal, case, lots }
+}
+
+/// The ticket for a lift, for a caller.
+pub fn ask_as(caller: &Caller, book: &Columns, issue: u32, unit: u32) -> AskAnswer {
+    let mut ticket = [u32::MAX; 6];
+    // SAFETY: as for `ask`; the caller goes in by value.
+    let refusal = unsafe { on_book!(by * caller, day_ask_as, book, issue, unit, &mut ticket) };
+    AskAnswer { refusal, ticket }
+}
+
+/// A plan tried on the simulated desk, for a caller.
+pub fn simulate_as(
+    caller: &Caller,
+    book: &Columns,
+    settles: &[u32],
+    inventories: &[u32],
+    size: u32,
+) -> Simulated {
+    let (mut deliveries, mut rounds, mut owed) = (u64::MAX, u64::MAX, [u32::MAX; ISSUES]);
+    // SAFETY: as for `simulate`; the caller goes in by value.
     let refusal = unsafe {
-        day_commit(
-            ticket,
-            book.state(),
-            book.nets.as_ptr(),
-            book.nets.len(),
-            book.delivered.as_ptr(),
-            book.delivered.len(),
-            book.lifts.as_mut_ptr(),
-            book.lifts.len(),
-            book.charges.as_ptr(),
-            book.charges.len(),
-            book.issues.as_ptr(),
-            book.issues.len(),
-            book.froms.as_ptr(),
-            book.froms.len(),
-            book.tos.as_ptr(),
-            book.tos.len(),
-            book.lots.as_ptr(),
-            book.lots.len(),
-            book.days.as_ptr(),
-            book.days.len(),
-            out.as_mut_ptr(),
-            out.len(),
-            &mut count,
+        on_book!(
+            by * caller,
+            day_simulate_as,
+            book,
+            settles.as_ptr(),
+            settles.len(),
+            inventories.as_ptr(),
+            inventories.len(),
+            size,
+            &mut deliveries,
+            &mut rounds,
+            &mut owed
         )
     };
-    Answer { refusal, count, cancelled: 0 }
+    Simulated { refusal, deliveries, rounds, owed }
+}
+
+/// An account read by a caller: its net in the issue, its charge and its k-th entry there, k from 0.
+pub fn look(caller: &Caller, book: &Columns, issue: u32, account: u32, k: u32) -> Seen {
+    // SAFETY: each column is given with its length; they live through the call, which reads them alone.
+    unsafe { on_book!(by * caller, day_look, book, issue, account, k) }
 }
 
 /// Reads the instruction that begins at the first word.

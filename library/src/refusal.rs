@@ -61,11 +61,13 @@ pub enum Refusal {
     Bases = 25,
     /// 26: the day is not after today, or full units are dealt in turn already (turn).
     ChangeOver = 26,
+    /// 27: the caller has not the right: the account is not its own, or the call is the operator's.
+    Right = 27,
 }
 
 impl Refusal {
     /// All refusals, by their numbers.
-    pub const ALL: [Refusal; 26] = [
+    pub const ALL: [Refusal; 27] = [
         Refusal::Output,
         Refusal::Book,
         Refusal::Phase,
@@ -92,6 +94,7 @@ impl Refusal {
         Refusal::Participants,
         Refusal::Bases,
         Refusal::ChangeOver,
+        Refusal::Right,
     ];
 
     /// The refusal of a number; none for 0, which is done, and for a number that none has.
@@ -139,6 +142,7 @@ impl Refusal {
             }
             Refusal::Bases => "the funds are above all bases together",
             Refusal::ChangeOver => "the day is not after today, or the new order is in force",
+            Refusal::Right => "the caller has not the right",
         }
     }
 }
@@ -156,12 +160,13 @@ mod tests {
     #[test]
     fn numbers_are_those_of_the_papers_in_order() {
         let numbers: Vec<u32> = Refusal::ALL.into_iter().map(Refusal::number).collect();
-        assert_eq!(numbers, (1..=26).collect::<Vec<u32>>());
+        assert_eq!(numbers, (1..=27).collect::<Vec<u32>>());
         assert_eq!(Refusal::of(9), Some(Refusal::Owed));
         assert_eq!(Refusal::of(23), Some(Refusal::Eligible));
         assert_eq!(Refusal::of(25), Some(Refusal::Bases));
         assert_eq!(Refusal::of(26), Some(Refusal::ChangeOver));
-        assert_eq!([0, 27, u32::MAX].map(Refusal::of), [None; 3]);
+        assert_eq!(Refusal::of(27), Some(Refusal::Right));
+        assert_eq!([0, 28, u32::MAX].map(Refusal::of), [None; 3]);
     }
 
     #[test]

@@ -3,6 +3,7 @@
 //! Test runs put the same calls to it and to the desk's library and compare the answers.
 #![forbid(unsafe_code)]
 
+pub mod access;
 pub mod book;
 pub mod calls;
 pub mod funds;

@@ -109,7 +109,7 @@ impl Named {
 }
 
 /// The accounts of a word: one, or a first and a last with `-` between.
-fn range(word: &Word) -> Result<(u32, u32), Fault> {
+pub(crate) fn range(word: &Word) -> Result<(u32, u32), Fault> {
     let most = ACCOUNTS as u32 - 1;
     let Some((first, last)) = word.text.split_once('-') else {
         let account = number("an account", word, most)?;
@@ -124,7 +124,7 @@ fn range(word: &Word) -> Result<(u32, u32), Fault> {
 }
 
 /// A number from 0 to a limit.
-fn number(what: &str, word: &Word, most: u32) -> Result<u32, Fault> {
+pub(crate) fn number(what: &str, word: &Word, most: u32) -> Result<u32, Fault> {
     let number = digits_of(word.text).and_then(|digits| digits.parse().ok());
     number.filter(|&number: &u32| number <= most).ok_or_else(|| {
         let most = Grouped(most.into());

@@ -1,5 +1,5 @@
 //! Tapes for people: a text form of the words, what the book refuses, what a tape does day by day, why a
-//! unit has not come, and whether smaller units would loosen a jam.
+//! unit has not come, whether smaller units would loosen a jam, and what a participant sees of an account.
 
 pub mod bytes;
 pub mod check;
@@ -9,6 +9,7 @@ pub mod fault;
 pub mod input;
 mod interrupt;
 pub mod jam;
+pub mod look;
 pub mod measure;
 pub mod options;
 pub mod output;

@@ -1,6 +1,7 @@
 //! Between the library's types and the second engine's, which are each its own.
 
 use library::{LIFT_PLACES, LIFT_WORDS};
+use reference::access::Caller;
 use reference::book;
 use reference::calls::Ticket;
 use reference::tape::Instruction;
@@ -56,6 +57,12 @@ pub fn lifts_of_words(words: &[u32; LIFT_PLACES]) -> [book::Lifts; book::ISSUES]
         }
     }
     lifts
+}
+
+/// The library's caller of a caller.
+pub fn library_caller(caller: &Caller) -> library::Caller {
+    let Caller { number, owners } = *caller;
+    library::Caller { number, owners }
 }
 
 /// The library's ticket of a ticket.

@@ -274,7 +274,7 @@ pub fn by_library(book: &mut library::Book, call: &Call, out: &mut [u32]) -> Ans
 }
 
 /// An answer of these numbers, and 0 after them.
-fn plain(number: u32, first: &[u64]) -> Answer {
+pub fn plain(number: u32, first: &[u64]) -> Answer {
     let mut others = [0; 6];
     others[..first.len()].copy_from_slice(first);
     Answer { number, others }

@@ -1,5 +1,6 @@
 //! What the test programs share: random numbers, options, reports, steps and both engines.
 
+pub mod alike;
 pub mod books;
 pub mod case;
 pub mod convert;
@@ -11,6 +12,7 @@ pub mod random_calls;
 pub mod random_lifts;
 pub mod random_tapes;
 pub mod report;
+pub mod requests;
 pub mod rng;
 pub mod shrink;
 pub mod situations;

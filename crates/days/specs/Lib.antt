@@ -2,3 +2,4 @@
 pub mod Books
 pub mod Days
 pub mod TurnDays
+pub mod AccessDays

@@ -1,5 +1,5 @@
 -- The questions' answers: each refusal, and what is told of a sound book.
-use mathlib.Core.Path.{_≡_, refl, sym, ap, _∙_}
+use mathlib.Core.Path.{_≡_, refl, _∙_}
 use mathlib.Core.Bool.{Bool, true, false}
 use mathlib.Core.List.{List, [], _∷_}
 use Prim.Native.Nat.{ℕ, _≤_, _<_}
@@ -16,7 +16,7 @@ use Rattle.runs.specs.Runs.{foundOf}
 use Rattle.told.specs.Status.{StatusAnswer, statusRefused, status}
 use Rattle.status.specs.Columns.{statusOf}
 use Rattle.status.proofs.Telling.{told-sound, told-unsound}
-use Rattle.desks.specs.Simulation.{refused, simulation, simulationWhere}
+use Rattle.desks.specs.Simulation.{simulationWhere}
 use Rattle.lifting.specs.Lifting.{askedOf}
 use Rattle.host.specs.States.{holds, soundAt}
 use Rattle.host.specs.Questions.{dayUnit, dayStatus, daySimulation}

@@ -1,27 +1,26 @@
 -- A call on a host's book: refused by 14, 1 or 2, or the call of the book in the columns.
 use mathlib.Core.Path.{_≡_, refl, sym, ap, _∙_}
-use mathlib.Core.Bool.{Bool, true, false, cond}
+use mathlib.Core.Bool.{true, false, cond}
 use mathlib.Core.List.{List, [], _∷_, _++_}
 use Prim.Native.Nat.{ℕ, zero, suc}
-use native.Mathlib.Omega.{arith}
 use lib.Dec.{leb}
 use lib.IntN.{ℤ}
 use Rattle.rules.specs.declared.Book.{Book}
 use Rattle.rules.specs.declared.Instruction.{Instruction}
 use Rattle.rules.specs.declared.Instruction.the-variants as instruction
-use Rattle.rules.specs.Book.{sound, bookOf}
+use Rattle.rules.specs.Book.{bookOf}
 use Rattle.rules.specs.Questions.{Question, ask, firstNo}
 use Rattle.rules.specs.Calls.{Call, Answer, Effect, answer, lentTo, lends, outputAsks, HasRoom, effect, called}
 use Rattle.rules.specs.Run.{callOf}
 use Rattle.laws.proofs.Basics.{byTest, cond-true, cond-false}
-use Rattle.laws.proofs.Answers.{room, unsound-first, refused-as}
+use Rattle.laws.proofs.Answers.{no-first, room, unsound-first, refused-as}
 use Rattle.answers.specs.declared.Turn.{Turn}
 use Rattle.answers.specs.Turns.{Gives, outAfter, beside}
 use Rattle.desk.specs.Fields.{isKind}
 use Rattle.host.specs.declared.DayState.{DayState}
 use Rattle.host.specs.States.{phaseOf, numberOf, stateIn, numbersOf, holds, soundAt}
 use Rattle.host.specs.Calls.{dayMade, dayCalled, refusedBy, turnedOf, CallIs}
-use Rattle.host.proofs.Holding.{back-state, same-stage, is-phase, sound-book, is-held, not-held}
+use Rattle.host.proofs.Holding.{back-state, same-stage, is-phase, is-held, not-held}
 
 -- Question 1
 
@@ -37,14 +36,8 @@ room-of (instruction.Roll days rate) quotes out = refl
 room-of (instruction.Mark i m) quotes out = refl
 room-of (instruction.Turn d) quotes out = refl
 
--- a 'no' among the first questions is the first 'no' of all
-no-first : (ps qs : List Question) (n : ℕ) → firstNo ps ≡ suc n → firstNo (ps ++ qs) ≡ suc n
-no-first [] qs n h = absurd (omega arith)
-no-first (ask m true ∷ ps) qs n h = no-first ps qs n h
-no-first (ask m false ∷ ps) qs n h = h
-
--- else the others are asked
-next : (c : Call) (qs : List Question) → HasRoom c → firstNo (outputAsks c ++ qs) ≡ firstNo qs
+-- where it is answered 'yes' the others are asked
+pub next : (c : Call) (qs : List Question) → HasRoom c → firstNo (outputAsks c ++ qs) ≡ firstNo qs
 next c qs h = room (lends c) (lentTo c) qs h
 
 -- Any call of a host
@@ -88,7 +81,7 @@ unfolding dayCalled
 not-kind kind phase b c h = rw h
 
 -- the output is as it came
-as-came : (x : Instruction) (quotes out : List ℕ) (n : ℕ) (b : Book) (e : Effect) →
+pub as-came : (x : Instruction) (quotes out : List ℕ) (n : ℕ) (b : Book) (e : Effect) →
     out ≡ outAfter (callOf x quotes out) out (answer (suc n) b (lentTo (callOf x quotes out)) e)
 as-came (instruction.Trade i f t x) quotes out n b e = refl
 as-came (instruction.Deliver i a x) quotes out n b e = refl

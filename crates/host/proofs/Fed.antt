@@ -1,8 +1,9 @@
--- Demand 3 speaks of hosts: what `day_call`, `day_ask` and `day_commit` give, for any numbers, fed to the tally, leads to the
--- states of a list of calls. Of each call its contract is known and nothing else: it answers as the definitions do, or refuses
--- (a kind that is none, a number that is no phase, columns of another length) and leaves the book.
+-- Demand 3 speaks of hosts: what `day_call`, `day_ask` and `day_commit` give, and their forms with a caller, for any numbers,
+-- callers and owners, which may change from call to call, fed to the tally, leads to the states of a list of calls. Of each call
+-- its contract is known and nothing else: it answers as the definitions do, or refuses (a kind that is none, a number that is no
+-- phase, columns of another length, a caller without the right) and leaves the book.
 use mathlib.Core.Path.{_≡_, refl, sym, ap, _∙_}
-use mathlib.Core.Bool.{Bool, true, false}
+use mathlib.Core.Bool.{true, false}
 use mathlib.Core.List.{List, [], _∷_, _++_}
 use Prim.Native.Nat.{ℕ, zero, suc, _≤_, _<_}
 use native.Mathlib.Omega.{arith}
@@ -10,11 +11,13 @@ use lib.Dec.{leb}
 use denote.Ref.{now}
 use borrow.Author.Tests.{le-leb}
 use Rattle.rules.specs.declared.Book.{Book}
+use Rattle.rules.specs.declared.Caller.{Caller}
 use Rattle.rules.specs.declared.Instruction.{Instruction}
 use Rattle.rules.specs.declared.Ticket.{Ticket}
 use Rattle.rules.specs.Book.{orderOf, withLifts}
 use Rattle.rules.specs.Questions.{Question, ask, firstNo}
-use Rattle.rules.specs.Calls.{Call, Trade, Close, Deliver, Ask, Commit, Cutoff, Resolve, PairOff, Roll, Mark, Turn as NameTurn, Answer, answer, lentTo, outputAsks, effect, called, AskAnswer, noTicket, ticketAnswer, ticketOf, asked, asks as allAsks}
+use Rattle.rules.specs.Calls.{Call, Trade, Close, Deliver, Ask, Commit, Cutoff, Resolve, PairOff, Roll, Mark, Turn as NameTurn, Answer, answer, outputAsks, effect, called, AskAnswer, noTicket, ticketAnswer, ticketOf, asked, asks as allAsks}
+use Rattle.rules.specs.Access.{isOperator, hasRight}
 use Rattle.rules.specs.Run.{callOf}
 use Rattle.rules.specs.Tally.{Tallied, Demand3}
 use Rattle.laws.proofs.Basics.{byTest, cond-true, cond-false}
@@ -31,13 +34,15 @@ use Rattle.host.specs.States.{numberOf, stateIn, bookAt, lengthsRight, h
 use Rattle.host.specs.Calls.{Place, dayMade, dayCalled, CallIs, DayCalled}
 use Rattle.host.specs.Lifts.{ticketIn, dayAsked, AskIs, CommitIs, DayCommitted}
 use Rattle.host.proofs.Holding.{LengthsOf}
+use Rattle.host.specs.Callers.{dayMadeBy, dayCalledBy, DayCalledBy, asksAt, DayCommittedBy, dayAskedBy}
 use Rattle.host.proofs.Calling.{refusal, of-kind, not-kind}
+use Rattle.host.proofs.ByCaller.{made-right, called-right, operator-ask, made-without, some-number, asked-number, of-kind-by, not-kind-by}
 
 -- what a host was given, as a turn
 abbrev pub numbers : DayTurned → Turn
 numbers r = record { refusal = r .refusal; count = r .count; cancelled = r .cancelled; state = stateIn (r .state) }
 
--- a call made through one of the three functions on the book in the lent columns, and what that gave, as its contract says;
+-- a call made through one of these functions on the book in the lent columns, and what that gave, as its contract says;
 -- a kind that is none is fed as a call that was refused
 pub data ByHost : Book → Call → Answer → Type 0 where
   told : (kind : ℕ) (x : Instruction) (quotes out : Column ℕ) (h : DayState) (r : DayTurned) (c : Columns) → DayCalled kind x quotes out h r c →
@@ -48,10 +53,20 @@ pub data ByHost : Book → Call → Answer → Type 0 where
   commits : (phase : ℕ) (b : Book) (ticket : List ℕ) (out lifts : Column ℕ) (n : ℕ) (count : Place) → DayCommitted phase b ticket out lifts n count →
       ByHost b (Commit (ticketIn ticket) (now (out .entry)))
       (record { refusal = n; count = now (count .exit); cancelled = 0; book = withLifts b (now (lifts .exit)); out = now (out .exit) })
+  toldBy : (w : Caller) (kind : ℕ) (x : Instruction) (quotes out : Column ℕ) (h : DayState) (r : DayTurned) (c : Columns) →
+      DayCalledBy w kind x quotes out h r c →
+      ByHost (bookAt h c) (callOf x (now (quotes .entry)) (now (out .entry)))
+      (gave (callOf x (now (quotes .entry)) (now (out .entry))) (numbers r) (c .after (stateIn (r .state))) (now (out .exit)))
+  asksBy : (w : Caller) (phase : ℕ) (b : Book) (issue unit n : ℕ) (ticket : List ℕ) → AskIs (dayAskedBy w phase b issue unit) n ticket →
+      ByHost b (Ask issue unit) (record { refusal = n; count = 0; cancelled = 0; book = b; out = [] })
+  commitsBy : (w : Caller) (phase : ℕ) (b : Book) (ticket : List ℕ) (out lifts : Column ℕ) (n : ℕ) (count : Place) →
+      DayCommittedBy w phase b ticket out lifts n count →
+      ByHost b (Commit (ticketIn ticket) (now (out .entry)))
+      (record { refusal = n; count = now (count .exit); cancelled = 0; book = withLifts b (now (lifts .exit)); out = now (out .exit) })
 
 -- Numbers and columns that can be a book's: the answer is the call's
 
-same-made : (phase : ℕ) (b : Book) (c : Call) → holds phase b ≡ true → dayMade phase b c ≡ called b c
+pub same-made : (phase : ℕ) (b : Book) (c : Call) → holds phase b ≡ true → dayMade phase b c ≡ called b c
 unfolding dayMade
 same-made phase b c g = cond-true (holds phase b) _ _ g
 
@@ -80,12 +95,12 @@ nothing b i k n e =
 -- Any others are refused
 
 -- the 'no' behind questions that have numbers
-some-no : (ps : List Question) → Numbered ps → 0 < firstNo (ps ++ (ask 2 false ∷ []))
+pub some-no : (ps : List Question) → Numbered ps → 0 < firstNo (ps ++ (ask 2 false ∷ []))
 some-no [] ks = omega arith
 some-no (ask m true ∷ ps) ks = some-no ps (ks .1)
 some-no (ask m false ∷ ps) ks = ks .0
 
-numbered : (c : Call) → Numbered (outputAsks c)
+pub numbered : (c : Call) → Numbered (outputAsks c)
 numbered (Trade i f t x) = tt
 numbered Close = tt
 numbered (Deliver i a x out) = omega arith
@@ -157,12 +172,51 @@ step-committed phase b t out n k lifts words u =
         record { refusal = n; count = k; cancelled = 0; book = withLifts b lifts; out = words } ≡ called b (Commit t out)
     answers c = λ j. record { refusal = c .refusal j; count = c .count j; cancelled = c .cancelled j; book = c .book j; out = c .out j }
 
+-- and with a caller: with the right the same, without it a refusal
+
+module _ (w : Caller) (kind : ℕ) (x : Instruction) (quotes out : List ℕ) (phase : ℕ) (b : Book) (r : DayTurned) (after : Book) (words : List ℕ) where
+  abbrev made : Call
+  made = callOf x quotes out
+
+  step-called-by : CallIs (beside made out (dayCalledBy w kind phase b made)) phase r after words → Step b made (gave made (numbers r) after words)
+  step-called-by t =
+      byTest (hasRight w made)
+      (λ h. step-called kind x quotes out phase b r after words (rw (← called-right w phase b kind made h) at t))
+      (λ h. byTest (isKind kind)
+      (λ i.
+      let e = made-without w phase b made h ∙ of-kind-by w kind phase b made i in
+      stays b made _ (firstNo (asksAt phase b made)) (some-number phase b made) (t .refusal ∙ ap (λ d. d .refusal) (sym e)) (t .book ∙ ap (λ d. d .book) (sym e)))
+      (λ i.
+      let e = not-kind-by w kind phase b made i in
+      stays b made _ 14 (omega arith) (t .refusal ∙ ap (λ d. d .refusal) (sym e)) (t .book ∙ ap (λ d. d .book) (sym e))))
+
+step-asked-by : (w : Caller) (phase : ℕ) (b : Book) (i k n : ℕ) (ticket : List ℕ) → AskIs (dayAskedBy w phase b i k) n ticket →
+    Step b (Ask i k) (record { refusal = n; count = 0; cancelled = 0; book = b; out = [] })
+step-asked-by w phase b i k n ticket t =
+    byTest (isOperator w)
+    (λ h. step-asked phase b i k n ticket (rw (← operator-ask w phase b h i k) at t))
+    (λ h. leaves (rw (t .refusal) (asked-number w phase b i k h)) refl)
+
+step-committed-by : (w : Caller) (phase : ℕ) (b : Book) (t : Ticket) (out : List ℕ) (n k : ℕ) (lifts words : List ℕ) →
+    CommitIs b (dayMadeBy w phase b (Commit t out)) n k lifts words →
+    Step b (Commit t out) (record { refusal = n; count = k; cancelled = 0; book = withLifts b lifts; out = words })
+step-committed-by w phase b t out n k lifts words u =
+    byTest (hasRight w (Commit t out))
+    (λ h. step-committed phase b t out n k lifts words (rw (← made-right w phase b (Commit t out) h) at u))
+    (λ h. stays b (Commit t out) _ (firstNo (asksAt phase b (Commit t out))) (some-number phase b (Commit t out))
+    (u .refusal ∙ ap (λ d. d .refusal) (sym (made-without w phase b (Commit t out) h))) (u .book ∙ ap (λ d. d .book) (sym (made-without w phase b (Commit t out) h))))
+
 step : (b : Book) (c : Call) (r : Answer) → ByHost b c r → Step b c r
 step _ _ _ (told kind x quotes out h r c t) =
     step-called kind x (now (quotes .entry)) (now (out .entry)) (h .phase) (bookAt h c) r (c .after (stateIn (r .state))) (now (out .exit)) t
 step _ _ _ (asks phase b issue unit n ticket t) = step-asked phase b issue unit n ticket t
 step _ _ _ (commits phase b ticket out lifts n count t) =
     step-committed phase b (ticketIn ticket) (now (out .entry)) n (now (count .exit)) (now (lifts .exit)) (now (out .exit)) t
+step _ _ _ (toldBy w kind x quotes out h r c t) =
+    step-called-by w kind x (now (quotes .entry)) (now (out .entry)) (h .phase) (bookAt h c) r (c .after (stateIn (r .state))) (now (out .exit)) t
+step _ _ _ (asksBy w phase b issue unit n ticket t) = step-asked-by w phase b issue unit n ticket t
+step _ _ _ (commitsBy w phase b ticket out lifts n count t) =
+    step-committed-by w phase b (ticketIn ticket) (now (out .entry)) n (now (count .exit)) (now (lifts .exit)) (now (out .exit)) t
 
 -- so demand 3 holds after every list of calls that a host makes
 pub demand3-of-hosts : {s : Tallied} → Made ByHost s → Demand3 s

@@ -2,3 +2,4 @@ pub mod States
 pub mod Questions
 pub mod Calls
 pub mod Lifts
+pub mod Callers

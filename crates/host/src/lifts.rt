@@ -11,7 +11,7 @@ ghost use Rattle.host.specs.States.{bookAt};
 ghost use Rattle.host.specs.Lifts.{ticketIn, AskIs, dayAsked, DayCommitted};
 
 // What asking answers in plain numbers: the ticket's six, or six times 0.
-fn ticket_out(asked: Asked, ticket: &mut [u32; 6]) -> u32
+pub fn ticket_out(asked: Asked, ticket: &mut [u32; 6]) -> u32
     ensures { λ r. ⌜ AskIs (askedAnswer asked) r (now (ticket .exit)) ⌝ }
 {
     match asked {

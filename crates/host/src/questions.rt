@@ -48,7 +48,7 @@ pub extern "C" fn day_sound<'a>(
 }
 
 // The unit question's answer in plain numbers: 1, account and lots, or three times 0.
-fn told(found: Found, answer: &mut [u32; 3]) -> u32
+pub fn told(found: Found, answer: &mut [u32; 3]) -> u32
     ensures { λ r. ⌜ UnitIs (foundAnswer found) r (now (answer .exit)) ⌝ }
 {
     match found {
@@ -110,7 +110,7 @@ pub extern "C" fn day_unit<'a>(
 }
 
 // What is told of a unit in plain numbers: the case and its lots, or twice 0.
-fn plain(told: Told, answer: &mut [u32; 2]) -> u32
+pub fn plain(told: Told, answer: &mut [u32; 2]) -> u32
     ensures { λ r. ⌜ StatusIs (toldAnswer told) r (now (answer .exit)) ⌝ }
 {
     match told {

@@ -71,6 +71,12 @@ all-yes [] ks h = tt
 all-yes (ask m true ∷ qs) ks h = (refl, all-yes qs (ks .1) h)
 all-yes (ask m false ∷ qs) ks h = absurd (omega arith)
 
+-- a 'no' among the first questions is the first 'no' of all
+pub no-first : (ps qs : List Question) (n : ℕ) → firstNo ps ≡ suc n → firstNo (ps ++ qs) ≡ suc n
+no-first [] qs n h = absurd (omega arith)
+no-first (ask m true ∷ ps) qs n h = no-first ps qs n h
+no-first (ask m false ∷ ps) qs n h = h
+
 -- Either way
 
 either-way : (P : Answer → Type 0) (qs : List Question) (b : Book) (out : List ℕ) (e : Effect) → Numbered qs →
@@ -80,7 +86,7 @@ either-way P (ask k true ∷ qs) b out e ks y n = either-way P qs b out e (ks .1
 either-way P (ask zero false ∷ qs) b out e ks y n = absurd (omega arith)
 either-way P (ask (suc k) false ∷ qs) b out e ks y n = n k
 
-numbered : (b : Book) (c : Call) → Numbered (asks b c)
+pub numbered : (b : Book) (c : Call) → Numbered (asks b c)
 numbered b (Trade i f t x) = omega arith
 numbered b Close = omega arith
 numbered b (Deliver i a x out) = omega arith

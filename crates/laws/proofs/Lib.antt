@@ -30,6 +30,7 @@ pub mod Stepping
 pub mod Records
 pub mod Issue
 pub mod Answers
+pub mod Rights
 pub mod Charges
 pub mod LiftsKept
 pub mod MarksKept

@@ -11,6 +11,7 @@ pub mod Book
 pub mod Records
 pub mod Questions
 pub mod Calls
+pub mod Access
 pub mod Tape
 pub mod Bytes
 pub mod Run
@@ -18,3 +19,4 @@ pub mod Text
 pub mod Tally
 pub mod Days
 pub mod TurnCases
+pub mod AccessCases

@@ -75,6 +75,13 @@ liftWords = 18
 abbrev pub liftCells : ℕ
 liftCells = 288
 
+-- a caller is 0 to 15, a participant, or 16, the operator
+abbrev pub lastParticipant : ℕ
+lastParticipant = 15
+
+abbrev pub operator : ℕ
+operator = 16
+
 -- the output lent to deliver, commit, cutoff or resolve has at least 4,096 words
 abbrev pub outputWords : ℕ
 outputWords = 4096

@@ -88,6 +88,23 @@ pub enum Asked {
     Refused(u32),
 }
 
+// Who calls, laid out as in C for a host that passes it by value: a participant, 0 to 15, or the operator,
+// 16, any other number having no right; and of each account its owner, 0 to 15 a participant, any other
+// number none.
+#[repr(C)]
+pub struct Caller {
+    pub number: u32,
+    pub owners: [u8; 64],
+}
+
+// What reading an account answers: its net, its charge and the entry; net and charge where it has no such
+// entry; or the refusal's number.
+pub enum Seen {
+    One(i32, i64, Entry),
+    Nothing(i32, i64),
+    Refused(u32),
+}
+
 // An instruction of the tape. Roll's sixteen prices and sixteen accrued amounts stand beside it.
 pub enum Instruction {
     // issue, from, to, lots

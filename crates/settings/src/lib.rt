@@ -95,7 +95,7 @@ fn can_be_named(s: State, d: u32) -> bool
 }
 
 // Question 26 of a turn: the number, or 0 where the day can be named.
-fn turn_asks(s: State, d: u32) -> u32
+pub fn turn_asks(s: State, d: u32) -> u32
     ensures { λ r. ⌜ r ≡ firstNo (turnAsks (s .turn) (s .day) d) ⌝ }
 {
     if can_be_named(s, d) { 0 } else { 26 }

@@ -13,5 +13,6 @@ pub mod Marking
 pub mod Demand
 pub mod Reached
 pub mod Made
+pub mod Callers
 pub mod Settles
 pub mod Corollaries

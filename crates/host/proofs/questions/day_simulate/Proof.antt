@@ -1,6 +1,6 @@
 -- The questions in order, and then the simulation.
 use mathlib.Core.Path.{_≡_, refl, sym, ap, _∙_}
-use mathlib.Core.Bool.{Bool, true}
+use mathlib.Core.Bool.{Bool}
 use denote.Ref.{now}
 use Rattle.rules.specs.declared.Book.{Book}
 use Rattle.rules.specs.declared.State.{State}

@@ -1,14 +1,14 @@
 -- Each refusal is the first question answered 'no'; else the unit that the nets give.
 use mathlib.Core.Path.{_≡_, sym, ap, _∙_}
-use mathlib.Core.Bool.{true, false}
+use mathlib.Core.Bool.{true}
 use native.Mathlib.Omega.{arith}
 use denote.Ref.{now}
 use borrow.Author.Needs.{needs}
 use borrow.Author.Tests.{not-true, not-false}
 use Rattle.rules.specs.declared.Book.{Book}
 use Rattle.rules.specs.declared.State.{State}
-use Rattle.runs.proofs.Cells.{can-order}
 use Rattle.rules.specs.Book.{bookOf}
+use Rattle.runs.proofs.Cells.{can-order}
 use Rattle.host.specs.States.{stateIn, soundAt}
 use Rattle.host.specs.Questions.{dayUnit}
 use Rattle.host.proofs.Holding.{cells-of}

@@ -1,0 +1,4 @@
+pub mod Rights
+pub mod Own
+pub mod Secret
+pub mod Kept

@@ -1,0 +1,204 @@
+//! What a caller sees of an account: the tape is run up to a word, and the account is read entry by
+//! entry, as a participant with its owners or as the operator.
+
+use crate::fault::{words_of, Fault, Faults, Word};
+use crate::jam::{number, range};
+use crate::measure::{Grouped, Lots};
+use crate::status;
+use library::access::{self, Account, NOBODY, PARTICIPANTS};
+use library::{Caller, Entry, Refusal, ACCOUNTS};
+
+/// What a line of the owners may be.
+const LINES: &str = "write `owns PARTICIPANT ACCOUNT` or `owns PARTICIPANT FIRST-LAST`";
+
+/// Reads the owners of the accounts from their text; an account that is not named is nobody's.
+pub fn owners_of(text: &str) -> Result<[u8; ACCOUNTS], Faults> {
+    let mut owners = [NOBODY; ACCOUNTS];
+    let text = text.strip_prefix('\u{feff}').unwrap_or(text);
+    let mut faults = Faults::default();
+    for (at, line) in (1..).zip(text.lines()) {
+        let words: Vec<Word> = words_of(line, at).collect();
+        if let Some((name, arguments)) = words.split_first() {
+            own(&mut owners, name, arguments)
+                .err()
+                .into_iter()
+                .for_each(|fault| faults.push(fault));
+        }
+    }
+    if faults.is_empty() {
+        Ok(owners)
+    } else {
+        Err(faults)
+    }
+}
+
+/// Takes a line; each account is named once.
+fn own(owners: &mut [u8; ACCOUNTS], name: &Word, arguments: &[Word]) -> Result<(), Fault> {
+    let ("owns", [participant, accounts]) = (name.text, arguments) else {
+        return Err(name.fault(format!("the line is another one: {LINES}")));
+    };
+    let owner = number("a participant", participant, PARTICIPANTS - 1)?;
+    let (first, last) = range(accounts)?;
+    for account in first..=last {
+        let place = &mut owners[account as usize];
+        if *place != NOBODY {
+            let what = format!("account {account} has an owner already: name it once");
+            return Err(accounts.fault(what));
+        }
+        *place = owner as u8;
+    }
+    Ok(())
+}
+
+/// Who reads which account, and when: before the instruction that begins at a word, or at the end.
+#[derive(Clone, Copy, Debug, PartialEq, Eq)]
+pub struct Question {
+    pub caller: Caller,
+    pub issue: u32,
+    pub account: u32,
+    pub at: Option<usize>,
+}
+
+/// What is seen, and where the tape stood.
+#[derive(Clone, Debug, PartialEq, Eq)]
+pub struct Seen {
+    question: Question,
+    day: u16,
+    phase: &'static str,
+    word: usize,
+    /// Did reading end there by a refusal?
+    ended: bool,
+    /// Net and charge, and all entries, or the refusal.
+    answer: Result<(Account, Vec<Entry>), Refusal>,
+}
+
+/// Runs a tape on a fresh book and reads the account; an error is that no instruction begins at the word.
+pub fn read(tape: &[u8], question: &Question) -> Result<Seen, String> {
+    let (book, word, ended) = status::run(tape, question.at)?;
+    let Question { ref caller, issue, account, .. } = *question;
+    let mut entries = Vec::new();
+    let answer = loop {
+        let seen = access::read(caller, &book, issue, account, entries.len() as u32);
+        match (seen.account, seen.refused()) {
+            (Some(Account { entry: Some(entry), .. }), _) => entries.push(entry),
+            (Some(last), _) => break Ok((last, entries)),
+            (None, refusal) => break Err(refusal.unwrap_or(Refusal::Book)),
+        }
+    };
+    let phase = book.phase.name().unwrap_or("no phase");
+    Ok(Seen { question: *question, day: book.day, phase, word, ended, answer })
+}
+
+impl Seen {
+    /// Was it refused?
+    pub fn refused(&self) -> bool {
+        self.answer.is_err()
+    }
+
+    /// For people: a line for the account, and one for each entry.
+    pub fn text(&self) -> String {
+        let Seen { question: Question { issue, account, at, .. }, day, phase, word, .. } = *self;
+        let at = match at {
+            Some(_) => format!("before word {word}"),
+            None if self.ended => format!("where reading ends, at word {word}"),
+            None => "at the end of the tape".to_string(),
+        };
+        let head = format!("{at}, day {day}, {phase}");
+        let (seen, entries) = match &self.answer {
+            Ok(answer) => answer,
+            Err(refusal) => return format!("{head}: {refusal}\n"),
+        };
+        let charge = Grouped(seen.charge.into());
+        let net = net_of(seen.net);
+        let mut text =
+            format!("{head}: account {account} in issue {issue}: {net}, charge {charge} yen\n");
+        for (k, entry) in entries.iter().enumerate() {
+            let Entry { from, to, lots, day, .. } = *entry;
+            let lots = Lots(lots.into());
+            text.push_str(&format!("entry {k}: {from} fails {lots} to {to}, since day {day}\n"));
+        }
+        text
+    }
+
+    /// The same as an object of JSON.
+    pub fn json(&self) -> String {
+        let Seen { question: Question { caller, issue, account, .. }, day, phase, word, .. } =
+            *self;
+        let number = caller.number;
+        let head = format!(
+            "{{\"fact\":\"account\",\"day\":{day},\"phase\":\"{phase}\",\"word\":{word},\
+             \"caller\":{number},\"issue\":{issue},\"account\":{account}"
+        );
+        match &self.answer {
+            Err(refusal) => format!("{head},\"refusal\":{}}}\n", refusal.number()),
+            Ok((seen, entries)) => {
+                let object = |entry: &Entry| {
+                    let Entry { from, to, lots, day, .. } = *entry;
+                    format!("{{\"from\":{from},\"to\":{to},\"lots\":{lots},\"day\":{day}}}")
+                };
+                let entries: Vec<String> = entries.iter().map(object).collect();
+                format!(
+                    "{head},\"refusal\":0,\"net\":{},\"charge\":{},\"entries\":[{}]}}\n",
+                    seen.net,
+                    seen.charge,
+                    entries.join(",")
+                )
+            }
+        }
+    }
+}
+
+/// A net for people.
+fn net_of(net: i32) -> String {
+    let lots = Lots(net.unsigned_abs().into());
+    match net {
+        0 => "no net".to_string(),
+        1.. => format!("{lots} due to it"),
+        _ => format!("it owes {lots}"),
+    }
+}
+
+#[cfg(test)]
+mod tests {
+    use super::*;
+    use crate::text;
+
+    const OWNERS: &str = "# two agents\nowns 0 5\nowns 1 2-3\n";
+
+    fn seen(caller: u32, account: u32) -> Seen {
+        let day = "trade 0 4 1 230000\ntrade 0 5 2 250000\ntrade 0 5 3 150000\nclose\n\
+                   deliver 0 5 345000\ndeliver 0 4 200000\ncutoff\n";
+        let tape = text::to_tape(day).unwrap();
+        let caller = Caller { number: caller, owners: owners_of(OWNERS).unwrap() };
+        read(&tape, &Question { caller, issue: 0, account, at: None }).unwrap()
+    }
+
+    #[test]
+    fn an_own_account_is_told_with_its_entries() {
+        let text = seen(0, 5).text();
+        let head = "at the end of the tape, day 0, Cut: account 5 in issue 0: it owes 400,000 lots";
+        assert!(text.starts_with(head), "{text}");
+        assert!(text.contains("entry 1: 5 fails 30,000 lots to 1, since day 0\n"), "{text}");
+        assert_eq!(text.lines().count(), 3);
+        let json = seen(1, 2).json();
+        let entry = "\"entries\":[{\"from\":4,\"to\":2,\"lots\":5000,\"day\":0}]";
+        assert!(json.contains(entry), "{json}");
+    }
+
+    #[test]
+    fn anothers_account_is_refused() {
+        assert!(seen(0, 2).refused() && seen(1, 5).refused() && seen(17, 4).refused());
+        assert!(!seen(16, 4).refused());
+        assert!(seen(0, 2).text().contains("refused by 27"));
+        assert!(seen(0, 2).json().contains("\"refusal\":27"));
+    }
+
+    #[test]
+    fn wrong_owners_are_told_with_their_place() {
+        let faults =
+            owners_of("owns 16 1\nown 0 1\nowns 0 64\nowns 0 1\nowns 1 0-2\n").unwrap_err();
+        let places: Vec<(usize, usize)> =
+            faults.first.iter().map(|fault| (fault.line, fault.column)).collect();
+        assert_eq!(places, [(1, 6), (2, 1), (3, 8), (5, 8)]);
+    }
+}

@@ -1,0 +1,46 @@
+//! `tape look`: what a caller sees of an account.
+
+use super::{day_of, get, name_of, put, Ended, Verb};
+use crate::input::text_of;
+use crate::look::{owners_of, read, Question};
+use crate::options::{number, valued, Given, Opt, HEX, JSON, WORDS};
+use library::access::OPERATOR;
+
+const AT: Opt = valued("--at", "the number of a word");
+const AS: Opt = valued("--as", "the number of a caller");
+
+pub(super) const VERB: Verb = Verb {
+    name: "look",
+    usage: "\
+tape look [--hex | --words] [--json] [--at WORD] [--as CALLER] DAY.. OWNERS ISSUE ACCOUNT
+        reads an account: its net in the issue, its charge and its entries there, at the end of
+        the tape or before the instruction that begins at a word; --as 0 to 15 reads as that
+        participant, otherwise the operator reads. OWNERS is a text with a line `owns
+        PARTICIPANT ACCOUNT` for each account that a participant owns",
+    options: &[HEX, WORDS, JSON, AT, AS],
+    act,
+};
+
+fn act(given: &Given) -> Result<Ended, String> {
+    let needs = || format!("look needs a day, owners, an issue and an account:\n{}", VERB.usage);
+    let [days @ .., owners, issue, account] = given.names.as_slice() else {
+        return Err(needs());
+    };
+    if days.is_empty() {
+        return Err(needs());
+    }
+    let name = name_of(owners);
+    let text = text_of(&name, get(owners)?)?;
+    let owners =
+        owners_of(&text).map_err(|faults| faults.listed(&name, ["error", "errors"]).join("\n"))?;
+    let caller = given.number(&AS, 0..=u32::MAX)?.unwrap_or(OPERATOR);
+    let question = Question {
+        caller: library::Caller { number: caller, owners },
+        issue: number("ISSUE", issue, 0..=u32::MAX)?,
+        account: number("ACCOUNT", account, 0..=u32::MAX)?,
+        at: given.number(&AT, 0..=usize::MAX)?,
+    };
+    let seen = read(&day_of(given, days)?.tape, &question)?;
+    put(given, if given.has(&JSON) { seen.json() } else { seen.text() }.as_bytes())?;
+    Ok(if seen.refused() { Ended::Badly } else { Ended::Well })
+}
