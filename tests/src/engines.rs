@@ -25,6 +25,8 @@ pub struct Engines {
     /// The second engine's book as it was before the last step.
     pub before: Book,
     library: library::Book,
+    /// The words of the last call's output after it, margins included; the library's are the same.
+    output: Vec<u32>,
     /// How many calls were compared.
     pub compared: u64,
 }
@@ -41,6 +43,7 @@ impl Engines {
             reference: book.clone(),
             before: book.clone(),
             library: library_book(book),
+            output: Vec::new(),
             compared: 0,
         }
     }
@@ -71,7 +74,14 @@ impl Engines {
             same("as the call came", (nothing, &self.before, &lent(call)), came)?;
         }
         same("library", (answer, &self.reference, &output), came)?;
+        self.output = output;
         Ok(answer)
+    }
+
+    /// The first so many records of the last call's output, each its two words.
+    pub fn records(&self, count: usize) -> Vec<[u32; 2]> {
+        let words = self.output.get(MARGIN..).unwrap_or_default();
+        words.chunks_exact(2).take(count).map(|two| [two[0], two[1]]).collect()
     }
 }
 

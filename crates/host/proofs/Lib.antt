@@ -7,3 +7,4 @@ pub mod Secret
 pub mod Lifting
 pub mod Fed
 pub mod Contracts
+pub mod Reordered

@@ -6,8 +6,8 @@ use Prim.Native.Nat.{ℕ, suc, _+_, _-_, _≤_, _<_, min}
 use native.Mathlib.Omega.{arith}
 use native.Mathlib.Nat.{sub-zero, zero-add, add-zero}
 use lib.Dec.{leb, lit<}
-use lib.ListN.{length, getD, take, length-drop, take-append-drop}
-use lib.Seq.{take-add, getD-take, length-take-le}
+use lib.ListN.{length, getD, take, drop, length-drop, take-append-drop}
+use lib.Seq.{take-add, drop-drop, getD-take, length-take-le}
 use borrow.Author.Tests.{leb-true, leb-false, le-leb}
 use Rattle.rules.specs.Measures.{total, sum, unitLots}
 use Rattle.rules.specs.Units.{AccountLots, accountLots, sumLots}
@@ -125,6 +125,24 @@ unfolding handovers
 handovers-handed us d x =
     let e : covered us (d + x) - covered us d ≡ covered (waiting us d) (stock us d + x) = omega (arith, covered-more us d x) in
     rw e
+
+-- what x and then y more lots hand over is what x + y hand over
+pub handovers-more : (us : List AccountLots) (d x y : ℕ) → handovers us d x ++ handovers us (d + x) y ≡ handovers us d (x + y)
+unfolding handovers
+handovers-more us d x y =
+    let c = covered us d in
+    let c₁ = covered us (d + x) in
+    let c₂ = covered us (d + x + y) in
+    let p : d + (x + y) ≡ d + x + y = omega arith in
+    let q : c₂ - c ≡ c₁ - c + (c₂ - c₁) = omega (arith, covered-grows us d x, covered-grows us (d + x) y) in
+    let r : c + (c₁ - c) ≡ c₁ = omega (arith, covered-grows us d x) in
+    sym
+    (
+    ap (λ n. take (covered us n - c) (drop c us)) p
+    ∙ ap (λ n. take n (drop c us)) q
+    ∙ take-add (c₁ - c) (c₂ - c₁) (drop c us)
+    ∙ ap (λ l. take (c₁ - c) (drop c us) ++ take (c₂ - c₁) l) (drop-drop (c₁ - c) c us ∙ ap (λ n. drop n us) r)
+    )
 
 pub handovers-length : (us : List AccountLots) (d x : ℕ) → length (handovers us d x) ≡ covered us (d + x) - covered us d
 unfolding handovers

@@ -1,5 +1,6 @@
 -- Laws of the definitions.
 pub mod Basics
+pub mod Rearrangements
 pub mod Units
 pub mod Handover
 pub mod Overlaps

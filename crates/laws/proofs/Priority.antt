@@ -10,9 +10,11 @@ use lib.ListN.{getD}
 use borrow.Author.Tests.{ltb-true, ltb-false, lt-ltb, eqb-true, eqb-false, eq-eqb, ne-eqb}
 use Rattle.rules.specs.declared.Priority.{Priority}
 use Rattle.rules.specs.declared.Priority.the-variants.{Full, Small}
+use Rattle.rules.specs.Measures.{times, Rearranged}
 use Rattle.rules.specs.Units.{AccountLots}
-use Rattle.rules.specs.Ranking.{largerFirst, before, priorityOf, ranksBefore, Uncontradicted, alike, times, Rearranged}
-use Rattle.laws.proofs.Basics.{byTest, Every, and-left, and-right, and-both}
+use Rattle.rules.specs.Ranking.{largerFirst, before, priorityOf, ranksBefore, Uncontradicted, alike}
+use Rattle.laws.proofs.Basics.{byTest, and-left, and-right, and-both}
+use Rattle.laws.proofs.Rearrangements.{occurring}
 
 -- Larger first, equals by lower account
 
@@ -155,15 +157,9 @@ alike-flip : (u v : AccountLots) → alike u v ≡ false → alike v u ≡ false
 alike-flip u v e =
     byTest (alike v u) (λ t. absurd (false≢true (sym e ∙ rw (alike-is v u t) (alike-self u)))) (λ f. f)
 
--- what each has, one that occurs has
-occurring : (P : AccountLots → Type 0) (u : AccountLots) (us : List AccountLots) → Every P us → 1 ≤ times u us → P u
-occurring P u [] ps h = absurd (omega arith)
-occurring P u (v ∷ us) ps h =
-    byTest (alike u v) (λ e. rw (alike-is u v e) (ps .0)) (λ e. occurring P u us (ps .1) (let g = simp e at h in omega arith))
-
 -- two arrangements of the same units that the ranking nowhere contradicts are one
 pub one-arrangement : (size : ℕ) (dues : List ℕ) (us vs : List AccountLots) → Uncontradicted size dues us → Uncontradicted size dues vs →
-    Rearranged us vs → us ≡ vs
+    Rearranged alike us vs → us ≡ vs
 one-arrangement size dues [] [] ku kv r = refl
 one-arrangement size dues [] (v ∷ vs) ku kv r = absurd (let h = rw (alike-self v) at (r v) in omega arith)
 one-arrangement size dues (u ∷ us) [] ku kv r = absurd (let h = rw (alike-self u) at (r u) in omega arith)
@@ -175,8 +171,8 @@ one-arrangement size dues (u ∷ us) (v ∷ vs) ku kv r =
     (λ e.
     let hu = rw (alike-self u) at (r u) in
     let hv = rw (alike-self v) at (r v) in
-    let nu : 1 ≤ times u vs = (let h = simp e at hu in omega arith) in
-    let nv : 1 ≤ times v us = (let h = simp (alike-flip u v e) at hv in omega arith) in
+    let nu : 1 ≤ times alike u vs = (let h = simp e at hu in omega arith) in
+    let nv : 1 ≤ times alike v us = (let h = simp (alike-flip u v e) at hv in omega arith) in
     absurd (false≢true (sym e ∙ ranks-tied size dues u v
-    (occurring (λ w. ranksBefore size dues w v ≡ false) u vs (kv .0) nu)
-    (occurring (λ w. ranksBefore size dues w u ≡ false) v us (ku .0) nv))))
+    (occurring alike alike-is (λ w. ranksBefore size dues w v ≡ false) u vs (kv .0) nu)
+    (occurring alike alike-is (λ w. ranksBefore size dues w u ≡ false) v us (ku .0) nv))))

@@ -9,9 +9,9 @@ use lib.IntN.{ℤ, pos, negsuc}
 use Rattle.rules.specs.declared.Entry.{Entry}
 use Rattle.rules.specs.declared.Phase.{Phase}
 use Rattle.rules.specs.declared.Phase.the-variants.{Taking, Settling}
-use Rattle.rules.specs.Measures.{unitLots, valueOf, chargeOf}
+use Rattle.rules.specs.Measures.{times, unitLots, valueOf, chargeOf}
 use Rattle.rules.specs.Units.{AccountLots, accountLots, units, unitsOfNets}
-use Rattle.rules.specs.Ranking.{ranksBefore}
+use Rattle.rules.specs.Ranking.{ranksBefore, alike}
 use Rattle.rules.specs.Handover.{stock, handovers, partials}
 use Rattle.rules.specs.Lifts.{liftOf, lift, lifted}
 use Rattle.rules.specs.Fails.{Fail, failOf, lacks, fails}
@@ -121,6 +121,9 @@ rankingDays =
     -- full ones of equal nets: the lower account
     ∷ case (ranksBefore unitLots (250000 ∷ 250000 ∷ []) (accountLots 0 100000) (accountLots 1 100000)) true
     ∷ case (ranksBefore unitLots (250000 ∷ 250000 ∷ []) (accountLots 1 100000) (accountLots 0 100000)) false
+    -- how often P5's units have one: account 2 has two full ones, and one of 50,000
+    ∷ case (times alike (accountLots 2 100000) unitsP5) 2
+    ∷ case (times alike (accountLots 2 50000) unitsP5) 1
     ∷ []
 
 -- the number that a ticket for unit 5 after P7 is refused by, where eight lifts stand and the count is 10
@@ -199,4 +202,4 @@ listDays = unitDays ++ issueDays ++ yenDays ++ rankingDays ++ liftedDays ++ even
 pub listsSettled : Holds listDays
 unfolding listDays units ranksBefore handovers partials lift lacks fails pairing valueOf chargeOf liftConditions cellsEven value charge
 listsSettled =
-    (refl, (refl, (refl, (refl, (refl, (refl, (refl, (refl, (refl, (refl, (refl, (refl, (refl, (refl, (refl, (refl, (refl, (refl, (refl, (refl, (refl, (refl, (refl, (refl, (refl, (refl, (refl, (refl, (refl, (refl, (refl, (refl, (refl, (refl, (refl, (refl, (refl, (refl, (refl, (refl, (refl, (refl, (refl, (refl, (refl, (refl, tt))))))))))))))))))))))))))))))))))))))))))))))
+    (refl, (refl, (refl, (refl, (refl, (refl, (refl, (refl, (refl, (refl, (refl, (refl, (refl, (refl, (refl, (refl, (refl, (refl, (refl, (refl, (refl, (refl, (refl, (refl, (refl, (refl, (refl, (refl, (refl, (refl, (refl, (refl, (refl, (refl, (refl, (refl, (refl, (refl, (refl, (refl, (refl, (refl, (refl, (refl, (refl, (refl, (refl, (refl, tt))))))))))))))))))))))))))))))))))))))))))))))))

@@ -1,5 +1,6 @@
 -- Measures: lots, yen and prices; the limits, each named once; value and charge.
-use mathlib.Core.Bool.{Bool, _&&_}
+use mathlib.Core.Path.{_≡_}
+use mathlib.Core.Bool.{Bool, cond, _&&_}
 use Prim.Native.Nat.{ℕ, suc, _+_, _*_, _/_}
 use lib.Dec.{leb}
 use lib.IntN.{ℤ, pos, negsuc}
@@ -106,6 +107,14 @@ sum xs = total (λ x. x) xs
 abbrev pub Every {ℓ} : {A : Type ℓ} → (A → Type 0) → List A → Type 0
 Every P [] = Unit {0}
 Every P (x ∷ xs) = P x × Every P xs
+
+-- how often a list has an element, by a test of what is the same
+abbrev pub times : {A : Type 0} → (A → A → Bool) → A → List A → ℕ
+times same x xs = total (λ y. cond (same x y) 1 0) xs
+
+-- rearrangements of each other: each element as often in the one list as in the other
+abbrev pub Rearranged : {A : Type 0} → (A → A → Bool) → List A → List A → Type 0
+Rearranged {A} same xs ys = (x : A) → times same x xs ≡ times same x ys
 
 -- the lots due to an account: its net where that is positive
 abbrev pub dueOf : ℤ → ℕ

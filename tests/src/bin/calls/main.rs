@@ -1,7 +1,8 @@
 //! `calls`: the library's calls beside those of the second engine, on the same cases.
 //!
 //! Every answer, the whole book and every word of the output are compared. Parts: lists, refusals,
-//! damage, lent, units, status, markets, lifts, marks, turn and tape; `--part NAME` runs one of them.
+//! damage, lent, units, status, markets, lifts, marks, turn, reordered and tape; `--part NAME` runs one of
+//! them.
 //! `--replay CASE` runs one case, as a mismatch prints it; CASE may also be a file that holds it.
 
 mod damage;
@@ -11,6 +12,7 @@ mod lists;
 mod markets;
 mod marks;
 mod refusals;
+mod reordered;
 mod status;
 mod tape;
 mod turn;
@@ -29,7 +31,7 @@ const DEFAULT_CASES: u64 = 1_500;
 /// A part: its name, and what runs it with seed and cases and gives the calls compared.
 type Part = (&'static str, fn(u64, u64) -> Result<u64, Failure>);
 /// All parts, in the order in which they run.
-const PARTS: [Part; 11] = [
+const PARTS: [Part; 12] = [
     ("refusals", refusals::run),
     ("damage", damage::run),
     ("lent", lent::run),
@@ -40,6 +42,7 @@ const PARTS: [Part; 11] = [
     ("lifts", lifts::run),
     ("marks", marks::run),
     ("turn", turn::run),
+    ("reordered", reordered::run),
     ("lists", lists::run),
 ];
 
