@@ -8,6 +8,7 @@
  *     target/staticlib/libdesk.a      day_value day_charge day_read day_quotes day_write
  *     target/staticlib/libentries.a   entry_meet
  *     target/staticlib/libfunds.a     day_bases day_shares day_funds
+ *     target/staticlib/liblisting.a   day_markets day_market_fails
  *     target/staticlib/libtrust.a     day_trust
  *
  * Each is proved to answer as the rules say for every number and every book, damaged ones too.
@@ -46,6 +47,10 @@ extern "C" {
 #define DAY_SETTLEMENT_ACCOUNTS 16u /* of a simulated desk: settlement accounts 0 to 15 */
 #define DAY_INVENTORIES 256u /* issue i in settlement account s stands at i * 16 + s */
 #define DAY_PARTICIPANTS 64u /* the most participants, and the places of an output of funds */
+#define DAY_MARKET_ACCOUNTS 5u /* the most accounts of a small market */
+#define DAY_MARKET_NET 4u /* the most lots of a net of a small market, to either side */
+#define DAY_MARKET_PLACES 19755u /* the output of day_markets has at least so many places */
+#define DAY_MARKET_COUNTS 5u /* markets with 0, 1, 2, 3, 4 fail entries */
 #define DAY_STACK_BYTES 32768u /* the most stack that a call needs; measured: 24,568 */
 
 /* The place of an issue and an account, both in range, in nets and delivered lots. */
@@ -93,14 +98,17 @@ extern "C" {
 /* ---- refusals: the number of the first question answered 'no'; nothing is changed then */
 
 #define DAY_DONE 0u
-#define DAY_REFUSED_OUTPUT 1u   /* the output has fewer than 4,096 words (writer: 33, trust: 256) */
+#define DAY_REFUSED_OUTPUT 1u   /* the output has fewer than 4,096 words (writer: 33, trust: 256,
+                                 * markets: 19,755 places) */
 #define DAY_REFUSED_BOOK 2u     /* the book is not sound, or a column has another length */
 #define DAY_REFUSED_PHASE 3u    /* the call belongs to another phase */
 #define DAY_REFUSED_ISSUE 4u    /* the issue is above 15 */
 #define DAY_REFUSED_ACCOUNT 5u  /* an account is above 63, a settlement account above 15 */
 #define DAY_REFUSED_SAME 6u     /* from and to are the same account */
 #define DAY_REFUSED_LOTS 7u     /* lots are not 1 to 20,000,000 (a report's: within ±20,000,000; a
-                                 * simulated desk's: unit size 1 to 100,000, inventories to 20,000,000) */
+                                 * simulated desk's: unit size 1 to 100,000, inventories to 20,000,000;
+                                 * markets: more than 5 accounts, a net above 4, or a list of delivered
+                                 * lots of another length) */
 #define DAY_REFUSED_NET 8u      /* a net would pass 20,000,000 lots to one side */
 #define DAY_REFUSED_OWED 9u     /* the account does not owe that many lots */
 #define DAY_REFUSED_ROOM 10u    /* the ledger would have more than 2,048 entries */
@@ -456,6 +464,20 @@ uint32_t day_shares(const uint64_t *averages, size_t averages_length,
  * 24 and then 25. */
 uint32_t day_funds(const uint64_t *averages, size_t averages_length, uint64_t tenths,
                    uint64_t funds, uint64_t out[64]);
+
+/* Every small market, each once: all nets of so many accounts, 0 to 5, each within -most..most, most 0
+ * to 4, that sum to 0. They stand one after the other, a place for each account, in rising order: the
+ * first account compared first, most negative first. out has at least 19,755 places; those after the last
+ * market keep their content. The number of markets comes through count (no accounts: one market, of no
+ * places). Refused by 1 and then 7, with a count of 0 and out as it came. */
+uint32_t day_markets(uint32_t accounts, uint32_t most, int32_t *out, size_t out_length,
+                     uint32_t *count);
+
+/* Of these markets, those in which each account owes at least its delivered lots, counted by their fail
+ * entries after cutoff: how many have 0, 1, 2, 3, 4 of them. Lots that no market owes give five zeros.
+ * Refused by 7, also where there are not as many delivered lots as accounts, with counts of 0. */
+uint32_t day_market_fails(uint32_t accounts, uint32_t most,
+                          const uint32_t *delivered, size_t delivered_length, uint32_t counts[5]);
 
 /* ---- a book as a struct, and the calls on it */
 

@@ -137,6 +137,16 @@ static void make_funds(void)
     refusal |= day_funds(averages, DAY_PARTICIPANTS, DAY_MOST_AMOUNT, DAY_MOST_AMOUNT, shares);
 }
 
+/* All markets of five accounts, and those of them that owe some lots. */
+static void make_markets(void)
+{
+    static int32_t nets[DAY_MARKET_PLACES];
+    static const uint32_t delivered[DAY_MARKET_ACCOUNTS] = {1, 0, 2, 0, 0};
+    uint32_t count, counts[DAY_MARKET_COUNTS];
+    refusal |= day_markets(DAY_MARKET_ACCOUNTS, DAY_MARKET_NET, nets, DAY_MARKET_PLACES, &count);
+    refusal |= day_market_fails(DAY_MARKET_ACCOUNTS, DAY_MARKET_NET, delivered, DAY_MARKET_ACCOUNTS, counts);
+}
+
 /* A desk whose lots go round at units of 7 lots, from the nets of the lifted day. */
 static void make_simulation(void)
 {
@@ -173,7 +183,7 @@ static const struct measured measures[] = {
     {"unit, dealt", make_unit_lifted},   {"status, dealt", make_status},
     {"deliver, dealt", make_lifted},     {"sound, dealt", make_sound},
     {"cutoff, dealt", make_cutoff},      {"status, dealt", make_status},
-    {"funds", make_funds},
+    {"funds", make_funds},        {"markets", make_markets},
     {"simulated desk", make_simulation},
 };
 

@@ -8,7 +8,7 @@ const DIRECTORY: &str = "STATICLIB_DIR";
 /// Where the archives are otherwise, seen from this package.
 const DEFAULT_DIRECTORY: &str = "../target/staticlib";
 /// The crates whose archives are linked.
-const CRATES: [&str; 5] = ["desk", "entries", "funds", "host", "trust"];
+const CRATES: [&str; 6] = ["desk", "entries", "funds", "host", "listing", "trust"];
 
 fn main() {
     let directory = archive_directory();

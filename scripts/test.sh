@@ -34,6 +34,7 @@ step 'what the host of the book prints' scripts/test-day-host.sh build/day
 step 'what the host of a trust account prints' scripts/test-trust-host.sh build/trust
 step 'what the host of a simulated desk prints' scripts/test-sizes-host.sh build/sizes
 step 'what the host of funds for a default prints' scripts/test-funds-host.sh build/funds
+step 'what the host of small markets prints' scripts/test-markets-host.sh build/markets
 step 'the stack that a call needs' build/stack
 step 'the tests in Rust' cargo test --release --offline
 step 'the test programs' cargo build --release --offline
@@ -42,6 +43,7 @@ step 'entries beside the second engine' build/release/entries
 step 'a trust account beside the second engine' build/release/trust
 step 'simulated desks beside the second engine' build/release/simulation
 step 'funds for a default beside the second engine' build/release/funds
+step 'every small market beside the second engine' build/release/markets
 step 'the calls beside the second engine' build/release/calls
 step 'callers beside the second engine' build/release/callers
 step 'the program beside the second engine' build/release/tapes

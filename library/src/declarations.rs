@@ -71,6 +71,24 @@ extern "C" {
     ) -> u32;
 }
 
+// liblisting.a
+extern "C" {
+    pub fn day_markets(
+        accounts: u32,
+        most: u32,
+        out: *mut i32,
+        out_length: usize,
+        count: *mut u32,
+    ) -> u32;
+    pub fn day_market_fails(
+        accounts: u32,
+        most: u32,
+        delivered: *const u32,
+        delivered_length: usize,
+        counts: *mut [u32; 5],
+    ) -> u32;
+}
+
 // libhost.a
 extern "C" {
     pub fn day_sound(

@@ -18,7 +18,8 @@ pub enum Refusal {
     Account = 5,
     /// 6: from and to are the same account.
     SameAccount = 6,
-    /// 7: lots are not 1 to 20,000,000, or a report's are not within ±20,000,000 (trust).
+    /// 7: lots are not 1 to 20,000,000, or a report's are not within ±20,000,000 (trust), or there are
+    /// too many accounts, too large a net or another number of delivered lots (markets).
     Lots = 7,
     /// 8: a net would pass 20,000,000 lots to one side.
     Net = 8,

@@ -7,6 +7,7 @@ pub mod access;
 pub mod book;
 pub mod calls;
 pub mod funds;
+pub mod markets;
 pub mod measures;
 pub mod questions;
 pub mod run;

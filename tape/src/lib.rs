@@ -1,5 +1,6 @@
 //! Tapes for people: a text form of the words, what the book refuses, what a tape does day by day, why a
-//! unit has not come, whether smaller units would loosen a jam, and what a participant sees of an account.
+//! unit has not come, whether smaller units would loosen a jam, what a participant sees of an account, and
+//! every small market.
 
 pub mod bytes;
 pub mod check;
@@ -10,6 +11,7 @@ pub mod input;
 mod interrupt;
 pub mod jam;
 pub mod look;
+pub mod markets;
 pub mod measure;
 pub mod options;
 pub mod output;

@@ -5,6 +5,7 @@ mod check;
 mod explain;
 mod jam;
 mod look;
+mod markets;
 mod read;
 mod run;
 mod why;
@@ -37,6 +38,7 @@ const VERBS: &[&Verb] = &[
     &why::VERB,
     &jam::VERB,
     &look::VERB,
+    &markets::VERB,
 ];
 
 /// What help says of all verbs.
@@ -50,8 +52,8 @@ DAY is a tape in text form or as words, which are told apart: a tape's first byt
 text is UTF-8 without control characters. Several days are run one after the other as one tape.
 With --hex the words are hexadecimal numbers in text; with --words the input is words, damaged ones
 too. docs/TAPE.md explains the text form.
-Status: 0 done; 1 the book refuses something (check, why, look), or the tape was not read to its end or
-its lines are not whole (run); 2 the words of the command, a file or a text are wrong.";
+Status: 0 done; 1 the book refuses something (check, why, look, markets), or the tape was not read
+to its end or its lines are not whole (run); 2 the words of the command, a file or a text are wrong.";
 
 /// How a command ended: what it was asked was found wrong, or not.
 #[derive(Clone, Copy, Debug, PartialEq, Eq)]
