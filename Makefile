@@ -1,8 +1,8 @@
 # The commands of the settlement-day book. `make help` lists them.
 
 BUILD := build
-LIBRARIES := $(foreach name,desk entries funds host listing trust,target/staticlib/lib$(name).a)
-HOSTS := $(BUILD)/measures $(BUILD)/day $(BUILD)/trust $(BUILD)/sizes $(BUILD)/funds $(BUILD)/markets $(BUILD)/stack
+LIBRARIES := $(foreach name,desk entries funds host listing statement trust,target/staticlib/lib$(name).a)
+HOSTS := $(BUILD)/measures $(BUILD)/day $(BUILD)/trust $(BUILD)/sizes $(BUILD)/funds $(BUILD)/markets $(BUILD)/statement $(BUILD)/stack
 CFLAGS := -std=c11 -O2 -Wall -Wextra -Wpedantic -Werror
 CXXFLAGS := -std=c++17 -Wall -Wextra -Wpedantic -Werror
 CRATE_FILES := crates.txt $(shell find crates -name '*.rt' -o -name '*.antt')
@@ -18,7 +18,7 @@ help:
 	@echo 'make run             run the settled day P5 to P9 and show it'
 	@echo 'make day TAPE=file   run a tape, in its text form or as words, and show it'
 	@echo 'make libraries       build the static libraries, target/staticlib/lib*.a'
-	@echo 'make hosts           build the hosts in C: build/measures, build/day, build/trust, build/sizes, build/funds, build/markets and build/stack'
+	@echo 'make hosts           build the hosts in C: build/measures, build/day, build/trust, build/sizes, build/funds, build/markets, build/statement and build/stack'
 	@echo 'make clean           remove everything that was built'
 	@echo 'The proved program is target/bin/dayrun, the tool for tapes build/release/tape,'
 	@echo 'the treasurer'\''s command build/release/treasury.'

@@ -9,6 +9,7 @@
  *     target/staticlib/libentries.a   entry_meet
  *     target/staticlib/libfunds.a     day_bases day_shares day_funds
  *     target/staticlib/liblisting.a   day_markets day_market_fails
+ *     target/staticlib/libstatement.a day_statement
  *     target/staticlib/libtrust.a     day_trust
  *
  * Each is proved to answer as the rules say for every number and every book, damaged ones too.
@@ -17,7 +18,8 @@
  * may write nothing overlaps. The structs and helpers at the end see to that by themselves.
  *
  * Nothing is allocated, printed or kept between calls: calls on different books can be made at the
- * same time. A call needs at most DAY_STACK_BYTES of stack; more than a small thread may have, so
+ * same time. A call needs at most DAY_STACK_BYTES of stack, day_statement, which has a book of its own,
+ * DAY_STATEMENT_STACK_BYTES; more than a small thread may have, so
  * look at the stacks of your threads (host/stack.c measures it). */
 #ifndef SETTLEMENT_DAY_H
 #define SETTLEMENT_DAY_H
@@ -47,11 +49,14 @@ extern "C" {
 #define DAY_SETTLEMENT_ACCOUNTS 16u /* of a simulated desk: settlement accounts 0 to 15 */
 #define DAY_INVENTORIES 256u /* issue i in settlement account s stands at i * 16 + s */
 #define DAY_PARTICIPANTS 64u /* the most participants, and the places of an output of funds */
+#define DAY_SPAN 4096u /* a fails statement is of a tape's first so many instructions, or fewer */
+#define DAY_STATEMENT_NUMBERS 6u /* the places of an answer of day_statement */
 #define DAY_MARKET_ACCOUNTS 5u /* the most accounts of a small market */
 #define DAY_MARKET_NET 4u /* the most lots of a net of a small market, to either side */
 #define DAY_MARKET_PLACES 19755u /* the output of day_markets has at least so many places */
 #define DAY_MARKET_COUNTS 5u /* markets with 0, 1, 2, 3, 4 fail entries */
-#define DAY_STACK_BYTES 32768u /* the most stack that a call needs; measured: 24,568 */
+#define DAY_STACK_BYTES 32768u /* the most stack that a call needs; measured: 24,856 */
+#define DAY_STATEMENT_STACK_BYTES 131072u /* and the most that day_statement needs; measured: 49,360 */
 
 /* The place of an issue and an account, both in range, in nets and delivered lots. */
 #define DAY_PLACE(issue, account) ((size_t)(issue) * DAY_ACCOUNTS + (size_t)(account))
@@ -478,6 +483,14 @@ uint32_t day_markets(uint32_t accounts, uint32_t most, int32_t *out, size_t out_
  * Refused by 7, also where there are not as many delivered lots as accounts, with counts of 0. */
 uint32_t day_market_fails(uint32_t accounts, uint32_t most,
                           const uint32_t *delivered, size_t delivered_length, uint32_t counts[5]);
+
+/* An account's fails statement in an issue, from a tape's first 4,096 instructions, or fewer, run on a fresh
+ * book: numbers has lots due to deliver at closes, lots delivered by cutoffs, lots failed, lots resolved,
+ * and failed over due as two whole numbers, unreduced (failed, due). A word that the reader refuses ends the
+ * span there; a refused instruction adds nothing; a day still settling adds its resolves alone. Refused by 4
+ * and then 5, with 0 in every place of numbers. */
+uint32_t day_statement(const uint32_t *words, size_t words_length, uint32_t issue, uint32_t account,
+                       uint64_t numbers[6]);
 
 /* ---- a book as a struct, and the calls on it */
 

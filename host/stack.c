@@ -1,7 +1,8 @@
 /* stack: how much stack each function of the library uses, measured on a thread whose stack was
  * painted before. Each call is made on a day with nets in all issues and accounts, all issues marked,
  * and a ledger of many fails, so that it goes its whole way; then on a day on which full units are
- * dealt in turn. Fails where one uses more than DAY_STACK_BYTES. */
+ * dealt in turn. Fails where one uses more than DAY_STACK_BYTES, or a statement more than
+ * DAY_STATEMENT_STACK_BYTES. */
 #ifndef _GNU_SOURCE
 #define _POSIX_C_SOURCE 200809L
 #endif
@@ -160,6 +161,26 @@ static void make_simulation(void)
     refusal |= day_book_simulate(&book, settles, inventories, 7).refusal;
 }
 
+/* A tape with the trades of a day in all issues and accounts, its close, cutoff and a resolve. */
+static void make_statement(void)
+{
+    static uint32_t tape[2 * DAY_ISSUES * DAY_ACCOUNTS + 4];
+    size_t length = 0;
+    uint64_t numbers[DAY_STATEMENT_NUMBERS];
+    for (uint32_t issue = 0; issue < DAY_ISSUES; issue++) {
+        for (uint32_t other = 1; other < DAY_ACCOUNTS; other++) {
+            tape[length++] = DAY_TRADE << 28 | issue << 24 | other << 18;
+            tape[length++] = 8u << 28 | 150000;
+        }
+    }
+    tape[length++] = DAY_CLOSE << 28;
+    tape[length++] = DAY_CUTOFF << 28;
+    tape[length++] = DAY_RESOLVE << 28 | 62 << 18;
+    tape[length++] = 8u << 28 | 400;
+    refusal |= day_statement(tape, length, 0, 62, numbers);
+    refusal |= numbers[2] != 150000 || numbers[3] != 400;
+}
+
 static void make_nothing(void) {}
 
 struct measured {
@@ -184,7 +205,7 @@ static const struct measured measures[] = {
     {"deliver, dealt", make_lifted},     {"sound, dealt", make_sound},
     {"cutoff, dealt", make_cutoff},      {"status, dealt", make_status},
     {"funds", make_funds},        {"markets", make_markets},
-    {"simulated desk", make_simulation},
+    {"simulated desk", make_simulation}, {"statement", make_statement},
 };
 
 static void *run(void *make)
@@ -224,7 +245,8 @@ int main(void)
     for (size_t i = 1; i < sizeof measures / sizeof measures[0]; i++) {
         size_t all = used(&measures[i]);
         size_t bytes = all > thread_alone ? all - thread_alone : 0;
-        int within = thread_alone != 0 && all != 0 && bytes <= DAY_STACK_BYTES;
+        size_t most = measures[i].make == make_statement ? DAY_STATEMENT_STACK_BYTES : DAY_STACK_BYTES;
+        int within = thread_alone != 0 && all != 0 && bytes <= most;
         printf("%-16s %zu bytes of stack%s\n", measures[i].name, bytes, within ? "" : ": too many");
         good = good && within;
     }

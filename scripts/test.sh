@@ -35,6 +35,7 @@ step 'what the host of a trust account prints' scripts/test-trust-host.sh build/
 step 'what the host of a simulated desk prints' scripts/test-sizes-host.sh build/sizes
 step 'what the host of funds for a default prints' scripts/test-funds-host.sh build/funds
 step 'what the host of small markets prints' scripts/test-markets-host.sh build/markets
+step 'what the host of a fails statement prints' scripts/test-statement-host.sh build/statement
 step 'the stack that a call needs' build/stack
 step 'the tests in Rust' cargo test --release --offline
 step 'the test programs' cargo build --release --offline
@@ -44,6 +45,7 @@ step 'a trust account beside the second engine' build/release/trust
 step 'simulated desks beside the second engine' build/release/simulation
 step 'funds for a default beside the second engine' build/release/funds
 step 'every small market beside the second engine' build/release/markets
+step 'fails statements beside the second engine' build/release/statement
 step 'the calls beside the second engine' build/release/calls
 step 'callers beside the second engine' build/release/callers
 step 'the program beside the second engine' build/release/tapes

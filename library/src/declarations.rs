@@ -470,6 +470,17 @@ extern "C" {
     ) -> Seen;
 }
 
+// libstatement.a
+extern "C" {
+    pub fn day_statement(
+        words: *const u32,
+        words_length: usize,
+        issue: u32,
+        account: u32,
+        numbers: *mut [u64; 6],
+    ) -> u32;
+}
+
 // libtrust.a
 extern "C" {
     pub fn day_trust(

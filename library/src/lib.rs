@@ -1,7 +1,7 @@
 //! The proved library, called safely from Rust: a book and the calls on it, lifts of one unit, why a
 //! unit has not come, who may call and who may look, unit sizes tried on a simulated desk, the tape's
 //! reader and writer, value and charge, entries met, a fail inside a trust account, obligated funds for a
-//! default, every small market.
+//! default, every small market, an account's fails statement over a span of a tape.
 //!
 //! ```
 //! use library::{calls, Book, Instruction, OUTPUT_WORDS};
@@ -29,6 +29,7 @@ pub mod markets;
 pub mod raw;
 mod refusal;
 pub mod simulation;
+pub mod statement;
 pub mod tape;
 pub mod trust;
 

@@ -13,6 +13,7 @@ pub mod questions;
 pub mod run;
 pub mod simulation;
 pub mod soundness;
+pub mod statement;
 pub mod tape;
 pub mod trust;
 pub mod units;

@@ -40,7 +40,12 @@ fn run_words(words: &[u32], stray: bool, book: &mut Book) -> String {
 }
 
 /// Makes the call of an instruction; the count of pair-off is its steps.
-fn obey(book: &mut Book, instruction: &Instruction, words: &[u32], output: &mut [u32]) -> Answer {
+pub(crate) fn obey(
+    book: &mut Book,
+    instruction: &Instruction,
+    words: &[u32],
+    output: &mut [u32],
+) -> Answer {
     match *instruction {
         Instruction::Trade { issue, from, to, lots } => {
             calls::trade_on_sound(book, issue, from, to, lots)

@@ -1,6 +1,6 @@
 //! Tapes for people: a text form of the words, what the book refuses, what a tape does day by day, why a
-//! unit has not come, whether smaller units would loosen a jam, what a participant sees of an account, and
-//! every small market.
+//! unit has not come, whether smaller units would loosen a jam, what a participant sees of an account,
+//! every small market, and an account's fails statement.
 
 pub mod bytes;
 pub mod check;
@@ -16,6 +16,7 @@ pub mod measure;
 pub mod options;
 pub mod output;
 pub mod run;
+pub mod statement;
 pub mod status;
 pub mod story;
 pub mod telling;

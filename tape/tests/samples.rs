@@ -3,6 +3,7 @@
 use std::fs;
 use std::path::{Path, PathBuf};
 use tape::input::{Day, Taken};
+use tape::statement::Told;
 use tape::{telling, text};
 
 /// The samples in text form.
@@ -78,4 +79,12 @@ fn the_settled_days_are_told() {
     ] {
         assert!(told.contains(line), "{line}\n{told}");
     }
+}
+
+#[test]
+fn the_statements_of_all_accounts_are_stored() {
+    let sample = Path::new(env!("CARGO_MANIFEST_DIR")).join("../tapes/fails-statement.txt");
+    let told = Told::all(&tape_of(&sample)).expect("the statements").text();
+    let stored = fs::read_to_string(sample.with_extension("statement"));
+    assert_eq!(told, stored.expect("the stored statements"));
 }

@@ -8,6 +8,7 @@ mod look;
 mod markets;
 mod read;
 mod run;
+mod statement;
 mod why;
 mod write;
 
@@ -39,6 +40,7 @@ const VERBS: &[&Verb] = &[
     &jam::VERB,
     &look::VERB,
     &markets::VERB,
+    &statement::VERB,
 ];
 
 /// What help says of all verbs.

@@ -1,0 +1,2 @@
+-- Laws of an instruction's answer.
+pub mod Answered

@@ -1,0 +1,2 @@
+-- An instruction at the front of some words, and its answer in place.
+pub mod Answering

@@ -1,0 +1,2 @@
+-- Laws of a statement counted along a run.
+pub mod Counted

@@ -1,0 +1,2 @@
+-- What a statement's functions may assume, and what they do.
+pub mod Counting

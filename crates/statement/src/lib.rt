@@ -1,0 +1,246 @@
+// Fails statement over a span of a tape, for hosts in C and Rust: an account's record in an issue, from the tape's
+// first 4,096 instructions, or fewer, run in place on a fresh book.
+use rules::Instruction;
+use rules::Phase;
+use rules::Read;
+use rules::State;
+use spans::Statement;
+ghost use mathlib.Core.Path.{_≡_};
+ghost use Prim.Native.Nat.{_≤_};
+ghost use Rattle.rules.specs.Measures.{lastIssue, lastAccount, owedOf};
+ghost use Rattle.book.specs.States.{columns, ready};
+ghost use Rattle.instructions.specs.Answering.{Begins};
+ghost use Rattle.spans.specs.Span.{turnsFrom};
+ghost use Rattle.spans.specs.Statement.{mostSpan, statementOver, statementOn, stated, statement as statementAnswer};
+ghost use Rattle.statement.specs.Counting.{CanAdd, Grown, cutIn, resolvedIn, addedIn, Within, Stepped};
+
+// a span has at most so many instructions
+const MOST_SPAN: usize = 4096;
+
+// What an accepted cutoff adds: what the account owes, what it delivered, and the rest, which it fails.
+fn cut(c: Statement, net: i32, given: u32) -> Statement
+    requires { ⌜ CanAdd c × (given ≤ owedOf net) ⌝ }
+    ensures { λ r. ⌜ (r ≡ cutIn c net given) × Grown c r ⌝ }
+{
+    let owed = book::owed(net);
+    Statement {
+        due: c.due + owed as u64,
+        delivered: c.delivered + given as u64,
+        failed: c.failed + (owed - given) as u64,
+        resolved: c.resolved,
+    }
+}
+
+// What an accepted resolve adds where it is the account's in the issue: its lots.
+fn resolved(c: Statement, own: bool, lots: u32) -> Statement
+    requires { ⌜ CanAdd c ⌝ }
+    ensures { λ r. ⌜ (r ≡ resolvedIn c own lots) × Grown c r ⌝ }
+{
+    if !own {
+        return c;
+    }
+    Statement {
+        due: c.due,
+        delivered: c.delivered,
+        failed: c.failed,
+        resolved: c.resolved + lots as u64,
+    }
+}
+
+// A statement with what an instruction adds, from its number and from the account's net and delivered lots
+// before it. A refused one adds nothing.
+fn added(
+    c: Statement,
+    x: Instruction,
+    refusal: u32,
+    net: i32,
+    given: u32,
+    issue: u32,
+    account: u32,
+) -> Statement
+    requires { ⌜ CanAdd c × (given ≤ owedOf net) ⌝ }
+    ensures { λ r. ⌜ (r ≡ addedIn c x refusal net given issue account) × Grown c r ⌝ }
+{
+    if 0 < refusal {
+        return c;
+    }
+    match x {
+        Instruction::Trade(_, _, _, _) => c,
+        Instruction::Deliver(_, _, _) => c,
+        Instruction::Resolve(i, a, lots) => resolved(c, (i == issue) & (a == account), lots),
+        Instruction::PairOff(_, _) => c,
+        Instruction::Close => c,
+        Instruction::Cutoff => cut(c, net, given),
+        Instruction::Roll(_, _) => c,
+        Instruction::Mark(_, _) => c,
+        Instruction::Turn(_) => c,
+    }
+}
+
+// After an instruction: the statement so far, and the state.
+struct Step {
+    statement: Statement,
+    state: State,
+}
+
+// The instruction that the words begin with, answered in place, and counted.
+fn turn(
+    words: &[u32],
+    x: Instruction,
+    issue: u32,
+    account: u32,
+    c: Statement,
+    s: State,
+    nets: &mut [i32],
+    delivered: &mut [u32],
+    lifts: &mut [u32],
+    charges: &mut [i64],
+    issues: &mut [u8],
+    froms: &mut [u8],
+    tos: &mut [u8],
+    lots: &mut [u32],
+    days: &mut [u16],
+    out: &mut [u32],
+) -> Step
+    requires { ⌜ Begins (now words) x × ready s nets delivered lifts charges issues froms tos lots days out × Within issue account × CanAdd c ⌝ }
+    ensures { λ r. ⌜ (let k = columns nets delivered lifts charges issues froms tos lots days in Stepped (now (words .entry)) x issue account c (k .before s) r (k .after (r .state))) ⌝ }
+{
+    let cell = issue as usize * 64 + account as usize;
+    let net = nets[cell];
+    let given = delivered[cell];
+    let t = instructions::answer(
+        words,
+        x,
+        s,
+        nets,
+        delivered,
+        lifts,
+        charges,
+        issues,
+        froms,
+        tos,
+        lots,
+        days,
+        out,
+    );
+    let state = t.state;
+    let statement = added(c, x, t.refusal, net, given, issue, account);
+    Step { statement, state }
+}
+
+// The statement of a span, run from the book in its columns on. A reader's refusal ends it there.
+fn span(
+    words: &[u32],
+    issue: u32,
+    account: u32,
+    s: State,
+    nets: &mut [i32],
+    delivered: &mut [u32],
+    lifts: &mut [u32],
+    charges: &mut [i64],
+    issues: &mut [u8],
+    froms: &mut [u8],
+    tos: &mut [u8],
+    lots: &mut [u32],
+    days: &mut [u16],
+    out: &mut [u32],
+) -> Statement
+    requires { ⌜ ready s nets delivered lifts charges issues froms tos lots days out × Within issue account ⌝ }
+    ensures { λ r. ⌜ (let k = columns nets delivered lifts charges issues froms tos lots days in r ≡ statementOver issue account (turnsFrom mostSpan (k .before s) (now (words .entry)))) ⌝ }
+{
+    let mut c = Statement {
+        due: 0,
+        delivered: 0,
+        failed: 0,
+        resolved: 0,
+    };
+    let mut state = s;
+    let mut at: usize = 0;
+    let mut left = MOST_SPAN;
+    while 0 < left {
+        let Read::Instr(x, n) = tape::read(&words[at..]) else {
+            return c;
+        };
+        let t = turn(
+            &words[at..],
+            x,
+            issue,
+            account,
+            c,
+            state,
+            nets,
+            delivered,
+            lifts,
+            charges,
+            issues,
+            froms,
+            tos,
+            lots,
+            days,
+            out,
+        );
+        c = t.statement;
+        state = t.state;
+        at += n;
+        left -= 1;
+    }
+    c
+}
+
+// The statement of a tape's span, run on a fresh book.
+fn on_fresh(words: &[u32], issue: u32, account: u32) -> Statement
+    requires { ⌜ Within issue account ⌝ }
+    ensures { λ r. ⌜ r ≡ statementOn (now (words .entry)) issue account ⌝ }
+{
+    let s = book::state_of(0, Phase::Taking, 0, 0, [0; 16]);
+    let mut nets = [0i32; 1024];
+    let mut delivered = [0u32; 1024];
+    let mut lifts = [0u32; 288];
+    let mut charges = [0i64; 64];
+    let mut issues = [0u8; 2048];
+    let mut froms = [0u8; 2048];
+    let mut tos = [0u8; 2048];
+    let mut lots = [0u32; 2048];
+    let mut days = [0u16; 2048];
+    let mut out = [0u32; 4096];
+    span(
+        words,
+        issue,
+        account,
+        s,
+        &mut nets,
+        &mut delivered,
+        &mut lifts,
+        &mut charges,
+        &mut issues,
+        &mut froms,
+        &mut tos,
+        &mut lots,
+        &mut days,
+        &mut out,
+    )
+}
+
+// An account's fails statement in an issue, from a tape's words: lots due to deliver at closes, delivered by
+// cutoffs, failed, resolved; then failed over due as two whole numbers. The refusal's number (4, 5) with 0 for
+// all of them, or 0.
+#[no_mangle]
+pub extern "C" fn day_statement(
+    words: &[u32],
+    issue: u32,
+    account: u32,
+    numbers: &mut [u64; 6],
+) -> u32
+    ensures { λ r. ⌜ stated r (now (numbers .exit)) ≡ statementAnswer (now (words .entry)) issue account ⌝ }
+{
+    *numbers = [0; 6];
+    if 15 < issue {
+        return 4;
+    }
+    if 63 < account {
+        return 5;
+    }
+    let c = on_fresh(words, issue, account);
+    *numbers = [c.due, c.delivered, c.failed, c.resolved, c.failed, c.due];
+    0
+}

@@ -1,0 +1,335 @@
+//! Fails statements over a tape's span: for each account asked, what it had to deliver in an issue, what
+//! came of it, and what it resolved.
+
+use crate::bytes::split;
+use crate::measure::{counted, Face, Grouped};
+use crate::story::traded;
+use library::statement::{statement, Statement, MOST_INSTRUCTIONS};
+use library::{calls, tape, Book, Instruction, Phase, Refusal, OUTPUT_WORDS};
+use std::collections::BTreeSet;
+
+/// Why a span ends where it does.
+#[derive(Clone, Copy, Debug, PartialEq, Eq)]
+enum End {
+    /// The tape does.
+    Tape,
+    /// The reader refuses the words from here on.
+    Refused(usize, Refusal),
+    /// It has as many instructions as a span can, and more words stand from here on.
+    Full(usize),
+}
+
+/// What was run: how many instructions, how many of them refused, why no more, and the book then.
+#[derive(Clone, Copy, Debug, PartialEq, Eq)]
+struct Span {
+    instructions: usize,
+    refused: usize,
+    end: End,
+    day: u16,
+    settling: bool,
+}
+
+/// A statement and whose it is.
+#[derive(Clone, Copy, Debug, PartialEq, Eq)]
+struct Row {
+    issue: u32,
+    account: u32,
+    statement: Statement,
+}
+
+/// The statements that were asked for.
+#[derive(Clone, Debug, PartialEq, Eq)]
+pub struct Told {
+    span: Span,
+    /// Is it one account's?
+    one: bool,
+    rows: Vec<Row>,
+}
+
+impl Told {
+    /// The statement of an account in an issue.
+    pub fn one(bytes: &[u8], issue: u32, account: u32) -> Result<Told, Refusal> {
+        let (words, stray) = split(bytes);
+        let (span, _) = run(&words, !stray.is_empty());
+        let statement = statement(&words, issue, account)?;
+        Ok(Told { span, one: true, rows: vec![Row { issue, account, statement }] })
+    }
+
+    /// The statements of all issues and accounts that have a number in them.
+    pub fn all(bytes: &[u8]) -> Result<Told, Refusal> {
+        let (words, stray) = split(bytes);
+        let (span, named) = run(&words, !stray.is_empty());
+        let mut rows = Vec::new();
+        for (issue, account) in named {
+            let statement = statement(&words, issue, account)?;
+            if statement != Statement::default() {
+                rows.push(Row { issue, account, statement });
+            }
+        }
+        Ok(Told { span, one: false, rows })
+    }
+
+    /// For people: a list of one account's numbers, or a table.
+    pub fn text(&self) -> String {
+        match self.rows.as_slice() {
+            [row] if self.one => self.list(row),
+            rows => self.table(rows),
+        }
+    }
+
+    /// One account's numbers.
+    fn list(&self, row: &Row) -> String {
+        let Row { issue, account, statement } = row;
+        let Statement { due, delivered, failed, resolved, failed_over_due: (over, under) } =
+            statement;
+        let lots = [
+            ("due to deliver at closes", due),
+            ("delivered by cutoffs", delivered),
+            ("failed", failed),
+            ("resolved", resolved),
+        ];
+        let lots: String =
+            lots.iter().map(|(name, lots)| format!("  {name:<26}{}\n", Face(**lots))).collect();
+        let (over, under) = (Grouped((*over).into()), Grouped((*under).into()));
+        format!(
+            "account {account}, issue {issue}: {}\n{lots}  {:<26}{over} / {under}\n",
+            self.head(),
+            "failed over due"
+        )
+    }
+
+    /// A table of all rows.
+    fn table(&self, rows: &[Row]) -> String {
+        let line = |cells: [String; 7]| {
+            let [issue, account, due, delivered, failed, resolved, ratio] = cells;
+            format!(
+                "{issue:>5}  {account:>7}  {due:>13}  {delivered:>13}  {failed:>13}  {resolved:>13}  \
+                 {ratio}\n"
+            )
+        };
+        let heads = HEADS.map(String::from);
+        let rows = rows.iter().map(|row| line(row.cells()));
+        let table: String = std::iter::once(line(heads)).chain(rows).collect();
+        format!("{}\n{table}", self.head())
+    }
+
+    /// Of which span they are.
+    fn head(&self) -> String {
+        let Span { instructions, refused, end, day, settling } = self.span;
+        let refused = match refused {
+            0 => String::new(),
+            refused => format!(", {} refused", Grouped(refused as i128)),
+        };
+        let end = match end {
+            End::Tape => String::new(),
+            End::Refused(word, refusal) => {
+                format!("; reading ends at word {word}, refused by {}", refusal.number())
+            }
+            End::Full(word) => format!("; the words from word {word} on are behind the span"),
+        };
+        let open = if settling {
+            format!("; day {day} is still settling: of it only resolves are counted")
+        } else {
+            String::new()
+        };
+        format!("lots over {}{refused}{end}{open}", counted(instructions, "instruction"))
+    }
+
+    /// An object of JSON for each row, a line each.
+    pub fn json(&self) -> String {
+        let Span { instructions, refused, end, day, settling } = self.span;
+        let (ended, full) = match end {
+            End::Tape => ("null".to_string(), "null".to_string()),
+            End::Refused(word, _) => (word.to_string(), "null".to_string()),
+            End::Full(word) => ("null".to_string(), word.to_string()),
+        };
+        let open = if settling { day.to_string() } else { "null".to_string() };
+        let object = |row: &Row| {
+            let Row { issue, account, statement } = row;
+            let Statement { due, delivered, failed, resolved, failed_over_due: (over, under) } =
+                statement;
+            format!(
+                "{{\"fact\":\"statement\",\"issue\":{issue},\"account\":{account},\"due\":{due},\
+                 \"delivered\":{delivered},\"failed\":{failed},\"resolved\":{resolved},\
+                 \"failedOverDue\":[{over},{under}],\"instructions\":{instructions},\
+                 \"refused\":{refused},\"ended\":{ended},\"behind\":{full},\"settling\":{open}}}\n"
+            )
+        };
+        self.rows.iter().map(object).collect()
+    }
+
+    /// A page with a row and a bar for each account: what it delivered of what was due.
+    pub fn html(&self) -> String {
+        let heads: String = HEADS.iter().map(|head| format!("<th>{head}</th>")).collect();
+        let rows: String = self.rows.iter().map(Row::html).collect();
+        let head = self.head();
+        format!(
+            "{HEAD}<p>{head}.</p>\n<table>\n<tr>{heads}<th>delivered of due</th></tr>\n{rows}</table>\n\
+             </body>\n</html>\n"
+        )
+    }
+}
+
+impl Row {
+    /// The cells of a table.
+    fn cells(&self) -> [String; 7] {
+        let Statement { due, delivered, failed, resolved, failed_over_due: (over, under) } =
+            self.statement;
+        let of = |number: u64| Grouped(number.into()).to_string();
+        [
+            self.issue.to_string(),
+            self.account.to_string(),
+            of(due),
+            of(delivered),
+            of(failed),
+            of(resolved),
+            format!("{} / {}", of(over), of(under)),
+        ]
+    }
+
+    /// The row of a page.
+    fn html(&self) -> String {
+        let cells: String = self.cells().iter().map(|cell| format!("<td>{cell}</td>")).collect();
+        let Statement { due, delivered, .. } = self.statement;
+        let percent = match due {
+            0 => 0.0,
+            due => delivered as f64 * 100.0 / due as f64,
+        };
+        let said = match due {
+            0 => "nothing due".to_string(),
+            _ => format!("{percent:.1} percent"),
+        };
+        format!(
+            "<tr>{cells}<td class=\"bar\"><span class=\"came\" style=\"width:{percent:.3}%\"></span>\
+             <b>{said}</b></td></tr>\n"
+        )
+    }
+}
+
+/// Runs a span, and tells which accounts sold or resolved in which issues: no other has a number in its
+/// statement.
+fn run(words: &[u32], stray: bool) -> (Span, BTreeSet<(u32, u32)>) {
+    let mut book = Book::fresh();
+    let mut output = vec![0; OUTPUT_WORDS];
+    let mut named = BTreeSet::new();
+    let (mut at, mut instructions, mut refused) = (0, 0, 0);
+    let end = loop {
+        if at == words.len() && !stray {
+            break End::Tape;
+        }
+        if instructions == MOST_INSTRUCTIONS {
+            break End::Full(at);
+        }
+        let (instruction, count) = match tape::read(&words[at..]) {
+            Ok(read) => read,
+            Err(refusal) => break End::Refused(at, refusal),
+        };
+        match instruction {
+            Instruction::Trade { issue, from: account, .. }
+            | Instruction::Resolve { issue, account, .. } => {
+                named.insert((issue, account));
+            }
+            _ => {}
+        }
+        if !traded(&mut book, &instruction) {
+            let quotes = tape::quotes(&words[at..]);
+            let answer = calls::call(&mut book, &instruction, &quotes, &mut output);
+            refused += usize::from(answer.refusal != 0);
+        }
+        at += count;
+        instructions += 1;
+    };
+    let settling = book.phase == Phase::SETTLING;
+    (Span { instructions, refused, end, day: book.day, settling }, named)
+}
+
+const HEADS: [&str; 7] =
+    ["issue", "account", "due", "delivered", "failed", "resolved", "failed over due"];
+
+/// The head of the page, with its colours.
+const HEAD: &str = "<!DOCTYPE html>
+<html lang=\"en\">
+<head>
+<meta charset=\"utf-8\">
+<meta name=\"viewport\" content=\"width=device-width, initial-scale=1\">
+<title>Fails statement</title>
+<style>
+body { font: 15px sans-serif; margin: 2em; color: #222; }
+table { border-collapse: collapse; }
+th, td { padding: 4px 10px; border: 1px solid #bbb; text-align: right; }
+.bar { position: relative; min-width: 16em; text-align: left; background: #e8b4ae; }
+.came { position: absolute; left: 0; top: 0; bottom: 0; background: #8cc63f; }
+.bar b { position: relative; font-weight: normal; }
+</style>
+</head>
+<body>
+<h1>Fails statement</h1>
+<p>Lots that an account was due to deliver at closes, those that it delivered by the cutoffs, those that
+it failed, and those that it resolved since. Due is delivered and failed together.</p>
+";
+
+#[cfg(test)]
+mod tests {
+    use super::*;
+    use crate::text;
+
+    const TWO_DAYS: &str = "trade 0 4 1 100\ntrade 0 5 2 50\nclose\ndeliver 0 4 60\ndeliver 0 5 60\n\
+        cutoff\nresolve 0 4 15\nroll 1 300 100000 accrued 0\ntrade 0 4 2 30\nclose\nresolve 0 4 5\n";
+
+    fn told(text: &str) -> Told {
+        Told::all(&text::to_tape(text).unwrap()).unwrap()
+    }
+
+    #[test]
+    fn one_account_is_told_as_a_list() {
+        let tape = text::to_tape(TWO_DAYS).unwrap();
+        let text = Told::one(&tape, 0, 4).unwrap().text();
+        let expected = "\
+account 4, issue 0: lots over 11 instructions, 1 refused; day 1 is still settling: of it only resolves \
+are counted
+  due to deliver at closes  100 lots (5,000,000 yen face)
+  delivered by cutoffs      60 lots (3,000,000 yen face)
+  failed                    40 lots (2,000,000 yen face)
+  resolved                  20 lots (1,000,000 yen face)
+  failed over due           40 / 100
+";
+        assert_eq!(text, expected);
+        assert_eq!(Told::one(&tape, 16, 0), Err(Refusal::Issue));
+    }
+
+    #[test]
+    fn all_that_have_a_number_are_a_table() {
+        let text = told(TWO_DAYS).text();
+        let rows: Vec<Vec<&str>> =
+            text.lines().skip(2).map(|line| line.split_whitespace().collect()).collect();
+        let four = ["0", "4", "100", "60", "40", "20", "40", "/", "100"];
+        let five = ["0", "5", "50", "0", "50", "0", "50", "/", "50"];
+        assert_eq!(rows, [four, five]);
+        assert!(told("close\n").rows.is_empty());
+    }
+
+    #[test]
+    fn the_same_as_json_and_as_a_page() {
+        let json = told(TWO_DAYS).json();
+        let first =
+            "{\"fact\":\"statement\",\"issue\":0,\"account\":4,\"due\":100,\"delivered\":60,\
+                     \"failed\":40,\"resolved\":20,\"failedOverDue\":[40,100],\"instructions\":11,\
+                     \"refused\":1,\"ended\":null,\"behind\":null,\"settling\":1}";
+        assert_eq!(json.lines().next(), Some(first));
+        assert_eq!(json.lines().count(), 2);
+        let page = told(TWO_DAYS).html();
+        assert!(page.contains("width:60.000%") && page.contains("60.0 percent"), "{page}");
+    }
+
+    #[test]
+    fn where_the_span_ends_is_told() {
+        let cut = told("trade 0 1 2 5\nclose\nword 0\ncutoff\n");
+        assert_eq!(cut.span.end, End::Refused(3, Refusal::Word));
+        assert!(cut.text().contains("; reading ends at word 3, refused by 14"));
+        let full = told(&"pair-off 0 1\n".repeat(4_096));
+        assert_eq!((full.span.end, full.span.instructions), (End::Tape, 4_096));
+        let over = told(&"pair-off 0 1\n".repeat(4_097));
+        assert_eq!((over.span.end, over.span.instructions), (End::Full(4_096), 4_096));
+        assert!(over.text().contains("; the words from word 4096 on are behind the span"));
+    }
+}
