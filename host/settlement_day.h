@@ -3,8 +3,8 @@
  * The functions are in static libraries, which `make libraries` makes:
  *
  *     target/staticlib/libhost.a      day_sound day_unit day_status day_simulate day_call day_ask
- *                                     day_commit, all but the first with a caller too (day_unit_as,
- *                                     ..), and day_look
+ *                                     day_commit
+ *     target/staticlib/libcallers.a   all but day_sound with a caller (day_unit_as, ..), and day_look
  *     target/staticlib/libdesk.a      day_value day_charge day_read day_quotes day_write
  *     target/staticlib/libentries.a   entry_meet
  *     target/staticlib/libfunds.a     day_bases day_shares day_funds

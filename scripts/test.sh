@@ -11,11 +11,12 @@ step() { # NAME COMMAND..
     "$@" || { printf 'tests failed: %s\n' "$name"; exit 1; }
 }
 
-# Proves all crates from nothing and tries the must-fail edits; the log keeps the verdict.
+# Proves all crates from nothing and tries the must-fail edits; the log keeps the verdict. rt waits for all
+# that it began together: with twice as many at once as there are cores, none idles beside a long proof.
 proofs() {
     local sources
     sources=$(scripts/proved.sh sources)
-    rt ci 2>&1 | scripts/progress.sh build/proofs.log || return 1
+    RT_JOBS=${RT_JOBS:-$((2 * $(nproc)))} rt ci 2>&1 | scripts/progress.sh build/proofs.log || return 1
     scripts/proved.sh mark "$sources"
 }
 
@@ -27,7 +28,7 @@ step 'proofs' proofs
 verdict=$(tail -n 1 build/proofs.log)
 [[ $verdict =~ ^[0-9]+\ passed,\ 0\ failed$ ]] || { echo 'tests failed: no verdict on the proofs'; exit 1; }
 
-step 'the libraries' make --no-print-directory libraries
+step 'the libraries' make --no-print-directory -j "$(nproc)" libraries
 step 'the hosts in C' make --no-print-directory hosts
 step 'what the host of value and charge prints' scripts/test-host.sh build/measures
 step 'what the host of the book prints' scripts/test-day-host.sh build/day

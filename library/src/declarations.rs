@@ -89,7 +89,7 @@ extern "C" {
     ) -> u32;
 }
 
-// libhost.a
+// libhost.a and libcallers.a
 extern "C" {
     pub fn day_sound(
         state: State,

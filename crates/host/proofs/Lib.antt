@@ -1,10 +1,4 @@
 pub mod Holding
 pub mod Asking
 pub mod Calling
-pub mod ByCaller
-pub mod AskingBy
-pub mod Secret
 pub mod Lifting
-pub mod Fed
-pub mod Contracts
-pub mod Reordered

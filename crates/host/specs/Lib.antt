@@ -2,4 +2,3 @@ pub mod States
 pub mod Questions
 pub mod Calls
 pub mod Lifts
-pub mod Callers

@@ -63,12 +63,10 @@
 // uint32_t day_commit(const uint32_t ticket[6], struct day_state, <the nine columns, lifts to be written>,
 //     uint32_t *out, size_t, size_t *count);
 //   The lift of a ticket; count is that of the records written, 0 on a refusal.
-pub mod callers;
 pub mod calls;
 pub mod lifts;
 pub mod questions;
 
-use rules::Entry;
 use rules::Phase;
 use rules::State;
 ghost use mathlib.Core.Path.{_≡_};
@@ -93,17 +91,6 @@ pub struct DayTurned {
     pub count: usize,
     pub cancelled: u64,
     pub state: DayState,
-}
-
-// What is seen of an account: the refusal's number (0: done); 1 where there is an entry, else 0; the account's net in the
-// issue, its charge, and the entry, 0 throughout where there is none.
-#[repr(C)]
-pub struct DaySeen {
-    pub refusal: u32,
-    pub some: u32,
-    pub net: i32,
-    pub charge: i64,
-    pub entry: Entry,
 }
 
 // The phase of a number of 0 to 2.

@@ -1,6 +1,8 @@
 //! `bench`: run times of the library and the program beside the second engine, as Markdown.
 //!
-//! Parts: calls, lifts, orders, growth, simulation and programs; `--part NAME` runs one of them.
+//! Parts: calls, lifts, orders, growth, simulation, programs and counts; `--part NAME` runs one of them.
+//! Counts are instructions of the machine, by callgrind, which do not depend on what else it does; they are
+//! made only where they are asked for.
 //! `--cases N` is the number of rounds of which the middle one is shown. `--program PATH` and `--reference PATH` name the
 //! programs.
 
@@ -10,6 +12,7 @@ mod lifts;
 mod orders;
 mod programs;
 mod simulation;
+mod tapes;
 mod timing;
 
 use std::process::ExitCode;
@@ -62,8 +65,9 @@ fn run(options: Options) -> Result<(), String> {
             Ok(())
         }
         "programs" => programs::run(&options),
+        "counts" => programs::counts(&options),
         other => {
-            let parts = "calls, lifts, orders, growth, simulation and programs";
+            let parts = "calls, lifts, orders, growth, simulation, programs and counts";
             Err(format!("there is no part {other:?}: there are {parts}"))
         }
     }

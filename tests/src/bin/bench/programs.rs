@@ -1,44 +1,43 @@
-//! Instructions a second and memory of the program and of the second engine's program.
+//! The program beside the second engine's on whole tapes: calls a second and memory, or instructions of the
+//! machine, counted by callgrind. Each run has to accept as many calls as the tape says.
 
-use reference::book::Phase;
-use reference::measures::same_quotes;
-use reference::questions::WRITER_OUTPUT;
-use reference::tape::{self, Instruction};
+use crate::tapes::{Make, Tape, TAPES};
+use std::io::Write;
+use std::process::{Command, Stdio};
 use std::time::Duration;
+use std::{fs, thread};
 use tests::options::Options;
 use tests::programs::{both_there, run as run_program, Printed, PROGRAM, REFERENCE};
-use tests::rng::Rng;
 
-/// The instructions of the tapes.
-const LENGTHS: [usize; 4] = [1_000, 10_000, 100_000, 1_000_000];
+/// The measured calls of the tapes that are timed.
+const LENGTHS: [usize; 3] = [10_000, 100_000, 1_000_000];
+/// The measured calls of a tape that is counted; callgrind takes some fifty times the time.
+const COUNTED: usize = 4_000;
 /// How often each program runs on a tape; the quickest run is shown.
 const RUNS: usize = 3;
 /// After a run of this time no longer tape of the kind is run.
-const LONGEST: Duration = Duration::from_secs(2);
-/// A kind of tape: its name, and what makes one of about so many instructions and counts them.
-type Kind = (&'static str, fn(usize) -> (Vec<u8>, usize));
+const LONGEST: Duration = Duration::from_secs(1);
 
-/// Prints the table.
-pub fn run(options: &Options) -> Result<(), String> {
+/// Both programs, as the options name them.
+fn programs(options: &Options) -> Result<[String; 2], String> {
     let program = options.own_or("--program", PROGRAM);
     let reference = options.own_or("--reference", REFERENCE);
     both_there(program, reference)?;
-    println!("\n### Programs: thousand instructions a second, and most memory in kilobytes\n");
+    Ok([program.to_string(), reference.to_string()])
+}
+
+/// Prints the table of times.
+pub fn run(options: &Options) -> Result<(), String> {
+    let programs = programs(options)?;
+    println!("\n### Programs: thousand calls a second, and most memory in kilobytes\n");
     println!(
-        "| tape | instructions | tape bytes | program | second engine | program's memory \
+        "| tape | calls | accepted | program | second engine | times | program's memory \
          | second engine's memory |"
     );
-    println!("|---|--:|--:|--:|--:|--:|--:|");
-    let kinds: [Kind; 3] =
-        [("all trades", all_trades), ("busy days", busy_days), ("full ledger", full_ledger)];
-    for (name, make) in kinds {
+    println!("|---|--:|--:|--:|--:|--:|--:|--:|");
+    for make in TAPES {
         for length in LENGTHS {
-            let (tape, made) = make(length);
-            let one = measure(program, &tape)?;
-            let other = measure(reference, &tape)?;
-            let bytes = tape.len();
-            println!("| {name} | {made} | {bytes} | {} |", columns(made, &one, &other));
-            if one.time.max(other.time) > LONGEST {
+            if timed(&programs, make, length)? > LONGEST {
                 break;
             }
         }
@@ -46,21 +45,41 @@ pub fn run(options: &Options) -> Result<(), String> {
     Ok(())
 }
 
-/// Speed and memory of both programs on a tape of so many instructions.
-fn columns(made: usize, one: &Printed, other: &Printed) -> String {
-    let speed = |printed: &Printed| made as f64 / printed.time.as_secs_f64() / 1_000.0;
+/// Prints a line of the table of times; gives the longer of both times.
+fn timed(
+    [program, reference]: &[String; 2],
+    make: Make,
+    length: usize,
+) -> Result<Duration, String> {
+    let tape = make(length);
+    let [one, other] = [measure(program, &tape)?, measure(reference, &tape)?];
+    let all = (tape.before + tape.calls) as f64;
+    let speed = |printed: &Printed| all / printed.time.as_secs_f64() / 1_000.0;
     let memory = |printed: &Printed| match printed.memory {
         0 => "–".to_string(),
         kilobytes => kilobytes.to_string(),
     };
-    format!("{:.0} | {:.0} | {} | {}", speed(one), speed(other), memory(one), memory(other))
+    println!(
+        "| {} | {} | {} | {:.0} | {:.0} | {:.1} | {} | {} |",
+        tape.name,
+        tape.before + tape.calls,
+        tape.before + tape.accepted,
+        speed(&one),
+        speed(&other),
+        speed(&one) / speed(&other),
+        memory(&one),
+        memory(&other)
+    );
+    Ok(one.time.max(other.time))
 }
 
 /// The quickest run of a program on a tape, with the most memory of all runs.
-fn measure(program: &str, tape: &[u8]) -> Result<Printed, String> {
-    let mut quickest = run_program(program, tape)?;
+fn measure(program: &str, tape: &Tape) -> Result<Printed, String> {
+    let bytes = tape.whole();
+    let mut quickest = run_program(program, &bytes)?;
+    accepts(program, tape, &quickest.output)?;
     for _ in 1..RUNS {
-        let printed = run_program(program, tape)?;
+        let printed = run_program(program, &bytes)?;
         let memory = quickest.memory.max(printed.memory);
         if printed.time < quickest.time {
             quickest = printed;
@@ -70,84 +89,79 @@ fn measure(program: &str, tape: &[u8]) -> Result<Printed, String> {
     Ok(quickest)
 }
 
-/// The words of an instruction, with this price and accrued amount for every issue.
-fn put(tape: &mut Vec<u8>, instruction: Instruction) {
-    let mut words = [0; WRITER_OUTPUT];
-    let answer = tape::write(&instruction, &same_quotes(99_999, 501), &mut words);
-    assert_eq!(answer.number, 0, "the instruction fits");
-    tape.extend(words[..answer.count as usize].iter().flat_map(|word| word.to_le_bytes()));
-}
-
-/// A trade of any issue between any two accounts.
-fn trade(rng: &mut Rng) -> Instruction {
-    let from = rng.range(0, 63);
-    let to = (from + rng.range(1, 63)) % 64;
-    Instruction::Trade { issue: rng.range(0, 15), from, to, lots: rng.range(1, 100_000) }
-}
-
-/// Trades alone.
-fn all_trades(length: usize) -> (Vec<u8>, usize) {
-    let mut rng = Rng::new(11);
-    let mut tape = Vec::new();
-    (0..length).for_each(|_| put(&mut tape, trade(&mut rng)));
-    (tape, length)
-}
-
-/// Days of 600 trades, 340 deliveries, a cutoff, 50 resolves and pair-offs, and a roll.
-fn busy_days(length: usize) -> (Vec<u8>, usize) {
-    let mut rng = Rng::new(12);
-    let mut tape = Vec::new();
-    let mut phase = Phase::Taking;
-    for at in 0..length {
-        let (issue, account) = (rng.range(0, 15), rng.range(0, 63));
-        let (instruction, next) = match at % 1_000 {
-            599 => (Instruction::Close, Phase::Settling),
-            940 => (Instruction::Cutoff, Phase::Cut),
-            999 => (Instruction::Roll { days: 1, rate: 300 }, Phase::Taking),
-            place if phase == Phase::Cut && place % 8 == 0 => {
-                (Instruction::PairOff { issue, account }, phase)
-            }
-            _ => (busy_instruction(&mut rng, phase, issue, account), phase),
-        };
-        put(&mut tape, instruction);
-        phase = next;
+/// Has the program accepted as many calls as the tape says?
+fn accepts(program: &str, tape: &Tape, output: &[u8]) -> Result<(), String> {
+    let text = String::from_utf8_lossy(output);
+    let lines = text.lines().filter(|line| line.starts_with(|first: char| first.is_ascii_digit()));
+    let (mut calls, mut accepted) = (0, 0);
+    for line in lines {
+        calls += 1;
+        accepted += usize::from(line.split(' ').nth(2) == Some("0"));
     }
-    (tape, length)
+    let wanted = (tape.before + tape.calls, tape.before + tape.accepted);
+    if (calls, accepted) == wanted {
+        return Ok(());
+    }
+    Err(format!(
+        "{program} accepts {accepted} of {calls} calls of '{}'; {} of {} are to be accepted",
+        tape.name, wanted.1, wanted.0
+    ))
 }
 
-/// An instruction that suits the phase; a delivery or resolve of few lots is mostly owed.
-fn busy_instruction(rng: &mut Rng, phase: Phase, issue: u32, account: u32) -> Instruction {
-    match phase {
-        Phase::Taking => trade(rng),
-        Phase::Settling => Instruction::Deliver { issue, account, lots: rng.range(1, 90_000) },
-        Phase::Cut => Instruction::Resolve { issue, account, lots: rng.range(1, 90_000) },
+/// Prints the table of counted instructions.
+pub fn counts(options: &Options) -> Result<(), String> {
+    let programs = programs(options)?;
+    if Command::new("valgrind").arg("--version").stdout(Stdio::null()).status().is_err() {
+        return Err("there is no valgrind, which counts: install Debian's package valgrind".into());
     }
+    println!("\n### Programs: instructions of the machine a call, counted by callgrind\n");
+    println!("| tape | calls | accepted | program | second engine | times |");
+    println!("|---|--:|--:|--:|--:|--:|");
+    for make in TAPES {
+        let tape = make(COUNTED);
+        let [one, other] = [counted(&programs[0], &tape)?, counted(&programs[1], &tape)?];
+        println!(
+            "| {} | {} | {} | {one:.0} | {other:.0} | {:.1} |",
+            tape.name,
+            tape.calls,
+            tape.accepted,
+            other / one
+        );
+    }
+    Ok(())
 }
 
-/// Three days that fill the ledger to 2,048 entries, then resolves, pair-offs and rolls on it.
-fn full_ledger(length: usize) -> (Vec<u8>, usize) {
-    let mut rng = Rng::new(13);
-    let mut tape = Vec::new();
-    let mut made = 0;
-    for fails in [1_008, 1_000, 40] {
-        for at in 0..fails {
-            let lots = 20_000_000 / 63 - at % 7;
-            put(&mut tape, Instruction::Trade { issue: at / 63, from: 0, to: 1 + at % 63, lots });
-        }
-        put(&mut tape, Instruction::Close);
-        put(&mut tape, Instruction::Cutoff);
-        put(&mut tape, Instruction::Roll { days: 1, rate: 300 });
-        made += fails as usize + 3;
+/// Instructions a measured call: those of the whole tape less those of its first part.
+fn counted(program: &str, tape: &Tape) -> Result<f64, String> {
+    let printed = run_program(program, &tape.whole())?;
+    accepts(program, tape, &printed.output)?;
+    let whole = collected(program, &tape.whole())?;
+    let first = collected(program, &tape.first)?;
+    Ok((whole - first) as f64 / tape.calls as f64)
+}
+
+/// The instructions that callgrind counts of a program on a tape.
+fn collected(program: &str, tape: &[u8]) -> Result<u64, String> {
+    let log = std::env::temp_dir().join(format!("bench-counts-{}.log", std::process::id()));
+    let mut child = Command::new("valgrind")
+        .args(["--tool=callgrind", "--callgrind-out-file=/dev/null"])
+        .arg(format!("--log-file={}", log.display()))
+        .arg(program)
+        .stdin(Stdio::piped())
+        .stdout(Stdio::null())
+        .spawn()
+        .map_err(|error| format!("valgrind cannot be run: {error}"))?;
+    let mut input = child.stdin.take().expect("standard input is piped");
+    let status = thread::scope(|scope| {
+        scope.spawn(move || input.write_all(tape));
+        child.wait()
+    });
+    let said = fs::read_to_string(&log).unwrap_or_default();
+    let _ = fs::remove_file(&log);
+    if !status.map_err(|error| error.to_string())?.success() {
+        return Err(format!("{program} did not end well under valgrind: {said}"));
     }
-    while made < length {
-        let instruction = match made % 4 {
-            0 => Instruction::PairOff { issue: rng.range(0, 15), account: rng.range(0, 63) },
-            1 => Instruction::Close,
-            2 => Instruction::Cutoff,
-            _ => Instruction::Roll { days: 1, rate: 300 },
-        };
-        put(&mut tape, instruction);
-        made += 1;
-    }
-    (tape, made)
+    let line = said.lines().find_map(|line| line.split_once("Collected :"));
+    let number = line.and_then(|(_, number)| number.trim().parse().ok());
+    number.ok_or_else(|| format!("valgrind has counted nothing: {said}"))
 }
