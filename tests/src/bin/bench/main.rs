@@ -3,6 +3,7 @@
 //! Parts: calls, lifts, orders, growth, simulation, programs and counts; `--part NAME` runs one of them.
 //! Counts are instructions of the machine, by callgrind, which do not depend on what else it does; they are
 //! made only where they are asked for.
+//! `--part one --one 'MARKET LIFTS ORDER CALL'` makes one of the calls of both orders, to be counted.
 //! `--cases N` is the number of rounds of which the middle one is shown. `--program PATH` and `--reference PATH` name the
 //! programs.
 
@@ -22,7 +23,7 @@ use tests::options::Options;
 const DEFAULT_ROUNDS: u64 = 41;
 
 fn main() -> ExitCode {
-    let own = ["--part", "--program", "--reference"];
+    let own = ["--part", "--one", "--program", "--reference"];
     match Options::of_command_line(DEFAULT_ROUNDS, &own).and_then(run) {
         Ok(()) => ExitCode::SUCCESS,
         Err(error) => {
@@ -65,7 +66,8 @@ fn run(options: Options) -> Result<(), String> {
             Ok(())
         }
         "programs" => programs::run(&options),
-        "counts" => programs::counts(&options),
+        "counts" => programs::counts(&options).and_then(|()| orders::counts()),
+        "one" => orders::one(options.own_or("--one", "")),
         other => {
             let parts = "calls, lifts, orders, growth, simulation, programs and counts";
             Err(format!("there is no part {other:?}: there are {parts}"))

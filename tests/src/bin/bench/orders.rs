@@ -4,12 +4,15 @@
 //! The nets of an issue sum to 0, each within ±200 full units; so 32 receivers with 200 full units each
 //! are the most that a sound book holds, and beside 63 receivers one account delivers 200 units in all.
 
+use crate::programs::collected;
 use crate::timing::{library_time, reference_time};
 use reference::book::{place, Book, Phase, ACCOUNTS, ISSUES};
 use reference::calls::{ask_on_sound, commit_on_sound};
 use reference::measures::UNIT_LOTS;
 use reference::units::units_of;
-use tests::engines::by_reference;
+use std::process::Command;
+use tests::convert::library_book;
+use tests::engines::{by_library, by_reference};
 use tests::steps::Call;
 
 /// The issue of the deliveries and of the unit that is asked.
@@ -62,6 +65,52 @@ pub fn run(rounds: usize) {
             }
         }
     }
+}
+
+/// Prints the table of instructions that callgrind counts inside the library's call: of the same markets and
+/// calls, each made once by this program under valgrind.
+pub fn counts() -> Result<(), String> {
+    let own = std::env::current_exe().map_err(|error| error.to_string())?;
+    println!("\n### Old and new order of full units: instructions of the machine\n");
+    println!("| market | lifts in every issue | call | library, old | library, new | new / old |");
+    println!("|---|--:|---|--:|--:|--:|");
+    for (at, market) in MARKETS.iter().enumerate() {
+        let units: u32 = (0..market.1).map(market.2).sum();
+        for lifts in [0, LIFTS] {
+            for (which, (name, call)) in measured_calls(units).iter().enumerate() {
+                let function =
+                    if matches!(call, Call::Unit { .. }) { "day_unit" } else { "day_call" };
+                let count = |turn: u32| {
+                    let mut command = Command::new("valgrind");
+                    command.arg(format!("--toggle-collect={function}"));
+                    let one = format!("{at} {lifts} {turn} {which}");
+                    collected(command, &own, &["--part", "one", "--one", &one], &[])
+                };
+                let [old, new] = [count(0)?, count(1)?];
+                println!(
+                    "| {} | {lifts} | {name} | {old} | {new} | {:.2} |",
+                    market.0,
+                    new as f64 / old as f64
+                );
+            }
+        }
+    }
+    Ok(())
+}
+
+/// Makes one call by the library: of a market, with so many lifts, in the old order or the new, one of the
+/// calls that are measured, each by its number.
+pub fn one(numbers: &str) -> Result<(), String> {
+    let wrong = || format!("{numbers:?} is not market, lifts, order and call");
+    let numbers: Vec<usize> = numbers.split(' ').map_while(|number| number.parse().ok()).collect();
+    let &[market, lifts, order, which] = numbers.as_slice() else { return Err(wrong()) };
+    let market = MARKETS.get(market).ok_or_else(wrong)?;
+    let book = market_book(market, lifts, if order == 0 { 0 } else { u32::from(DAY) });
+    let units = units_of(&book, ISSUE as usize).len() as u32;
+    let (_, call) = measured_calls(units).into_iter().nth(which).ok_or_else(wrong)?;
+    let answer = by_library(&mut library_book(&book), &call, &mut vec![0; OUT]);
+    assert_eq!(answer.number, 0, "{call} is accepted");
+    Ok(())
 }
 
 /// The calls that are measured: a delivery of 1 unit and of 200, or of all that there are, the last

@@ -3,6 +3,7 @@
 
 use crate::tapes::{Make, Tape, TAPES};
 use std::io::Write;
+use std::path::Path;
 use std::process::{Command, Stdio};
 use std::time::Duration;
 use std::{fs, thread};
@@ -135,31 +136,37 @@ pub fn counts(options: &Options) -> Result<(), String> {
 fn counted(program: &str, tape: &Tape) -> Result<f64, String> {
     let printed = run_program(program, &tape.whole())?;
     accepts(program, tape, &printed.output)?;
-    let whole = collected(program, &tape.whole())?;
-    let first = collected(program, &tape.first)?;
+    let count = |bytes: &[u8]| collected(Command::new("valgrind"), Path::new(program), &[], bytes);
+    let [whole, first] = [count(&tape.whole())?, count(&tape.first)?];
     Ok((whole - first) as f64 / tape.calls as f64)
 }
 
-/// The instructions that callgrind counts of a program on a tape.
-fn collected(program: &str, tape: &[u8]) -> Result<u64, String> {
+/// The instructions that callgrind counts of a program with these words on its command line and this input.
+pub fn collected(
+    mut valgrind: Command,
+    program: &Path,
+    words: &[&str],
+    input: &[u8],
+) -> Result<u64, String> {
     let log = std::env::temp_dir().join(format!("bench-counts-{}.log", std::process::id()));
-    let mut child = Command::new("valgrind")
+    let mut child = valgrind
         .args(["--tool=callgrind", "--callgrind-out-file=/dev/null"])
         .arg(format!("--log-file={}", log.display()))
         .arg(program)
+        .args(words)
         .stdin(Stdio::piped())
         .stdout(Stdio::null())
         .spawn()
         .map_err(|error| format!("valgrind cannot be run: {error}"))?;
-    let mut input = child.stdin.take().expect("standard input is piped");
+    let mut to_child = child.stdin.take().expect("standard input is piped");
     let status = thread::scope(|scope| {
-        scope.spawn(move || input.write_all(tape));
+        scope.spawn(move || to_child.write_all(input));
         child.wait()
     });
     let said = fs::read_to_string(&log).unwrap_or_default();
     let _ = fs::remove_file(&log);
     if !status.map_err(|error| error.to_string())?.success() {
-        return Err(format!("{program} did not end well under valgrind: {said}"));
+        return Err(format!("{} did not end well under valgrind: {said}", program.display()));
     }
     let line = said.lines().find_map(|line| line.split_once("Collected :"));
     let number = line.and_then(|(_, number)| number.trim().parse().ok());
