@@ -2,12 +2,11 @@
 use mathlib.Core.Path.{_≡_, refl, ap, sym, subst, _∙_}
 use mathlib.Core.Bool.{Bool, true, false}
 use mathlib.Core.List.{List, [], _++_}
-use Prim.Native.Nat.{ℕ, suc, _+_, _-_, _*_, _≤_, _<_}
+use Prim.Native.Nat.{ℕ, zero, suc, _+_, _-_, _*_, _≤_, _<_}
 use native.Mathlib.Numerals.{add-one}
 use native.Mathlib.Omega.{arith}
 use lib.ListN.{length, length-append, length-map}
 use lib.IntN.{ℤ}
-use borrow.Author.Tests.{le-leb, lt-leb}
 use Rattle.rules.specs.declared.Phase.{Phase}
 use Rattle.rules.specs.declared.Entry.{Entry}
 use Rattle.rules.specs.Measures.{outputWords}
@@ -22,7 +21,9 @@ use Rattle.ledger.specs.Columns.{Columns}
 use Rattle.cutting.specs.declared.Counts.{Counts}
 use Rattle.cutting.specs.Write.{Lent, CanWrite, Wrote}
 use Rattle.cutting.specs.Issue.{countsOf, CanCut, WasCut}
-use Rattle.cutoff.specs.All.{Counted, Asked, CanCutAll, WasCutAll}
+use Rattle.cutoff.specs.All.{Fits, Asked, CanCutAll, WasCutAll}
+use Rattle.book.specs.Cells.{SoundCells}
+use Rattle.cutting.proofs.Issues.{few}
 use Rattle.cutting.proofs.Writing.{ledger-length, behind, back, Laying, laying-starts, laying-can, laying-more, laying-ends}
 
 -- entries and records of m issues from issue i on
@@ -73,16 +74,31 @@ module _ (new : Bool) (day : ℕ) (nets : List ℤ) (delivered lifts : List ℕ)
           length-map (issueFails (orderIn new nets lifts) nets delivered i) (failEntry day i),
         )
 
+-- m issues have at most 126 entries each
+pub few-on : (new : Bool) (day : ℕ) (nets : List ℤ) (delivered lifts : List ℕ) → SoundCells nets delivered lifts → (i m : ℕ) → i + m ≤ 16 →
+    length (entriesFrom new day nets delivered lifts i m) ≤ 126 * m
+unfolding entriesFrom
+few-on new day nets delivered lifts s i zero h = omega arith
+few-on new day nets delivered lifts s i (suc m) h =
+    omega (
+      arith,
+      length-append (issueEntries day (orderIn new nets lifts) nets delivered i)
+          (joined (tabulate (issueEntries day (orderIn new nets lifts) nets delivered) (suc i) m)),
+      length-map (issueFails (orderIn new nets lifts) nets delivered i) (failEntry day i),
+      few new nets delivered lifts i (omega arith) s,
+      few-on new day nets delivered lifts s (suc i) m (omega arith),
+    )
+
 -- the questions' answers
 module _ (new : Bool) (phase : Phase) (old : ℕ) (nets : List ℤ) (delivered lifts : List ℕ) where
   pub no-phase : isSettling phase ≡ false → Asked new phase old nets delivered lifts 3
   no-phase e today = rw e
 
-  pub no-room : (n : ℕ) → isSettling phase ≡ true → Counted new nets delivered lifts n → 2048 < old + n → Asked new phase old nets delivered lifts 10
-  no-room n e c h today = rw (e, ← c .count today, lt-leb (old + n) 2048 h)
+  pub no-room : isSettling phase ≡ true → Fits new old nets delivered lifts false → Asked new phase old nets delivered lifts 10
+  no-room e f today = rw (e, ← f today)
 
-  pub all-yes : (n : ℕ) → isSettling phase ≡ true → Counted new nets delivered lifts n → old + n ≤ 2048 → Asked new phase old nets delivered lifts 0
-  all-yes n e c h today = rw (e, ← c .count today, le-leb (old + n) 2048 h)
+  pub all-yes : isSettling phase ≡ true → Fits new old nets delivered lifts true → Asked new phase old nets delivered lifts 0
+  all-yes e f today = rw (e, ← f today)
 
 module _ (new : Bool) (nets : List ℤ) (delivered lifts : List ℕ) (day n : ℕ) (a : Lent) (c : CanCutAll new nets delivered lifts day n a) where
   room : 2 * length (cutoffRecords day (orderIn new nets lifts) nets delivered) ≤ outputWords

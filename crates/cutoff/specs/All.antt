@@ -3,6 +3,7 @@ use mathlib.Core.Path.{_≡_}
 use mathlib.Core.Bool.{Bool}
 use mathlib.Core.List.{List, _++_}
 use Prim.Native.Nat.{ℕ, _+_, _≤_}
+use lib.Dec.{leb}
 use lib.ListN.{length}
 use lib.IntN.{ℤ}
 use Rattle.rules.specs.declared.Phase.{Phase}
@@ -16,10 +17,9 @@ use Rattle.ledger.specs.Columns.{Columns}
 use Rattle.cutting.specs.declared.Counts.{Counts}
 use Rattle.cutting.specs.Write.{Lent, ledgerIn, HeldIn}
 
--- how many entries a cutoff makes, whatever the day
-pub record Counted (new : Bool) (nets : List ℤ) (delivered lifts : List ℕ) (r : ℕ) : Type 0 where
-  pub count : (today : ℕ) → r ≡ length (newEntries today (orderIn new nets lifts) nets delivered)
-  pub few : r ≤ 2016
+-- is there room for the entries that a cutoff makes behind so many old ones, whatever the day?
+abbrev pub Fits : Bool → ℕ → List ℤ → List ℕ → List ℕ → Bool → Type 0
+Fits new old nets delivered lifts r = (today : ℕ) → r ≡ leb (old + length (newEntries today (orderIn new nets lifts) nets delivered)) mostEntries
 
 -- the first 'no' of a cutoff's questions, whatever the day
 abbrev pub Asked : Bool → Phase → ℕ → List ℤ → List ℕ → List ℕ → ℕ → Type 0

@@ -11,20 +11,39 @@ ghost use Rattle.rules.specs.Calls.{Cutoff};
 ghost use Rattle.book.specs.Cells.{SoundCells};
 ghost use Rattle.answers.specs.Turns.{Turns, onFails, cutoffReady};
 ghost use Rattle.cutting.specs.Write.{lending, lentBefore, lentAfter};
-ghost use Rattle.cutoff.specs.All.{Counted, Asked, CanCutAll, WasCutAll};
+ghost use Rattle.cutoff.specs.All.{Fits, Asked, CanCutAll, WasCutAll};
 
-// How many entries a cutoff of all issues makes.
-fn count<'a>(dealt: bool, nets: &'a [i32], delivered: &'a [u32], lifts: &'a [u32]) -> usize
-    requires { ⌜ SoundCells (now nets) (now delivered) (now lifts) ⌝ }
-    ensures { λ r. ⌜ Counted dealt (now (nets .entry)) (now (delivered .entry)) (now (lifts .entry)) r ⌝ }
+// The most fails of an issue.
+const ISSUE_FAILS: usize = 126;
+
+// The most entries of a ledger.
+const MOST_ENTRIES: usize = 2048;
+
+// Is there room for the entries of a cutoff of all issues behind so many old ones? Counting stops where the issues
+// that are left cannot make too many, and where there are too many already.
+fn has_room<'a>(
+    dealt: bool,
+    old: usize,
+    nets: &'a [i32],
+    delivered: &'a [u32],
+    lifts: &'a [u32],
+) -> bool
+    requires { ⌜ SoundCells (now nets) (now delivered) (now lifts) × (old ≤ 2048) ⌝ }
+    ensures { λ r. ⌜ Fits dealt old (now (nets .entry)) (now (delivered .entry)) (now (lifts .entry)) r ⌝ }
 {
     let mut i: usize = 0;
-    let mut n: usize = 0;
+    let mut n = old;
     while i < 16 {
+        if n + ISSUE_FAILS * (16 - i) <= MOST_ENTRIES {
+            return true;
+        }
+        if MOST_ENTRIES < n {
+            return false;
+        }
         n += count_issue(dealt, nets, delivered, lifts, i);
         i += 1;
     }
-    n
+    n <= MOST_ENTRIES
 }
 
 // Questions 3 and 10 of a cutoff, of a sound book: the number of the first 'no', or 0.
@@ -43,7 +62,7 @@ fn cutoff_asks<'a>(
     if !book::settling(phase) {
         return 3;
     }
-    if 2048 < old + count(dealt, nets, delivered, lifts) {
+    if !has_room(dealt, old, nets, delivered, lifts) {
         return 10;
     }
     0

@@ -1,21 +1,30 @@
 -- The cutoff of one issue: the stock's record and then the fails are what the definition says of the issue.
-use mathlib.Core.Path.{_≡_, ap, sym}
-use mathlib.Core.Bool.{Bool}
+use mathlib.Core.Path.{_≡_, refl, ap, sym}
+use mathlib.Core.Bool.{Bool, true}
 use mathlib.Core.List.{List, [], map, append-nil}
 use Prim.Native.Nat.{ℕ, _+_, _*_, _≤_, min}
 use native.Mathlib.Omega.{arith}
 use lib.ListN.{length, length-append, length-map}
 use lib.IntN.{ℤ}
 use Rattle.rules.specs.Records.{handover, recordOf}
-use Rattle.rules.specs.Book.{orderIn}
+use Rattle.rules.specs.Book.{row, orderIn}
 use Rattle.rules.specs.Calls.{failEntry, issuePartials, issueEntries, issueRecords}
 use Rattle.laws.proofs.Basics.{length-put}
 use Rattle.words.proofs.Output.{records-length}
 use Rattle.words.proofs.Stores.{part-length}
 use Rattle.cutting.specs.declared.Ready.{Ready}
 use Rattle.cutting.specs.Write.{Lent, failRecords, Wrote}
-use Rattle.cutting.specs.Issue.{countsOf, entriesOn, CanLay, WasLaid, CanHand, WasHanded, IsReady, CanCut, WasCut}
+use Rattle.cutting.specs.Issue.{countsOf, allDelivered, entriesOn, CanLay, WasLaid, CanHand, WasHanded, IsReady, CanCut, WasCut}
+use Rattle.cutting.proofs.Issues.{no-fails, no-partials}
 use Rattle.cutting.proofs.Writing.{withOut, behind, back, wrote-count, wrote-both}
+
+-- an issue of which all is delivered is cut as it stands: it has no entries and no records
+pub nothing-cut : (new : Bool) (nets : List ℤ) (delivered lifts : List ℕ) (day i n : ℕ) (a : Lent) → CanCut new nets delivered lifts day i n a →
+    allDelivered (row i nets) (row i delivered) ≡ true → WasCut new nets delivered lifts day i n a (countsOf n 0) a
+nothing-cut new nets delivered lifts day i n a can e =
+    let f = no-fails new nets delivered lifts i (can .issue) (can .sound) e in
+    let g = no-partials new nets delivered lifts i (can .issue) (can .sound) e in
+    record { wrote = rw (f, g) (record { held = can .write .held; ledger = sym (append-nil _); out = refl }); records = rw (f, g) }
 
 -- behind the stock's v records: the fails can be laid, and then the issue is cut
 pub record Behind (new : Bool) (nets : List ℤ) (delivered lifts : List ℕ) (day i n : ℕ) (a : Lent) (runs missing : List ℕ) (r : Ready) (v : ℕ) (o : List ℕ) : Type 0 where

@@ -1,12 +1,13 @@
 -- The cutoff of one issue: where its delivered total ends, the stock's record, the fails' entries and records.
 use mathlib.Core.Path.{_≡_}
-use mathlib.Core.Bool.{Bool}
+use mathlib.Core.Bool.{Bool, true, _&&_}
 use mathlib.Core.List.{List, [], _∷_, map}
 use Prim.Native.Nat.{ℕ, _+_, _*_, _≤_, _<_, min}
+use lib.Dec.{eqb}
 use lib.ListN.{length}
 use lib.IntN.{ℤ}
 use Rattle.rules.specs.declared.Entry.{Entry}
-use Rattle.rules.specs.Measures.{mostLots}
+use Rattle.rules.specs.Measures.{mostLots, owedOf}
 use Rattle.rules.specs.Units.{prepend}
 use Rattle.rules.specs.Records.{handover, words, over}
 use Rattle.rules.specs.Book.{orderIn}
@@ -67,6 +68,12 @@ pub record IsReady (new : Bool) (nets : List ℤ) (delivered lifts : List ℕ) (
   pub stock : r .stock ≤ 99999
   pub fails : overlapsFrom runs (r .n) missing (r .cursor) ≡ issueFails (orderIn new nets lifts) nets delivered i
   pub partials : prepend (r .cursor .to) (r .stock) [] ≡ issuePartials (orderIn new nets lifts) delivered i
+
+-- has each account delivered all that it owes?
+abbrev pub allDelivered : List ℤ → List ℕ → Bool
+allDelivered [] ds = true
+allDelivered (n ∷ ns) [] = true
+allDelivered (n ∷ ns) (d ∷ ds) = eqb d (owedOf n) && allDelivered ns ds
 
 pub record CanCut (new : Bool) (nets : List ℤ) (delivered lifts : List ℕ) (day i n : ℕ) (a : Lent) : Type 0 where
   pub sound : SoundCells nets delivered lifts

@@ -1,5 +1,6 @@
 // The cutoff of one issue: the stock goes to the next unit (record 10), then the shortfalls are laid
 // against what the units lack, each overlap an entry of the ledger and a record (12).
+use book::owed;
 use rules::Entry;
 use units::Cursor;
 use units::Next;
@@ -9,11 +10,11 @@ ghost use mathlib.Core.List.{_∷_, []};
 ghost use Prim.Native.Nat.{_+_, _<_};
 ghost use lib.ListN.{length};
 ghost use Rattle.rules.specs.Ledger.{entry};
-ghost use Rattle.rules.specs.Book.{orderIn};
+ghost use Rattle.rules.specs.Book.{row, orderIn, CellLengths};
 ghost use Rattle.rules.specs.Calls.{issueFails};
 ghost use Rattle.book.specs.Cells.{SoundCells};
 ghost use Rattle.cutting.specs.Write.{lending, lentBefore, lentAfter, failRecords, Wrote};
-ghost use Rattle.cutting.specs.Issue.{countsOf, CanEnter, CanLay, WasLaid, CanHand, WasHanded, CanReady, IsReady, CanCut, WasCut};
+ghost use Rattle.cutting.specs.Issue.{countsOf, allDelivered, CanEnter, CanLay, WasLaid, CanHand, WasHanded, CanReady, IsReady, CanCut, WasCut};
 
 // The entry of a fail.
 fn fail(i: u8, f: u32, t: u32, x: u32, day: u16) -> Entry
@@ -190,6 +191,32 @@ fn prepare_for(
     prepare(nets, delivered, lifts, i, runs, missing)
 }
 
+// Has each account delivered all that it owes?
+fn all_delivered(net: &[i32], delivered: &[u32]) -> bool
+    requires { ⌜ length (now delivered) ≡ length (now net) ⌝ }
+    ensures { λ r. ⌜ r ≡ allDelivered (now (net .entry)) (now (delivered .entry)) ⌝ }
+{
+    let mut good = true;
+    let mut i = 0;
+    while i < net.len() {
+        let n = net[i];
+        let o = owed(n);
+        good = good & (delivered[i] == o);
+        i += 1;
+    }
+    good
+}
+
+// Is nothing of an issue left to be delivered? So it is of an issue without nets.
+fn settled(nets: &[i32], delivered: &[u32], i: usize) -> bool
+    requires { ⌜ CellLengths (now nets) (now delivered) × (i < 16) ⌝ }
+    ensures { λ r. ⌜ r ≡ allDelivered (row i (now (nets .entry))) (row i (now (delivered .entry))) ⌝ }
+{
+    let s = i * 64;
+    let e = s + 64;
+    all_delivered(&nets[s..e], &delivered[s..e])
+}
+
 // How many entries the ledger has, and how many records were written.
 pub struct Counts {
     pub entries: usize,
@@ -202,7 +229,8 @@ pub fn numbers(entries: usize, records: usize) -> Counts
     Counts { entries, records }
 }
 
-// The cutoff of one issue, its entries behind n others, its records at the front of the lent part.
+// The cutoff of one issue, its entries behind n others, its records at the front of the lent part. One of which
+// nothing is left to be delivered has none.
 pub fn cut_issue(
     dealt: bool,
     nets: &[i32],
@@ -221,6 +249,9 @@ pub fn cut_issue(
     requires { ⌜ CanCut dealt (now nets) (now delivered) (now lifts) day i n (lending issues froms tos lots days out) ⌝ }
     ensures { λ r. ⌜ WasCut dealt (now (nets .entry)) (now (delivered .entry)) (now (lifts .entry)) day i n (lentBefore issues froms tos lots days out) r (lentAfter issues froms tos lots days out) ⌝ }
 {
+    if settled(nets, delivered, i) {
+        return numbers(n, 0);
+    }
     let mut runs = [0u32; 144];
     let mut missing = [0u32; 64];
     let p = prepare_for(dealt, nets, delivered, lifts, i, &mut runs, &mut missing);
@@ -248,6 +279,9 @@ pub fn count_issue(dealt: bool, nets: &[i32], delivered: &[u32], lifts: &[u32], 
     requires { ⌜ SoundCells (now nets) (now delivered) (now lifts) × (i < 16) ⌝ }
     ensures { λ r. ⌜ r ≡ length (issueFails (orderIn dealt (now (nets .entry)) (now (lifts .entry))) (now (nets .entry)) (now (delivered .entry)) i) ⌝ }
 {
+    if settled(nets, delivered, i) {
+        return 0;
+    }
     let mut runs = [0u32; 144];
     let mut missing = [0u32; 64];
     let p = prepare_for(dealt, nets, delivered, lifts, i, &mut runs, &mut missing);

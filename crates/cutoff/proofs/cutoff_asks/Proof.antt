@@ -1,4 +1,4 @@
--- The phase is asked first; the entries are counted only where it is right.
+-- The phase is asked first; entries are counted only where it is right.
 use mathlib.Core.Path.{_≡_, sym, _∙_}
 use mathlib.Core.Bool.{true}
 use borrow.Author.Needs.{needs}
@@ -20,15 +20,16 @@ returns c =
 returns-2 : tie.Need-returns-2
 returns-2 c =
     let a = c .before .before .before .before .before .before .args in
-    let k = c .before .count in
-    no-room (a .dealt) (a .s .phase) (a .s .entries) (now (a .nets)) (now (a .delivered)) (now (a .lifts)) (k .result) (right (c .before .before)) (k .ensures) (c .if2 .taken)
+    let k = c .before .has-room in
+    no-room (a .dealt) (a .s .phase) (a .s .entries) (now (a .nets)) (now (a .delivered)) (now (a .lifts)) (right (c .before .before))
+    (λ today. sym (not-true _ (c .if2 .taken)) ∙ k .ensures today)
 
 returns-3 : tie.Need-returns-3
 returns-3 c =
     let a = c .before .before .before .before .before .before .args in
-    let k = c .before .count in
-    all-yes (a .dealt) (a .s .phase) (a .s .entries) (now (a .nets)) (now (a .delivered)) (now (a .lifts)) (k .result) (right (c .before .before)) (k .ensures) (c .if2 .left)
+    let k = c .before .has-room in
+    all-yes (a .dealt) (a .s .phase) (a .s .entries) (now (a .nets)) (now (a .delivered)) (now (a .lifts)) (right (c .before .before))
+    (λ today. sym (not-false _ (c .if2 .left)) ∙ k .ensures today)
 
 pub cutoff-asks-spec : {M : Type 1} → statement M
-cutoff-asks-spec =
-    tie.close (tie.spec (λ c κs. search needs) returns (λ c κs. search needs) (λ c. search needs) returns-2 returns-3)
+cutoff-asks-spec = tie.close (tie.spec (λ c κs. search needs) returns (λ c κs. search needs) returns-2 returns-3)
