@@ -13,7 +13,7 @@ const OUT: usize = 4_096;
 /// The lots of a small call, which nets and fails allow often.
 const FEW: u32 = 900;
 /// The lots that one account fails another to fill the ledger.
-const FAIL: u32 = 300_000;
+const FAIL: u32 = 90_000;
 
 /// A tape, and how many of its calls are made and accepted behind its first part, which only leads there.
 pub struct Tape {
@@ -131,12 +131,12 @@ impl Maker {
         }
     }
 
-    /// A delivery of few lots, which the book accepts; none where nothing is owed in 200 cells.
-    fn deliver(&mut self) -> bool {
+    /// A delivery of at most so many lots, which the book accepts; none where nothing is owed in 200 cells.
+    fn deliver(&mut self, most: u32) -> bool {
         (0..200).any(|_| {
             let (issue, account) = self.cell();
             let owed = self.book.owed_today(issue as usize, account as usize);
-            let lots = self.rng.range(1, 90_000).min(owed as u32);
+            let lots = self.rng.range(1, most).min(owed as u32);
             lots > 0 && self.accepted(Call::Deliver { issue, account, lots, out: OUT })
         })
     }
@@ -194,7 +194,7 @@ fn busy_days(calls: usize) -> Tape {
             _ if maker.book.phase == Phase::Cut => cut(&mut maker),
             0..=599 if maker.book.phase == Phase::Taking => maker.trade(),
             600..=939 if maker.book.phase == Phase::Settling => {
-                if !maker.deliver() {
+                if !maker.deliver(90_000) {
                     maker.must(Call::Cutoff { out: OUT });
                 }
             }
@@ -250,7 +250,7 @@ fn full_ledger_calls(calls: usize) -> Tape {
     while maker.calls < calls {
         let (issue, account) = maker.cell();
         match maker.calls % 4 {
-            0 | 1 => assert!(maker.deliver(), "something is owed"),
+            0 | 1 => assert!(maker.deliver(FEW), "something is owed"),
             2 => assert!(maker.resolve(FEW), "there is an entry"),
             _ => maker.must(Call::PairOff { issue, account }),
         }
