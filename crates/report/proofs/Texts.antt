@@ -11,10 +11,12 @@ use lib.IntN.{ℤ, pos, natAbs}
 use lib.ListN.{length, getD, take, drop, length-append}
 use lib.Seq.{drop-cons, length-take-le, take-length, take-append-seam}
 use Rattle.io.specs.Digits.{digits, glyph, Fewest}
-use Rattle.rules.specs.Run.{chargeLinesFrom}
+use Rattle.rules.specs.declared.Name.{Name}
+use Rattle.rules.specs.Run.{chargeLinesFrom, line}
 use Rattle.laws.proofs.Basics.{byTest, either}
-use Rattle.rules.specs.Text.{digitsUpTo, decimal, chargeText, chargesText, yenOf}
+use Rattle.rules.specs.Text.{digitsUpTo, decimal, lineText, chargeText, chargesText, yenOf}
 use Rattle.report.specs.Added.{Added}
+use Rattle.report.specs.Lines.{restText, plainText}
 
 -- a part copied behind the first `at` bytes
 pub added-behind : (text part last tail rest : List ℕ) (at n m : ℕ) → at ≤ length text → n ≡ length part → m ≡ length part → last ≡ take m part ++ tail →
@@ -91,7 +93,7 @@ pub decimal-length : (n : ℕ) → length (decimal n) ≤ 20
 unfolding decimal
 decimal-length n = up-to-length 20 n
 
-glyph-digit : (d : ℕ) → d < 10 → glyph d ≡ 48 + d
+pub glyph-digit : (d : ℕ) → d < 10 → glyph d ≡ 48 + d
 glyph-digit d h = simp (lt-ltb d 10 h)
 
 -- digits in front of the last, and the last
@@ -129,6 +131,18 @@ fewest-up-to (suc f) (suc (suc j)) n h e =
 pub decimal-digits : (k n : ℕ) → n < 2 ^ 64 → Fewest 10 1 n k → digits 10 k n ≡ decimal n
 unfolding decimal
 decimal-digits k n h e = fewest-up-to 19 k n (omega arith) e
+
+-- a line is its index and what follows it
+pub line-rest : (i : ℕ) (n : Name) (r k : ℕ) → decimal i ++ restText n r k ≡ lineText (line i n r k)
+unfolding lineText
+line-rest i n r k = simp append-assoc
+
+zero-text : decimal 0 ≡ 48 ∷ []
+unfolding decimal
+zero-text = refl
+
+pub plain-rest : (n : Name) (r k : ℕ) → r ≡ 0 → k ≡ 0 → plainText n ≡ restText n r k
+plain-rest n r k e f = simp (e, f, zero-text)
 
 -- charges, the first and the others
 pub charges-next : (a : ℕ) (y : ℤ) (ys : List ℤ) →

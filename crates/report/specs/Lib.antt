@@ -1,2 +1,3 @@
 -- Where text stands.
 pub mod Added
+pub mod Lines

@@ -31,7 +31,7 @@ use Rattle.rereading.proofs.Window.{read-append, quotes-append}
 use Rattle.answers.specs.declared.Turn.{Turn}
 use Rattle.answers.specs.Turns.{Gives}
 use Rattle.turns.specs.declared.Step.{Step}
-use Rattle.turns.specs.Going.{Begins, rollsOf, Quoted, Stepped, enough, strayText, Follows, Goes, onward, Went}
+use Rattle.turns.specs.Going.{Begins, rollsOf, Quoted, Stepped, enough, strayText, Follows, Goes, onward, Went, Going}
 
 -- The answer to the instruction that some words begin with
 
@@ -179,13 +179,7 @@ few-left : (last : Bool) (n : ℕ) → enough n last ≡ false → last ≡ fals
 few-left true n h e = absurd (let k : _≡_ {A = ℕ} 0 1 = cc in omega arith)
 few-left false n h e = leb-false 33 n h
 
--- A run on its way: the text so far, and the run from here, whatever follows the words
-
-pub record Going (ws : List ℕ) (last stray : Bool) (index : ℕ) (b₀ b : Book) (text : List ℕ) (at end : ℕ) : Type 0 where
-  pub within : at ≤ length ws
-  pub short : end ≤ 72 * at
-  pub run : (more : List ℕ) (then : Bool) → Follows last stray more then →
-      Goes (runRest index b₀ (ws ++ more) then) (take end text) (runRest (index + at) b (drop at ws ++ more) then)
+-- A run on its way
 
 pub going-starts : (ws : List ℕ) (last stray : Bool) (index : ℕ) (b : Book) (text : List ℕ) → Going ws last stray index b b text 0 0
 going-starts ws last stray index b text =

@@ -1,2 +1,3 @@
 -- Laws of a run whose words come in parts.
 pub mod Goings
+pub mod Passing

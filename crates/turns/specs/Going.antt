@@ -5,17 +5,22 @@ use mathlib.Core.List.{List, [], _++_}
 use Prim.Native.Nat.{ℕ, _+_, _*_, _≤_, _<_}
 use lib.Dec.{leb, ltb}
 use lib.ListN.{length, take, drop}
+use lib.IntN.{ℤ}
 use Rattle.rules.specs.declared.Book.{Book}
 use Rattle.rules.specs.declared.Instruction.{Instruction}
 use Rattle.rules.specs.declared.Instruction.the-variants as instruction
 use Rattle.rules.specs.declared.Name.the-variants.{Tape}
 use Rattle.rules.specs.declared.Read.{Read}
 use Rattle.rules.specs.declared.Read.the-variants.{Instr, Refused}
-use Rattle.rules.specs.Book.{sound}
+use Rattle.rules.specs.declared.State.{State}
+use Rattle.rules.specs.Book.{sound, Lengths}
 use Rattle.rules.specs.Tape.{readOf, quotesOf}
 use Rattle.rules.specs.Run.{Ran, line, nameOf, callOf, answerOf, stopped, runRest}
 use Rattle.rules.specs.Text.{lineText, linesText}
 use Rattle.report.specs.Added.{Added}
+use Rattle.answers.specs.Turns.{withinNets}
+use Rattle.turns.specs.declared.First.{First}
+use Rattle.turns.specs.declared.First.the-variants as first
 use Rattle.turns.specs.declared.Step.{Step}
 
 -- the words begin with an instruction
@@ -83,3 +88,31 @@ pub record Went (ws : List ℕ) (last stray : Bool) (index : ℕ) (b : Book) (te
   pub sound : sound b′ ≡ true
   pub run : (more : List ℕ) (then : Bool) → Follows last stray more then →
       Goes (runRest index b (ws ++ more) then) (take end text) (onward over (index + used) b′ (drop used ws ++ more) then)
+
+-- a run on its way: the text so far, and the run from here, whatever follows the words
+pub record Going (ws : List ℕ) (last stray : Bool) (index : ℕ) (b₀ b : Book) (text : List ℕ) (at end : ℕ) : Type 0 where
+  pub within : at ≤ length ws
+  pub short : end ≤ 72 * at
+  pub run : (more : List ℕ) (then : Bool) → Follows last stray more then →
+      Goes (runRest index b₀ (ws ++ more) then) (take end text) (runRest (index + at) b (drop at ws ++ more) then)
+
+-- a trade that is found is the instruction that the words begin with, and has two of them
+abbrev pub Found : List ℕ → First → Type 0
+Found ws (first.Trade i f t x) = readOf ws ≡ Instr (instruction.Trade i f t x) 2
+Found ws first.Other = Unit {0}
+
+-- a sound book with this state and these nets
+pub record Held (s : State) (nets : List ℤ) (b : Book) : Type 0 where
+  pub lengths : Lengths nets (b .delivered) (b .lifts) (b .charges) (b .issues) (b .froms) (b .tos) (b .lots) (b .days)
+  pub sound : sound (withinNets s nets b) ≡ true
+
+pub record SomeHeld (s : State) (nets : List ℤ) : Type 0 where
+  pub rest : Book
+  pub held : Held s nets rest
+
+-- trades that are passed on a way, whichever book it is that has these nets: it stays sound, and the way goes on behind them
+pub record Passed (ws : List ℕ) (last : Bool) (index : ℕ) (s : State) (nets nets′ : List ℤ) (text text′ : List ℕ) (at end at′ end′ : ℕ) : Type 0 where
+  pub on : at ≤ at′
+  pub held : (b : Book) → Held s nets b → Held s nets′ b
+  pub going : (stray : Bool) (b₀ b : Book) → Held s nets b → Going ws last stray index b₀ (withinNets s nets b) text at end →
+      Going ws last stray index b₀ (withinNets s nets′ b) text′ at′ end′

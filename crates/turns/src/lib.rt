@@ -12,7 +12,7 @@ ghost use lib.ListN.{length};
 ghost use Rattle.rules.specs.Run.{nameOf};
 ghost use Rattle.book.specs.States.{columns, ready};
 ghost use Rattle.report.specs.Added.{Added};
-ghost use Rattle.turns.specs.Going.{Begins, rollsOf, Quoted, Stepped, refusalOf, enough, strayText, Went};
+ghost use Rattle.turns.specs.Going.{Begins, rollsOf, Quoted, Stepped, refusalOf, enough, strayText, Went, Found, SomeHeld, Passed};
 ghost use mathlib.Core.Bool.{true};
 ghost use Rattle.rules.specs.Measures.{outputWords};
 ghost use Rattle.rules.specs.Book.{sound};
@@ -29,6 +29,18 @@ pub struct Part {
     pub end: usize,
     pub over: bool,
     pub state: State,
+}
+
+// What some words begin with: a trade, whole and right, or anything else.
+pub enum First {
+    Trade(u32, u32, u32, u32),
+    Other,
+}
+
+// Where a run stands: at which word, and where its text ends.
+pub struct Place {
+    pub at: usize,
+    pub end: usize,
 }
 
 // The name that an instruction's line has.
@@ -150,6 +162,62 @@ fn stray_line(text: &mut [u8], at: usize, index: u64, stray: bool) -> usize
     at
 }
 
+// The trade that some words begin with.
+fn trade_of(ws: &[u32]) -> First
+    ensures { λ r. ⌜ Found (now (ws .entry)) r ⌝ }
+{
+    if ws.len() < 2 {
+        return First::Other;
+    }
+    let head = ws[0];
+    let lots = ws[1];
+    if words::kind_of(head) != 1 {
+        return First::Other;
+    }
+    if head % 4096 != 0 {
+        return First::Other;
+    }
+    if words::kind_of(lots) != 8 {
+        return First::Other;
+    }
+    First::Trade(
+        words::issue_of(head),
+        words::from_of(head),
+        words::to_of(head),
+        words::lots_of(lots),
+    )
+}
+
+// The trades from a place on, up to another instruction, each answered on the nets alone, and their lines.
+fn trades(
+    words: &[u32],
+    last: bool,
+    index: u64,
+    s: State,
+    nets: &mut [i32],
+    text: &mut [u8],
+    from: usize,
+    to: usize,
+) -> Place
+    requires { ⌜ SomeHeld s (now nets) × (from ≤ length (now words)) × (to ≤ 72 * from) × (72 * (length (now words) + 1) ≤ length (now text)) × (index + length (now words) < 2 ^ 64) ⌝ }
+    ensures { λ r. ⌜ Passed (now (words .entry)) last index s (now (nets .entry)) (now (nets .exit)) (now (text .entry)) (now (text .exit)) from to (r .at) (r .end) ⌝ }
+{
+    let mut at = from;
+    let mut end = to;
+    while is_enough(words.len() - at, last) {
+        let found = trade_of(&words[at..]);
+        let First::Trade(i, f, t, x) = found else {
+            return Place { at, end };
+        };
+        let r = trading::trade(s, nets, i, f, t, x);
+        let refusal = r.refusal;
+        let count = r.count;
+        end = text::line(text, end, index + at as u64, Name::Trade, refusal, count);
+        at += 2;
+    }
+    Place { at, end }
+}
+
 // The instructions of the words, up to the last that is sure to be whole, or to the end where no more
 // words will come. A reader's refusal ends the run.
 pub fn run(
@@ -209,6 +277,9 @@ pub fn run(
         end = t.end;
         state = t.state;
         at += n;
+        let p = trades(words, last, index, state, nets, text, at, end);
+        at = p.at;
+        end = p.end;
     }
     end = stray_line(text, end, index + at as u64, last & stray);
     Part {

@@ -2,16 +2,17 @@
 use mathlib.Core.Path.{_≡_, refl, sym, ap, _∙_}
 use mathlib.Core.Bool.{true}
 use mathlib.Core.List.{List}
+use Rattle.rules.specs.declared.Book.{Book}
 use Rattle.rules.specs.declared.Read.the-variants.{Instr, Refused}
 use Rattle.rules.specs.Book.{bookOf}
 use Rattle.rules.specs.Tape.{readOf}
-use Rattle.turns.specs.Going.{enough, refusalOf}
+use Rattle.turns.specs.Going.{enough, refusalOf, Going, Held}
 use Prim.Native.Nat.{ℕ, _+_, _-_, _≤_}
 use native.Mathlib.Omega.{arith}
 use denote.Ref.{now}
 use Rattle.rereading.proofs.Sized.{read-sized}
 use Rattle.book.specs.States.{Ready}
-use Rattle.turns.proofs.Goings.{Going, going-starts, going-again, going-refused, going-ends, rest-part, rest-enough}
+use Rattle.turns.proofs.Goings.{going-starts, going-again, going-refused, going-ends, rest-part, rest-enough}
 use lib.ListN as list
 use Rattle.rereading.proofs.Sized.{same-read}
 use borrow.Author.Needs.{needs}
@@ -97,44 +98,71 @@ turn-requires c κs =
 abbrev found : tie.After-state Inv-loop μ-loop → tie.After-found Inv-loop μ-loop
 found c = c .before .before .before .before .before .before .before .before .before .before .before .before .before .before .before .before .before .before .before .before .before .before .before .before .before .before .before .before .before .before .before .before .before .before .before
 
+-- the book behind its turn
+abbrev turned : tie.After-state Inv-loop μ-loop → Book
+turned c =
+    let t = c .before .before .before .before .before .before .before .before .before .before .before .before .before .before .before .before .before .before .before .before .before .turn in
+    bookOf (t .result .state) (t .last .1 .1 .1 .1 .0) (t .last .1 .1 .1 .1 .1 .0) (t .last .1 .1 .1 .1 .1 .1 .0) (t .last .1 .1 .1 .1 .1 .1 .1 .0) (t .last .1 .1 .1 .1 .1 .1 .1 .1 .0) (t .last .1 .1 .1 .1 .1 .1 .1 .1 .1 .0) (t .last .1 .1 .1 .1 .1 .1 .1 .1 .1 .1 .0) (t .last .1 .1 .1 .1 .1 .1 .1 .1 .1 .1 .1 .0) (t .last .1 .1 .1 .1 .1 .1 .1 .1 .1 .1 .1 .1 .0)
+
+held : (c : tie.After-state Inv-loop μ-loop) → Held (turned c .state) (turned c .nets) (turned c)
+held c =
+    let q = (found c) .before .before .before .before .before .before .loop .inv .0 .lengths in
+    record {
+      lengths = record {
+        cells = record { nets = search needs; delivered = search needs };
+        lifts = omega (arith, c .before .before .before .before .before .before .before .before .before .before .before .before .before .before .before .before .before .lifts .given, q .lifts);
+        charges = omega (arith, c .before .before .before .before .before .before .before .before .before .before .before .before .before .before .before .charges .given, q .charges);
+        ledger = record {
+          issues = omega (arith, c .before .before .before .before .before .before .before .before .before .before .before .before .before .before .issues .given, q .ledger .issues);
+          froms = omega (arith, c .before .before .before .before .before .before .before .before .before .before .before .before .froms .given, q .ledger .froms);
+          tos = omega (arith, c .before .before .before .before .before .before .before .before .before .before .tos .given, q .ledger .tos);
+          lots = omega (arith, c .before .before .before .before .before .before .before .before .lots .given, q .ledger .lots);
+          days = omega (arith, c .before .before .before .before .before .before .days .given, q .ledger .days);
+        };
+      };
+      sound = c .before .before .before .before .before .before .before .before .before .before .before .before .before .before .before .before .before .before .before .before .before .turn .ensures .sound;
+    }
+
 add-at : tie.Need-add-at Inv-loop μ-loop
 add-at c =
     let f = found c in
     record { fits = omega (arith, sized f .1, start (f .before .before .before .before .before .before) .pre .2) }
 
+trades-requires : tie.Need-trades-requires Inv-loop μ-loop
+trades-requires c κs =
+    let k = c .before .before in
+    let f = found k in
+    let l = f .before .before .before .before .before .before in
+    let z = sized f in (
+      record { rest = turned k; held = held k },
+      z .1,
+      omega (arith, z .0, l .loop .inv .3 .short, k .before .before .before .before .before .before .before .before .before .before .before .before .before .before .before .before .before .before .before .before .before .turn .ensures .printed .few),
+      omega (arith, k .before .before .text2 .given, l .loop .inv .2, start l .pre .1),
+      start l .pre .2,
+    )
+
 loop-less : tie.Need-loop-less Inv-loop μ-loop
 loop-less c =
-    let z = sized (found c) in
-    omega (arith, z .0, z .1)
+    let z = sized (found (c .before .before .before .before .before .before)) in
+    omega (arith, z .0, z .1, c .before .before .before .trades .ensures .on)
 
 loop-again : tie.Need-loop-again Inv-loop μ-loop
 loop-again c =
-    let f = found c in
+    let k = c .before .before .before .before .before .before in
+    let f = found k in
     let l = f .before .before .before .before .before .before in
     let a = start l .args in
-    let t = c .before .before .before .before .before .before .before .before .before .before .before .before .before .before .before .before .before .before .before .before .before .turn in
-    let q = l .loop .inv .0 .lengths in (
-      record {
-        lengths = record {
-          cells = record { nets = search needs; delivered = search needs };
-          lifts = omega (arith, c .before .before .before .before .before .before .before .before .before .before .before .before .before .before .before .before .before .lifts .given, q .lifts);
-          charges = omega (arith, c .before .before .before .before .before .before .before .before .before .before .before .before .before .before .before .charges .given, q .charges);
-          ledger = record {
-            issues = omega (arith, c .before .before .before .before .before .before .before .before .before .before .before .before .before .before .issues .given, q .ledger .issues);
-            froms = omega (arith, c .before .before .before .before .before .before .before .before .before .before .before .before .froms .given, q .ledger .froms);
-            tos = omega (arith, c .before .before .before .before .before .before .before .before .before .before .tos .given, q .ledger .tos);
-            lots = omega (arith, c .before .before .before .before .before .before .before .before .lots .given, q .ledger .lots);
-            days = omega (arith, c .before .before .before .before .before .before .days .given, q .ledger .days);
-          };
-        };
-        sound = t .ensures .sound;
-        room = omega (arith, c .before .before .before .before .out .given, l .loop .inv .0 .room);
-      },
-      omega (arith, c .before .before .before .before .out .given, l .loop .inv .1),
-      omega (arith, c .before .before .text2 .given, l .loop .inv .2),
-      going-again (now (a .words)) (a .last) (a .stray) (a .index) _ _ (l .loop .text) _ (l .loop .at) (l .loop .end) (l .loop .inv .3)
+    let t = k .before .before .before .before .before .before .before .before .before .before .before .before .before .before .before .before .before .before .before .before .before .turn in
+    let p = c .before .before .before .trades .ensures in
+    let h = held k in
+    let m = p .held (turned k) h in (
+      record { lengths = m .lengths; sound = m .sound; room = omega (arith, k .before .before .before .before .out .given, l .loop .inv .0 .room) },
+      omega (arith, k .before .before .before .before .out .given, l .loop .inv .1),
+      omega (arith, k .before .before .text2 .given, l .loop .inv .2),
+      p .going (a .stray) _ (turned k) h
+          (going-again (now (a .words)) (a .last) (a .stray) (a .index) _ _ (l .loop .text) _ (l .loop .at) (l .loop .end) (l .loop .inv .3)
           (f .found .given .0 .0) (f .found .given .0 .1 .0) (t .result) _ (sure (f .before .before .before .before)) (begins f)
-          (rw (rest-part (now (a .words)) (l .loop .at)) at (t .ensures)),
+          (rw (rest-part (now (a .words)) (l .loop .at)) at (t .ensures))),
     )
 
 stray-line-requires : tie.Need-stray-line-requires Inv-loop μ-loop
@@ -160,7 +188,7 @@ run-spec =
     (λ c κs. search needs) (λ c. search needs) line-requires (λ c. search needs) (λ c. search needs) (λ c. search needs)
     (λ c. search needs) (λ c. search needs) (λ c. search needs) (λ c. search needs) (λ c. search needs)
     (λ c. search needs) (λ c. search needs) (λ c. search needs) returns (λ c. search needs) (λ c. search needs)
-    (λ c. search needs) (λ c. search needs) (λ c. search needs) turn-requires add-at loop-less loop-again
+    (λ c. search needs) (λ c. search needs) (λ c. search needs) turn-requires add-at trades-requires loop-less loop-again
     (λ c. search needs) stray-line-requires (λ c. search needs) (λ c. search needs) (λ c. search needs)
     (λ c. search needs) (λ c. search needs) (λ c. search needs) (λ c. search needs) (λ c. search needs)
     (λ c. search needs) (λ c. search needs) (λ c. search needs) returns-2)
