@@ -1,11 +1,9 @@
 // Entries that fall where they stand: the first of an account that is not at 0, two that fall together, one appended.
+use seeking::seek;
 ghost use mathlib.Core.Path.{_≡_};
-ghost use mathlib.Core.Bool.{false, cond, _&&_};
 ghost use mathlib.Core.List.{_++_};
 ghost use Prim.Native.Nat.{_<_, min};
-ghost use lib.Dec.{eqb};
 ghost use Rattle.rules.specs.Ledger.{appended};
-ghost use Rattle.rules.specs.Book.{isZero};
 ghost use Rattle.ledger.specs.Columns.{held, before, kept};
 ghost use Rattle.falling.specs.Places.{canSeek, nextOf, canFall, bothFell};
 
@@ -18,19 +16,8 @@ fn smaller(x: u32, y: u32) -> u32
     y
 }
 
-// Whether an entry of x lots with this issue and this account, from or to, is not at 0 and is of
-// issue i and account a.
-fn is_left(issue: u8, account: u8, x: u32, i: u32, a: u32) -> bool
-    ensures { λ r. ⌜ r ≡ cond (isZero x) false (eqb issue i && eqb account a) ⌝ }
-{
-    if x == 0 {
-        return false;
-    }
-    ledger::is_of(issue, account, i, a)
-}
-
 // The place of the first entry not at 0 of issue i with account a in the column of accounts, the
-// the number of entries where there is none. Before place `at` there is none.
+// number of entries where there is none. Before place `at` there is none.
 pub fn next_of(
     entries: usize,
     at: usize,
@@ -44,13 +31,16 @@ pub fn next_of(
     ensures { λ r. ⌜ nextOf entries i a r issues accounts lots ⌝ }
 {
     let mut k = at;
-    while k < entries {
-        if is_left(issues[k], accounts[k], lots[k], i, a) {
+    loop {
+        k = seek(entries, k, issues, accounts, i, a);
+        if k == entries {
+            return k;
+        }
+        if lots[k] != 0 {
             return k;
         }
         k += 1;
     }
-    k
 }
 
 // The entries at places t and f fall by the smaller of their lots; answers those.

@@ -6,10 +6,10 @@ use mathlib.Core.List.{List, [], _∷_, _++_, map}
 use Prim.Native.Nat.{ℕ, zero, suc, _+_, _-_, _*_, _≤_, _<_}
 use native.Mathlib.Numerals.{add-one}
 use native.Mathlib.Omega.{arith}
-use lib.Dec.{ltb}
+use lib.Dec.{leb, ltb}
 use lib.ListN.{length, getD, set, drop, length-map}
 use lib.Seq.{sets, length-sets, sets-eq}
-use borrow.Author.Tests.{ltb-true, ltb-false}
+use borrow.Author.Tests.{leb-true, leb-false, ltb-true, ltb-false}
 use Rattle.rules.specs.declared.Entry.{Entry}
 use Rattle.rules.specs.Measures.{outputWords}
 use Rattle.rules.specs.Ledger.{putEntry, isFrom, metBy, meet, met}
@@ -24,6 +24,7 @@ use Rattle.ledger.specs.Columns.{entryAt, Held, Kept, withoutZeros}
 use Rattle.ledger.proofs.Entries.{entries-length}
 use Rattle.ledger.proofs.Zeros.{put-zeros}
 use Rattle.ledger.proofs.Lots.{lotsAt, entries-lots, held-lots}
+use Rattle.seeking.specs.Places.{isAt, NoneIn, Passed, CanLook}
 use Rattle.meeting.specs.declared.Met.{Met}
 use Rattle.meeting.specs.Meeting.{alone, CanMeet, WasMet}
 use Rattle.resolution.specs.Resolving.{Resolvable, Resolved}
@@ -59,6 +60,20 @@ module _ (p : Entry → Bool) where
   mets-turn zero x y (e ∷ es) h = refl
   mets-turn (suc k) x y (e ∷ es) h = mets-turn k x y es (omega arith)
 
+  -- an entry that nothing meets
+  meets-pass : (k x : ℕ) (es : List Entry) → k < length es → p (getD es k noEntry) ≡ false → metFrom k x es ≡ metFrom (suc k) x es
+  meets-pass k x [] h z = absurd (omega arith)
+  meets-pass zero x (e ∷ es) h z =
+      let l : e .lots - 0 ≡ e .lots = omega arith in
+      let y : x - 0 ≡ x = omega arith in
+      rw (z, l, y)
+  meets-pass (suc k) x (e ∷ es) h z = ap (λ l. e ∷ l) (meets-pass k x es (omega arith) z)
+
+  mets-pass : (k x : ℕ) (es : List Entry) → k < length es → p (getD es k noEntry) ≡ false → met p x (drop k es) ≡ met p x (drop (suc k) es)
+  mets-pass k x [] h z = absurd (omega arith)
+  mets-pass zero x (e ∷ es) h z = let y : x - 0 ≡ x = omega arith in rw (z, y)
+  mets-pass (suc k) x (e ∷ es) h z = mets-pass k x es (omega arith) z
+
   -- behind the last entry
   meets-ends : (k x : ℕ) (es : List Entry) → length es ≤ k → metFrom k x es ≡ es
   meets-ends k x [] h = refl
@@ -92,15 +107,29 @@ module _ (p : Entry → Bool) where
 pub goes-on : (k n x : ℕ) → ltb k n && ltb 0 x ≡ true → k < n
 goes-on k n x h = ltb-true k n (and-left (ltb k n) (ltb 0 x) h)
 
--- and the entry behind is nearer to the end
-pub nearer : (k n x : ℕ) → ltb k n && ltb 0 x ≡ true → n - (k + 1) < n - k
-nearer k n x h = omega (arith, goes-on k n x h)
+-- and a place behind is nearer to the end
+pub nearer : (k m n x : ℕ) → ltb k n && ltb 0 x ≡ true → k + 1 ≤ m → n - m < n - k
+nearer k m n x h l = omega (arith, goes-on k n x h)
+
+-- a ledger's columns can be looked at
+pub can-look : (n k : ℕ) {is fs ts xs ds : List ℕ} → Held n is fs ts xs ds → k ≤ n → CanLook n k is fs
+can-look n k held h =
+    record {
+      start = h;
+      issues = omega (arith, held .most, held .whole .issues);
+      accounts = omega (arith, held .most, held .whole .froms);
+    }
 
 -- entries from place k on are sound: the one there, and those behind it
 sound-here : (k : ℕ) (es : List Entry) → k < length es → Every SoundEntry (drop k es) → SoundEntry (getD es k noEntry)
 sound-here k [] h ss = absurd (omega arith)
 sound-here zero (e ∷ es) h ss = ss .0
 sound-here (suc k) (e ∷ es) h ss = sound-here k es (omega arith) ss
+
+sound-after : (k : ℕ) (es : List Entry) → Every SoundEntry (drop k es) → Every SoundEntry (drop (suc k) es)
+sound-after k [] ss = tt
+sound-after zero (e ∷ es) ss = ss .1
+sound-after (suc k) (e ∷ es) ss = sound-after k es ss
 
 sound-behind : (k y : ℕ) (es : List Entry) → Every SoundEntry (drop k es) → Every SoundEntry (drop (suc k) (lotsAt k y es))
 sound-behind k y [] ss = tt
@@ -203,6 +232,24 @@ module _ {i a x₀ : ℕ} {es₀ : List Entry} {n k r x : ℕ} {is fs ts xs ds o
               ∙ recorded-more e m r (t .records) (met p (x - m) (drop (suc k) (lotsAt k y es))) o o′ (w .met));
         })
 
+    -- one entry further that is not of the issue and the account
+    meets-next : isAt is fs i a k ≡ false → Meets i a x₀ es₀ n (suc k) r x is fs ts xs ds o₀ o
+    meets-next z =
+        let p = isFrom i a in
+        let q : p (getD es k noEntry) ≡ false = ap p here ∙ z in
+        let c = mets-pass p k x es inside q in
+        record {
+          held = s .held;
+          some = omega arith;
+          few = omega (arith, s .few);
+          room = s .room;
+          same = s .same;
+          sound = sound-after k es (s .sound);
+          meets = s .meets ∙ ap withoutZeros (meets-pass p k x es inside q);
+          mets = s .mets ∙ ap (λ l. r + length l) c;
+          written = s .written ∙ ap (λ l. sets o (2 * r) (words (map (recordOf 11) l))) c;
+        }
+
   -- the ledger without entries at 0, where no more is met
   ended : metFrom (isFrom i a) k x es ≡ es → met (isFrom i a) x (drop k es) ≡ [] → {w : ℕ} {is′ fs′ ts′ xs′ ds′ : List ℕ} →
       Kept (withoutZeros es) w is′ fs′ ts′ xs′ ds′ →
@@ -229,3 +276,18 @@ module _ {i a x₀ : ℕ} {es₀ : List Entry} {n k r x : ℕ} {is fs ts xs ds o
       (λ e.
       let l : length es ≤ k = omega (arith, entries-length n is fs ts xs ds, ltb-false k n e) in
       ended (meets-ends p k x es l) (mets-ends p k x es l) q)
+
+-- the entries up to the next of the issue and the account
+meets-over : {i a x₀ : ℕ} {es₀ : List Entry} {n k r x : ℕ} {is fs ts xs ds o₀ o : List ℕ} → Meets i a x₀ es₀ n k r x is fs ts xs ds o₀ o →
+    (m : ℕ) → k ≤ m → m ≤ n → NoneIn (isAt is fs i a) k m → Meets i a x₀ es₀ n m r x is fs ts xs ds o₀ o
+meets-over {k = k} s zero h l z = let e : k ≡ 0 = omega arith in rw e at s
+meets-over {k = k} s (suc m) h l z =
+    byTest (leb (suc m) k)
+    (λ y. let e : k ≡ suc m = omega (arith, leb-true (suc m) k y) in rw e at s)
+    (λ y.
+    let b : k ≤ m = omega (arith, leb-false (suc m) k y) in
+    meets-next (meets-over s m b (omega arith) (λ j u v. z j u (omega arith))) (omega arith) (z m b (omega arith)))
+
+pub meets-skip : {i a x₀ : ℕ} {es₀ : List Entry} {n k m r x : ℕ} {is fs ts xs ds o₀ o : List ℕ} → Passed (isAt is fs i a) n k m →
+    Meets i a x₀ es₀ n k r x is fs ts xs ds o₀ o → Meets i a x₀ es₀ n m r x is fs ts xs ds o₀ o
+meets-skip {m = m} p s = meets-over s m (p .start) (p .most) (p .none)

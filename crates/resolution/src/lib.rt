@@ -11,6 +11,7 @@ ghost use Rattle.rules.specs.Book.{entries};
 ghost use Rattle.rules.specs.Questions.{firstNo};
 ghost use Rattle.rules.specs.Calls.{resolveAsks, Resolve};
 ghost use Rattle.ledger.specs.Columns.{before};
+ghost use Rattle.seeking.specs.Places.{canLook, passedBy};
 ghost use Rattle.answers.specs.Turns.{Turns, onLedger, ledgerReady};
 ghost use Rattle.resolution.specs.Resolving.{resolvable, resolved};
 
@@ -18,6 +19,25 @@ ghost use Rattle.resolution.specs.Resolving.{resolvable, resolved};
 pub struct Counts {
     pub entries: usize,
     pub records: usize,
+}
+
+// The next place from `at` on with an entry of issue i from account a, where lots are left to meet it.
+fn next_from(
+    left: u32,
+    entries: usize,
+    at: usize,
+    issues: &[u8],
+    froms: &[u8],
+    i: u32,
+    a: u32,
+) -> usize
+    requires { ⌜ canLook entries at issues froms ⌝ }
+    ensures { λ r. ⌜ passedBy entries at r i a issues froms ⌝ }
+{
+    if left == 0 {
+        return at;
+    }
+    seeking::seek(entries, at, issues, froms, i, a)
 }
 
 // Entries of issue i from account a met by x lots in ledger order, and each that is met gives one
@@ -37,14 +57,14 @@ fn resolve_in(
     requires { ⌜ resolvable entries issues froms tos lots days out ⌝ }
     ensures { λ r. ⌜ resolved (before entries issues froms tos lots days) i a x r issues froms tos lots days out ⌝ }
 {
-    let mut k = 0;
     let mut n = 0;
     let mut left = x;
+    let mut k = next_from(left, entries, 0, issues, froms, i, a);
     while (k < entries) & (0 < left) {
         let t = meet_at(k, n, i, a, left, issues, froms, tos, lots, days, out);
         n = t.records;
         left = t.left;
-        k += 1;
+        k = next_from(left, entries, k + 1, issues, froms, i, a);
     }
     let stay = ledger::remove_zeros(entries, issues, froms, tos, lots, days);
     Counts {
@@ -82,8 +102,7 @@ fn resolve_asks<'a>(
     if !book::even_in(s, i, x) {
         return 19;
     }
-    let owed = ledger::owed_lots(s.entries, issues, froms, lots, i, a);
-    if owed < x as u64 {
+    if !seeking::owes(s.entries, issues, froms, lots, i, a, x) {
         return 9;
     }
     0

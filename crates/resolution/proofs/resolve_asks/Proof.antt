@@ -48,7 +48,7 @@ returns-6 c =
       le-leb _ _ (e .before .if3 .left),
       le-leb _ _ (e .if4 .left),
       yes19 k,
-      lt-leb _ _ (rw (c .before .owed-lots .ensures ts ds) at (c .if6 .taken)),
+      sym (c .before .owes .ensures ts ds) ∙ not-true _ (c .if6 .taken),
     )
 
 returns-7 : tie.Need-returns-7
@@ -62,7 +62,7 @@ returns-7 c =
       le-leb _ _ (e .before .if3 .left),
       le-leb _ _ (e .if4 .left),
       yes19 k,
-      le-leb _ _ (rw (c .before .owed-lots .ensures ts ds) at (c .if6 .left)),
+      sym (c .before .owes .ensures ts ds) ∙ not-false _ (c .if6 .left),
     )
 
 pub resolve-asks-spec : {M : Type 1} → statement M

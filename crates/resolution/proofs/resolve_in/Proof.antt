@@ -1,26 +1,43 @@
 -- `resolution::resolve_in` meets its contract. The loop's invariant is one pass over the ledger, at place k.
-use Prim.Native.Nat.{_-_}
+use Prim.Native.Nat.{_-_, _<_}
+use native.Mathlib.Omega.{arith}
 use borrow.Author.Needs.{needs}
 use Rattle.rules.specs.Book.{entries}
-use Rattle.resolution.proofs.Meeting.{Meets, meets-starts, goes-on, nearer, meets-can, meets-more, meets-end}
+use Rattle.resolution.proofs.Meeting.{Meets, meets-starts, goes-on, nearer, can-look, meets-can, meets-more, meets-skip, meets-end}
 use Rattle.resolution.proofs.resolve_in.Statement.{statement}
 use Rattle.resolution.proofs.resolve_in.Tie as tie
 
 abbrev Inv-loop : tie.InvT-loop
-Inv-loop count issues froms tos lots₀ days i a x out₀ k₀ n₀ left₀ lots out k n left =
+Inv-loop count issues froms tos lots₀ days i a x out₀ n₀ left₀ k₀ lots out n left k =
     Meets i a x (entries count issues froms tos lots₀ days) count k n left issues froms tos lots days out₀ out
 
 abbrev μ-loop : tie.MeasureT-loop
-μ-loop count issues froms tos lots₀ days i a x out₀ k₀ n₀ left₀ lots out k n left = count - k
+μ-loop count issues froms tos lots₀ days i a x out₀ n₀ left₀ k₀ lots out n left k = count - k
+
+next-from-requires : tie.Need-next-from-requires Inv-loop μ-loop
+next-from-requires c κs = can-look _ _ (c .before .before .before .before .before .before .before .before .pre .held) (omega arith)
 
 loop-holds : tie.Need-loop-holds Inv-loop μ-loop
-loop-holds c = meets-starts _ _ _ _ _ _ _ _ _ _ (c .before .before .before .before .before .before .pre)
+loop-holds c = meets-skip (c .next-from .ensures) (meets-starts _ _ _ _ _ _ _ _ _ _ (c .before .before .before .before .before .before .before .before .before .pre))
 
 meet-at-requires : tie.Need-meet-at-requires Inv-loop μ-loop
 meet-at-requires c κs = meets-can (c .before .before .before .before .before .before .before .loop .inv) (goes-on _ _ (c .before .before .before .before .before .before .before .loop .left) (c .before .before .before .before .before .before .loop-test .taken))
 
+-- where an entry was met
+met : (c : tie.After-slice-known8 Inv-loop μ-loop) → c .before .before .before .before .before .before .before .before .before .before .before .before .loop .k < c .before .before .before .before .before .before .before .before .before .before .before .before .before .before .before .before .before .before .before .before .before .before .args .entries
+met c = goes-on _ _ (c .before .before .before .before .before .before .before .before .before .before .before .before .loop .left) (c .before .before .before .before .before .before .before .before .before .before .before .loop-test .taken)
+
+add-next-from : tie.Need-add-next-from Inv-loop μ-loop
+add-next-from c = omega (arith, met c, c .before .before .before .before .before .before .before .before .before .before .before .before .loop .inv .held .most)
+
+next-from-requires-2 : tie.Need-next-from-requires-2 Inv-loop μ-loop
+next-from-requires-2 c κs = can-look _ _ (c .before .before .before .before .before .before .before .before .before .before .before .before .before .before .loop .inv .held) (omega (arith, met (c .before .before)))
+
+loop-less : tie.Need-loop-less Inv-loop μ-loop
+loop-less c = nearer _ _ _ (c .before .before .before .before .before .before .before .before .before .before .before .before .before .before .before .loop .left) (c .before .before .before .before .before .before .before .before .before .before .before .before .before .before .loop-test .taken) (c .next-from2 .ensures .start)
+
 loop-again : tie.Need-loop-again Inv-loop μ-loop
-loop-again c = meets-more (c .before .before .before .before .before .before .before .before .before .before .before .before .loop .inv) (goes-on _ _ (c .before .before .before .before .before .before .before .before .before .before .before .before .loop .left) (c .before .before .before .before .before .before .before .before .before .before .before .loop-test .taken)) (c .before .before .before .before .meet-at .ensures)
+loop-again c = meets-skip (c .next-from2 .ensures) (meets-more (c .before .before .before .before .before .before .before .before .before .before .before .before .before .before .before .loop .inv) (met (c .before .before .before)) (c .before .before .before .before .before .before .before .meet-at .ensures))
 
 returns : tie.Need-returns Inv-loop μ-loop
 returns c = meets-end (c .before .before .before .before .before .before .before .before .before .before .before .before .before .before .before .before .before .loop .inv) (c .before .before .before .before .before .before .before .before .before .before .before .before .before .before .before .before .loop-test .left) (c .before .before .before .before .before .before .before .before .before .before .remove-zeros .ensures)
@@ -28,7 +45,6 @@ returns c = meets-end (c .before .before .before .before .before .before .before
 pub resolve-in-spec : {M : Type 1} → statement M
 resolve-in-spec =
     tie.close
-    (tie.spec Inv-loop μ-loop loop-holds meet-at-requires (λ c. search needs)
-    (λ c. nearer _ _ (c .before .before .before .before .before .before .before .before .before .before .before .before .loop .left) (c .before .before .before .before .before .before .before .before .before .before .before .loop-test .taken))
+    (tie.spec Inv-loop μ-loop next-from-requires loop-holds meet-at-requires add-next-from next-from-requires-2 loop-less
     loop-again (λ c κs. search needs) (λ c. search needs) (λ c. search needs) (λ c. search needs) (λ c. search needs)
     (λ c. search needs) (λ c. search needs) returns)

@@ -1,0 +1,3 @@
+-- Why what is looked over has nothing in it, and what is owed.
+pub mod Passing
+pub mod Owing

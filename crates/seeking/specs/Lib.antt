@@ -1,0 +1,2 @@
+-- What the contracts of looking along columns cite.
+pub mod Places
