@@ -1,7 +1,14 @@
 # The commands of the settlement-day book. `make help` lists them.
 
 BUILD := build
-LIBRARIES := $(foreach name,desk entries funds host listing statement trust,target/staticlib/lib$(name).a)
+
+# The crates whose functions hosts call: one library is joined of them.
+LIBRARY_CRATES := desk entries funds host listing statement trust
+
+VERSION := $(shell scripts/version.sh)
+ARCHIVES := $(LIBRARY_CRATES:%=target/staticlib/lib%.a)
+LIBRARY := $(BUILD)/lib/libsettlement_day.a
+SHARED := $(BUILD)/lib/libsettlement_day.so.$(basename $(VERSION))
 HOSTS := $(BUILD)/measures $(BUILD)/day $(BUILD)/trust $(BUILD)/sizes $(BUILD)/funds $(BUILD)/markets $(BUILD)/statement $(BUILD)/stack
 CFLAGS := -std=c11 -O2 -Wall -Wextra -Wpedantic -Werror
 CXXFLAGS := -std=c++17 -Wall -Wextra -Wpedantic -Werror
@@ -11,13 +18,13 @@ CRATE_FILES := crates.txt $(shell find crates -name '*.rt' -o -name '*.antt')
 unexport TAPE
 export DAY_TAPE := $(value TAPE)
 
-.PHONY: help test run day libraries hosts clean
+.PHONY: help test run day libraries list hosts clean
 
 help:
 	@echo 'make test            prove every crate from nothing, then run every test; the last line is the verdict'
 	@echo 'make run             run the settled day P5 to P9 and show it'
 	@echo 'make day TAPE=file   run a tape, in its text form or as words, and show it'
-	@echo 'make libraries       build the static libraries, target/staticlib/lib*.a'
+	@echo 'make libraries       build the library for hosts, as an archive and shared: build/lib/libsettlement_day.*'
 	@echo 'make hosts           build the hosts in C: build/measures, build/day, build/trust, build/sizes, build/funds, build/markets, build/statement and build/stack'
 	@echo 'make clean           remove everything that was built'
 	@echo 'The proved program is target/bin/dayrun, the tool for tapes build/release/tape,'
@@ -32,16 +39,25 @@ run:
 day:
 	@scripts/day.sh "$$DAY_TAPE"
 
-libraries: $(LIBRARIES)
+libraries: $(LIBRARY) $(SHARED)
 	@:
+
+list:
+	@echo $(LIBRARY_CRATES)
 
 hosts: $(HOSTS)
 	@:
 
-$(BUILD)/%: host/%.c host/settlement_day.h $(LIBRARIES)
+$(BUILD)/%: host/%.c host/settlement_day.h $(LIBRARY)
 	@mkdir -p $(BUILD)
 	g++ $(CXXFLAGS) -fsyntax-only -x c++ $<
-	gcc $(CFLAGS) -pthread -o $@ $< $(LIBRARIES)
+	gcc $(CFLAGS) -pthread -o $@ $< $(LIBRARY)
+
+$(LIBRARY): $(ARCHIVES) host/version.c host/settlement_day.h scripts/join.sh
+	@scripts/join.sh $@ $(ARCHIVES)
+
+$(SHARED): $(LIBRARY) scripts/share.sh
+	@scripts/share.sh $@ $(LIBRARY)
 
 target/staticlib/lib%.a: $(CRATE_FILES)
 	@scripts/tools.sh rt gcc
