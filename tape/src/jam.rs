@@ -169,11 +169,7 @@ pub fn try_sizes(
 ) -> Result<Tried, Refusal> {
     let mut rows = Vec::new();
     for &size in sizes {
-        let tried = simulate(book, desk, size);
-        if let Some(refusal) = tried.refused() {
-            return Err(refusal);
-        }
-        rows.push((size, tried));
+        rows.push((size, simulate(book, desk, size)?));
     }
     let owed = book.nets.iter().map(|&net| u64::from(net.min(0).unsigned_abs())).sum();
     let phase = book.phase.name().unwrap_or("no phase");

@@ -78,11 +78,10 @@ pub fn read(tape: &[u8], question: &Question) -> Result<Seen, String> {
     let Question { ref caller, issue, account, .. } = *question;
     let mut entries = Vec::new();
     let answer = loop {
-        let seen = access::read(caller, &book, issue, account, entries.len() as u32);
-        match (seen.account, seen.refused()) {
-            (Some(Account { entry: Some(entry), .. }), _) => entries.push(entry),
-            (Some(last), _) => break Ok((last, entries)),
-            (None, refusal) => break Err(refusal.unwrap_or(Refusal::Book)),
+        match access::read(caller, &book, issue, account, entries.len() as u32) {
+            Ok(Account { entry: Some(entry), .. }) => entries.push(entry),
+            Ok(last) => break Ok((last, entries)),
+            Err(refusal) => break Err(refusal),
         }
     };
     let phase = book.phase.name().unwrap_or("no phase");
@@ -106,7 +105,7 @@ impl Seen {
         let head = format!("{at}, day {day}, {phase}");
         let (seen, entries) = match &self.answer {
             Ok(answer) => answer,
-            Err(refusal) => return format!("{head}: {refusal}\n"),
+            Err(refusal) => return format!("{head}: {}\n", refusal.said()),
         };
         let charge = Grouped(seen.charge.into());
         let net = net_of(seen.net);

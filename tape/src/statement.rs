@@ -234,7 +234,7 @@ fn run(words: &[u32], stray: bool) -> (Span, BTreeSet<(u32, u32)>) {
         if !traded(&mut book, &instruction) {
             let quotes = tape::quotes(&words[at..]);
             let answer = calls::call(&mut book, &instruction, &quotes, &mut output);
-            refused += usize::from(answer.refusal != 0);
+            refused += usize::from(answer.is_err());
         }
         at += count;
         instructions += 1;

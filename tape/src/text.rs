@@ -139,10 +139,9 @@ fn line_bytes(name: &Word, arguments: &[Word], ended: bool) -> Result<Vec<u8>, V
     }
     let (instruction, quotes) = instruction_of(name, arguments)?;
     let mut words = [0; WRITER_WORDS];
-    let answer = tape::write(&instruction, &quotes, &mut words);
-    match Refusal::of(answer.refusal) {
-        None => Ok(join(&words[..answer.count])),
-        Some(refusal) => Err(vec![name.fault(format!("the writer says: {refusal}"))]),
+    match tape::write(&instruction, &quotes, &mut words) {
+        Ok(count) => Ok(join(&words[..count])),
+        Err(refusal) => Err(vec![name.fault(format!("the writer says: {}", refusal.said()))]),
     }
 }
 

@@ -13,11 +13,11 @@ const MOST_ACCRUED: u32 = 10_000;
 pub fn why(book: &Book, instruction: &Instruction, quotes: &[u32], refusal: Refusal) -> String {
     if let (Refusal::Terms, Instruction::Roll { days, rate }) = (refusal, *instruction) {
         let behind = terms(days, rate, quotes).unwrap_or_default();
-        return format!("{refusal}; {behind}");
+        return format!("{}; {behind}", refusal.said());
     }
     match behind(book, instruction, refusal) {
-        Some(behind) => format!("{refusal}; {behind}"),
-        None => refusal.to_string(),
+        Some(behind) => format!("{}; {behind}", refusal.said()),
+        None => refusal.said(),
     }
 }
 

@@ -1,6 +1,7 @@
 //! Both engines on the same steps: answers, whole books and every word of the output compared.
 
 use crate::convert::{library_book, library_ticket, same_numbers};
+use crate::requests::instruction;
 use crate::steps::{Call, Step};
 use library::{raw, LIFT_WORDS};
 use reference::book::{place, Book, ACCOUNTS, ENTRIES, ISSUES};
@@ -263,22 +264,14 @@ pub fn by_library(book: &mut library::Book, call: &Call, out: &mut [u32]) -> Ans
             let asked = raw::ask(&book.columns(), issue, unit);
             return plain(asked.refusal, &asked.ticket.map(u64::from));
         }
-        Call::Trade { issue, from, to, lots } => library::calls::trade(book, issue, from, to, lots),
-        Call::Close => library::calls::close(book),
-        Call::Deliver { issue, account, lots, .. } => {
-            library::calls::deliver(book, issue, account, lots, out)
-        }
         Call::Commit { ref ticket, .. } => {
-            library::calls::commit(book, &library_ticket(ticket), out)
+            raw::commit(&mut book.columns_mut(), &library_ticket(ticket).numbers(), out)
         }
-        Call::Cutoff { .. } => library::calls::cutoff(book, out),
-        Call::Resolve { issue, account, lots, .. } => {
-            library::calls::resolve(book, issue, account, lots, out)
+        Call::Roll { days, rate, ref quotes } => {
+            let roll = library::Instruction::Roll { days, rate };
+            raw::call(&mut book.columns_mut(), &roll.fields(), quotes, out)
         }
-        Call::PairOff { issue, account } => library::calls::pair_off(book, issue, account),
-        Call::Roll { days, rate, ref quotes } => library::calls::roll(book, days, rate, quotes),
-        Call::Mark { issue, mark } => library::calls::mark(book, issue, mark),
-        Call::Turn { day } => library::calls::turn(book, day),
+        ref call => raw::call(&mut book.columns_mut(), &instruction(call).fields(), &[], out),
     };
     plain(answer.refusal, &[answer.count as u64, answer.cancelled])
 }

@@ -8,7 +8,7 @@ use crate::random_calls::random_call;
 use crate::random_lifts::Tickets;
 use crate::rng::Rng;
 use crate::steps::Call;
-use library::{access, raw};
+use library::raw;
 use reference::access::{read, without_right, Caller, ReadAnswer};
 use reference::book::Book;
 use reference::simulation::{simulate, Outcome, Plan, Units};
@@ -100,9 +100,9 @@ pub fn library_answer(
             return plain(tried.refusal, &[tried.deliveries, tried.rounds, owed]);
         }
         Request::Read { issue, account, k } => {
-            let found = access::read(caller, book, *issue, *account, *k);
-            let account = found.account.unwrap_or_default();
-            return seen_numbers(found.refusal, account.net, account.charge, account.entry);
+            let seen = raw::look(caller, &book.columns(), *issue, *account, *k);
+            let entry = (seen.some == 1).then_some(seen.entry);
+            return seen_numbers(seen.refusal, seen.net, seen.charge, entry);
         }
     };
     let answer = match *call {
@@ -121,18 +121,21 @@ pub fn library_answer(
             return plain(asked.refusal, &asked.ticket.map(u64::from));
         }
         Call::Commit { ref ticket, .. } => {
-            access::commit(caller, book, &library_ticket(ticket), out)
+            raw::commit_as(caller, &mut book.columns_mut(), &library_ticket(ticket).numbers(), out)
         }
         Call::Roll { days, rate, ref quotes } => {
-            access::call(caller, book, &library::Instruction::Roll { days, rate }, quotes, out)
+            let roll = library::Instruction::Roll { days, rate };
+            raw::call_as(caller, &mut book.columns_mut(), &roll.fields(), quotes, out)
         }
-        ref call => access::call(caller, book, &instruction(call), &[], out),
+        ref call => {
+            raw::call_as(caller, &mut book.columns_mut(), &instruction(call).fields(), &[], out)
+        }
     };
     plain(answer.refusal, &[answer.count as u64, answer.cancelled])
 }
 
 /// The instruction of a call that is one.
-fn instruction(call: &Call) -> library::Instruction {
+pub(crate) fn instruction(call: &Call) -> library::Instruction {
     use library::Instruction;
     match *call {
         Call::Trade { issue, from, to, lots } => Instruction::Trade { issue, from, to, lots },

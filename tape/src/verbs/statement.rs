@@ -34,7 +34,7 @@ fn act(given: &Given) -> Result<Ended, String> {
         let account = number("ACCOUNT", account, 0..=ACCOUNTS as u32 - 1)?;
         Told::one(&day_of(given, days)?.tape, issue, account)
     }
-    .map_err(|refusal| refusal.to_string())?;
+    .map_err(|refusal| refusal.said())?;
     let told = match (given.has(&JSON), given.has(&HTML)) {
         (true, _) => told.json(),
         (_, true) => told.html(),

@@ -7,8 +7,7 @@
 //! which a book's full units are dealt in turn, which changes nothing here. `--replay` takes `size S`,
 //! `turn DAY`, `settle ACCOUNT SETTLEMENT`, `hold PLACE LOTS` and `net PLACE NET`.
 
-use library::raw;
-use library::simulation::Simulated;
+use library::raw::{self, Simulated};
 use reference::book::{place, Book, ACCOUNTS, ISSUES};
 use reference::simulation::{simulate, Outcome, Units, SETTLEMENT_ACCOUNTS};
 use std::collections::BTreeSet;

@@ -1,8 +1,7 @@
 //! Unit sizes on a simulated desk: a full market with inventories from next to nothing to all that is
 //! owed, and the market that takes the most rounds.
 
-use library::raw;
-use library::simulation::Simulated;
+use library::raw::{self, Simulated};
 use reference::book::{place, Book, ACCOUNTS, ISSUES};
 use reference::simulation::{simulate, Units, SETTLEMENT_ACCOUNTS};
 use std::time::Instant;
