@@ -4,6 +4,12 @@ BUILD := build
 
 # The crates whose functions hosts call: one library is joined of them.
 LIBRARY_CRATES := desk entries funds host listing statement trust
+# The programs that are installed, with a man page each; and those whose words a shell completes.
+PROGRAMS := target/bin/dayrun $(BUILD)/release/tape $(BUILD)/release/treasury
+COMPLETED := tape treasury
+# Where it is installed; DESTDIR stands before it while a package is made.
+PREFIX ?= /usr/local
+DESTDIR ?=
 
 VERSION := $(shell scripts/version.sh)
 ARCHIVES := $(LIBRARY_CRATES:%=target/staticlib/lib%.a)
@@ -14,11 +20,13 @@ CFLAGS := -std=c11 -O2 -Wall -Wextra -Wpedantic -Werror
 CXXFLAGS := -std=c++17 -Wall -Wextra -Wpedantic -Werror
 CRATE_FILES := crates.txt $(shell find crates -name '*.rt' -o -name '*.antt')
 
-# The name of a tape, as it was given: a dollar or a quote in it is a letter of the name.
-unexport TAPE
+# The name of a tape and of a folder, as it was given: a dollar or a quote in it is a letter of the name.
+unexport TAPE PREFIX DESTDIR
 export DAY_TAPE := $(value TAPE)
+export DAY_PREFIX := $(value PREFIX)
+export DAY_DESTDIR := $(value DESTDIR)
 
-.PHONY: help test run day libraries list hosts clean
+.PHONY: help test run day libraries list hosts programs install uninstall clean
 
 help:
 	@echo 'make test            prove every crate from nothing, then run every test; the last line is the verdict'
@@ -26,6 +34,8 @@ help:
 	@echo 'make day TAPE=file   run a tape, in its text form or as words, and show it'
 	@echo 'make libraries       build the library for hosts, as an archive and shared: build/lib/libsettlement_day.*'
 	@echo 'make hosts           build the hosts in C: build/measures, build/day, build/trust, build/sizes, build/funds, build/markets, build/statement and build/stack'
+	@echo 'make install         install library, header, programs and man pages: PREFIX=/usr/local DESTDIR='
+	@echo 'make uninstall       remove what was installed there'
 	@echo 'make clean           remove everything that was built'
 	@echo 'The proved program is target/bin/dayrun, the tool for tapes build/release/tape,'
 	@echo 'the treasurer'\''s command build/release/treasury.'
@@ -47,6 +57,15 @@ list:
 
 hosts: $(HOSTS)
 	@:
+
+programs: libraries
+	@scripts/programs.sh $(PROGRAMS)
+
+install: programs
+	@scripts/install.sh "$$DAY_DESTDIR" "$$DAY_PREFIX" $(LIBRARY) $(SHARED) '$(PROGRAMS)' '$(COMPLETED)'
+
+uninstall:
+	@scripts/uninstall.sh "$$DAY_DESTDIR" "$$DAY_PREFIX"
 
 $(BUILD)/%: host/%.c host/settlement_day.h $(LIBRARY)
 	@mkdir -p $(BUILD)
