@@ -109,6 +109,7 @@ impl raw::AskAnswer {
 }
 
 /// Is the book sound?
+#[must_use = "a damaged book would be missed"]
 pub fn sound(book: &Book) -> bool {
     raw::sound(&book.columns()) == 1
 }

@@ -35,6 +35,7 @@ pub struct State {
 /// What a call gives: its answer, and the state after it.
 #[repr(C)]
 #[derive(Clone, Copy, Debug, PartialEq, Eq)]
+#[must_use = "a refusal would be missed"]
 pub struct Turned {
     /// The refusal's number, 0 where it is done.
     pub refusal: u32,
@@ -49,6 +50,7 @@ pub struct Turned {
 /// What is seen of an account.
 #[repr(C)]
 #[derive(Clone, Copy, Debug, PartialEq, Eq)]
+#[must_use = "a refusal would be missed"]
 pub struct Seen {
     /// The refusal's number, 0 where it is done; on a refusal all else is 0.
     pub refusal: u32,
@@ -133,6 +135,7 @@ impl ColumnsMut<'_> {
 
 /// A call's answer.
 #[derive(Clone, Copy, Debug, PartialEq, Eq)]
+#[must_use = "a refusal would be missed"]
 pub struct Answer {
     /// The refusal's number, 0 where it is done.
     pub refusal: u32,
@@ -144,6 +147,7 @@ pub struct Answer {
 
 /// The unit question's answer.
 #[derive(Clone, Copy, Debug, PartialEq, Eq)]
+#[must_use = "a refusal would be missed"]
 pub struct UnitAnswer {
     /// The refusal's number, 0 where it is answered.
     pub refusal: u32,
@@ -157,6 +161,7 @@ pub struct UnitAnswer {
 
 /// What is told of a unit.
 #[derive(Clone, Copy, Debug, PartialEq, Eq)]
+#[must_use = "a refusal would be missed"]
 pub struct StatusAnswer {
     /// The refusal's number, 0 where it is answered.
     pub refusal: u32,
@@ -168,6 +173,7 @@ pub struct StatusAnswer {
 
 /// What came of a simulated desk; on a refusal all but its number are 0.
 #[derive(Clone, Copy, Debug, PartialEq, Eq)]
+#[must_use = "a refusal would be missed"]
 pub struct Simulated {
     /// The refusal's number, 0 where it is done.
     pub refusal: u32,
@@ -184,6 +190,7 @@ pub type TicketNumbers = [u32; 6];
 
 /// The answer to asking for a lift.
 #[derive(Clone, Copy, Debug, PartialEq, Eq)]
+#[must_use = "a refusal would be missed"]
 pub struct AskAnswer {
     /// The refusal's number, 0 where there is a ticket.
     pub refusal: u32,
@@ -193,6 +200,7 @@ pub struct AskAnswer {
 
 /// The reader's answer.
 #[derive(Clone, Copy, Debug, PartialEq, Eq)]
+#[must_use = "a refusal would be missed"]
 pub struct ReadAnswer {
     /// The refusal's number, 0 where an instruction was read.
     pub refusal: u32,
@@ -204,6 +212,7 @@ pub struct ReadAnswer {
 
 /// The writer's answer.
 #[derive(Clone, Copy, Debug, PartialEq, Eq)]
+#[must_use = "a refusal would be missed"]
 pub struct WriteAnswer {
     /// The refusal's number, 0 where the instruction was written.
     pub refusal: u32,
@@ -231,6 +240,7 @@ macro_rules! put {
 }
 
 /// Is the book sound? 1 if it is, 0 if not.
+#[must_use = "a damaged book would be missed"]
 pub fn sound(book: &Columns) -> u32 {
     // SAFETY: each column is given with its length; they live through the call, which reads them alone.
     unsafe { with_columns!(day_sound(book.state(); book.as_ptr;)) }
@@ -442,6 +452,7 @@ pub fn write(fields: &Fields, quotes: &[u32], out: &mut [u32]) -> WriteAnswer {
 }
 
 /// The value of lots at a price and an accrued amount: the refusal's number, and the yen.
+#[must_use = "a refusal would be missed"]
 pub fn value(lots: u32, price: u32, accrued: u32) -> (u32, u64) {
     let mut yen = NO_YEN;
     // SAFETY: the library writes one u64 through the reference, which lives until after the call.
@@ -450,6 +461,7 @@ pub fn value(lots: u32, price: u32, accrued: u32) -> (u32, u64) {
 }
 
 /// The charge on that value for days at a rate: the refusal's number, and the yen.
+#[must_use = "a refusal would be missed"]
 pub fn charge(lots: u32, price: u32, days: u32, rate: u32, accrued: u32) -> (u32, u64) {
     let mut yen = NO_YEN;
     // SAFETY: the library writes one u64 through the reference, which lives until after the call.
