@@ -1,16 +1,19 @@
 /* The settlement-day book for hosts in C and C++.
  *
- * The functions are in static libraries, which `make libraries` makes:
+ * The functions are in one library, libsettlement_day, as an archive (.a) and as a shared library
+ * (.so); `make libraries` makes both, `make install` installs them with this header, and
+ * `pkg-config --cflags --libs settlement-day` says how to compile and link. By the crate that they are
+ * proved in:
  *
- *     target/staticlib/libhost.a      day_sound day_unit day_status day_simulate day_call day_ask
- *                                     day_commit
- *     target/staticlib/libcallers.a   all but day_sound with a caller (day_unit_as, ..), and day_look
- *     target/staticlib/libdesk.a      day_value day_charge day_read day_quotes day_write
- *     target/staticlib/libentries.a   entry_meet
- *     target/staticlib/libfunds.a     day_bases day_shares day_funds
- *     target/staticlib/liblisting.a   day_markets day_market_fails
- *     target/staticlib/libstatement.a day_statement
- *     target/staticlib/libtrust.a     day_trust
+ *     host      day_sound day_unit day_status day_simulate day_call day_ask day_commit
+ *     callers   all but day_sound with a caller (day_unit_as, ..), and day_look
+ *     desk      day_value day_charge day_read day_quotes day_write
+ *     entries   entry_meet
+ *     funds     day_bases day_shares day_funds
+ *     listing   day_markets day_market_fails
+ *     statement day_statement
+ *     trust     day_trust
+ *     (in C)    day_version
  *
  * Each is proved to answer as the rules say for every number and every book, damaged ones too.
  * What the host has to see to: a pointer is valid for the length given beside it, also where the
@@ -31,6 +34,51 @@
 #ifdef __cplusplus
 extern "C" {
 #endif
+
+/* ---- version
+ *
+ * This is the header's; day_version() gives the library's. As long as MAJOR is the same:
+ *
+ * - a function keeps its name, its numbers and their order, and what it gives; a struct its fields and
+ *   their layout; a constant its number, but for the DAY_*_STACK_BYTES, which may fall;
+ * - a call that could be made before is refused by no number that it could not be refused by before;
+ * - what is added (functions, kinds, refusals) raises MINOR; PATCH rises where nothing is added.
+ *
+ * So a program that was compiled with this header runs with every library of the same MAJOR and of this
+ * MINOR or a higher one; day_version_fits() tells whether the one at hand is such. The helpers that are
+ * `static inline` are compiled into the program, and struct day_book is the program's own: no function of
+ * the library takes it whole. Nothing is promised from one MAJOR to the next. */
+
+#define DAY_VERSION_MAJOR 1u
+#define DAY_VERSION_MINOR 0u
+#define DAY_VERSION_PATCH 0u
+
+/* A version as one number, by which versions are compared: 1.2.3 is 1002003. */
+#define DAY_VERSION_NUMBER(major, minor, patch) ((major) * 1000000u + (minor) * 1000u + (patch))
+#define DAY_VERSION DAY_VERSION_NUMBER(DAY_VERSION_MAJOR, DAY_VERSION_MINOR, DAY_VERSION_PATCH)
+
+/* The compiler warns where what such a function answers is not looked at: a refusal would be missed. To
+ * leave an answer out on purpose, put it into a variable first. */
+#if defined(__cplusplus) && __cplusplus >= 201703L
+#define DAY_NODISCARD [[nodiscard]]
+#elif !defined(__cplusplus) && defined(__STDC_VERSION__) && __STDC_VERSION__ >= 202311L
+#define DAY_NODISCARD [[nodiscard]]
+#elif defined(__GNUC__)
+#define DAY_NODISCARD __attribute__((warn_unused_result))
+#else
+#define DAY_NODISCARD
+#endif
+
+/* The library's version, as DAY_VERSION has the header's. */
+uint32_t day_version(void);
+
+/* 1 where the library at hand is one that this header is for, else 0. */
+DAY_NODISCARD
+static inline uint32_t day_version_fits(void)
+{
+    uint32_t found = day_version();
+    return found / 1000000u == DAY_VERSION_MAJOR && found / 1000u >= DAY_VERSION / 1000u;
+}
 
 /* ---- sizes */
 
@@ -177,6 +225,7 @@ struct day_turned {
 };
 
 /* 1 where the book is sound, else 0. */
+DAY_NODISCARD
 uint32_t day_sound(struct day_state state,
                    const int32_t *nets, size_t nets_length,
                    const uint32_t *delivered, size_t delivered_length,
@@ -189,6 +238,7 @@ uint32_t day_sound(struct day_state state,
                    const uint16_t *days, size_t days_length);
 
 /* The k-th unit of an issue, k from 0: 1, account, lots; or 0, 0, 0 where there is none. */
+DAY_NODISCARD
 uint32_t day_unit(struct day_state state,
                   const int32_t *nets, size_t nets_length,
                   const uint32_t *delivered, size_t delivered_length,
@@ -203,6 +253,7 @@ uint32_t day_unit(struct day_state state,
 
 /* Why the k-th unit of an issue, k from 0, has not come, in Settling and in Cut: the case and its lots
  * (0 where it is handed or wholly failed); twice 0 on a refusal (2, 3 in Taking, 4, 16). */
+DAY_NODISCARD
 uint32_t day_status(struct day_state state,
                     const int32_t *nets, size_t nets_length,
                     const uint32_t *delivered, size_t delivered_length,
@@ -223,6 +274,7 @@ uint32_t day_status(struct day_state state,
  * the first round without a delivery, which is counted. deliveries, rounds and the lots still owed of
  * each issue are all 0 on a refusal (2; 5, also for other than 64 settlement accounts; 7, also for
  * other than 256 inventories). */
+DAY_NODISCARD
 uint32_t day_simulate(struct day_state state,
                       const int32_t *nets, size_t nets_length,
                       const uint32_t *delivered, size_t delivered_length,
@@ -241,6 +293,7 @@ uint32_t day_simulate(struct day_state state,
  * 14 before anything else is asked, the output (1) and the book (2) too. Only deliver, cutoff and
  * resolve use the output, and only roll the quotes. count is that of the records written (for pair-off,
  * of the steps), cancelled pair-off's lots; both are 0 on a refusal, and the state is as it came. */
+DAY_NODISCARD
 struct day_turned day_call(uint32_t kind, uint32_t a, uint32_t b, uint32_t c, uint32_t d,
                            const uint32_t *quotes, size_t quotes_length,
                            struct day_state state,
@@ -257,6 +310,7 @@ struct day_turned day_call(uint32_t kind, uint32_t a, uint32_t b, uint32_t c, ui
 
 /* Asks for a lift of an issue's unit, by its number, in Settling; changes nothing. The ticket is
  * issue, unit, account, lots, day, count; six times 0 on a refusal. */
+DAY_NODISCARD
 uint32_t day_ask(struct day_state state,
                  const int32_t *nets, size_t nets_length,
                  const uint32_t *delivered, size_t delivered_length,
@@ -271,6 +325,7 @@ uint32_t day_ask(struct day_state state,
 
 /* Lifts the ticket's unit before all unhanded ones, in Settling, and hands on as far as stock covers.
  * Only the lifts and the output are changed; count is that of the records written, 0 on a refusal. */
+DAY_NODISCARD
 uint32_t day_commit(const uint32_t ticket[6], struct day_state state,
                     const int32_t *nets, size_t nets_length,
                     const uint32_t *delivered, size_t delivered_length,
@@ -285,6 +340,7 @@ uint32_t day_commit(const uint32_t ticket[6], struct day_state state,
 
 /* Reads the instruction that begins at the first word: kind, a, b, c, d and its count of words;
  * all 0 on a refusal (13, 14). */
+DAY_NODISCARD
 uint32_t day_read(const uint32_t *words, size_t words_length, uint32_t instruction[5],
                   size_t *count);
 
@@ -294,15 +350,18 @@ void day_quotes(const uint32_t *words, size_t words_length, uint32_t quotes[32])
 
 /* Writes an instruction, with the quotes of a roll; count is that of the words written, 0 on a
  * refusal (1, 15). */
+DAY_NODISCARD
 uint32_t day_write(uint32_t kind, uint32_t a, uint32_t b, uint32_t c, uint32_t d,
                    const uint32_t *quotes, size_t quotes_length,
                    uint32_t *out, size_t out_length, size_t *count);
 
 /* The value of lots at a price, in yen rounded down, plus that of their accrued amount, rounded down
  * for itself; 0 yen on a refusal (7, 11). */
+DAY_NODISCARD
 uint32_t day_value(uint32_t lots, uint32_t price, uint32_t accrued, uint64_t *yen);
 
 /* The charge on that value, in yen rounded down, for days at a rate; 0 yen on a refusal (7, 11). */
+DAY_NODISCARD
 uint32_t day_charge(uint32_t lots, uint32_t price, uint32_t days, uint32_t rate, uint32_t accrued,
                     uint64_t *yen);
 
@@ -334,6 +393,7 @@ struct day_caller {
     uint8_t owners[DAY_ACCOUNTS]; /* of each account: 0 to 15 a participant, any other none */
 };
 
+DAY_NODISCARD
 struct day_turned day_call_as(struct day_caller caller,
                               uint32_t kind, uint32_t a, uint32_t b, uint32_t c, uint32_t d,
                               const uint32_t *quotes, size_t quotes_length,
@@ -349,6 +409,7 @@ struct day_turned day_call_as(struct day_caller caller,
                               uint16_t *days, size_t days_length,
                               uint32_t *out, size_t out_length);
 
+DAY_NODISCARD
 uint32_t day_unit_as(struct day_caller caller, struct day_state state,
                      const int32_t *nets, size_t nets_length,
                      const uint32_t *delivered, size_t delivered_length,
@@ -361,6 +422,7 @@ uint32_t day_unit_as(struct day_caller caller, struct day_state state,
                      const uint16_t *days, size_t days_length,
                      uint32_t issue, uint32_t k, uint32_t answer[3]);
 
+DAY_NODISCARD
 uint32_t day_status_as(struct day_caller caller, struct day_state state,
                        const int32_t *nets, size_t nets_length,
                        const uint32_t *delivered, size_t delivered_length,
@@ -373,6 +435,7 @@ uint32_t day_status_as(struct day_caller caller, struct day_state state,
                        const uint16_t *days, size_t days_length,
                        uint32_t issue, uint32_t k, uint32_t answer[2]);
 
+DAY_NODISCARD
 uint32_t day_simulate_as(struct day_caller caller, struct day_state state,
                          const int32_t *nets, size_t nets_length,
                          const uint32_t *delivered, size_t delivered_length,
@@ -387,6 +450,7 @@ uint32_t day_simulate_as(struct day_caller caller, struct day_state state,
                          const uint32_t *inventories, size_t inventories_length, uint32_t size,
                          uint64_t *deliveries, uint64_t *rounds, uint32_t owed[16]);
 
+DAY_NODISCARD
 uint32_t day_ask_as(struct day_caller caller, struct day_state state,
                     const int32_t *nets, size_t nets_length,
                     const uint32_t *delivered, size_t delivered_length,
@@ -399,6 +463,7 @@ uint32_t day_ask_as(struct day_caller caller, struct day_state state,
                     const uint16_t *days, size_t days_length,
                     uint32_t issue, uint32_t unit, uint32_t ticket[6]);
 
+DAY_NODISCARD
 uint32_t day_commit_as(struct day_caller caller, const uint32_t ticket[6], struct day_state state,
                        const int32_t *nets, size_t nets_length,
                        const uint32_t *delivered, size_t delivered_length,
@@ -422,6 +487,7 @@ struct day_seen {
 
 /* Reads an account, in any phase: k counts its entries in the issue from 0, in ledger order. A participant
  * reads its own accounts, the operator any. Refused by 2, 4, 5 and 27. */
+DAY_NODISCARD
 struct day_seen day_look(struct day_caller caller, struct day_state state,
                          const int32_t *nets, size_t nets_length,
                          const uint32_t *delivered, size_t delivered_length,
@@ -442,6 +508,7 @@ struct day_seen day_look(struct day_caller caller, struct day_state state,
  * receive more than they deliver, take lots up to their own, first those whose counterparty is the
  * failing account, then the others. out has at least 256 places; those beyond the reports keep their
  * content, and on a refusal (1, 5, 7, 21, 22, 23) all do. */
+DAY_NODISCARD
 uint32_t day_trust(const uint32_t *sub_accounts, size_t sub_accounts_length,
                    const uint32_t *counterparties, size_t counterparties_length,
                    const int32_t *lots, size_t lots_length,
@@ -455,18 +522,21 @@ uint32_t day_trust(const uint32_t *sub_accounts, size_t sub_accounts_length,
  *
  * The base contributions of averages: average times factor; 0 stays 0, above 0 up to 50 gives 50, above
  * that down to a multiple of 50. Refused by 24. */
+DAY_NODISCARD
 uint32_t day_bases(const uint64_t *averages, size_t averages_length, uint64_t tenths,
                    uint64_t out[64]);
 
 /* The shares of the funds among participants with given bases. Participants come by average, largest
  * first, equals by lower number; rounds give each 50 up to its base, and the last fraction goes to the
  * next whose base is not full. Refused by 24 and then 25. */
+DAY_NODISCARD
 uint32_t day_shares(const uint64_t *averages, size_t averages_length,
                     const uint64_t *bases, size_t bases_length,
                     uint64_t funds, uint64_t out[64]);
 
 /* The shares of the funds among participants with the base contributions of their averages. Refused by
  * 24 and then 25. */
+DAY_NODISCARD
 uint32_t day_funds(const uint64_t *averages, size_t averages_length, uint64_t tenths,
                    uint64_t funds, uint64_t out[64]);
 
@@ -475,12 +545,14 @@ uint32_t day_funds(const uint64_t *averages, size_t averages_length, uint64_t te
  * first account compared first, most negative first. out has at least 19,755 places; those after the last
  * market keep their content. The number of markets comes through count (no accounts: one market, of no
  * places). Refused by 1 and then 7, with a count of 0 and out as it came. */
+DAY_NODISCARD
 uint32_t day_markets(uint32_t accounts, uint32_t most, int32_t *out, size_t out_length,
                      uint32_t *count);
 
 /* Of these markets, those in which each account owes at least its delivered lots, counted by their fail
  * entries after cutoff: how many have 0, 1, 2, 3, 4 of them. Lots that no market owes give five zeros.
  * Refused by 7, also where there are not as many delivered lots as accounts, with counts of 0. */
+DAY_NODISCARD
 uint32_t day_market_fails(uint32_t accounts, uint32_t most,
                           const uint32_t *delivered, size_t delivered_length, uint32_t counts[5]);
 
@@ -489,6 +561,7 @@ uint32_t day_market_fails(uint32_t accounts, uint32_t most,
  * and failed over due as two whole numbers, unreduced (failed, due). A word that the reader refuses ends the
  * span there; a refused instruction adds nothing; a day still settling adds its resolves alone. Refused by 4
  * and then 5, with 0 in every place of numbers. */
+DAY_NODISCARD
 uint32_t day_statement(const uint32_t *words, size_t words_length, uint32_t issue, uint32_t account,
                        uint64_t numbers[6]);
 
@@ -570,6 +643,7 @@ static inline void day_book_fresh(struct day_book *book)
 }
 
 /* 1 where the book is sound, else 0. */
+DAY_NODISCARD
 static inline uint32_t day_book_sound(const struct day_book *book)
 {
     return day_sound(book->state, book->nets, DAY_PLACES,
@@ -580,6 +654,7 @@ static inline uint32_t day_book_sound(const struct day_book *book)
 }
 
 /* The k-th unit of an issue, k from 0. */
+DAY_NODISCARD
 static inline struct day_unit_answer day_book_unit(const struct day_book *book, uint32_t issue,
                                                    uint32_t k)
 {
@@ -597,6 +672,7 @@ static inline struct day_unit_answer day_book_unit(const struct day_book *book, 
 }
 
 /* Why the k-th unit of an issue, k from 0, has not come. */
+DAY_NODISCARD
 static inline struct day_status_answer day_book_status(const struct day_book *book, uint32_t issue,
                                                        uint32_t k)
 {
@@ -613,6 +689,7 @@ static inline struct day_status_answer day_book_status(const struct day_book *bo
 }
 
 /* Tries a unit size on a simulated desk; changes nothing. */
+DAY_NODISCARD
 static inline struct day_simulated
 day_book_simulate(const struct day_book *book, const uint32_t settles[DAY_ACCOUNTS],
                   const uint32_t inventories[DAY_INVENTORIES], uint32_t size)
@@ -630,6 +707,7 @@ day_book_simulate(const struct day_book *book, const uint32_t settles[DAY_ACCOUN
 }
 
 /* The call of an instruction, with quotes and an output of these lengths. */
+DAY_NODISCARD
 static inline struct day_answer day_book_call(struct day_book *book, uint32_t kind, uint32_t a,
                                               uint32_t b, uint32_t c, uint32_t d,
                                               const uint32_t *quotes, size_t quotes_length,
@@ -652,6 +730,7 @@ static inline struct day_answer day_book_call(struct day_book *book, uint32_t ki
 }
 
 /* Asks for a lift of an issue's unit, by its number; changes nothing. */
+DAY_NODISCARD
 static inline struct day_ask_answer day_book_ask(const struct day_book *book, uint32_t issue,
                                                  uint32_t unit)
 {
@@ -672,6 +751,7 @@ static inline struct day_ask_answer day_book_ask(const struct day_book *book, ui
 }
 
 /* Lifts the ticket's unit, and writes to the output what is handed over. */
+DAY_NODISCARD
 static inline struct day_answer day_book_commit(struct day_book *book, struct day_ticket ticket,
                                                 uint32_t out[DAY_OUT_WORDS])
 {
@@ -695,6 +775,7 @@ static inline struct day_answer day_book_commit(struct day_book *book, struct da
 }
 
 /* A call that uses neither quotes nor output. */
+DAY_NODISCARD
 static inline struct day_answer day_book_plain(struct day_book *book, uint32_t kind, uint32_t a,
                                                uint32_t b, uint32_t c, uint32_t d)
 {
@@ -704,6 +785,7 @@ static inline struct day_answer day_book_plain(struct day_book *book, uint32_t k
 }
 
 /* A call that writes records to the output. */
+DAY_NODISCARD
 static inline struct day_answer day_book_written(struct day_book *book, uint32_t kind, uint32_t a,
                                                  uint32_t b, uint32_t c,
                                                  uint32_t out[DAY_OUT_WORDS])
@@ -712,17 +794,20 @@ static inline struct day_answer day_book_written(struct day_book *book, uint32_t
     return day_book_call(book, kind, a, b, c, 0, &none, 0, out, DAY_OUT_WORDS);
 }
 
+DAY_NODISCARD
 static inline struct day_answer day_book_trade(struct day_book *book, uint32_t issue, uint32_t from,
                                                uint32_t to, uint32_t lots)
 {
     return day_book_plain(book, DAY_TRADE, issue, from, to, lots);
 }
 
+DAY_NODISCARD
 static inline struct day_answer day_book_close(struct day_book *book)
 {
     return day_book_plain(book, DAY_CLOSE, 0, 0, 0, 0);
 }
 
+DAY_NODISCARD
 static inline struct day_answer day_book_deliver(struct day_book *book, uint32_t issue,
                                                  uint32_t account, uint32_t lots,
                                                  uint32_t out[DAY_OUT_WORDS])
@@ -730,11 +815,13 @@ static inline struct day_answer day_book_deliver(struct day_book *book, uint32_t
     return day_book_written(book, DAY_DELIVER, issue, account, lots, out);
 }
 
+DAY_NODISCARD
 static inline struct day_answer day_book_cutoff(struct day_book *book, uint32_t out[DAY_OUT_WORDS])
 {
     return day_book_written(book, DAY_CUTOFF, 0, 0, 0, out);
 }
 
+DAY_NODISCARD
 static inline struct day_answer day_book_resolve(struct day_book *book, uint32_t issue,
                                                  uint32_t account, uint32_t lots,
                                                  uint32_t out[DAY_OUT_WORDS])
@@ -742,12 +829,14 @@ static inline struct day_answer day_book_resolve(struct day_book *book, uint32_t
     return day_book_written(book, DAY_RESOLVE, issue, account, lots, out);
 }
 
+DAY_NODISCARD
 static inline struct day_answer day_book_pair_off(struct day_book *book, uint32_t issue,
                                                   uint32_t account)
 {
     return day_book_plain(book, DAY_PAIR_OFF, issue, account, 0, 0);
 }
 
+DAY_NODISCARD
 static inline struct day_answer day_book_roll(struct day_book *book, uint32_t days, uint32_t rate,
                                               const uint32_t quotes[DAY_QUOTES])
 {
@@ -756,18 +845,21 @@ static inline struct day_answer day_book_roll(struct day_book *book, uint32_t da
 }
 
 /* The mark of an issue: 1 where it takes even lots only from now on, 0 where it takes any again. */
+DAY_NODISCARD
 static inline struct day_answer day_book_mark(struct day_book *book, uint32_t issue, uint32_t mark)
 {
     return day_book_plain(book, DAY_MARK, issue, mark, 0, 0);
 }
 
 /* From this day on full units are dealt one to each receiver a round. */
+DAY_NODISCARD
 static inline struct day_answer day_book_turn(struct day_book *book, uint32_t day)
 {
     return day_book_plain(book, DAY_TURN, day, 0, 0, 0);
 }
 
 /* The call of an instruction by a caller. Of the answer a participant is told the refusal alone. */
+DAY_NODISCARD
 static inline struct day_answer day_book_call_as(struct day_caller caller, struct day_book *book,
                                                  uint32_t kind, uint32_t a, uint32_t b, uint32_t c,
                                                  uint32_t d, const uint32_t *quotes,
@@ -791,6 +883,7 @@ static inline struct day_answer day_book_call_as(struct day_caller caller, struc
     return answer;
 }
 
+DAY_NODISCARD
 static inline struct day_answer day_book_deliver_as(struct day_caller caller, struct day_book *book,
                                                     uint32_t issue, uint32_t account, uint32_t lots,
                                                     uint32_t out[DAY_OUT_WORDS])
@@ -800,6 +893,7 @@ static inline struct day_answer day_book_deliver_as(struct day_caller caller, st
                             DAY_OUT_WORDS);
 }
 
+DAY_NODISCARD
 static inline struct day_answer day_book_resolve_as(struct day_caller caller, struct day_book *book,
                                                     uint32_t issue, uint32_t account, uint32_t lots,
                                                     uint32_t out[DAY_OUT_WORDS])
@@ -810,6 +904,7 @@ static inline struct day_answer day_book_resolve_as(struct day_caller caller, st
 }
 
 /* Reads an account: its net in the issue, its charge, its k-th entry there. */
+DAY_NODISCARD
 static inline struct day_seen day_book_look(struct day_caller caller, const struct day_book *book,
                                             uint32_t issue, uint32_t account, uint32_t k)
 {

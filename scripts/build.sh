@@ -5,7 +5,7 @@ set -euo pipefail
 cd "$(dirname "$0")/.."
 scripts/tools.sh rt make gcc cargo rustc
 
-libraries=(desk entries host trust)
+read -ra libraries <<<"$(make --no-print-directory list)"
 
 # The crates of this repository that a library depends on. It is proved itself where its archive is
 # made.
@@ -33,4 +33,4 @@ rt check "${first[@]}" 2>&1 | PROGRESS_LATER=$(to_make) scripts/progress.sh buil
 scripts/proved.sh mark "$sources"
 make --no-print-directory libraries
 cargo build --quiet --release --offline -p tape
-echo 'Proved: the program target/bin/dayrun and the libraries target/staticlib/lib*.a.'
+echo 'Proved: the program target/bin/dayrun and the library build/lib/libsettlement_day.a.'

@@ -7,9 +7,10 @@ cd "$(dirname "$0")/.."
 
 home=$(mktemp -d)
 trap 'rm -rf "$home"' EXIT
-mkdir -p "$home/bin" "$home/crates/dayrun/src" "$home/crates/dayrun/must-fail" "$home/docs" "$home/temporary"
+mkdir -p "$home/bin" "$home/crates/dayrun/src" "$home/crates/dayrun/must-fail" "$home/docs" "$home/temporary" "$home/host"
 cp -R scripts Makefile Cargo.toml tapes "$home"
 cp docs/CHECK-TIMES.md "$home/docs"
+cp host/settlement_day.h host/version.c "$home/host"
 echo 'fn main() {}' >"$home/crates/dayrun/src/main.rt"
 printf '%s\n' dayrun: desk: entries: host: trust: >"$home/crates.txt"
 for crate in desk entries host trust; do mkdir "$home/crates/$crate"; done
@@ -36,6 +37,10 @@ try) [ ! -e "$TEST_HOME/slow" ] || sleep 20 ;;
 esac
 END
 tool gcc </dev/null
+# The archives that rt notes are empty: nothing is joined of them.
+for script in join share; do
+    printf '#!/bin/sh\nmkdir -p build/lib && : >"$1"\n' >"$home/scripts/$script.sh"
+done
 tool rustc <<<'echo rustc 99.0'
 tool cargo <<'END'
 [ "$1" = --version ] && { echo cargo 99.0; exit; }

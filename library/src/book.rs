@@ -9,8 +9,11 @@ use crate::{Entry, ACCOUNTS, ENTRIES, ISSUES, LIFTS, LIFT_PLACES, LIFT_WORDS, PL
 pub struct Phase(pub u32);
 
 impl Phase {
+    /// Trades are taken.
     pub const TAKING: Phase = Phase(0);
+    /// Lots are delivered and handed over.
     pub const SETTLING: Phase = Phase(1);
+    /// What did not come is failed; the day can roll.
     pub const CUT: Phase = Phase(2);
 
     /// Its name, if it is one of the three.
@@ -27,35 +30,75 @@ impl Phase {
 /// One lift: the place of a unit in the order before it was moved, and its place after.
 #[derive(Clone, Copy, Debug, PartialEq, Eq)]
 pub struct Lift {
+    /// The place before.
     pub old: u32,
+    /// The place after.
     pub new: u32,
 }
 
-/// A book in plain columns; nets and delivered lots stand at issue × 64 + account. An issue's lifts
-/// stand from issue × 18 on: their number, the count of the day's accepted deliveries and lifts, then
-/// eight times an old and a new place.
-///
-/// Every field can be set to any number. The calls change it only where it is sound.
-#[derive(Clone, Debug, PartialEq, Eq)]
-pub struct Book {
-    pub day: u16,
-    pub phase: Phase,
-    /// The number of fail entries, which are the first of the ledger's five columns.
-    pub entries: usize,
-    /// The issues' marks: 0 where it takes any lots, any other number where it takes even ones only.
-    pub marks: [u8; ISSUES],
-    /// The first day on which full units are dealt in turn; 0 where none is named.
-    pub turn: u32,
-    pub nets: [i32; PLACES],
-    pub delivered: [u32; PLACES],
-    pub lifts: [u32; LIFT_PLACES],
-    pub charges: [i64; ACCOUNTS],
-    pub issues: [u8; ENTRIES],
-    pub froms: [u8; ENTRIES],
-    pub tos: [u8; ENTRIES],
-    pub lots: [u32; ENTRIES],
-    pub days: [u16; ENTRIES],
+/// The book, and what passes its columns on.
+macro_rules! book {
+    ({} $($(#[$has:meta])* $column:ident: $place:ty, $places:ident;)*) => {
+        /// A book in plain columns.
+        ///
+        /// Every field can be set to any number. The calls change it only where it is sound.
+        #[derive(Clone, Debug, PartialEq, Eq)]
+        pub struct Book {
+            /// The day.
+            pub day: u16,
+            /// The phase of the day.
+            pub phase: Phase,
+            /// The number of fail entries, which are the first of the ledger's five columns.
+            pub entries: usize,
+            /// The issues' marks: 0 where it takes any lots, any other number where it takes even ones
+            /// only.
+            pub marks: [u8; ISSUES],
+            /// The first day on which full units are dealt in turn; 0 where none is named.
+            pub turn: u32,
+            $($(#[$has])* pub $column: [$place; $places],)*
+        }
+
+        impl Book {
+            /// A fresh book: day 0, Taking, all zero, no issue marked, no change-over day, ledger empty.
+            pub fn fresh() -> Book {
+                Book {
+                    day: 0,
+                    phase: Phase::TAKING,
+                    entries: 0,
+                    marks: [0; ISSUES],
+                    turn: 0,
+                    $($column: [0; $places],)*
+                }
+            }
+
+            /// The book's columns, to be read.
+            pub fn columns(&self) -> Columns<'_> {
+                Columns {
+                    day: self.day,
+                    phase: self.phase.0,
+                    entries: self.entries,
+                    marks: &self.marks,
+                    turn: self.turn,
+                    $($column: &self.$column,)*
+                }
+            }
+
+            /// The book's columns, to be changed.
+            pub fn columns_mut(&mut self) -> ColumnsMut<'_> {
+                ColumnsMut {
+                    day: &mut self.day,
+                    phase: &mut self.phase.0,
+                    entries: &mut self.entries,
+                    marks: &mut self.marks,
+                    turn: &mut self.turn,
+                    $($column: &mut self.$column,)*
+                }
+            }
+        }
+    };
 }
+
+columns! { book! {} }
 
 /// The place of an issue and account in the columns of nets and delivered lots, if both are in range.
 pub fn place(issue: u32, account: u32) -> Option<usize> {
@@ -64,26 +107,6 @@ pub fn place(issue: u32, account: u32) -> Option<usize> {
 }
 
 impl Book {
-    /// A fresh book: day 0, Taking, all zero, no issue marked, no change-over day, ledger empty.
-    pub fn fresh() -> Book {
-        Book {
-            day: 0,
-            phase: Phase::TAKING,
-            entries: 0,
-            marks: [0; ISSUES],
-            turn: 0,
-            nets: [0; PLACES],
-            delivered: [0; PLACES],
-            lifts: [0; LIFT_PLACES],
-            charges: [0; ACCOUNTS],
-            issues: [0; ENTRIES],
-            froms: [0; ENTRIES],
-            tos: [0; ENTRIES],
-            lots: [0; ENTRIES],
-            days: [0; ENTRIES],
-        }
-    }
-
     /// Are full units dealt in turn today?
     pub fn deals_in_turn(&self) -> bool {
         self.turn != 0 && self.turn <= u32::from(self.day)
@@ -144,46 +167,6 @@ impl Book {
             day: *self.days.get(at)?,
         })
     }
-
-    /// The book's columns, to be read.
-    pub fn columns(&self) -> Columns<'_> {
-        Columns {
-            day: self.day,
-            phase: self.phase.0,
-            entries: self.entries,
-            marks: &self.marks,
-            turn: self.turn,
-            nets: &self.nets,
-            delivered: &self.delivered,
-            lifts: &self.lifts,
-            charges: &self.charges,
-            issues: &self.issues,
-            froms: &self.froms,
-            tos: &self.tos,
-            lots: &self.lots,
-            days: &self.days,
-        }
-    }
-
-    /// The book's columns, to be changed.
-    pub fn columns_mut(&mut self) -> ColumnsMut<'_> {
-        ColumnsMut {
-            day: &mut self.day,
-            phase: &mut self.phase.0,
-            entries: &mut self.entries,
-            marks: &mut self.marks,
-            turn: &mut self.turn,
-            nets: &mut self.nets,
-            delivered: &mut self.delivered,
-            lifts: &mut self.lifts,
-            charges: &mut self.charges,
-            issues: &mut self.issues,
-            froms: &mut self.froms,
-            tos: &mut self.tos,
-            lots: &mut self.lots,
-            days: &mut self.days,
-        }
-    }
 }
 
 impl Default for Book {
@@ -195,7 +178,7 @@ impl Default for Book {
 #[cfg(test)]
 mod tests {
     use super::*;
-    use crate::{calls, Refusal, Status, Ticket};
+    use crate::{calls, Done, Refusal, Status, Ticket};
 
     /// A book of the largest numbers everywhere.
     fn damaged() -> Book {
@@ -235,11 +218,9 @@ mod tests {
     fn a_damaged_book_is_refused_and_stays_as_it_was() {
         let (mut book, mut out) = (damaged(), [7; crate::OUTPUT_WORDS]);
         assert!(!calls::sound(&book));
-        assert_eq!(calls::unit(&book, 0, 0).refusal, Refusal::Book.number());
-        let asked = calls::ask(&book, 0, 0);
-        assert_eq!((asked.refused(), asked.ticket), (Some(Refusal::Book), None));
-        let told = calls::status(&book, 0, 0);
-        assert_eq!((told.refused(), told.status), (Some(Refusal::Book), None));
+        assert_eq!(calls::unit(&book, 0, 0), Err(Refusal::Book));
+        assert_eq!(calls::ask(&book, 0, 0), Err(Refusal::Book));
+        assert_eq!(calls::status(&book, 0, 0), Err(Refusal::Book));
         let answers = [
             calls::trade(&mut book, 0, 1, 2, 3),
             calls::close(&mut book),
@@ -252,7 +233,7 @@ mod tests {
             calls::mark(&mut book, 0, 0),
             calls::turn(&mut book, 1),
         ];
-        assert!(answers.iter().all(|answer| answer.refused() == Some(Refusal::Book)));
+        assert_eq!(answers, [Err(Refusal::Book); 10]);
         assert!(book == damaged() && out == [7; crate::OUTPUT_WORDS]);
     }
 
@@ -266,10 +247,10 @@ mod tests {
     /// A day in Settling with two units of account 1, and of account 2 one that its deliverer covers.
     fn ring() -> (Book, [u32; crate::OUTPUT_WORDS]) {
         let (mut book, mut out) = (Book::fresh(), [7; crate::OUTPUT_WORDS]);
-        assert_eq!(calls::trade(&mut book, 3, 8, 1, 150_000).refusal, 0);
-        assert_eq!(calls::trade(&mut book, 3, 9, 2, 40_000).refusal, 0);
-        assert_eq!(calls::close(&mut book).refusal, 0);
-        assert_eq!(calls::deliver(&mut book, 3, 9, 40_000, &mut out).count, 0);
+        calls::trade(&mut book, 3, 8, 1, 150_000).unwrap();
+        calls::trade(&mut book, 3, 9, 2, 40_000).unwrap();
+        calls::close(&mut book).unwrap();
+        assert_eq!(calls::deliver(&mut book, 3, 9, 40_000, &mut out), Ok(Done::default()));
         (book, out)
     }
 
@@ -277,79 +258,77 @@ mod tests {
     fn a_unit_is_lifted_by_its_ticket_and_the_book_shows_it() {
         let (mut book, mut out) = ring();
         let ticket = Ticket { issue: 3, unit: 2, account: 2, lots: 40_000, day: 0, count: 1 };
-        assert_eq!(calls::ask(&book, 3, 2).ticket, Some(ticket));
-        let answer = calls::commit(&mut book, &ticket, &mut out);
-        assert_eq!((answer.refused(), answer.count), (None, 1));
+        assert_eq!(calls::ask(&book, 3, 2), Ok(ticket));
+        let handed = Done { count: 1, cancelled: 0 };
+        assert_eq!(calls::commit(&mut book, &ticket, &mut out), Ok(handed));
         assert_eq!(out[..2], [0xa300_2000, 0x8000_9c40]);
         assert_eq!(book.lifts(3).collect::<Vec<_>>(), [Lift { old: 2, new: 0 }]);
         assert_eq!(
             (book.count(3), book.lifts[3 * LIFT_WORDS..][..4].to_vec()),
             (2, vec![1, 2, 2, 0])
         );
-        let unit = calls::unit(&book, 3, 0).unit.map(|unit| unit.account);
+        let unit = calls::unit(&book, 3, 0).unwrap().map(|unit| unit.account);
         assert_eq!((unit, calls::sound(&book)), (Some(2), true));
     }
 
     #[test]
     fn a_marked_issue_takes_even_lots_alone() {
         let mut book = Book::fresh();
-        assert_eq!(calls::mark(&mut book, 3, 1).refusal, 0);
+        calls::mark(&mut book, 3, 1).unwrap();
         assert_eq!((book.is_marked(3), book.is_marked(4), book.marks[3]), (true, false, 1));
         let marked = book.clone();
-        assert_eq!(calls::trade(&mut book, 3, 8, 1, 7).refused(), Some(Refusal::OddLots));
+        assert_eq!(calls::trade(&mut book, 3, 8, 1, 7), Err(Refusal::OddLots));
         assert!(book == marked);
-        assert_eq!(calls::trade(&mut book, 3, 8, 1, 8).refused(), None);
-        assert_eq!(calls::mark(&mut book, 3, 0).refused(), Some(Refusal::InUse));
-        assert_eq!(calls::mark(&mut book, 16, 0).refused(), Some(Refusal::Issue));
-        assert_eq!(calls::trade(&mut book, 3, 1, 8, 8).refused(), None);
-        assert_eq!(calls::mark(&mut book, 3, 0).refused(), None);
+        assert_eq!(calls::trade(&mut book, 3, 8, 1, 8), Ok(Done::default()));
+        assert_eq!(calls::mark(&mut book, 3, 0), Err(Refusal::InUse));
+        assert_eq!(calls::mark(&mut book, 16, 0), Err(Refusal::Issue));
+        assert_eq!(calls::trade(&mut book, 3, 1, 8, 8), Ok(Done::default()));
+        assert_eq!(calls::mark(&mut book, 3, 0), Ok(Done::default()));
         assert!(book == Book::fresh());
     }
 
     #[test]
     fn full_units_are_dealt_in_turn_from_the_named_day_on() {
         let (mut book, mut out) = (Book::fresh(), [7; crate::OUTPUT_WORDS]);
-        assert_eq!(calls::turn(&mut book, 0).refused(), Some(Refusal::ChangeOver));
-        assert_eq!(calls::turn(&mut book, 5).refused(), None);
-        assert_eq!(calls::turn(&mut book, 1).refused(), None);
-        let accounts =
-            |book: &Book| [0, 1, 2].map(|k| calls::unit(book, 3, k).unit.map(|unit| unit.account));
+        assert_eq!(calls::turn(&mut book, 0), Err(Refusal::ChangeOver));
+        assert_eq!(calls::turn(&mut book, 5), Ok(Done::default()));
+        assert_eq!(calls::turn(&mut book, 1), Ok(Done::default()));
+        let account = |book: &Book, k| calls::unit(book, 3, k).unwrap().map(|unit| unit.account);
+        let accounts = |book: &Book| [0, 1, 2].map(|k| account(book, k));
         let sell = |book: &mut Book| {
-            assert_eq!(calls::trade(book, 3, 8, 1, 200_000).refusal, 0);
-            assert_eq!(calls::trade(book, 3, 8, 2, 100_000).refusal, 0);
+            calls::trade(book, 3, 8, 1, 200_000).unwrap();
+            calls::trade(book, 3, 8, 2, 100_000).unwrap();
         };
         sell(&mut book);
         assert_eq!((book.deals_in_turn(), accounts(&book)), (false, [Some(1), Some(1), Some(2)]));
-        assert_eq!(calls::close(&mut book).refusal, 0);
-        assert_eq!(calls::cutoff(&mut book, &mut out).refusal, 0);
+        calls::close(&mut book).unwrap();
+        calls::cutoff(&mut book, &mut out).unwrap();
         let mut quotes = [0; 32];
         quotes[..16].fill(100_000);
-        assert_eq!(calls::roll(&mut book, 1, 300, &quotes).refusal, 0);
+        calls::roll(&mut book, 1, 300, &quotes).unwrap();
         sell(&mut book);
         assert_eq!((book.deals_in_turn(), accounts(&book)), (true, [Some(1), Some(2), Some(1)]));
-        assert_eq!(calls::turn(&mut book, 9).refused(), Some(Refusal::ChangeOver));
+        assert_eq!(calls::turn(&mut book, 9), Err(Refusal::ChangeOver));
     }
 
     #[test]
     fn a_lift_that_is_refused_changes_nothing() {
         let (mut book, mut out) = ring();
-        let ticket = calls::ask(&book, 3, 2).ticket.unwrap_or_default();
+        let ticket = calls::ask(&book, 3, 2).unwrap();
         let (before, words) = (book.clone(), out);
-        assert_eq!(calls::ask(&book, 3, 3).refused(), Some(Refusal::Unit));
+        assert_eq!(calls::ask(&book, 3, 3), Err(Refusal::Unit));
         let stale = Ticket { count: 0, ..ticket };
         let missing = Ticket { unit: 3, ..ticket };
         for (ticket, refusal) in [(stale, Refusal::Ticket), (missing, Refusal::Unit)] {
-            let answer = calls::commit(&mut book, &ticket, &mut out);
-            assert_eq!((answer.refused(), answer.count), (Some(refusal), 0));
+            assert_eq!(calls::commit(&mut book, &ticket, &mut out), Err(refusal));
         }
-        let short = calls::commit(&mut book, &ticket, &mut out[1..]);
-        assert_eq!(short.refused(), Some(Refusal::Output));
+        assert_eq!(calls::commit(&mut book, &ticket, &mut out[1..]), Err(Refusal::Output));
         assert!(book == before && out == words);
     }
 
     /// What is told of units 0 to 2 of issue 3.
     fn told(book: &Book) -> [Option<Status>; 3] {
-        [0, 1, 2].map(|k| calls::status(book, 3, k).status)
+        [0, 1, 2].map(|k| calls::status(book, 3, k).ok())
     }
 
     #[test]
@@ -358,21 +337,21 @@ mod tests {
         let waiting = |lots| Some(Waiting { lots });
         let (mut book, mut out) = ring();
         assert_eq!(told(&book), [waiting(60_000), waiting(110_000), waiting(150_000)]);
-        let ticket = calls::ask(&book, 3, 2).ticket.unwrap_or_default();
-        calls::commit(&mut book, &ticket, &mut out);
+        let ticket = calls::ask(&book, 3, 2).unwrap();
+        calls::commit(&mut book, &ticket, &mut out).unwrap();
         assert_eq!(told(&book), [Some(Handed), waiting(100_000), waiting(150_000)]);
-        calls::deliver(&mut book, 3, 8, 99_999, &mut out);
+        calls::deliver(&mut book, 3, 8, 99_999, &mut out).unwrap();
         assert_eq!(told(&book), [Some(Handed), waiting(1), waiting(50_001)]);
-        calls::cutoff(&mut book, &mut out);
+        calls::cutoff(&mut book, &mut out).unwrap();
         let cut = [Some(Handed), Some(PartlyFailed { lots: 1 }), Some(WhollyFailed)];
         assert_eq!(told(&book), cut);
-        assert_eq!(calls::resolve(&mut book, 3, 8, 50_001, &mut out).refusal, 0);
+        calls::resolve(&mut book, 3, 8, 50_001, &mut out).unwrap();
         assert_eq!((told(&book), book.entries), (cut, 0));
-        assert_eq!(calls::status(&book, 3, 3).refused(), Some(Refusal::Unit));
-        assert_eq!(calls::status(&book, 16, 0).refused(), Some(Refusal::Issue));
+        assert_eq!(calls::status(&book, 3, 3), Err(Refusal::Unit));
+        assert_eq!(calls::status(&book, 16, 0), Err(Refusal::Issue));
         let mut quotes = [0; 32];
         quotes[..16].fill(100_000);
-        assert_eq!(calls::roll(&mut book, 1, 300, &quotes).refusal, 0);
-        assert_eq!(calls::status(&book, 3, 0).refused(), Some(Refusal::Phase));
+        calls::roll(&mut book, 1, 300, &quotes).unwrap();
+        assert_eq!(calls::status(&book, 3, 0), Err(Refusal::Phase));
     }
 }

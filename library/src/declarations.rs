@@ -1,4 +1,4 @@
-//! The functions of the static libraries, declared in this one place.
+//! The library's functions, declared in this one place, by the crate that they are proved in.
 //!
 //! A column, the quotes, the words and an output are a pointer and a length, in this order.
 //! `host/settlement_day.h` has the same declarations for C.
@@ -6,7 +6,7 @@
 use crate::raw::{Seen, State, Turned};
 use crate::{Caller, Entry};
 
-// libdesk.a
+// desk
 extern "C" {
     pub fn day_value(lots: u32, price: u32, accrued: u32, yen: *mut u64) -> u32;
     pub fn day_charge(
@@ -41,12 +41,12 @@ extern "C" {
     ) -> u32;
 }
 
-// libentries.a
+// entries
 extern "C" {
     pub fn entry_meet(entries: *mut Entry, length: usize, at: usize, lots: u32) -> u32;
 }
 
-// libfunds.a
+// funds
 extern "C" {
     pub fn day_bases(
         averages: *const u64,
@@ -71,7 +71,7 @@ extern "C" {
     ) -> u32;
 }
 
-// liblisting.a
+// listing
 extern "C" {
     pub fn day_markets(
         accounts: u32,
@@ -89,388 +89,100 @@ extern "C" {
     ) -> u32;
 }
 
-// libhost.a and libcallers.a
-extern "C" {
-    pub fn day_sound(
-        state: State,
-        nets: *const i32,
-        nets_length: usize,
-        delivered: *const u32,
-        delivered_length: usize,
-        lifts: *const u32,
-        lifts_length: usize,
-        charges: *const i64,
-        charges_length: usize,
-        issues: *const u8,
-        issues_length: usize,
-        froms: *const u8,
-        froms_length: usize,
-        tos: *const u8,
-        tos_length: usize,
-        lots: *const u32,
-        lots_length: usize,
-        days: *const u16,
-        days_length: usize,
-    ) -> u32;
-
-    pub fn day_unit(
-        state: State,
-        nets: *const i32,
-        nets_length: usize,
-        delivered: *const u32,
-        delivered_length: usize,
-        lifts: *const u32,
-        lifts_length: usize,
-        charges: *const i64,
-        charges_length: usize,
-        issues: *const u8,
-        issues_length: usize,
-        froms: *const u8,
-        froms_length: usize,
-        tos: *const u8,
-        tos_length: usize,
-        lots: *const u32,
-        lots_length: usize,
-        days: *const u16,
-        days_length: usize,
-        issue: u32,
-        k: u32,
-        answer: *mut [u32; 3],
-    ) -> u32;
-
-    pub fn day_status(
-        state: State,
-        nets: *const i32,
-        nets_length: usize,
-        delivered: *const u32,
-        delivered_length: usize,
-        lifts: *const u32,
-        lifts_length: usize,
-        charges: *const i64,
-        charges_length: usize,
-        issues: *const u8,
-        issues_length: usize,
-        froms: *const u8,
-        froms_length: usize,
-        tos: *const u8,
-        tos_length: usize,
-        lots: *const u32,
-        lots_length: usize,
-        days: *const u16,
-        days_length: usize,
-        issue: u32,
-        k: u32,
-        answer: *mut [u32; 2],
-    ) -> u32;
-
-    pub fn day_simulate(
-        state: State,
-        nets: *const i32,
-        nets_length: usize,
-        delivered: *const u32,
-        delivered_length: usize,
-        lifts: *const u32,
-        lifts_length: usize,
-        charges: *const i64,
-        charges_length: usize,
-        issues: *const u8,
-        issues_length: usize,
-        froms: *const u8,
-        froms_length: usize,
-        tos: *const u8,
-        tos_length: usize,
-        lots: *const u32,
-        lots_length: usize,
-        days: *const u16,
-        days_length: usize,
-        settles: *const u32,
-        settles_length: usize,
-        inventories: *const u32,
-        inventories_length: usize,
-        size: u32,
-        deliveries: *mut u64,
-        rounds: *mut u64,
-        owed: *mut [u32; 16],
-    ) -> u32;
-
-    pub fn day_call(
-        kind: u32,
-        a: u32,
-        b: u32,
-        c: u32,
-        d: u32,
-        quotes: *const u32,
-        quotes_length: usize,
-        state: State,
-        nets: *mut i32,
-        nets_length: usize,
-        delivered: *mut u32,
-        delivered_length: usize,
-        lifts: *mut u32,
-        lifts_length: usize,
-        charges: *mut i64,
-        charges_length: usize,
-        issues: *mut u8,
-        issues_length: usize,
-        froms: *mut u8,
-        froms_length: usize,
-        tos: *mut u8,
-        tos_length: usize,
-        lots: *mut u32,
-        lots_length: usize,
-        days: *mut u16,
-        days_length: usize,
-        out: *mut u32,
-        out_length: usize,
-    ) -> Turned;
-
-    pub fn day_ask(
-        state: State,
-        nets: *const i32,
-        nets_length: usize,
-        delivered: *const u32,
-        delivered_length: usize,
-        lifts: *const u32,
-        lifts_length: usize,
-        charges: *const i64,
-        charges_length: usize,
-        issues: *const u8,
-        issues_length: usize,
-        froms: *const u8,
-        froms_length: usize,
-        tos: *const u8,
-        tos_length: usize,
-        lots: *const u32,
-        lots_length: usize,
-        days: *const u16,
-        days_length: usize,
-        issue: u32,
-        unit: u32,
-        ticket: *mut [u32; 6],
-    ) -> u32;
-
-    pub fn day_commit(
-        ticket: *const [u32; 6],
-        state: State,
-        nets: *const i32,
-        nets_length: usize,
-        delivered: *const u32,
-        delivered_length: usize,
-        lifts: *mut u32,
-        lifts_length: usize,
-        charges: *const i64,
-        charges_length: usize,
-        issues: *const u8,
-        issues_length: usize,
-        froms: *const u8,
-        froms_length: usize,
-        tos: *const u8,
-        tos_length: usize,
-        lots: *const u32,
-        lots_length: usize,
-        days: *const u16,
-        days_length: usize,
-        out: *mut u32,
-        out_length: usize,
-        count: *mut usize,
-    ) -> u32;
-
-    pub fn day_unit_as(
-        caller: Caller,
-        state: State,
-        nets: *const i32,
-        nets_length: usize,
-        delivered: *const u32,
-        delivered_length: usize,
-        lifts: *const u32,
-        lifts_length: usize,
-        charges: *const i64,
-        charges_length: usize,
-        issues: *const u8,
-        issues_length: usize,
-        froms: *const u8,
-        froms_length: usize,
-        tos: *const u8,
-        tos_length: usize,
-        lots: *const u32,
-        lots_length: usize,
-        days: *const u16,
-        days_length: usize,
-        issue: u32,
-        k: u32,
-        answer: *mut [u32; 3],
-    ) -> u32;
-
-    pub fn day_status_as(
-        caller: Caller,
-        state: State,
-        nets: *const i32,
-        nets_length: usize,
-        delivered: *const u32,
-        delivered_length: usize,
-        lifts: *const u32,
-        lifts_length: usize,
-        charges: *const i64,
-        charges_length: usize,
-        issues: *const u8,
-        issues_length: usize,
-        froms: *const u8,
-        froms_length: usize,
-        tos: *const u8,
-        tos_length: usize,
-        lots: *const u32,
-        lots_length: usize,
-        days: *const u16,
-        days_length: usize,
-        issue: u32,
-        k: u32,
-        answer: *mut [u32; 2],
-    ) -> u32;
-
-    pub fn day_simulate_as(
-        caller: Caller,
-        state: State,
-        nets: *const i32,
-        nets_length: usize,
-        delivered: *const u32,
-        delivered_length: usize,
-        lifts: *const u32,
-        lifts_length: usize,
-        charges: *const i64,
-        charges_length: usize,
-        issues: *const u8,
-        issues_length: usize,
-        froms: *const u8,
-        froms_length: usize,
-        tos: *const u8,
-        tos_length: usize,
-        lots: *const u32,
-        lots_length: usize,
-        days: *const u16,
-        days_length: usize,
-        settles: *const u32,
-        settles_length: usize,
-        inventories: *const u32,
-        inventories_length: usize,
-        size: u32,
-        deliveries: *mut u64,
-        rounds: *mut u64,
-        owed: *mut [u32; 16],
-    ) -> u32;
-
-    pub fn day_call_as(
-        caller: Caller,
-        kind: u32,
-        a: u32,
-        b: u32,
-        c: u32,
-        d: u32,
-        quotes: *const u32,
-        quotes_length: usize,
-        state: State,
-        nets: *mut i32,
-        nets_length: usize,
-        delivered: *mut u32,
-        delivered_length: usize,
-        lifts: *mut u32,
-        lifts_length: usize,
-        charges: *mut i64,
-        charges_length: usize,
-        issues: *mut u8,
-        issues_length: usize,
-        froms: *mut u8,
-        froms_length: usize,
-        tos: *mut u8,
-        tos_length: usize,
-        lots: *mut u32,
-        lots_length: usize,
-        days: *mut u16,
-        days_length: usize,
-        out: *mut u32,
-        out_length: usize,
-    ) -> Turned;
-
-    pub fn day_ask_as(
-        caller: Caller,
-        state: State,
-        nets: *const i32,
-        nets_length: usize,
-        delivered: *const u32,
-        delivered_length: usize,
-        lifts: *const u32,
-        lifts_length: usize,
-        charges: *const i64,
-        charges_length: usize,
-        issues: *const u8,
-        issues_length: usize,
-        froms: *const u8,
-        froms_length: usize,
-        tos: *const u8,
-        tos_length: usize,
-        lots: *const u32,
-        lots_length: usize,
-        days: *const u16,
-        days_length: usize,
-        issue: u32,
-        unit: u32,
-        ticket: *mut [u32; 6],
-    ) -> u32;
-
-    pub fn day_commit_as(
-        caller: Caller,
-        ticket: *const [u32; 6],
-        state: State,
-        nets: *const i32,
-        nets_length: usize,
-        delivered: *const u32,
-        delivered_length: usize,
-        lifts: *mut u32,
-        lifts_length: usize,
-        charges: *const i64,
-        charges_length: usize,
-        issues: *const u8,
-        issues_length: usize,
-        froms: *const u8,
-        froms_length: usize,
-        tos: *const u8,
-        tos_length: usize,
-        lots: *const u32,
-        lots_length: usize,
-        days: *const u16,
-        days_length: usize,
-        out: *mut u32,
-        out_length: usize,
-        count: *mut usize,
-    ) -> u32;
-
-    pub fn day_look(
-        caller: Caller,
-        state: State,
-        nets: *const i32,
-        nets_length: usize,
-        delivered: *const u32,
-        delivered_length: usize,
-        lifts: *const u32,
-        lifts_length: usize,
-        charges: *const i64,
-        charges_length: usize,
-        issues: *const u8,
-        issues_length: usize,
-        froms: *const u8,
-        froms_length: usize,
-        tos: *const u8,
-        tos_length: usize,
-        lots: *const u32,
-        lots_length: usize,
-        days: *const u16,
-        days_length: usize,
-        issue: u32,
-        account: u32,
-        k: u32,
-    ) -> Seen;
+/// Declares a function on a book: what stands before the columns, of each column its pointer and its
+/// length, what stands behind them. The columns are `const` where it reads them alone.
+macro_rules! on_book {
+    ($($function:tt)*) => { columns! { declare! { $($function)* } } };
 }
 
-// libstatement.a
+macro_rules! declare {
+    (
+        {
+            $access:tt fn $function:ident(
+                $($before:ident: $taken:ty),*; $($behind:ident: $given:ty),*
+            ) -> $answer:ty
+        }
+        $($(#[$has:meta])* $column:ident: $place:ty, $places:ident;)*
+    ) => {
+        extern "C" {
+            pub fn $function(
+                $($before: $taken,)*
+                $($column: *$access $place, _: usize,)*
+                $($behind: $given,)*
+            ) -> $answer;
+        }
+    };
+}
+
+// host
+on_book! { const fn day_sound(state: State;) -> u32 }
+on_book! { const fn day_unit(state: State; issue: u32, k: u32, answer: *mut [u32; 3]) -> u32 }
+on_book! { const fn day_status(state: State; issue: u32, k: u32, answer: *mut [u32; 2]) -> u32 }
+on_book! { const fn day_ask(state: State; issue: u32, unit: u32, ticket: *mut [u32; 6]) -> u32 }
+on_book! {
+    const fn day_simulate(
+        state: State;
+        settles: *const u32, settles_length: usize,
+        inventories: *const u32, inventories_length: usize,
+        size: u32, deliveries: *mut u64, rounds: *mut u64, owed: *mut [u32; 16]
+    ) -> u32
+}
+on_book! {
+    mut fn day_call(
+        kind: u32, a: u32, b: u32, c: u32, d: u32,
+        quotes: *const u32, quotes_length: usize, state: State;
+        out: *mut u32, out_length: usize
+    ) -> Turned
+}
+on_book! {
+    mut fn day_commit(
+        ticket: *const [u32; 6], state: State;
+        out: *mut u32, out_length: usize, count: *mut usize
+    ) -> u32
+}
+
+// host, with a caller
+on_book! {
+    const fn day_unit_as(
+        caller: Caller, state: State; issue: u32, k: u32, answer: *mut [u32; 3]
+    ) -> u32
+}
+on_book! {
+    const fn day_status_as(
+        caller: Caller, state: State; issue: u32, k: u32, answer: *mut [u32; 2]
+    ) -> u32
+}
+on_book! {
+    const fn day_ask_as(
+        caller: Caller, state: State; issue: u32, unit: u32, ticket: *mut [u32; 6]
+    ) -> u32
+}
+on_book! {
+    const fn day_simulate_as(
+        caller: Caller, state: State;
+        settles: *const u32, settles_length: usize,
+        inventories: *const u32, inventories_length: usize,
+        size: u32, deliveries: *mut u64, rounds: *mut u64, owed: *mut [u32; 16]
+    ) -> u32
+}
+on_book! {
+    mut fn day_call_as(
+        caller: Caller, kind: u32, a: u32, b: u32, c: u32, d: u32,
+        quotes: *const u32, quotes_length: usize, state: State;
+        out: *mut u32, out_length: usize
+    ) -> Turned
+}
+on_book! {
+    mut fn day_commit_as(
+        caller: Caller, ticket: *const [u32; 6], state: State;
+        out: *mut u32, out_length: usize, count: *mut usize
+    ) -> u32
+}
+on_book! {
+    const fn day_look(caller: Caller, state: State; issue: u32, account: u32, k: u32) -> Seen
+}
+
+// statement
 extern "C" {
     pub fn day_statement(
         words: *const u32,
@@ -481,7 +193,7 @@ extern "C" {
     ) -> u32;
 }
 
-// libtrust.a
+// trust
 extern "C" {
     pub fn day_trust(
         sub_accounts: *const u32,
@@ -499,4 +211,9 @@ extern "C" {
         out: *mut u32,
         out_length: usize,
     ) -> u32;
+}
+
+// the package itself, in C
+extern "C" {
+    pub fn day_version() -> u32;
 }

@@ -6,10 +6,15 @@ use crate::declarations::entry_meet;
 #[repr(C)]
 #[derive(Clone, Copy, Debug, PartialEq, Eq)]
 pub struct Entry {
+    /// The issue.
     pub issue: u8,
+    /// The account that fails it.
     pub from: u8,
+    /// The account that is owed it.
     pub to: u8,
+    /// The lots.
     pub lots: u32,
+    /// The day of the cutoff that made it.
     pub day: u16,
 }
 

@@ -8,15 +8,65 @@ pub type Fields = [u32; 5];
 /// it.
 #[derive(Clone, Copy, Debug, PartialEq, Eq)]
 pub enum Instruction {
-    Trade { issue: u32, from: u32, to: u32, lots: u32 },
-    Deliver { issue: u32, account: u32, lots: u32 },
-    Resolve { issue: u32, account: u32, lots: u32 },
-    PairOff { issue: u32, account: u32 },
+    /// From's net falls and to's rises; in Taking.
+    Trade {
+        /// The issue.
+        issue: u32,
+        /// The account that is to deliver.
+        from: u32,
+        /// The account that is to receive.
+        to: u32,
+        /// The lots.
+        lots: u32,
+    },
+    /// Units are handed over in order; in Settling.
+    Deliver {
+        /// The issue.
+        issue: u32,
+        /// The account that delivers.
+        account: u32,
+        /// The lots.
+        lots: u32,
+    },
+    /// The account's fails are met, oldest first; in any phase.
+    Resolve {
+        /// The issue.
+        issue: u32,
+        /// The account that delivers.
+        account: u32,
+        /// The lots.
+        lots: u32,
+    },
+    /// Fails to the account and from it cancel; in any phase.
+    PairOff {
+        /// The issue.
+        issue: u32,
+        /// The account that steps out.
+        account: u32,
+    },
+    /// Taking becomes Settling.
     Close,
+    /// What has not come is failed; Settling becomes Cut.
     Cutoff,
-    Roll { days: u32, rate: u32 },
-    Mark { issue: u32, mark: u32 },
-    Turn { day: u32 },
+    /// Fails are charged; Cut becomes the next day's Taking.
+    Roll {
+        /// The days that are charged.
+        days: u32,
+        /// The rate, in hundredths of a percent a year.
+        rate: u32,
+    },
+    /// The issue takes even lots only, or any lots again; in any phase.
+    Mark {
+        /// The issue.
+        issue: u32,
+        /// 0 where any lots are taken again.
+        mark: u32,
+    },
+    /// From a day on full units are dealt in turn; in any phase.
+    Turn {
+        /// The first such day.
+        day: u32,
+    },
 }
 
 impl Instruction {

@@ -4,18 +4,26 @@
 //! default, every small market, an account's fails statement over a span of a tape.
 //!
 //! ```
-//! use library::{calls, Book, Instruction, OUTPUT_WORDS};
+//! use settlement_day::{calls, Book, Instruction, OUTPUT_WORDS};
 //!
 //! let mut book = Book::fresh();
 //! let mut out = [0; OUTPUT_WORDS];
-//! assert_eq!(calls::trade(&mut book, 0, 1, 2, 3).refusal, 0);
-//! assert_eq!(calls::close(&mut book).refusal, 0);
-//! let answer = calls::call(&mut book, &Instruction::Cutoff, &[], &mut out);
-//! assert_eq!((answer.refusal, answer.count), (0, 1));
+//! calls::trade(&mut book, 0, 1, 2, 3)?;
+//! calls::close(&mut book)?;
+//! let done = calls::call(&mut book, &Instruction::Cutoff, &[], &mut out)?;
+//! assert_eq!(done.count, 1);
+//! # Ok::<(), settlement_day::Refusal>(())
 //! ```
 //!
-//! A book may hold any numbers: one that is not sound is refused by 2. Nothing here stops a program,
-//! whatever the book, the numbers and the words are; `raw` takes columns of any length too.
+//! What is refused is an `Err` of a [`Refusal`], an error that says what to do. A book may hold any
+//! numbers: one that is not sound is refused by 2. Nothing here stops a program, whatever the book, the
+//! numbers and the words are; [`raw`] takes columns of any length too, and answers in plain numbers.
+
+#![deny(missing_docs)]
+#![warn(rustdoc::broken_intra_doc_links)]
+
+#[macro_use]
+mod columns;
 
 pub mod access;
 mod book;
@@ -32,13 +40,15 @@ pub mod simulation;
 pub mod statement;
 pub mod tape;
 pub mod trust;
+mod version;
 
 pub use access::Caller;
 pub use book::{place, Book, Lift, Phase};
-pub use calls::{Status, Ticket};
+pub use calls::{Done, Status, Ticket};
 pub use entries::Entry;
 pub use instruction::{Fields, Instruction};
 pub use refusal::Refusal;
+pub use version::{Version, VERSION};
 
 /// Issues 0 to 15.
 pub const ISSUES: usize = 16;

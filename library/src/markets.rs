@@ -2,6 +2,7 @@
 //! many fail entries.
 
 use crate::declarations::{day_market_fails, day_markets};
+use crate::Refusal;
 
 /// The most accounts of a market.
 pub const MOST_ACCOUNTS: u32 = 5;
@@ -15,20 +16,16 @@ pub const COUNTS: usize = 5;
 /// Writes all nets of so many accounts, each within ±most, that sum to 0, one market after the other in
 /// rising order, the first account compared first; gives the number of markets. A refusal (1, 7) writes
 /// nothing, and places after the last market are as they came.
-pub fn list(accounts: u32, most: u32, output: &mut [i32]) -> Result<usize, u32> {
+pub fn list(accounts: u32, most: u32, output: &mut [i32]) -> Result<usize, Refusal> {
     let mut count = 0;
     // SAFETY: the library writes the output within the length given beside it, and the count.
-    let refusal =
+    let number =
         unsafe { day_markets(accounts, most, output.as_mut_ptr(), output.len(), &mut count) };
-    if refusal == 0 {
-        Ok(count as usize)
-    } else {
-        Err(refusal)
-    }
+    Refusal::check(number).map(|()| count as usize)
 }
 
 /// The same markets, each a list of its accounts' nets. Refused by 7.
-pub fn all(accounts: u32, most: u32) -> Result<Vec<Vec<i32>>, u32> {
+pub fn all(accounts: u32, most: u32) -> Result<Vec<Vec<i32>>, Refusal> {
     let mut output = vec![0; PLACES];
     let count = list(accounts, most, &mut output)?;
     let length = accounts as usize;
@@ -37,23 +34,20 @@ pub fn all(accounts: u32, most: u32) -> Result<Vec<Vec<i32>>, u32> {
 
 /// How many of the markets in which each account owes at least its delivered lots have 0, 1, 2, 3, 4 fail
 /// entries after cutoff. Refused by 7, also where there are not so many delivered lots as accounts.
-pub fn fails(accounts: u32, most: u32, delivered: &[u32]) -> Result<[u32; COUNTS], u32> {
+pub fn fails(accounts: u32, most: u32, delivered: &[u32]) -> Result<[u32; COUNTS], Refusal> {
     let mut counts = [0; COUNTS];
     // SAFETY: the library reads the delivered lots within the length given beside them, and writes the
     // counts, which overlap them nowhere.
-    let refusal = unsafe {
+    let number = unsafe {
         day_market_fails(accounts, most, delivered.as_ptr(), delivered.len(), &mut counts)
     };
-    if refusal == 0 {
-        Ok(counts)
-    } else {
-        Err(refusal)
-    }
+    Refusal::check(number).map(|()| counts)
 }
 
 #[cfg(test)]
 mod tests {
     use super::{all, fails, list, PLACES};
+    use crate::Refusal;
 
     #[test]
     fn markets_rise_and_each_comes_once() {
@@ -71,9 +65,9 @@ mod tests {
         assert_eq!(list(2, 1, &mut output), Ok(3));
         assert_eq!(output[..6], [-1, 1, 0, 0, 1, -1]);
         assert!(output[6..].iter().all(|&place| place == 9));
-        assert_eq!(list(6, 1, &mut output), Err(7));
-        assert_eq!(list(2, 5, &mut output), Err(7));
-        assert_eq!(list(6, 5, &mut output[..PLACES - 1]), Err(1));
+        assert_eq!(list(6, 1, &mut output), Err(Refusal::Lots));
+        assert_eq!(list(2, 5, &mut output), Err(Refusal::Lots));
+        assert_eq!(list(6, 5, &mut output[..PLACES - 1]), Err(Refusal::Output));
         assert_eq!(output[..6], [-1, 1, 0, 0, 1, -1]);
     }
 
@@ -83,8 +77,8 @@ mod tests {
         assert_eq!(fails(5, 4, &[1, 0, 2, 0, 0]), Ok([10, 69, 164, 121, 27]));
         assert_eq!(fails(3, 2, &[3, 0, 0]), Ok([0; 5]));
         assert_eq!(fails(0, 4, &[]), Ok([1, 0, 0, 0, 0]));
-        assert_eq!(fails(3, 2, &[0; 2]), Err(7));
-        assert_eq!(fails(6, 2, &[0; 6]), Err(7));
-        assert_eq!(fails(3, 5, &[0; 3]), Err(7));
+        assert_eq!(fails(3, 2, &[0; 2]), Err(Refusal::Lots));
+        assert_eq!(fails(6, 2, &[0; 6]), Err(Refusal::Lots));
+        assert_eq!(fails(3, 5, &[0; 3]), Err(Refusal::Lots));
     }
 }

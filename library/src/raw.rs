@@ -1,71 +1,107 @@
-//! The library's functions over columns of any length and plain numbers, nothing turned into types.
+//! The library's functions over columns of any length and plain numbers, nothing turned into types: of
+//! each the refusal's number, 0 where it is done, and what is answered beside it.
 //!
 //! A book whose columns have other lengths than 1,024, 288, 64 and 2,048, or whose phase is above 2,
 //! is damaged: the library refuses it by 2. There are always sixteen marks.
 
 use crate::declarations::{
-    day_ask, day_ask_as, day_call, day_call_as, day_commit, day_commit_as, day_look, day_quotes,
-    day_read, day_simulate, day_simulate_as, day_sound, day_status, day_status_as, day_unit,
-    day_unit_as, day_write,
+    day_ask, day_ask_as, day_call, day_call_as, day_charge, day_commit, day_commit_as, day_look,
+    day_quotes, day_read, day_simulate, day_simulate_as, day_sound, day_status, day_status_as,
+    day_unit, day_unit_as, day_value, day_write,
 };
 use crate::{Caller, Entry, Fields, ISSUES, QUOTES};
 
 /// What stands in a count before the library writes it: no answer has it.
 const NOT_WRITTEN: usize = usize::MAX;
+/// The same of yen.
+const NO_YEN: u64 = u64::MAX;
 
-/// What of a book stands beside its columns, as the library takes it and gives it back: the change-over
-/// day is 0 where none is named, and of the marks any number but 0 is one.
+/// What of a book stands beside its columns, as the library takes it and gives it back.
 #[repr(C)]
 #[derive(Clone, Copy, Debug, PartialEq, Eq)]
 pub struct State {
+    /// The day.
     pub day: u16,
+    /// The phase's number; above 2 it is none.
     pub phase: u32,
+    /// The number of fail entries.
     pub entries: usize,
+    /// The change-over day; 0 where none is named.
     pub turn: u32,
+    /// The issues' marks; any number but 0 is one.
     pub marks: [u8; ISSUES],
 }
 
 /// What a call gives: its answer, and the state after it.
 #[repr(C)]
 #[derive(Clone, Copy, Debug, PartialEq, Eq)]
+#[must_use = "a refusal would be missed"]
 pub struct Turned {
+    /// The refusal's number, 0 where it is done.
     pub refusal: u32,
+    /// The records written; for pair-off, the steps.
     pub count: usize,
+    /// Pair-off's lots.
     pub cancelled: u64,
+    /// The state after the call; on a refusal it is as it came.
     pub state: State,
 }
 
-/// What is seen of an account: the refusal's number; 1 where there is an entry, else 0; its net in the
-/// issue, its charge, and the entry, 0 throughout where there is none.
+/// What is seen of an account.
 #[repr(C)]
 #[derive(Clone, Copy, Debug, PartialEq, Eq)]
+#[must_use = "a refusal would be missed"]
 pub struct Seen {
+    /// The refusal's number, 0 where it is done; on a refusal all else is 0.
     pub refusal: u32,
+    /// 1 where there is such an entry, else 0.
     pub some: u32,
+    /// The account's net in the issue.
     pub net: i32,
+    /// The account's charge.
     pub charge: i64,
+    /// The entry; 0 throughout where there is none.
     pub entry: Entry,
 }
 
-/// A book as it is lent to a question: four numbers, of them the change-over day 0 where none is
-/// named, the marks of the issues, any number but 0 being one, and nine columns, of any length.
-#[derive(Clone, Copy, Debug, PartialEq, Eq)]
-pub struct Columns<'a> {
-    pub day: u16,
-    pub phase: u32,
-    pub entries: usize,
-    pub turn: u32,
-    pub marks: &'a [u8; ISSUES],
-    pub nets: &'a [i32],
-    pub delivered: &'a [u32],
-    pub lifts: &'a [u32],
-    pub charges: &'a [i64],
-    pub issues: &'a [u8],
-    pub froms: &'a [u8],
-    pub tos: &'a [u8],
-    pub lots: &'a [u32],
-    pub days: &'a [u16],
+/// The two structs by which a book is lent.
+macro_rules! lent {
+    ({} $($(#[$has:meta])* $column:ident: $place:ty, $places:ident;)*) => {
+        /// A book as it is lent to a question: its state, and nine columns of any length.
+        #[derive(Clone, Copy, Debug, PartialEq, Eq)]
+        pub struct Columns<'a> {
+            /// The day.
+            pub day: u16,
+            /// The phase's number; above 2 it is none.
+            pub phase: u32,
+            /// The number of fail entries.
+            pub entries: usize,
+            /// The change-over day; 0 where none is named.
+            pub turn: u32,
+            /// The issues' marks; any number but 0 is one.
+            pub marks: &'a [u8; ISSUES],
+            $($(#[$has])* pub $column: &'a [$place],)*
+        }
+
+        /// A book as it is lent to a call, which may change it.
+        #[derive(Debug, PartialEq, Eq)]
+        pub struct ColumnsMut<'a> {
+            /// The day.
+            pub day: &'a mut u16,
+            /// The phase's number; above 2 it is none.
+            pub phase: &'a mut u32,
+            /// The number of fail entries.
+            pub entries: &'a mut usize,
+            /// The change-over day; 0 where none is named.
+            pub turn: &'a mut u32,
+            /// The issues' marks; any number but 0 is one.
+            pub marks: &'a mut [u8; ISSUES],
+            $($(#[$has])* pub $column: &'a mut [$place],)*
+        }
+    };
 }
+
+columns! { lent! {} }
 
 impl Columns<'_> {
     /// Its state.
@@ -73,25 +109,6 @@ impl Columns<'_> {
         let Columns { day, phase, entries, turn, marks, .. } = *self;
         State { day, phase, entries, turn, marks: *marks }
     }
-}
-
-/// A book as it is lent to a call, which may change it.
-#[derive(Debug, PartialEq, Eq)]
-pub struct ColumnsMut<'a> {
-    pub day: &'a mut u16,
-    pub phase: &'a mut u32,
-    pub entries: &'a mut usize,
-    pub turn: &'a mut u32,
-    pub marks: &'a mut [u8; ISSUES],
-    pub nets: &'a mut [i32],
-    pub delivered: &'a mut [u32],
-    pub lifts: &'a mut [u32],
-    pub charges: &'a mut [i64],
-    pub issues: &'a mut [u8],
-    pub froms: &'a mut [u8],
-    pub tos: &'a mut [u8],
-    pub lots: &'a mut [u32],
-    pub days: &'a mut [u16],
 }
 
 impl ColumnsMut<'_> {
@@ -116,108 +133,117 @@ impl ColumnsMut<'_> {
     }
 }
 
-/// A call's answer: the refusal's number, 0 where it is done, the count of records (for pair-off,
-/// of steps) and pair-off's lots cancelled.
+/// A call's answer.
 #[derive(Clone, Copy, Debug, PartialEq, Eq)]
+#[must_use = "a refusal would be missed"]
 pub struct Answer {
+    /// The refusal's number, 0 where it is done.
     pub refusal: u32,
+    /// The records written; for pair-off, the steps.
     pub count: usize,
+    /// Pair-off's lots.
     pub cancelled: u64,
 }
 
-/// The unit question's answer: the refusal's number, then 1, account and lots, or three zeros.
+/// The unit question's answer.
 #[derive(Clone, Copy, Debug, PartialEq, Eq)]
+#[must_use = "a refusal would be missed"]
 pub struct UnitAnswer {
+    /// The refusal's number, 0 where it is answered.
     pub refusal: u32,
+    /// 1 where there is such a unit, else 0.
     pub found: u32,
+    /// The account that the unit is due to.
     pub account: u32,
+    /// Its lots.
     pub lots: u32,
 }
 
-/// What is told of a unit: the refusal's number, then 1 handed, 2 waiting, 3 partly failed or 4 wholly
-/// failed and the lots that it waits for or lacks (0 for 1 and 4), or two zeros.
+/// What is told of a unit.
 #[derive(Clone, Copy, Debug, PartialEq, Eq)]
+#[must_use = "a refusal would be missed"]
 pub struct StatusAnswer {
+    /// The refusal's number, 0 where it is answered.
     pub refusal: u32,
+    /// 1 handed, 2 waiting, 3 partly failed, 4 wholly failed; 0 on a refusal.
     pub case: u32,
+    /// The lots that it waits for or lacks; 0 for 1 and 4.
     pub lots: u32,
 }
 
-/// What came of a simulated desk: the refusal's number, deliveries made, rounds with the stopping one
-/// among them, and of each issue the lots still owed; on a refusal all but its number are 0.
+/// What came of a simulated desk; on a refusal all but its number are 0.
 #[derive(Clone, Copy, Debug, PartialEq, Eq)]
+#[must_use = "a refusal would be missed"]
 pub struct Simulated {
+    /// The refusal's number, 0 where it is done.
     pub refusal: u32,
+    /// The deliveries made.
     pub deliveries: u64,
+    /// The rounds, the stopping one among them.
     pub rounds: u64,
+    /// Of each issue the lots still owed.
     pub owed: [u32; ISSUES],
 }
 
 /// A ticket's numbers: issue, unit, account, lots, day, count.
 pub type TicketNumbers = [u32; 6];
 
-/// The answer to asking for a lift: the refusal's number, then the ticket, or six zeros.
+/// The answer to asking for a lift.
 #[derive(Clone, Copy, Debug, PartialEq, Eq)]
+#[must_use = "a refusal would be missed"]
 pub struct AskAnswer {
+    /// The refusal's number, 0 where there is a ticket.
     pub refusal: u32,
+    /// The ticket, or six zeros.
     pub ticket: TicketNumbers,
 }
 
-/// The reader's answer: the refusal's number, the instruction's fields and its count of words.
+/// The reader's answer.
 #[derive(Clone, Copy, Debug, PartialEq, Eq)]
+#[must_use = "a refusal would be missed"]
 pub struct ReadAnswer {
+    /// The refusal's number, 0 where an instruction was read.
     pub refusal: u32,
+    /// The instruction's fields.
     pub fields: Fields,
+    /// Its count of words.
     pub count: usize,
 }
 
-/// The writer's answer: the refusal's number and the count of words.
+/// The writer's answer.
 #[derive(Clone, Copy, Debug, PartialEq, Eq)]
+#[must_use = "a refusal would be missed"]
 pub struct WriteAnswer {
+    /// The refusal's number, 0 where the instruction was written.
     pub refusal: u32,
+    /// The count of words.
     pub count: usize,
 }
 
-/// Calls a function that takes a book to be read: its caller, where it has one, its state and each column
-/// with its length, then what else it takes.
-macro_rules! on_book {
-    (by $caller:expr, $function:ident, $book:expr $(, $more:expr)*) => {
-        on_book!(@ [$caller] $function, $book $(, $more)*)
-    };
-    ($function:ident, $book:expr $(, $more:expr)*) => {
-        on_book!(@ [] $function, $book $(, $more)*)
-    };
-    (@ [$($caller:expr)?] $function:ident, $book:expr $(, $more:expr)*) => {
+/// Calls a function on a book: `function(before; book.pointer; behind)` puts each column's pointer and
+/// length between what stands before and behind them.
+macro_rules! with_columns {
+    ($($call:tt)*) => { columns! { put! { $($call)* } } };
+}
+
+macro_rules! put {
+    (
+        { $function:ident($($before:expr),*; $book:ident.$pointer:ident; $($behind:expr),*) }
+        $($(#[$has:meta])* $column:ident: $place:ty, $places:ident;)*
+    ) => {
         $function(
-            $($caller,)?
-            $book.state(),
-            $book.nets.as_ptr(),
-            $book.nets.len(),
-            $book.delivered.as_ptr(),
-            $book.delivered.len(),
-            $book.lifts.as_ptr(),
-            $book.lifts.len(),
-            $book.charges.as_ptr(),
-            $book.charges.len(),
-            $book.issues.as_ptr(),
-            $book.issues.len(),
-            $book.froms.as_ptr(),
-            $book.froms.len(),
-            $book.tos.as_ptr(),
-            $book.tos.len(),
-            $book.lots.as_ptr(),
-            $book.lots.len(),
-            $book.days.as_ptr(),
-            $book.days.len()
-            $(, $more)*
+            $($before,)*
+            $($book.$column.$pointer(), $book.$column.len(),)*
+            $($behind,)*
         )
     };
 }
 
 /// Is the book sound? 1 if it is, 0 if not.
+#[must_use = "a damaged book would be missed"]
 pub fn sound(book: &Columns) -> u32 {
     // SAFETY: each column is given with its length; they live through the call, which reads them alone.
-    unsafe { on_book!(day_sound, book) }
+    unsafe { with_columns!(day_sound(book.state(); book.as_ptr;)) }
 }
 
 /// The k-th unit of an issue, k from 0.
@@ -225,55 +251,92 @@ pub fn unit(book: &Columns, issue: u32, k: u32) -> UnitAnswer {
     let mut answer = [u32::MAX; 3];
     // SAFETY: each column is given with its length; they live through the call, which reads them
     // alone; the answer has the three words that are written.
-    let refusal = unsafe { on_book!(day_unit, book, issue, k, &mut answer) };
+    let refusal =
+        unsafe { with_columns!(day_unit(book.state(); book.as_ptr; issue, k, &mut answer)) };
     let [found, account, lots] = answer;
     UnitAnswer { refusal, found, account, lots }
 }
 
-/// Makes a call on a book that is lent to be changed: its caller, where it has one, the instruction's
-/// fields, quotes, state, columns and output, each with its length.
-macro_rules! call_on {
-    ([$($caller:expr)?] $function:ident, $book:expr, $fields:expr, $quotes:expr, $out:expr) => {{
-        let [kind, a, b, c, d] = *$fields;
-        $function(
-            $($caller,)?
-            kind,
-            a,
-            b,
-            c,
-            d,
-            $quotes.as_ptr(),
-            $quotes.len(),
-            $book.state(),
-            $book.nets.as_mut_ptr(),
-            $book.nets.len(),
-            $book.delivered.as_mut_ptr(),
-            $book.delivered.len(),
-            $book.lifts.as_mut_ptr(),
-            $book.lifts.len(),
-            $book.charges.as_mut_ptr(),
-            $book.charges.len(),
-            $book.issues.as_mut_ptr(),
-            $book.issues.len(),
-            $book.froms.as_mut_ptr(),
-            $book.froms.len(),
-            $book.tos.as_mut_ptr(),
-            $book.tos.len(),
-            $book.lots.as_mut_ptr(),
-            $book.lots.len(),
-            $book.days.as_mut_ptr(),
-            $book.days.len(),
-            $out.as_mut_ptr(),
-            $out.len(),
-        )
-    }};
+/// The k-th unit of an issue, k from 0, for a caller.
+pub fn unit_as(caller: &Caller, book: &Columns, issue: u32, k: u32) -> UnitAnswer {
+    let mut answer = [u32::MAX; 3];
+    // SAFETY: as for `unit`; the caller goes in by value.
+    let refusal = unsafe {
+        with_columns!(day_unit_as(*caller, book.state(); book.as_ptr; issue, k, &mut answer))
+    };
+    let [found, account, lots] = answer;
+    UnitAnswer { refusal, found, account, lots }
+}
+
+/// What is told of the k-th unit of an issue, k from 0.
+pub fn status(book: &Columns, issue: u32, k: u32) -> StatusAnswer {
+    let mut answer = [u32::MAX; 2];
+    // SAFETY: each column is given with its length; they live through the call, which reads them
+    // alone; the answer has the two numbers that are written.
+    let refusal =
+        unsafe { with_columns!(day_status(book.state(); book.as_ptr; issue, k, &mut answer)) };
+    let [case, lots] = answer;
+    StatusAnswer { refusal, case, lots }
+}
+
+/// What is told of the k-th unit of an issue, k from 0, for a caller.
+pub fn status_as(caller: &Caller, book: &Columns, issue: u32, k: u32) -> StatusAnswer {
+    let mut answer = [u32::MAX; 2];
+    // SAFETY: as for `status`; the caller goes in by value.
+    let refusal = unsafe {
+        with_columns!(day_status_as(*caller, book.state(); book.as_ptr; issue, k, &mut answer))
+    };
+    let [case, lots] = answer;
+    StatusAnswer { refusal, case, lots }
+}
+
+/// A plan tried on the simulated desk: the settlement account of each netting account (64), the
+/// inventories (issue × 16 + settlement account, 256) and the size of a unit.
+pub fn simulate(book: &Columns, settles: &[u32], inventories: &[u32], size: u32) -> Simulated {
+    let (mut deliveries, mut rounds, mut owed) = (u64::MAX, u64::MAX, [u32::MAX; ISSUES]);
+    let (accounts, held) = (settles.as_ptr(), inventories.as_ptr());
+    // SAFETY: columns, settlement accounts and inventories are given with their lengths and live
+    // through the call, which reads them alone; the three places that it writes are of this function.
+    let refusal = unsafe {
+        with_columns!(day_simulate(
+            book.state(); book.as_ptr; accounts, settles.len(), held, inventories.len(), size,
+            &mut deliveries, &mut rounds, &mut owed
+        ))
+    };
+    Simulated { refusal, deliveries, rounds, owed }
+}
+
+/// A plan tried on the simulated desk, for a caller.
+pub fn simulate_as(
+    caller: &Caller,
+    book: &Columns,
+    settles: &[u32],
+    inventories: &[u32],
+    size: u32,
+) -> Simulated {
+    let (mut deliveries, mut rounds, mut owed) = (u64::MAX, u64::MAX, [u32::MAX; ISSUES]);
+    let (accounts, held) = (settles.as_ptr(), inventories.as_ptr());
+    // SAFETY: as for `simulate`; the caller goes in by value.
+    let refusal = unsafe {
+        with_columns!(day_simulate_as(
+            *caller, book.state(); book.as_ptr; accounts, settles.len(), held, inventories.len(), size,
+            &mut deliveries, &mut rounds, &mut owed
+        ))
+    };
+    Simulated { refusal, deliveries, rounds, owed }
 }
 
 /// The call of an instruction given by its fields, made in place on any book.
 pub fn call(book: &mut ColumnsMut, fields: &Fields, quotes: &[u32], out: &mut [u32]) -> Answer {
+    let [kind, a, b, c, d] = *fields;
     // SAFETY: columns, quotes and output are given with their lengths. All live through the call, and
     // none of those that it may write overlaps another: each is a reference of its own.
-    let turned = unsafe { call_on!([] day_call, book, fields, quotes, out) };
+    let turned = unsafe {
+        with_columns!(day_call(
+            kind, a, b, c, d, quotes.as_ptr(), quotes.len(), book.state();
+            book.as_mut_ptr; out.as_mut_ptr(), out.len()
+        ))
+    };
     answered(book, turned)
 }
 
@@ -285,8 +348,14 @@ pub fn call_as(
     quotes: &[u32],
     out: &mut [u32],
 ) -> Answer {
+    let [kind, a, b, c, d] = *fields;
     // SAFETY: as for `call`; the caller goes in by value.
-    let turned = unsafe { call_on!([*caller] day_call_as, book, fields, quotes, out) };
+    let turned = unsafe {
+        with_columns!(day_call_as(
+            *caller, kind, a, b, c, d, quotes.as_ptr(), quotes.len(), book.state();
+            book.as_mut_ptr; out.as_mut_ptr(), out.len()
+        ))
+    };
     answered(book, turned)
 }
 
@@ -297,86 +366,36 @@ fn answered(book: &mut ColumnsMut, turned: Turned) -> Answer {
     Answer { refusal, count, cancelled }
 }
 
-/// What is told of the k-th unit of an issue, k from 0.
-pub fn status(book: &Columns, issue: u32, k: u32) -> StatusAnswer {
-    let mut answer = [u32::MAX; 2];
-    // SAFETY: each column is given with its length; they live through the call, which reads them
-    // alone; the answer has the two numbers that are written.
-    let refusal = unsafe { on_book!(day_status, book, issue, k, &mut answer) };
-    let [case, lots] = answer;
-    StatusAnswer { refusal, case, lots }
-}
-
-/// A plan tried on the simulated desk: the settlement account of each netting account (64), the
-/// inventories (issue × 16 + settlement account, 256) and the size of a unit.
-pub fn simulate(book: &Columns, settles: &[u32], inventories: &[u32], size: u32) -> Simulated {
-    let (mut deliveries, mut rounds, mut owed) = (u64::MAX, u64::MAX, [u32::MAX; ISSUES]);
-    // SAFETY: columns, settlement accounts and inventories are given with their lengths and live through the call, which reads them alone; the three places that it
-    // writes are of this function.
-    let refusal = unsafe {
-        on_book!(
-            day_simulate,
-            book,
-            settles.as_ptr(),
-            settles.len(),
-            inventories.as_ptr(),
-            inventories.len(),
-            size,
-            &mut deliveries,
-            &mut rounds,
-            &mut owed
-        )
-    };
-    Simulated { refusal, deliveries, rounds, owed }
-}
-
 /// The ticket for a lift of an issue's unit, by its number.
 pub fn ask(book: &Columns, issue: u32, unit: u32) -> AskAnswer {
     let mut ticket = [u32::MAX; 6];
     // SAFETY: each column is given with its length; they live through the call, which reads them
     // alone; the ticket has the six numbers that are written.
-    let refusal = unsafe { on_book!(day_ask, book, issue, unit, &mut ticket) };
+    let refusal =
+        unsafe { with_columns!(day_ask(book.state(); book.as_ptr; issue, unit, &mut ticket)) };
     AskAnswer { refusal, ticket }
 }
 
-/// Makes a commit on a book of which the lifts are lent to be changed.
-macro_rules! commit_on {
-    ([$($caller:expr)?] $function:ident, $ticket:expr, $book:expr, $out:expr, $count:expr) => {
-        $function(
-            $($caller,)?
-            $ticket,
-            $book.state(),
-            $book.nets.as_ptr(),
-            $book.nets.len(),
-            $book.delivered.as_ptr(),
-            $book.delivered.len(),
-            $book.lifts.as_mut_ptr(),
-            $book.lifts.len(),
-            $book.charges.as_ptr(),
-            $book.charges.len(),
-            $book.issues.as_ptr(),
-            $book.issues.len(),
-            $book.froms.as_ptr(),
-            $book.froms.len(),
-            $book.tos.as_ptr(),
-            $book.tos.len(),
-            $book.lots.as_ptr(),
-            $book.lots.len(),
-            $book.days.as_ptr(),
-            $book.days.len(),
-            $out.as_mut_ptr(),
-            $out.len(),
-            &mut $count,
-        )
+/// The ticket for a lift, for a caller.
+pub fn ask_as(caller: &Caller, book: &Columns, issue: u32, unit: u32) -> AskAnswer {
+    let mut ticket = [u32::MAX; 6];
+    // SAFETY: as for `ask`; the caller goes in by value.
+    let refusal = unsafe {
+        with_columns!(day_ask_as(*caller, book.state(); book.as_ptr; issue, unit, &mut ticket))
     };
+    AskAnswer { refusal, ticket }
 }
 
-/// The lift of a ticket, made in place on any book; of the book only the lifts are lent to be written.
+/// The lift of a ticket, made in place on any book; of the book only the lifts are written.
 pub fn commit(book: &mut ColumnsMut, ticket: &TicketNumbers, out: &mut [u32]) -> Answer {
     let mut count = NOT_WRITTEN;
     // SAFETY: columns and output are given with their lengths. All live through the call, and neither
     // of the two that it may write overlaps another: each is a reference of its own.
-    let refusal = unsafe { commit_on!([] day_commit, ticket, book, out, count) };
+    let refusal = unsafe {
+        with_columns!(day_commit(
+            ticket, book.state(); book.as_mut_ptr; out.as_mut_ptr(), out.len(), &mut count
+        ))
+    };
     Answer { refusal, count, cancelled: 0 }
 }
 
@@ -389,68 +408,18 @@ pub fn commit_as(
 ) -> Answer {
     let mut count = NOT_WRITTEN;
     // SAFETY: as for `commit`; the caller goes in by value.
-    let refusal = unsafe { commit_on!([*caller] day_commit_as, ticket, book, out, count) };
-    Answer { refusal, count, cancelled: 0 }
-}
-
-/// The k-th unit of an issue, k from 0, for a caller.
-pub fn unit_as(caller: &Caller, book: &Columns, issue: u32, k: u32) -> UnitAnswer {
-    let mut answer = [u32::MAX; 3];
-    // SAFETY: as for `unit`; the caller goes in by value.
-    let refusal = unsafe { on_book!(by * caller, day_unit_as, book, issue, k, &mut answer) };
-    let [found, account, lots] = answer;
-    UnitAnswer { refusal, found, account, lots }
-}
-
-/// What is told of the k-th unit of an issue, k from 0, for a caller.
-pub fn status_as(caller: &Caller, book: &Columns, issue: u32, k: u32) -> StatusAnswer {
-    let mut answer = [u32::MAX; 2];
-    // SAFETY: as for `status`; the caller goes in by value.
-    let refusal = unsafe { on_book!(by * caller, day_status_as, book, issue, k, &mut answer) };
-    let [case, lots] = answer;
-    StatusAnswer { refusal, case, lots }
-}
-
-/// The ticket for a lift, for a caller.
-pub fn ask_as(caller: &Caller, book: &Columns, issue: u32, unit: u32) -> AskAnswer {
-    let mut ticket = [u32::MAX; 6];
-    // SAFETY: as for `ask`; the caller goes in by value.
-    let refusal = unsafe { on_book!(by * caller, day_ask_as, book, issue, unit, &mut ticket) };
-    AskAnswer { refusal, ticket }
-}
-
-/// A plan tried on the simulated desk, for a caller.
-pub fn simulate_as(
-    caller: &Caller,
-    book: &Columns,
-    settles: &[u32],
-    inventories: &[u32],
-    size: u32,
-) -> Simulated {
-    let (mut deliveries, mut rounds, mut owed) = (u64::MAX, u64::MAX, [u32::MAX; ISSUES]);
-    // SAFETY: as for `simulate`; the caller goes in by value.
     let refusal = unsafe {
-        on_book!(
-            by * caller,
-            day_simulate_as,
-            book,
-            settles.as_ptr(),
-            settles.len(),
-            inventories.as_ptr(),
-            inventories.len(),
-            size,
-            &mut deliveries,
-            &mut rounds,
-            &mut owed
-        )
+        with_columns!(day_commit_as(
+            *caller, ticket, book.state(); book.as_mut_ptr; out.as_mut_ptr(), out.len(), &mut count
+        ))
     };
-    Simulated { refusal, deliveries, rounds, owed }
+    Answer { refusal, count, cancelled: 0 }
 }
 
 /// An account read by a caller: its net in the issue, its charge and its k-th entry there, k from 0.
 pub fn look(caller: &Caller, book: &Columns, issue: u32, account: u32, k: u32) -> Seen {
     // SAFETY: each column is given with its length; they live through the call, which reads them alone.
-    unsafe { on_book!(by * caller, day_look, book, issue, account, k) }
+    unsafe { with_columns!(day_look(*caller, book.state(); book.as_ptr; issue, account, k)) }
 }
 
 /// Reads the instruction that begins at the first word.
@@ -480,4 +449,22 @@ pub fn write(fields: &Fields, quotes: &[u32], out: &mut [u32]) -> WriteAnswer {
         day_write(kind, a, b, c, d, quotes.as_ptr(), quotes.len(), words, length, &mut count)
     };
     WriteAnswer { refusal, count }
+}
+
+/// The value of lots at a price and an accrued amount: the refusal's number, and the yen.
+#[must_use = "a refusal would be missed"]
+pub fn value(lots: u32, price: u32, accrued: u32) -> (u32, u64) {
+    let mut yen = NO_YEN;
+    // SAFETY: the library writes one u64 through the reference, which lives until after the call.
+    let refusal = unsafe { day_value(lots, price, accrued, &mut yen) };
+    (refusal, yen)
+}
+
+/// The charge on that value for days at a rate: the refusal's number, and the yen.
+#[must_use = "a refusal would be missed"]
+pub fn charge(lots: u32, price: u32, days: u32, rate: u32, accrued: u32) -> (u32, u64) {
+    let mut yen = NO_YEN;
+    // SAFETY: the library writes one u64 through the reference, which lives until after the call.
+    let refusal = unsafe { day_charge(lots, price, days, rate, accrued, &mut yen) };
+    (refusal, yen)
 }

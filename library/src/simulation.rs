@@ -4,7 +4,6 @@
 //! smaller of what its settlement account holds and what it still owes; what an account is handed
 //! joins its settlement account at once. It ends with the first round without a delivery.
 
-pub use crate::raw::Simulated;
 use crate::{raw, Book, Refusal, ACCOUNTS, ISSUES};
 
 /// Settlement accounts 0 to 15.
@@ -37,12 +36,26 @@ impl Desk {
     }
 }
 
-impl Simulated {
-    /// The refusal, or none where the desk was simulated.
-    pub fn refused(&self) -> Option<Refusal> {
-        Refusal::of(self.refusal)
-    }
+/// What came of a simulated desk.
+#[derive(Clone, Copy, Debug, PartialEq, Eq)]
+pub struct Simulated {
+    /// The deliveries made.
+    pub deliveries: u64,
+    /// The rounds, the stopping one among them.
+    pub rounds: u64,
+    /// Of each issue the lots still owed.
+    pub owed: [u32; ISSUES],
+}
 
+impl raw::Simulated {
+    /// What came of the desk, or the refusal.
+    pub fn simulated(self) -> Result<Simulated, Refusal> {
+        let raw::Simulated { refusal, deliveries, rounds, owed } = self;
+        Refusal::check(refusal).map(|()| Simulated { deliveries, rounds, owed })
+    }
+}
+
+impl Simulated {
     /// The lots still owed of all issues together.
     pub fn owed_in_all(&self) -> u64 {
         self.owed.iter().map(|&lots| u64::from(lots)).sum()
@@ -50,32 +63,32 @@ impl Simulated {
 }
 
 /// Tries a unit size, 1 to 100,000 lots, on the nets of a book, nothing delivered, lifted or marked.
-pub fn simulate(book: &Book, desk: &Desk, size: u32) -> Simulated {
-    raw::simulate(&book.columns(), &desk.settles, &desk.inventories, size)
+/// Refused by 2, 5 and 7.
+pub fn simulate(book: &Book, desk: &Desk, size: u32) -> Result<Simulated, Refusal> {
+    raw::simulate(&book.columns(), &desk.settles, &desk.inventories, size).simulated()
 }
 
 #[cfg(test)]
 mod tests {
     use super::{simulate, Desk, Simulated};
-    use crate::{calls, Book, ISSUES};
+    use crate::{calls, Book, Refusal, ISSUES};
 
     /// Account 0 owes 100,000 lots, 60,000 of them to 1 and 40,000 to 2; all three deliver from
     /// settlement account 0, which holds half.
     #[test]
     fn a_ring_jams_at_one_size_and_runs_free_at_another() {
         let mut book = Book::fresh();
-        assert_eq!(calls::trade(&mut book, 0, 0, 1, 60_000).refusal, 0);
-        assert_eq!(calls::trade(&mut book, 0, 0, 2, 40_000).refusal, 0);
+        calls::trade(&mut book, 0, 0, 1, 60_000).unwrap();
+        calls::trade(&mut book, 0, 0, 2, 40_000).unwrap();
         let mut desk = Desk::empty();
         desk.inventories[0] = 50_000;
         let mut owed = [0; ISSUES];
         owed[0] = 50_000;
-        let jammed = Simulated { refusal: 0, deliveries: 1, rounds: 2, owed };
-        assert_eq!(simulate(&book, &desk, 100_000), jammed);
-        let free = Simulated { refusal: 0, deliveries: 2, rounds: 3, owed: [0; ISSUES] };
-        assert_eq!(simulate(&book, &desk, 10_000), free);
+        let jammed = Simulated { deliveries: 1, rounds: 2, owed };
+        assert_eq!(simulate(&book, &desk, 100_000), Ok(jammed));
+        let free = Simulated { deliveries: 2, rounds: 3, owed: [0; ISSUES] };
+        assert_eq!(simulate(&book, &desk, 10_000), Ok(free));
         desk.settles[63] = 16;
-        let refused = Simulated { refusal: 5, deliveries: 0, rounds: 0, owed: [0; ISSUES] };
-        assert_eq!(simulate(&book, &desk, 10_000), refused);
+        assert_eq!(simulate(&book, &desk, 10_000), Err(Refusal::Account));
     }
 }

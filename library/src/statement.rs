@@ -14,9 +14,13 @@ pub type Numbers = [u64; 6];
 /// resolved. Due is delivered and failed.
 #[derive(Clone, Copy, Debug, Default, PartialEq, Eq)]
 pub struct Statement {
+    /// Lots due to deliver at closes.
     pub due: u64,
+    /// Lots delivered by cutoffs.
     pub delivered: u64,
+    /// Lots failed.
     pub failed: u64,
+    /// Lots resolved.
     pub resolved: u64,
     /// Failed over due, as two whole numbers, unreduced.
     pub failed_over_due: (u64, u64),
@@ -27,19 +31,22 @@ pub struct Statement {
 /// adds its resolves alone.
 pub fn statement(words: &[u32], issue: u32, account: u32) -> Result<Statement, Refusal> {
     let mut numbers = [0; 6];
-    let number = write(words, issue, account, &mut numbers);
-    if let Some(refusal) = Refusal::of(number) {
-        return Err(refusal);
-    }
+    write(words, issue, account, &mut numbers)?;
     let [due, delivered, failed, resolved, over, under] = numbers;
     Ok(Statement { due, delivered, failed, resolved, failed_over_due: (over, under) })
 }
 
-/// Writes the numbers of a statement; the refusal's number, 0 where it is done.
-pub fn write(words: &[u32], issue: u32, account: u32, numbers: &mut Numbers) -> u32 {
+/// Writes the numbers of a statement; on a refusal, 4 or 5, each is 0.
+pub fn write(
+    words: &[u32],
+    issue: u32,
+    account: u32,
+    numbers: &mut Numbers,
+) -> Result<(), Refusal> {
     // SAFETY: the library reads the words within the length given beside them, and writes the six
     // numbers, which, lent as `&mut`, overlap them nowhere.
-    unsafe { day_statement(words.as_ptr(), words.len(), issue, account, numbers) }
+    let number = unsafe { day_statement(words.as_ptr(), words.len(), issue, account, numbers) };
+    Refusal::check(number)
 }
 
 #[cfg(test)]
@@ -51,9 +58,8 @@ mod tests {
         let mut words = Vec::new();
         for instruction in instructions {
             let mut out = [0; WRITER_WORDS];
-            let answer = tape::write(instruction, &[], &mut out);
-            assert_eq!(answer.refusal, 0);
-            words.extend(&out[..answer.count]);
+            let count = tape::write(instruction, &[], &mut out).unwrap();
+            words.extend(&out[..count]);
         }
         words
     }
@@ -91,9 +97,9 @@ mod tests {
     #[test]
     fn a_refusal_has_0_for_every_number() {
         let mut numbers = [7; 6];
-        assert_eq!(write(&[], 16, 64, &mut numbers), 4);
+        assert_eq!(write(&[], 16, 64, &mut numbers), Err(Refusal::Issue));
         assert_eq!(numbers, [0; 6]);
-        assert_eq!(write(&[], 15, 64, &mut numbers), 5);
+        assert_eq!(write(&[], 15, 64, &mut numbers), Err(Refusal::Account));
         assert_eq!(statement(&[], 16, 0), Err(Refusal::Issue));
         assert_eq!(statement(&[], 0, 64), Err(Refusal::Account));
         assert_eq!(statement(&[], 15, 63), Ok(Statement::default()));

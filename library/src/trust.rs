@@ -1,6 +1,7 @@
 //! A fail inside a trust account: each trade report's share of it.
 
 use crate::declarations::day_trust;
+use crate::Refusal;
 
 /// The most reports, and the places that the output has at the least.
 pub const REPORTS: usize = 256;
@@ -11,7 +12,9 @@ pub const SUB_ACCOUNTS: u32 = 32;
 /// be lent; where one has another length than `sub_accounts` they are refused by 21.
 #[derive(Clone, Copy, Debug, PartialEq, Eq)]
 pub struct Reports<'a> {
+    /// The sub-account of each, 0 to 31.
     pub sub_accounts: &'a [u32],
+    /// The counterparty of each, 0 to 63.
     pub counterparties: &'a [u32],
     /// Received where above 0, delivered where below.
     pub lots: &'a [i32],
@@ -19,12 +22,18 @@ pub struct Reports<'a> {
     pub earlier: &'a [u8],
 }
 
-/// Writes each report's share of the fail to the place of its number; the refusal's number, 0 where
-/// it is done. Places beyond the reports keep their content, and on a refusal all do.
-pub fn shares(reports: &Reports, draw: &[u32], fail: u32, failing: u32, output: &mut [u32]) -> u32 {
+/// Writes each report's share of the fail to the place of its number. Places beyond the reports keep
+/// their content, and on a refusal (1, 5, 7, 21, 22, 23) all do.
+pub fn shares(
+    reports: &Reports,
+    draw: &[u32],
+    fail: u32,
+    failing: u32,
+    output: &mut [u32],
+) -> Result<(), Refusal> {
     // SAFETY: the library reads the columns and the draw, and writes the output, each within the
     // length given beside it; the output, lent as `&mut`, overlaps none of them.
-    unsafe {
+    let number = unsafe {
         day_trust(
             reports.sub_accounts.as_ptr(),
             reports.sub_accounts.len(),
@@ -41,12 +50,14 @@ pub fn shares(reports: &Reports, draw: &[u32], fail: u32, failing: u32, output: 
             output.as_mut_ptr(),
             output.len(),
         )
-    }
+    };
+    Refusal::check(number)
 }
 
 #[cfg(test)]
 mod tests {
     use super::{shares, Reports, REPORTS};
+    use crate::Refusal;
 
     #[test]
     fn those_facing_the_failing_account_come_first() {
@@ -57,13 +68,13 @@ mod tests {
             earlier: &[0, 0, 0],
         };
         let mut output = [7; REPORTS];
-        assert_eq!(shares(&reports, &[0, 1, 2], 40, 4, &mut output), 0);
+        assert_eq!(shares(&reports, &[0, 1, 2], 40, 4, &mut output), Ok(()));
         assert_eq!(output[..4], [10, 0, 30, 7]);
-        assert_eq!(shares(&reports, &[0, 1, 1], 40, 4, &mut output), 21);
-        assert_eq!(shares(&reports, &[0, 1, 2], 81, 4, &mut output), 23);
+        assert_eq!(shares(&reports, &[0, 1, 1], 40, 4, &mut output), Err(Refusal::Draw));
+        assert_eq!(shares(&reports, &[0, 1, 2], 81, 4, &mut output), Err(Refusal::Eligible));
         assert_eq!(
             shares(&Reports { earlier: &[], ..reports }, &[0, 1, 2], 40, 4, &mut output),
-            21
+            Err(Refusal::Draw)
         );
         assert_eq!(output[..4], [10, 0, 30, 7]);
     }

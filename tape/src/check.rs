@@ -4,7 +4,7 @@ use crate::bytes::split;
 use crate::input::{Day, Stands};
 use crate::text::why_ended;
 use crate::why::why;
-use library::{calls, tape, Book, OUTPUT_WORDS};
+use settlement_day::{calls, tape, Book, OUTPUT_WORDS};
 use std::io;
 
 /// How many instructions there are, and how many lines about refusals were told.
@@ -27,7 +27,7 @@ pub fn check(day: &Day, tell: &mut dyn FnMut(&str) -> io::Result<()>) -> io::Res
                 checked.instructions += 1;
                 let quotes = tape::quotes(&words[at..]);
                 let answer = calls::call(&mut book, &instruction, &quotes, &mut output);
-                if let Some(refusal) = answer.refused() {
+                if let Err(refusal) = answer {
                     checked.refused += 1;
                     let (name, why) =
                         (instruction.name(), why(&book, &instruction, &quotes, refusal));

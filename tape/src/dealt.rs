@@ -1,7 +1,7 @@
 //! The units of an issue on a day on which full units are dealt in turn: rounds, and who takes part.
 
 use crate::units::{Run, FULL};
-use library::{calls, Book};
+use settlement_day::{calls, Book};
 
 /// Where a full unit stands: its round and its receiver, both from 1, and how many take part in the
 /// round. Like units one after another are of the rounds up to `until`.
@@ -48,7 +48,7 @@ impl Dealt {
     /// receivers, and for the small ones; an account's full units are net / 100,000.
     pub fn of(book: &Book, issue: u32) -> Dealt {
         let asked = |first: u32, count: fn(u32) -> u32| {
-            let unit = calls::unit(book, issue, first).unit?;
+            let unit = calls::unit(book, issue, first).ok()??;
             let due = book.net(issue, unit.account).max(0).unsigned_abs();
             let (account, lots) = (unit.account, unit.lots);
             Some(Run { first, count: count(due), account, lots, due })
@@ -135,7 +135,7 @@ fn rounds_of(receivers: &[Run]) -> Vec<Rounds> {
 mod tests {
     use super::*;
     use crate::units::Walk;
-    use library::place;
+    use settlement_day::place;
 
     /// A book of day 1 on which full units are dealt in turn.
     fn book(nets: &[(u32, i32)]) -> Book {
@@ -174,7 +174,7 @@ mod tests {
         let dealt = Dealt::of(&book, 0);
         let total = dealt.full() + dealt.small().len() as u32;
         for k in 0..total {
-            let asked = calls::unit(&book, 0, k).unit.unwrap();
+            let asked = calls::unit(&book, 0, k).unwrap().unwrap();
             let here = dealt.turn_of(k).map_or_else(
                 || {
                     let run = dealt.small()[(k - dealt.full()) as usize];
@@ -184,7 +184,7 @@ mod tests {
             );
             assert_eq!((asked.account, asked.lots), here, "unit {k}");
         }
-        assert_eq!(calls::unit(&book, 0, total).unit, None);
+        assert_eq!(calls::unit(&book, 0, total), Ok(None));
         assert_eq!(dealt.rounds().len(), 3);
         assert_eq!(Dealt::of(&book, 1), Dealt::default());
     }

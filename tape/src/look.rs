@@ -5,8 +5,8 @@ use crate::fault::{words_of, Fault, Faults, Word};
 use crate::jam::{number, range};
 use crate::measure::{Grouped, Lots};
 use crate::status;
-use library::access::{self, Account, NOBODY, PARTICIPANTS};
-use library::{Caller, Entry, Refusal, ACCOUNTS};
+use settlement_day::access::{self, Account, NOBODY, PARTICIPANTS};
+use settlement_day::{Caller, Entry, Refusal, ACCOUNTS};
 
 /// What a line of the owners may be.
 const LINES: &str = "write `owns PARTICIPANT ACCOUNT` or `owns PARTICIPANT FIRST-LAST`";
@@ -78,11 +78,10 @@ pub fn read(tape: &[u8], question: &Question) -> Result<Seen, String> {
     let Question { ref caller, issue, account, .. } = *question;
     let mut entries = Vec::new();
     let answer = loop {
-        let seen = access::read(caller, &book, issue, account, entries.len() as u32);
-        match (seen.account, seen.refused()) {
-            (Some(Account { entry: Some(entry), .. }), _) => entries.push(entry),
-            (Some(last), _) => break Ok((last, entries)),
-            (None, refusal) => break Err(refusal.unwrap_or(Refusal::Book)),
+        match access::read(caller, &book, issue, account, entries.len() as u32) {
+            Ok(Account { entry: Some(entry), .. }) => entries.push(entry),
+            Ok(last) => break Ok((last, entries)),
+            Err(refusal) => break Err(refusal),
         }
     };
     let phase = book.phase.name().unwrap_or("no phase");
@@ -106,7 +105,7 @@ impl Seen {
         let head = format!("{at}, day {day}, {phase}");
         let (seen, entries) = match &self.answer {
             Ok(answer) => answer,
-            Err(refusal) => return format!("{head}: {refusal}\n"),
+            Err(refusal) => return format!("{head}: {}\n", refusal.said()),
         };
         let charge = Grouped(seen.charge.into());
         let net = net_of(seen.net);

@@ -1,7 +1,8 @@
 //! Every small market, each once, for testers: the markets, or how many of them have how many fail entries.
 
 use crate::measure::counted;
-use library::markets::{self, COUNTS};
+use settlement_day::markets::{self, COUNTS};
+use settlement_day::Refusal;
 
 /// What is asked: so many accounts, nets of at most so much to either side.
 #[derive(Clone, Copy, Debug, PartialEq, Eq)]
@@ -25,13 +26,13 @@ pub struct Counted {
     counts: [u32; COUNTS],
 }
 
-/// All markets of a size; an error is the refusal's number.
-pub fn list(size: Size) -> Result<Listed, u32> {
+/// All markets of a size.
+pub fn list(size: Size) -> Result<Listed, Refusal> {
     Ok(Listed { size, markets: markets::all(size.accounts, size.most)? })
 }
 
-/// The markets of a size by their fail entries; an error is the refusal's number.
-pub fn count(size: Size, delivered: Vec<u32>) -> Result<Counted, u32> {
+/// The markets of a size by their fail entries.
+pub fn count(size: Size, delivered: Vec<u32>) -> Result<Counted, Refusal> {
     let counts = markets::fails(size.accounts, size.most, &delivered)?;
     Ok(Counted { size, delivered, counts })
 }
@@ -49,7 +50,8 @@ pub fn lots_of(list: &str) -> Result<Vec<u32>, String> {
 }
 
 /// Why a size is refused by 7, with what to do.
-pub fn refused(number: u32) -> String {
+pub fn refused(refusal: Refusal) -> String {
+    let number = refusal.number();
     format!(
         "refused by {number}: give 0 to {} accounts, nets of 0 to {} to either side, and delivered \
          lots for each account",
@@ -146,7 +148,7 @@ mod tests {
             "{\"fact\":\"markets\",\"accounts\":2,\"most\":1,\"count\":3,\
              \"markets\":[[-1,1],[0,0],[1,-1]]}\n"
         );
-        assert_eq!(list(Size { accounts: 6, most: 1 }), Err(7));
+        assert_eq!(list(Size { accounts: 6, most: 1 }), Err(Refusal::Lots));
     }
 
     #[test]
@@ -159,7 +161,7 @@ mod tests {
             "{\"fact\":\"marketFails\",\"accounts\":2,\"most\":1,\"delivered\":[0,0],\"markets\":3,\
              \"byEntries\":[1,2,0,0,0]}\n"
         );
-        assert_eq!(count(TWO, vec![0]), Err(7));
+        assert_eq!(count(TWO, vec![0]), Err(Refusal::Lots));
     }
 
     #[test]

@@ -13,6 +13,17 @@ pub struct Opt {
     pub value: Option<&'static str>,
 }
 
+impl Opt {
+    /// The option as a shell completes it: its name, and behind `=` whether its value is a file.
+    pub fn completed(&self) -> String {
+        match self.value {
+            None => self.name.to_string(),
+            Some("a file" | "a path") => format!("{}=file", self.name),
+            Some(_) => format!("{}=value", self.name),
+        }
+    }
+}
+
 /// An option without a value.
 pub const fn flag(name: &'static str) -> Opt {
     Opt { name, value: None }

@@ -6,7 +6,7 @@ use crate::bytes::split;
 use crate::measure::counted;
 use crate::story::traded;
 use crate::text::older_roll;
-use library::{calls, tape, Book, OUTPUT_WORDS};
+use settlement_day::{calls, tape, Book, OUTPUT_WORDS};
 use std::env;
 use std::io::{self, BufRead, BufReader, BufWriter, Write};
 use std::path::{Path, PathBuf};
@@ -126,7 +126,8 @@ fn wanted(tape: &[u8]) -> Lines {
         lines.instructions += 1;
         let Ok((instruction, count)) = tape::read(&words[at..]) else { break };
         if !traded(&mut book, &instruction) {
-            calls::call(&mut book, &instruction, &tape::quotes(&words[at..]), &mut output);
+            // What is refused changes nothing, and the run goes on.
+            let _ = calls::call(&mut book, &instruction, &tape::quotes(&words[at..]), &mut output);
         }
         at += count;
     }
@@ -187,14 +188,18 @@ fn copy(from: impl io::Read, output: &mut dyn Write) -> io::Result<Printed> {
     Ok(printed)
 }
 
-/// The program that is named; otherwise that of the repository, seen from here or from this tool.
+/// The program that is named; otherwise that beside this tool, as they are installed; otherwise that of the
+/// repository, seen from here or from this tool.
 pub fn found(named: Option<&Path>) -> Result<PathBuf, String> {
     if let Some(named) = named {
         return Ok(named.to_path_buf());
     }
-    let of_tool = env::current_exe().ok();
-    let of_tool = of_tool.as_deref().and_then(|tool| tool.ancestors().nth(3));
-    let places = [Some(PathBuf::from(PROGRAM)), of_tool.map(|folder| folder.join(PROGRAM))];
+    let tool = env::current_exe().unwrap_or_default();
+    let places = [
+        Some(tool.with_file_name("dayrun")),
+        Some(PathBuf::from(PROGRAM)),
+        tool.ancestors().nth(3).map(|folder| folder.join(PROGRAM)),
+    ];
     places.into_iter().flatten().find(|place| place.is_file()).ok_or_else(|| {
         format!("there is no {PROGRAM}: make it by `rt check dayrun`, or name it by --program PATH")
     })

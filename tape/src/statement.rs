@@ -4,8 +4,8 @@
 use crate::bytes::split;
 use crate::measure::{counted, Face, Grouped};
 use crate::story::traded;
-use library::statement::{statement, Statement, MOST_INSTRUCTIONS};
-use library::{calls, tape, Book, Instruction, Phase, Refusal, OUTPUT_WORDS};
+use settlement_day::statement::{statement, Statement, MOST_INSTRUCTIONS};
+use settlement_day::{calls, tape, Book, Instruction, Phase, Refusal, OUTPUT_WORDS};
 use std::collections::BTreeSet;
 
 /// Why a span ends where it does.
@@ -234,7 +234,7 @@ fn run(words: &[u32], stray: bool) -> (Span, BTreeSet<(u32, u32)>) {
         if !traded(&mut book, &instruction) {
             let quotes = tape::quotes(&words[at..]);
             let answer = calls::call(&mut book, &instruction, &quotes, &mut output);
-            refused += usize::from(answer.refusal != 0);
+            refused += usize::from(answer.is_err());
         }
         at += count;
         instructions += 1;

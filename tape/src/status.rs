@@ -4,8 +4,8 @@ use crate::bytes::split;
 use crate::dealt::{Dealt, Turn};
 use crate::measure::{counted, Face, Lots};
 use crate::story::traded;
-use library::calls::{self, Unit};
-use library::{tape, Book, Refusal, Status, ISSUES, OUTPUT_WORDS};
+use settlement_day::calls::{self, Unit};
+use settlement_day::{tape, Book, Refusal, Status, ISSUES, OUTPUT_WORDS};
 
 /// Which unit is asked of, and when: before the instruction that begins at a word, or at the end.
 #[derive(Clone, Copy, Debug, Default, PartialEq, Eq)]
@@ -34,15 +34,10 @@ pub struct Told {
 pub fn ask(tape: &[u8], question: Question) -> Result<Told, String> {
     let (book, word, ended) = run(tape, question.at)?;
     let Question { issue, unit: k, .. } = question;
-    let told = calls::status(&book, issue, k);
-    let found = calls::unit(&book, issue, k).unit;
-    let answer = match (told.status, found) {
-        (Some(status), Some(unit)) => Ok((unit, status)),
-        _ => {
-            let refusal = told.refused().unwrap_or(Refusal::Unit);
-            Err((refusal, why_refused(&book, question, refusal)))
-        }
-    };
+    let found = calls::unit(&book, issue, k).and_then(|unit| unit.ok_or(Refusal::Unit));
+    let answer = calls::status(&book, issue, k)
+        .and_then(|status| found.map(|unit| (unit, status)))
+        .map_err(|refusal| (refusal, why_refused(&book, question, refusal)));
     let phase = book.phase.name().unwrap_or("no phase");
     let dealt = book.deals_in_turn().then(|| Dealt::of(&book, issue));
     let turn = dealt.and_then(|dealt| dealt.turn_of(k)).map(|(_, turn)| turn);
@@ -67,7 +62,8 @@ pub fn run(tape: &[u8], until: Option<usize>) -> Result<(Book, usize, bool), Str
         }
         if !traded(&mut book, &instruction) {
             let quotes = tape::quotes(&words[at..]);
-            calls::call(&mut book, &instruction, &quotes, &mut output);
+            // What is refused changes nothing, and the run goes on.
+            let _ = calls::call(&mut book, &instruction, &quotes, &mut output);
         }
         at += count;
     }
@@ -84,7 +80,7 @@ fn why_refused(book: &Book, Question { issue, unit, .. }: Question, refusal: Ref
         Refusal::Phase => "trades are taken, no unit is settled yet".to_string(),
         Refusal::Issue => format!("there is no issue {issue}, issues are 0 to {}", ISSUES - 1),
         Refusal::Unit => match (0..)
-            .take_while(|&k| calls::unit(book, issue, k).unit.is_some())
+            .take_while(|&k| matches!(calls::unit(book, issue, k), Ok(Some(_))))
             .last()
         {
             Some(0) => format!("issue {issue} has no unit {unit}, its one unit is 0"),

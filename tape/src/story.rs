@@ -10,8 +10,8 @@ use crate::facts::{Fact, Terms, Told};
 use crate::text::why_ended;
 use crate::units::{close, runs, waiting, Case, Run, Walk};
 use crate::why::{owed_today, why};
-use library::calls::{self, Answer};
-use library::{
+use settlement_day::calls::{self, Done};
+use settlement_day::{
     desk, place, tape, Book, Entry, Instruction, Phase, ACCOUNTS, ISSUES, OUTPUT_WORDS, QUOTES,
 };
 use std::io;
@@ -94,26 +94,22 @@ impl Story<'_> {
         let quotes = if roll { tape::quotes(words) } else { [0; QUOTES] };
         let entries: Vec<Entry> = if roll { self.book.ledger().collect() } else { Vec::new() };
         let answer = calls::call(&mut self.book, &instruction, &quotes, &mut self.output);
-        let refusal = answer
-            .refused()
-            .map(|refusal| (refusal, why(&self.book, &instruction, &quotes, refusal)));
-        let refused = refusal.is_some();
+        let refusal =
+            answer.err().map(|refusal| (refusal, why(&self.book, &instruction, &quotes, refusal)));
         let told = Fact::Instruction { instruction, refusal };
-        if let (Instruction::Roll { days, rate }, false) = (instruction, refused) {
+        if let (Instruction::Roll { days, rate }, Ok(_)) = (instruction, answer) {
             return self.rolled(&told, &entries, days, rate, &quotes);
         }
         self.fact(&told)?;
-        if refused {
-            return Ok(());
-        }
+        let Ok(done) = answer else { return Ok(()) };
         match instruction {
             Instruction::Close => self.closed(),
             Instruction::Deliver { issue, account, .. } => {
-                self.delivered(issue, account, answer.count)
+                self.delivered(issue, account, done.count)
             }
-            Instruction::Cutoff => self.cut(answer.count),
-            Instruction::Resolve { .. } => self.resolved(answer.count),
-            Instruction::PairOff { issue, account } => self.paired(&answer, issue, account),
+            Instruction::Cutoff => self.cut(done.count),
+            Instruction::Resolve { .. } => self.resolved(done.count),
+            Instruction::PairOff { issue, account } => self.paired(done, issue, account),
             Instruction::Trade { .. }
             | Instruction::Roll { .. }
             | Instruction::Mark { .. }
@@ -206,7 +202,7 @@ impl Story<'_> {
         let (unit, handed) = self.handed[issue as usize];
         let stock = self.book.delivered_total(issue).saturating_sub(handed);
         if stock > 0 {
-            if let Some(next) = calls::unit(&self.book, issue, unit).unit {
+            if let Ok(Some(next)) = calls::unit(&self.book, issue, unit) {
                 let (account, lots) = (next.account, next.lots);
                 let turn = self.turn_of(issue, unit, unit);
                 self.fact(&Fact::Waits { issue, stock, unit, account, lots, turn })?;
@@ -257,8 +253,8 @@ impl Story<'_> {
     }
 
     /// The steps of a pair-off, and the issue's entries after it.
-    fn paired(&mut self, answer: &Answer, issue: u32, account: u32) -> io::Result<()> {
-        let Answer { count: steps, cancelled, .. } = *answer;
+    fn paired(&mut self, done: Done, issue: u32, account: u32) -> io::Result<()> {
+        let Done { count: steps, cancelled } = done;
         self.fact(&Fact::Paired { issue, account, steps, cancelled })?;
         let entries: Vec<Entry> =
             self.book.ledger().filter(|entry| u32::from(entry.issue) == issue).collect();
@@ -282,8 +278,8 @@ impl Story<'_> {
         for &Entry { issue, from, to, lots, .. } in entries {
             let at = usize::from(issue) % ISSUES;
             let (price, accrued) = (quotes[at], quotes[ISSUES + at]);
-            let (_, value) = desk::value(lots, price, accrued);
-            let (_, yen) = desk::charge(lots, price, days, rate, accrued);
+            let value = desk::value(lots, price, accrued).unwrap_or(0);
+            let yen = desk::charge(lots, price, days, rate, accrued).unwrap_or(0);
             let terms = Terms { issue: issue.into(), price, accrued, days, rate };
             let fact = Fact::Charge { terms, from: from.into(), to: to.into(), lots, value, yen };
             (self.sink)(&Told { day, word, fact: &fact })?;
@@ -394,10 +390,10 @@ mod tests {
                 (here.phase, by_library.phase) = (phase, phase);
             }
             let answer = calls::call(&mut by_library, &trade, &[], &mut []);
-            assert_eq!(traded(&mut here, &trade), answer.refusal == 0, "{trade:?}");
+            assert_eq!(traded(&mut here, &trade), answer.is_ok(), "{trade:?}");
             assert!(here == by_library, "{trade:?}");
-            booked += u32::from(answer.refusal == 0);
-            put += u32::from(answer.refusal != 0);
+            booked += u32::from(answer.is_ok());
+            put += u32::from(answer.is_err());
         }
         assert!(booked > 100 && put > 100, "{booked} booked, {put} refused");
         assert!(!traded(&mut here, &Instruction::Close));

@@ -6,7 +6,7 @@
 use crate::bytes::{join, split};
 use crate::fault::{shown, words_of, Fault, Faults, Word};
 use crate::measure::{counted, Grouped};
-use library::{tape, Instruction, Refusal, ISSUES, WRITER_WORDS};
+use settlement_day::{tape, Instruction, Refusal, ISSUES, WRITER_WORDS};
 
 /// The instructions' forms, for errors.
 const FORMS: &str = "trade ISSUE FROM TO LOTS, close, deliver ISSUE ACCOUNT LOTS, cutoff, \
@@ -139,10 +139,9 @@ fn line_bytes(name: &Word, arguments: &[Word], ended: bool) -> Result<Vec<u8>, V
     }
     let (instruction, quotes) = instruction_of(name, arguments)?;
     let mut words = [0; WRITER_WORDS];
-    let answer = tape::write(&instruction, &quotes, &mut words);
-    match Refusal::of(answer.refusal) {
-        None => Ok(join(&words[..answer.count])),
-        Some(refusal) => Err(vec![name.fault(format!("the writer says: {refusal}"))]),
+    match tape::write(&instruction, &quotes, &mut words) {
+        Ok(count) => Ok(join(&words[..count])),
+        Err(refusal) => Err(vec![name.fault(format!("the writer says: {}", refusal.said()))]),
     }
 }
 

@@ -1,6 +1,6 @@
 //! The units of an issue as runs of like ones, out of the library's answers, and a walk along them.
 
-use library::{calls, Book};
+use settlement_day::{calls, Book};
 
 /// The lots of a full unit.
 pub const FULL: u32 = 100_000;
@@ -77,7 +77,7 @@ impl Case {
 pub fn runs(book: &Book, issue: u32) -> Vec<Run> {
     let mut runs = Vec::new();
     let mut first = 0;
-    while let Some(unit) = calls::unit(book, issue, first).unit {
+    while let Ok(Some(unit)) = calls::unit(book, issue, first) {
         let due = book.net(issue, unit.account).max(0).unsigned_abs();
         let count = if unit.lots == FULL { (due / FULL).max(1) } else { 1 };
         runs.push(Run { first, count, account: unit.account, lots: unit.lots, due });
@@ -174,7 +174,7 @@ impl Walk {
 #[cfg(test)]
 mod tests {
     use super::*;
-    use library::place;
+    use settlement_day::place;
 
     fn book(nets: &[(u32, i32)]) -> Book {
         let mut book = Book::fresh();
@@ -207,18 +207,18 @@ mod tests {
 
     #[test]
     fn every_unit_is_in_a_run() {
-        let book = book(&[(0, 20_000_000), (5, 1), (9, 100_000), (10, 300_001)]);
+        let book = book(&[(0, 19_500_000), (5, 1), (9, 100_000), (10, 300_001)]);
         let runs = runs(&book, 0);
         let mut k = 0;
         for run in &runs {
             for unit in run.first..=run.last() {
                 assert_eq!(unit, k);
-                let asked = calls::unit(&book, 0, k).unit.unwrap();
+                let asked = calls::unit(&book, 0, k).unwrap().unwrap();
                 assert_eq!((asked.account, asked.lots), (run.account, run.lots));
                 k += 1;
             }
         }
-        assert_eq!(calls::unit(&book, 0, k).unit, None);
+        assert_eq!((k, calls::unit(&book, 0, k)), (195 + 1 + 1 + 4, Ok(None)));
     }
 
     #[test]

@@ -8,10 +8,10 @@ use crate::random_calls::random_call;
 use crate::random_lifts::Tickets;
 use crate::rng::Rng;
 use crate::steps::Call;
-use library::{access, raw};
 use reference::access::{read, without_right, Caller, ReadAnswer};
 use reference::book::Book;
 use reference::simulation::{simulate, Outcome, Plan, Units};
+use settlement_day::raw;
 
 /// A request of a book.
 #[derive(Clone, Debug, PartialEq, Eq)]
@@ -86,7 +86,7 @@ fn asked(book: &mut Book, request: &Request, out: &mut [u32]) -> Answer {
 
 /// The library's answer.
 pub fn library_answer(
-    book: &mut library::Book,
+    book: &mut settlement_day::Book,
     caller: &Caller,
     request: &Request,
     out: &mut [u32],
@@ -100,9 +100,9 @@ pub fn library_answer(
             return plain(tried.refusal, &[tried.deliveries, tried.rounds, owed]);
         }
         Request::Read { issue, account, k } => {
-            let found = access::read(caller, book, *issue, *account, *k);
-            let account = found.account.unwrap_or_default();
-            return seen_numbers(found.refusal, account.net, account.charge, account.entry);
+            let seen = raw::look(caller, &book.columns(), *issue, *account, *k);
+            let entry = (seen.some == 1).then_some(seen.entry);
+            return seen_numbers(seen.refusal, seen.net, seen.charge, entry);
         }
     };
     let answer = match *call {
@@ -121,19 +121,22 @@ pub fn library_answer(
             return plain(asked.refusal, &asked.ticket.map(u64::from));
         }
         Call::Commit { ref ticket, .. } => {
-            access::commit(caller, book, &library_ticket(ticket), out)
+            raw::commit_as(caller, &mut book.columns_mut(), &library_ticket(ticket).numbers(), out)
         }
         Call::Roll { days, rate, ref quotes } => {
-            access::call(caller, book, &library::Instruction::Roll { days, rate }, quotes, out)
+            let roll = settlement_day::Instruction::Roll { days, rate };
+            raw::call_as(caller, &mut book.columns_mut(), &roll.fields(), quotes, out)
         }
-        ref call => access::call(caller, book, &instruction(call), &[], out),
+        ref call => {
+            raw::call_as(caller, &mut book.columns_mut(), &instruction(call).fields(), &[], out)
+        }
     };
     plain(answer.refusal, &[answer.count as u64, answer.cancelled])
 }
 
 /// The instruction of a call that is one.
-fn instruction(call: &Call) -> library::Instruction {
-    use library::Instruction;
+pub(crate) fn instruction(call: &Call) -> settlement_day::Instruction {
+    use settlement_day::Instruction;
     match *call {
         Call::Trade { issue, from, to, lots } => Instruction::Trade { issue, from, to, lots },
         Call::Close => Instruction::Close,
@@ -163,7 +166,12 @@ fn seen(answer: ReadAnswer) -> Answer {
 }
 
 /// A reading in plain numbers: net, charge, whether there is an entry, its issue and accounts, lots, day.
-fn seen_numbers(number: u32, net: i32, charge: i64, entry: Option<library::Entry>) -> Answer {
+fn seen_numbers(
+    number: u32,
+    net: i32,
+    charge: i64,
+    entry: Option<settlement_day::Entry>,
+) -> Answer {
     let found = u64::from(entry.is_some());
     let (ends, lots, day) = entry.map_or((0, 0, 0), |e| {
         let ends = u64::from(e.issue) << 16 | u64::from(e.from) << 8 | u64::from(e.to);

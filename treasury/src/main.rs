@@ -4,7 +4,7 @@ use std::io::{self, Read, Write};
 use std::process::ExitCode;
 use std::{env, fs};
 use treasury::file::participants;
-use treasury::options::Options;
+use treasury::options::{completion, Options};
 use treasury::table::Provision;
 
 const USAGE: &str = "\
@@ -31,6 +31,7 @@ fn main() -> ExitCode {
         Some("--version" | "-V") => {
             Ok(Ended::Told(format!("treasury {}\n", env!("CARGO_PKG_VERSION"))))
         }
+        Some("--completion") => Ok(Ended::Told(completion())),
         _ => obey(words),
     };
     match ended {

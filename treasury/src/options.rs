@@ -1,5 +1,15 @@
 //! The words of the command.
 
+/// The options, and whether each takes a value.
+pub const OPTIONS: [(&str, bool); 3] = [("--factor", true), ("--funds", true), ("--json", false)];
+
+/// The words that a shell completes, for scripts/completion.sh: behind `=` stands what a value is.
+pub fn completion() -> String {
+    let word = |(name, valued)| if valued { format!("{name}=value ") } else { format!("{name} ") };
+    let words: String = OPTIONS.into_iter().map(word).collect();
+    format!("{words}--help --version\n")
+}
+
 /// What the command line asks for.
 #[derive(Clone, Debug, Default, PartialEq, Eq)]
 pub struct Options {
@@ -59,7 +69,7 @@ fn tenths(word: Option<String>) -> Result<u64, String> {
 
 #[cfg(test)]
 mod tests {
-    use super::Options;
+    use super::{completion, Options, OPTIONS};
 
     fn parse(line: &str) -> Result<Options, String> {
         Options::parse(line.split_whitespace().map(String::from))
@@ -72,6 +82,19 @@ mod tests {
         assert_eq!(all.file.as_deref(), Some("x.csv"));
         assert_eq!(parse("--factor 12").unwrap().tenths, Some(120));
         assert_eq!(parse("-").unwrap().file.as_deref(), Some("-"));
+    }
+
+    #[test]
+    fn every_option_is_taken_told_completed_and_in_the_manual() {
+        let known = parse("--unknown").unwrap_err();
+        let manual = include_str!("../../docs/man/treasury.1").replace("\\-", "-");
+        for (name, valued) in OPTIONS {
+            assert!(parse(&format!("{name} 1")).is_ok() && known.contains(name), "{name}");
+            assert_eq!(parse(name).is_err(), valued, "{name}");
+            assert!(completion().split([' ', '=']).any(|word| word == name), "{name}");
+            assert!(manual.contains(name), "{name}");
+        }
+        assert_eq!(completion(), "--factor=value --funds=value --json --help --version\n");
     }
 
     #[test]

@@ -1,8 +1,8 @@
 //! The table of a default: what the proved library answers, as text and as JSON.
 
 use crate::file::{Fault, Participant};
-use library::funds::{self, Amounts, MOST_AMOUNT, PARTICIPANTS};
-use library::Refusal;
+use settlement_day::funds::{self, Amounts, MOST_AMOUNT, PARTICIPANTS};
+use settlement_day::Refusal;
 
 /// The participants of a default, the factor that their bases come from (none where bases are given),
 /// and the funds (none where only bases are asked for).
@@ -46,12 +46,11 @@ impl Provision {
     }
 
     /// The bases: those given, or those of the averages and the factor.
-    fn bases(&self, averages: &[u64]) -> Result<Vec<u64>, u32> {
+    fn bases(&self, averages: &[u64]) -> Result<Vec<u64>, Refusal> {
         if let Some(tenths) = self.tenths {
             let mut output: Amounts = [0; PARTICIPANTS];
-            let number = funds::bases(averages, tenths, &mut output);
-            let bases = output.into_iter().take(averages.len()).collect();
-            return if number == 0 { Ok(bases) } else { Err(number) };
+            funds::bases(averages, tenths, &mut output)?;
+            return Ok(output.into_iter().take(averages.len()).collect());
         }
         Ok(self.participants.iter().map(|one| one.base.map_or(0, |base| base.amount)).collect())
     }
@@ -59,17 +58,15 @@ impl Provision {
     /// The table, or why there is none.
     pub fn table(&self) -> Result<Table, Refused> {
         let averages = self.averages();
-        let bases = self.bases(&averages).map_err(|number| self.refused(number, 0))?;
+        let bases = self.bases(&averages).map_err(|refusal| self.refused(refusal, 0))?;
         let together = bases.iter().map(|&base| u128::from(base)).sum();
         let mut output: Amounts = [0; PARTICIPANTS];
         let amount = self.funds.unwrap_or(0);
-        let number = match self.tenths {
+        match self.tenths {
             Some(tenths) => funds::funds(&averages, tenths, amount, &mut output),
             None => funds::shares(&averages, &bases, amount, &mut output),
-        };
-        if number != 0 {
-            return Err(self.refused(number, together));
         }
+        .map_err(|refusal| self.refused(refusal, together))?;
         let rows = self.participants.iter().zip(bases).zip(output);
         let row = |((one, base), share): ((&Participant, u64), u64)| Row {
             name: one.name.clone(),
@@ -81,9 +78,9 @@ impl Provision {
     }
 
     /// What a refusal comes from.
-    fn refused(&self, number: u32, together: u128) -> Refused {
-        let funds = self.funds.unwrap_or(0);
-        if number == Refusal::Bases.number() {
+    fn refused(&self, refusal: Refusal, together: u128) -> Refused {
+        let (number, funds) = (refusal.number(), self.funds.unwrap_or(0));
+        if refusal == Refusal::Bases {
             let what = format!(
                 "the funds of {funds} are above all bases together, {together}; lower the funds or \
                  raise the factor"

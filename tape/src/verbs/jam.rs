@@ -36,7 +36,7 @@ fn act(given: &Given) -> Result<Ended, String> {
     let text = text_of(&name, get(desk)?)?;
     let desk = desk_of(&text, &book)
         .map_err(|faults| faults.listed(&name, ["error", "errors"]).join("\n"))?;
-    let tried = try_sizes(&book, ended, &desk, &sizes).map_err(|refusal| refusal.to_string())?;
+    let tried = try_sizes(&book, ended, &desk, &sizes).map_err(|refusal| refusal.said())?;
     let told = match (given.has(&JSON), given.has(&HTML)) {
         (true, _) => tried.json(),
         (_, true) => tried.html(),

@@ -38,8 +38,8 @@ fn act(given: &Given) -> Result<Ended, String> {
     };
     match told {
         Ok(told) => put(given, told.as_bytes()),
-        Err(number) => {
-            say(&refused(number));
+        Err(refusal) => {
+            say(&refused(refusal));
             Ok(Ended::Badly)
         }
     }

@@ -88,7 +88,22 @@ fn told(words: &[OsString]) -> Option<String> {
     if has(&["--help", "-h"]) || words == ["help"] {
         return Some(help() + "\n");
     }
+    if words == ["--completion"] {
+        return Some(completion());
+    }
     has(&["--version", "-V"]).then(|| format!("tape {}\n", env!("CARGO_PKG_VERSION")))
+}
+
+/// The words that a shell completes, for scripts/completion.sh: a line for each verb with its options, and
+/// one of the options without a verb. Behind `=` stands what the value of an option is.
+fn completion() -> String {
+    let line = |verb: &&Verb| {
+        let options = [verb.options, &[OUT, FORCE]].concat();
+        let words: Vec<String> = options.iter().map(Opt::completed).collect();
+        format!("{} {}\n", verb.name, words.join(" "))
+    };
+    let lines: String = VERBS.iter().map(line).collect();
+    lines + "--help --version\n"
 }
 
 /// All help.
@@ -186,5 +201,30 @@ mod tests {
         }
         assert!(OF_ALL.contains(OUT.name) && OF_ALL.contains(FORCE.name));
         assert!(help().lines().all(|line| line.len() <= 100));
+    }
+
+    #[test]
+    fn a_shell_completes_every_verb_and_its_options() {
+        let completion = completion();
+        for verb in VERBS {
+            let line = completion.lines().find(|line| line.split(' ').next() == Some(verb.name));
+            let words: Vec<&str> =
+                line.into_iter().flat_map(|line| line.split([' ', '='])).collect();
+            for option in verb.options.iter().chain([&OUT, &FORCE]) {
+                assert!(words.contains(&option.name), "{}: {}", verb.name, option.name);
+            }
+        }
+        assert!(completion.starts_with("write --hex -o=file --force\n"));
+    }
+
+    #[test]
+    fn the_manual_names_every_verb_and_its_options() {
+        let manual = include_str!("../../../docs/man/tape.1").replace("\\-", "-");
+        for verb in VERBS {
+            assert!(manual.contains(&format!("\n.B tape {}\n", verb.name)), "{}", verb.name);
+            for option in verb.options.iter().chain([&OUT, &FORCE]) {
+                assert!(manual.contains(option.name), "{}: {}", verb.name, option.name);
+            }
+        }
     }
 }

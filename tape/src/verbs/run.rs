@@ -13,7 +13,8 @@ pub(super) const VERB: Verb = Verb {
     name: "run",
     usage: "\
 tape run [--hex | --words] [--program PATH] [DAY..]
-        runs dayrun on a tape: target/bin/dayrun, or PATH; says where its lines are not whole",
+        runs dayrun on a tape, the one beside this tool, target/bin/dayrun, or PATH; says where its
+        lines are not whole",
     options: &[HEX, WORDS, PROGRAM],
     act,
 };

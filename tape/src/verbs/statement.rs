@@ -3,7 +3,7 @@
 use super::{day_of, put, Ended, Verb};
 use crate::options::{flag, number, Given, Opt, HEX, JSON, WORDS};
 use crate::statement::Told;
-use library::{ACCOUNTS, ISSUES};
+use settlement_day::{ACCOUNTS, ISSUES};
 
 const HTML: Opt = flag("--html");
 const ALL: Opt = flag("--all");
@@ -34,7 +34,7 @@ fn act(given: &Given) -> Result<Ended, String> {
         let account = number("ACCOUNT", account, 0..=ACCOUNTS as u32 - 1)?;
         Told::one(&day_of(given, days)?.tape, issue, account)
     }
-    .map_err(|refusal| refusal.to_string())?;
+    .map_err(|refusal| refusal.said())?;
     let told = match (given.has(&JSON), given.has(&HTML)) {
         (true, _) => told.json(),
         (_, true) => told.html(),

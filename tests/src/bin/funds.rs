@@ -7,8 +7,8 @@
 //! words around it are compared. `--replay` takes what is called (`bases`, `shares` or `funds`), the
 //! factor in tenths, the funds, the number of participants, their averages, and for `shares` bases.
 
-use library::funds as proved;
 use reference::funds::{self as model, Amounts, MOST_AMOUNT, MOST_PARTICIPANTS};
+use settlement_day::{funds as proved, Refusal};
 use std::collections::BTreeSet;
 use std::fmt;
 use std::process::ExitCode;
@@ -89,12 +89,12 @@ impl Case {
     fn library(&self) -> Answer {
         let mut lent = Lent::marked();
         let output = &mut lent.output;
-        let number = match self.call {
+        let answer = match self.call {
             Call::Bases => proved::bases(&self.averages, self.tenths, output),
             Call::Shares => proved::shares(&self.averages, &self.bases, self.funds, output),
             Call::Funds => proved::funds(&self.averages, self.tenths, self.funds, output),
         };
-        lent.answer(number)
+        lent.answer(answer.err().map_or(0, Refusal::number))
     }
 
     /// The second engine's.

@@ -7,9 +7,9 @@
 //! Last the second engine's own counts, for some lists. `--replay` takes `list`, accounts, most and
 //! places, or `fails`, accounts, most and delivered lots.
 
-use library::markets as proved;
 use reference::book::{place, Book, ISSUES};
 use reference::markets::{self as model, COUNTS, PLACES};
+use settlement_day::{markets as proved, Refusal};
 use std::collections::{BTreeMap, BTreeSet};
 use std::fmt;
 use std::process::ExitCode;
@@ -61,6 +61,16 @@ fn lent(places: usize) -> Vec<i32> {
 /// Who lists: the library or the second engine.
 type Lister = fn(u32, u32, &mut [i32]) -> Result<usize, u32>;
 
+/// The library's list, or the refusal's number.
+fn list(accounts: u32, most: u32, output: &mut [i32]) -> Result<usize, u32> {
+    proved::list(accounts, most, output).map_err(Refusal::number)
+}
+
+/// The library's counts, or the refusal's number.
+fn fails(accounts: u32, most: u32, delivered: &[u32]) -> Result<[u32; COUNTS], u32> {
+    proved::fails(accounts, most, delivered).map_err(Refusal::number)
+}
+
 /// What a lister answers, with every place of the output and around it.
 fn listed(
     lister: Lister,
@@ -80,12 +90,12 @@ impl Asked {
             Asked::List { accounts, most, places } => {
                 let expected = listed(model::list, *accounts, *most, *places);
                 let answer = expected.0;
-                Mismatch::of(self, expected, listed(proved::list, *accounts, *most, *places))?;
+                Mismatch::of(self, expected, listed(list, *accounts, *most, *places))?;
                 Ok(answer.err().unwrap_or(0))
             }
             Asked::Fails { accounts, most, delivered } => {
                 let expected = model::fails(*accounts, *most, delivered);
-                Mismatch::of(self, expected, proved::fails(*accounts, *most, delivered))?;
+                Mismatch::of(self, expected, fails(*accounts, *most, delivered))?;
                 Ok(expected.err().unwrap_or(0))
             }
         }
@@ -146,7 +156,7 @@ struct Day {
 
 /// Every market of so many accounts, as the library lists them, with every list of deliveries.
 fn days(accounts: u32) -> Result<Vec<Day>, String> {
-    let markets = proved::all(accounts, MOST).map_err(|number| format!("refused by {number}"))?;
+    let markets = proved::all(accounts, MOST).map_err(|refusal| refusal.to_string())?;
     let with_deliveries = |nets: &Vec<i32>| -> Vec<Day> {
         let owed: Vec<u32> = nets.iter().map(|&net| net.min(0).unsigned_abs()).collect();
         let days = lots_up_to(&owed).into_iter();
@@ -211,7 +221,7 @@ fn counts_agree(accounts: u32, counts: &Counts) -> Result<u64, Mismatch> {
         for delivered in lots_up_to(&vec![most + 1; accounts as usize]) {
             let asked = Asked::Fails { accounts, most, delivered: delivered.clone() };
             let books = counts.get(&(most, delivered.clone())).copied().unwrap_or_default();
-            Mismatch::of(&asked, Ok(books), proved::fails(accounts, most, &delivered))?;
+            Mismatch::of(&asked, Ok(books), fails(accounts, most, &delivered))?;
             lists += 1;
         }
     }

@@ -3,8 +3,8 @@
 //! Every combination of edges, then random cases. `--replay value L P A` and
 //! `--replay charge L P D R A` run one case alone.
 
-use library::desk;
 use reference::measures::{self, MOST_ACCRUED, MOST_DAYS, MOST_LOTS, MOST_PRICE, MOST_RATE};
+use settlement_day::raw;
 use std::collections::BTreeSet;
 use std::fmt;
 use std::process::ExitCode;
@@ -52,9 +52,9 @@ impl Case {
     /// The library's refusal number and yen.
     fn library(self) -> (u32, u64) {
         match self {
-            Case::Value { lots, price, accrued } => desk::value(lots, price, accrued),
+            Case::Value { lots, price, accrued } => raw::value(lots, price, accrued),
             Case::Charge { lots, price, days, rate, accrued } => {
-                desk::charge(lots, price, days, rate, accrued)
+                raw::charge(lots, price, days, rate, accrued)
             }
         }
     }

@@ -6,8 +6,8 @@
 //! fails of all accounts are all fails that were written. `--replay` takes an issue, an account and the
 //! words in hexadecimal.
 
-use library::statement::write;
 use reference::statement::{fails, statement as model, MOST_INSTRUCTIONS};
+use settlement_day::{statement::write, Refusal};
 use std::collections::BTreeSet;
 use std::fmt;
 use std::path::Path;
@@ -57,8 +57,8 @@ impl Case<'_> {
     /// The library's answer.
     fn library(&self) -> Answer {
         let mut lent = Lent { before: AROUND, numbers: [AROUND; 6], after: AROUND };
-        let number = write(self.words, self.issue, self.account, &mut lent.numbers);
-        (number, lent.before, lent.numbers, lent.after)
+        let answer = write(self.words, self.issue, self.account, &mut lent.numbers);
+        (answer.err().map_or(0, Refusal::number), lent.before, lent.numbers, lent.after)
     }
 
     /// The second engine's.

@@ -8,8 +8,9 @@
 //! the number of reports, of each report its sub-account, counterparty, lots and earlier fail, and
 //! then the draw.
 
-use library::trust::{self as proved, Reports};
 use reference::trust::{self as model, Report, LAST_SUB_ACCOUNT, MOST_REPORTS};
+use settlement_day::trust::{self as proved, Reports};
+use settlement_day::Refusal;
 use std::collections::BTreeSet;
 use std::fmt;
 use std::process::ExitCode;
@@ -96,8 +97,8 @@ impl Case {
     fn library(&self, columns: &Columns) -> (u32, Vec<u32>) {
         let mut words = marked(self.places + 2 * AROUND);
         let output = &mut words[AROUND..AROUND + self.places];
-        let number = proved::shares(&columns.lent(), &self.draw, self.fail, self.failing, output);
-        (number, words)
+        let answer = proved::shares(&columns.lent(), &self.draw, self.fail, self.failing, output);
+        (answer.err().map_or(0, Refusal::number), words)
     }
 
     /// The second engine's.
