@@ -85,7 +85,10 @@ pub fn run<F: Files>(
     loop {
         console.prompt()?;
         number += 1;
-        let Some(line) = read_line(&mut input, number)? else { break };
+        let Some(line) = read_line(&mut input, number)? else {
+            console.leave()?;
+            break;
+        };
         let said = line.and_then(|line| line::read(&line, number));
         if said == Ok(Said::End) {
             break;
@@ -138,6 +141,14 @@ impl<F: Files> Console<'_, F> {
         }
         write!(self.answers, "day {}, {}> ", self.next.day, phase(&self.next))?;
         self.answers.flush()
+    }
+
+    /// Ends a person's last line, on which nothing was written.
+    fn leave(&mut self) -> io::Result<()> {
+        if self.manner.terminal {
+            writeln!(self.answers)?;
+        }
+        Ok(())
     }
 
     /// The answer to a line that can be read; none to one that says nothing.

@@ -82,7 +82,8 @@ impl Faulty {
         }
         for (name, before) in state.names.iter().rev() {
             match before {
-                _ if chance(1) == 0 => {}
+                // A file that has another name by now goes with that.
+                _ if !name.exists() || chance(1) == 0 => {}
                 Some(before) => fs::rename(name, before)?,
                 None => fs::remove_file(name)?,
             }

@@ -157,3 +157,48 @@ fn status(state: &State) -> String {
         + &number("snapshot", at)
         + &number("records", records)
 }
+
+#[cfg(test)]
+mod tests {
+    use super::*;
+    use library::calls::Unit;
+    use library::Refusal;
+
+    #[test]
+    fn answers_are_objects() {
+        let fault = Fault { line: 7, column: 3, what: "say \"x\"".to_string() };
+        for (answer, told) in [
+            (
+                Answer::Wrong(vec![fault]),
+                r#"{"line":7,"answer":"wrong","faults":[{"column":3,"what":"say \"x\""}]}"#,
+            ),
+            (
+                Answer::Unit { issue: 0, unit: 9, found: None },
+                r#"{"line":7,"answer":"unit","issue":0,"unit":9,"account":null,"lots":null}"#,
+            ),
+            (
+                Answer::Why {
+                    issue: 0,
+                    unit: 1,
+                    found: Unit { account: 2, lots: 3 },
+                    status: Status::Waiting { lots: 4 },
+                },
+                r#"{"line":7,"answer":"why","issue":0,"unit":1,"account":2,"lots":3,"status":"waiting","wants":4}"#,
+            ),
+            (
+                Answer::Refused {
+                    said: "close".to_string(),
+                    refusal: Refusal::Phase,
+                    why: "no".to_string(),
+                },
+                r#"{"line":7,"answer":"refused","said":"close","refusal":3,"why":"no"}"#,
+            ),
+            (
+                Answer::Charges(vec![(1, -5), (2, 5)]),
+                r#"{"line":7,"answer":"charges","charges":[{"account":1,"yen":-5},{"account":2,"yen":5}]}"#,
+            ),
+        ] {
+            assert_eq!(object(&answer, 7), told);
+        }
+    }
+}

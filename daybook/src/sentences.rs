@@ -53,7 +53,8 @@ fn done(done: &Done) -> Vec<String> {
     let mut lines = vec![format!("done: {}", done.call.line())];
     lines.extend(done.note.clone());
     let like = done.records.chunk_by(|one, next| one == next);
-    lines.extend(like.map(|like| record(&like[0], like.len())));
+    let cutoff = matches!(done.call, Call::Tape { instruction: Instruction::Cutoff, .. });
+    lines.extend(like.map(|like| record(&like[0], like.len(), cutoff)));
     let (day, phase) = (done.day, done.phase);
     match &done.call {
         Call::Commit(_) | Call::Tape { instruction: Instruction::Deliver { .. }, .. }
@@ -79,13 +80,14 @@ fn done(done: &Done) -> Vec<String> {
     lines
 }
 
-/// So many like records.
-fn record(record: &Record, count: usize) -> String {
+/// So many like records. What a cutoff hands over is what was left in stock.
+fn record(record: &Record, count: usize, cutoff: bool) -> String {
     let Record { kind, issue, from, to, lots } = *record;
     let lots = Face(lots.into());
     match kind {
         FAILED => format!("issue {issue}: account {from} fails account {to}: {lots}"),
         RESOLVED => format!("issue {issue}: account {from} hands to account {to}: {lots}"),
+        _ if cutoff => format!("issue {issue}: the remaining stock goes to account {to}: {lots}"),
         _ if count == 1 => format!("issue {issue}: handed to account {to}: {lots}"),
         _ => format!("issue {issue}: handed to account {to}: {count} units of {lots}"),
     }
@@ -191,4 +193,39 @@ fn status(state: &State) -> Vec<String> {
     let records = counted(records as usize, "record");
     lines.push(format!("on the disk: snapshot-{number}, journal-{number} with {records}"));
     lines
+}
+
+#[cfg(test)]
+mod tests {
+    use super::*;
+
+    #[test]
+    fn an_answer_as_one_line_has_all_its_lines() {
+        let entry = |lots| Entry { issue: 3, from: 4, to: 2, lots, day: 9 };
+        let answer = Answer::Ledger(vec![entry(1), entry(5_000)]);
+        let told = "2 fail entries; issue 3: account 4 owes account 2 1 lot (50,000 yen face), since \
+            day 9; issue 3: account 4 owes account 2 5,000 lots (250,000,000 yen face), since day 9";
+        assert_eq!(one_line(&answer), told);
+        assert_eq!(one_line(&Answer::Ledger(vec![])), "0 fail entries");
+        assert!(!one_line(&Answer::Help).contains('\n'));
+    }
+
+    #[test]
+    fn what_stands_on_the_disk_is_told() {
+        let state = State {
+            day: 3,
+            phase: "Settling",
+            turn: 2,
+            marked: vec![15],
+            lifts: vec![(0, vec![library::Lift { old: 7, new: 3 }])],
+            entries: 1,
+            charged: 0,
+            number: 2,
+            records: 1,
+        };
+        let told = "day 3, Settling; full units are dealt in turn since day 2; issue 15 takes even lots \
+            only; issue 0: 1 lift: unit 7 to place 3; 1 fail entry, 0 accounts with charges; on the \
+            disk: snapshot-2, journal-2 with 1 record";
+        assert_eq!(one_line(&Answer::Status(Box::new(state))), told);
+    }
 }

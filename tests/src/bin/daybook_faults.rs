@@ -3,13 +3,14 @@
 //! were answered, or after those whose answer was on its way, and nothing else; or it is not opened, where a
 //! file is damaged, with its place.
 //!
-//! `--part NAME` runs one part: ends, failures, random, cuts, bits, formats. `--cases N` is the number of
+//! `--part NAME` runs one part: ends, failures, random, cuts, bits, formats, stories. `--cases N` is the number of
 //! random scripts.
 
 use daybook::console::{self, Ended, Manner};
 use daybook::faults::{Fault, Faulty, Then};
 use daybook::files::Disk;
 use daybook::format::RECORD_BYTES;
+use daybook::history::{self, History};
 use daybook::store::{self, Opened};
 use daybook::{folder, format};
 use std::env;
@@ -31,16 +32,16 @@ const ERRORS: [i32; 3] = [5, 28, 30];
 /// An operation that never comes.
 const NEVER: u64 = u64::MAX;
 
-/// The worked day P5 to P8 with a lift, refused calls and questions, and the roll; what stands behind `compact`
-/// is the next day.
-const SCRIPT: &str =
+/// The worked day P5 to P9 with a lift, a refused trade, a ticket that is used twice, and questions.
+const DAY: &str =
     "turn 2; trade 0 4 1 230000; trade 0 5 2 250000; trade 0 5 3 150000; trade 0 5 5 1; \
     close; deliver 0 5 345000 out 4096; unit 0 3; ask 0 7; commit 0 7 1 30000 0 1 out 4096; \
     commit 0 7 1 30000 0 1 out 4096; status 0 3; deliver 0 4 200000 out 4096; cutoff out 4096; \
-    roll 1 300 100000 accrued 0 compact mark 15 1; resolve 0 5 30000 out 4096; pair-off 0 5; \
-    trade 3 1 2 100001; close; cutoff out 4096";
-/// Where the folder is compacted in the script: before this line.
-const COMPACTED: usize = 15;
+    roll 1 300 QUOTES";
+/// The next day, before which the folder is compacted.
+const NEXT: &str =
+    "mark 15 1; resolve 0 5 30000 out 4096; pair-off 0 5; trade 3 1 2 100001; close; \
+    cutoff out 4096";
 
 fn main() -> ExitCode {
     let words: Vec<String> = env::args().skip(1).collect();
@@ -64,13 +65,14 @@ fn main() -> ExitCode {
 /// A part: its name, and what it does in a folder of its own.
 type Part = (&'static str, fn(&Path, &Options) -> Result<String, String>);
 
-const PARTS: [Part; 6] = [
+const PARTS: [Part; 7] = [
     ("ends", ends),
     ("failures", failures),
     ("random", random),
     ("cuts", cuts),
     ("bits", bits),
     ("formats", formats),
+    ("stories", stories),
 ];
 
 /// Runs the parts, and tells what each did.
@@ -101,49 +103,69 @@ fn text(error: io::Error) -> String {
     error.to_string()
 }
 
-/// The lines of the worked script.
-fn script() -> Vec<Line> {
-    let roll = "roll 1 300 100000 100000 100000 100000 100000 100000 100000 100000 100000 100000 \
-        100000 100000 100000 100000 100000 100000 0 0 0 0 0 0 0 0 0 0 0 0 0 0 0 0; ";
-    let steps = SCRIPT.replace("roll 1 300 100000 accrued 0 compact ", roll);
-    let steps = parse(&steps).unwrap_or_else(|error| panic!("{error}"));
-    let line = |step: Step| match step {
-        Step::Call(call) => Line::of(call),
-        Step::Set(_) => None,
+/// The lines of the two days, and how many the first has.
+fn days() -> (Vec<Line>, usize) {
+    let quotes = [["100000"; 16], ["0"; 16]].concat().join(" ");
+    let lines = |day: &str| -> Vec<Line> {
+        let steps = parse(&day.replace("QUOTES", &quotes));
+        let line = |step: Step| match step {
+            Step::Call(call) => Line::of(call),
+            Step::Set(_) => None,
+        };
+        steps.unwrap_or_default().into_iter().filter_map(line).collect()
     };
-    steps.into_iter().filter_map(line).collect()
+    let (day, next) = (lines(DAY), lines(NEXT));
+    let first = day.len();
+    ([day, next].concat(), first)
 }
 
-/// Plays lines to consoles of a folder, with a compaction before this line; what is answered goes to an
-/// output. An error is that a folder is not made, opened or compacted.
-fn play(
-    files: &Faulty,
-    folder: &Path,
-    script: &[Line],
+/// What was said of a folder: that it holds a book, and the number of its snapshot.
+#[derive(Default)]
+struct Said {
+    made: bool,
+    number: u32,
+}
+
+/// Lines to be played to consoles of a folder, with a compaction before one of them.
+struct Play<'a> {
+    files: &'a Faulty,
+    folder: &'a Path,
+    script: &'a [Line],
     compacted: usize,
-    manner: Manner,
-    answers: &mut dyn Write,
-) -> Result<(), String> {
-    if !folder.join("snapshot-0").exists() {
+    batch: bool,
+}
+
+impl Play<'_> {
+    /// Plays them; what is answered goes to an output. An error is that the folder is not made, opened or
+    /// compacted, or that the console ended before its lines did.
+    fn run(&self, answers: &mut dyn Write, said: &mut Said) -> Result<(), String> {
+        let Play { files, folder, script, compacted, batch } = *self;
         store::make(&mut files.clone(), folder)?;
-    }
-    let (before, behind) = script.split_at(compacted.min(script.len()));
-    let parts = if behind.is_empty() { &[before][..] } else { &[before, behind] };
-    for (at, lines) in parts.iter().enumerate() {
-        let Opened { mut store, mut book, .. } = store::open(files.clone(), folder)?;
-        if at == 1 {
-            store.compact(&book)?;
-            drop(store);
-            let again = store::open(files.clone(), folder)?;
-            (store, book) = (again.store, again.book);
+        said.made = true;
+        let (before, behind) = script.split_at(compacted.min(script.len()));
+        let parts = if behind.is_empty() { &[before][..] } else { &[before, behind] };
+        for (at, lines) in parts.iter().enumerate() {
+            let Opened { mut store, mut book, .. } = store::open(files.clone(), folder)?;
+            if at == 1 {
+                said.number = store.compact(&book)?;
+                drop(store);
+                let again = store::open(files.clone(), folder)?;
+                (store, book) = (again.store, again.book);
+            }
+            let lines: String = lines.iter().map(|line| format!("{}\n", line.text)).collect();
+            let ended = console::run(
+                store,
+                book,
+                Manner { batch, ..Manner::default() },
+                lines.as_bytes(),
+                answers,
+            );
+            if ended.map_err(text)? == Ended::Unsure {
+                return Err("the console ended".to_string());
+            }
         }
-        let lines: String = lines.iter().map(|line| format!("{}\n", line.text)).collect();
-        let ended = console::run(store, book, manner, lines.as_bytes(), answers);
-        if ended.map_err(text)? == Ended::Unsure {
-            return Err("the console ended".to_string());
-        }
+        Ok(())
     }
-    Ok(())
 }
 
 /// The operations of a script without a fault, by which faults are placed.
@@ -155,9 +177,9 @@ fn operations(
 ) -> Result<u64, String> {
     let _ = fs::remove_dir_all(folder);
     let files = Faulty::new(Fault { at: NEVER, part: 0, then: Then::End });
-    let manner = Manner { batch, ..Manner::default() };
     let mut answers = Vec::new();
-    play(&files, folder, script, compacted, manner, &mut answers)?;
+    Play { files: &files, folder, script, compacted, batch }
+        .run(&mut answers, &mut Said::default())?;
     let followed = follow(script, &String::from_utf8_lossy(&answers))?;
     let held = folder::held(folder)?;
     if !followed.unknown.is_empty() || followed.more(&held.book, 0) != Some(0) {
@@ -169,12 +191,14 @@ fn operations(
 
 /// Looks at a folder after a fault: it opens with a book that it may have, and goes on. Answers how many
 /// calls more than were answered it has.
-fn look(folder: &Path, followed: &Followed, most: usize) -> Result<usize, String> {
-    if followed.done == 0
-        && folder::numbers(folder).map_or(true, |found| found.snapshots.is_empty())
-    {
+fn look(folder: &Path, said: &Said, followed: &Followed, most: usize) -> Result<usize, String> {
+    let none = folder::numbers(folder).map_or(true, |found| found.snapshots.is_empty());
+    if !said.made && followed.done == 0 && none {
         // No book was made, and none was promised: it can be made.
         store::make(&mut Disk, folder)?;
+    }
+    if folder::newest(folder)? < said.number {
+        return Err("a snapshot that was said to be there is not".to_string());
     }
     let read = folder::held(folder)?.book;
     let Opened { store, book, .. } = store::open(Disk, folder)?;
@@ -204,9 +228,10 @@ fn look(folder: &Path, followed: &Followed, most: usize) -> Result<usize, String
 fn child(folder: &str, at: &str, part: &str, batch: &str) -> ExitCode {
     let (Ok(at), Ok(part)) = (at.parse(), part.parse()) else { return ExitCode::FAILURE };
     let files = Faulty::new(Fault { at, part, then: Then::Abort });
-    let manner = Manner { batch: batch == "batch", ..Manner::default() };
-    let played =
-        play(&files, Path::new(folder), &script(), COMPACTED, manner, &mut io::stdout().lock());
+    let ((script, compacted), batch) = (days(), batch == "batch");
+    let folder = Path::new(folder);
+    let play = Play { files: &files, folder, script: &script, compacted, batch };
+    let played = play.run(&mut io::stdout().lock(), &mut Said::default());
     if played.is_ok() {
         ExitCode::SUCCESS
     } else {
@@ -216,17 +241,17 @@ fn child(folder: &str, at: &str, part: &str, batch: &str) -> ExitCode {
 
 /// The process ended before, inside and after every operation of the script.
 fn ends(place: &Path, _: &Options) -> Result<String, String> {
-    let (script, folder) = (script(), place.join("desk"));
+    let ((script, compacted), folder) = (days(), place.join("desk"));
     let (mut ends, mut on_the_way) = (0, 0);
     for batch in [false, true] {
         let most = if batch { script.len() } else { 1 };
-        for at in 0..operations(&folder, &script, COMPACTED, batch)? {
+        for at in 0..operations(&folder, &script, compacted, batch)? {
             for part in [0, 1, RECORD_BYTES - 1, usize::MAX] {
                 let _ = fs::remove_dir_all(&folder);
                 let output = ended(&folder, at, part, batch)?;
                 let wrong = |error| format!("batch {batch}, operation {at}, part {part}: {error}");
                 let followed = follow(&script, &output).map_err(wrong)?;
-                let more = look(&folder, &followed, most).map_err(wrong)?;
+                let more = look(&folder, &Said::default(), &followed, most).map_err(wrong)?;
                 (ends, on_the_way) = (ends + 1, on_the_way + usize::from(more > 0));
             }
         }
@@ -264,26 +289,27 @@ fn met(what: &str, count: usize) -> Result<(), String> {
 /// Every operation of the script fails, once, twice or from then on, with each error, a write also in its
 /// middle.
 fn failures(place: &Path, _: &Options) -> Result<String, String> {
-    let (script, folder) = (script(), place.join("desk"));
+    let ((script, compacted), folder) = (days(), place.join("desk"));
     let (mut cases, mut not_done, mut unsure) = (0, 0, 0);
     for batch in [false, true] {
         let most = if batch { script.len() } else { 1 };
-        for at in 0..operations(&folder, &script, COMPACTED, batch)? {
+        for at in 0..operations(&folder, &script, compacted, batch)? {
             for (which, times) in [1, 2, 3, NEVER - at].into_iter().enumerate() {
                 let error = ERRORS[(at as usize + which) % ERRORS.len()];
                 for part in [0, 7, RECORD_BYTES] {
                     let _ = fs::remove_dir_all(&folder);
                     let files = Faulty::new(Fault { at, part, then: Then::Fail { error, times } });
-                    let manner = Manner { batch, ..Manner::default() };
-                    let mut answers = Vec::new();
-                    let _ = play(&files, &folder, &script, COMPACTED, manner, &mut answers);
+                    let (mut answers, mut said) = (Vec::new(), Said::default());
+                    let (folder, script) = (&*folder, &*script);
+                    let play = Play { files: &files, folder, script, compacted, batch };
+                    let _ = play.run(&mut answers, &mut said);
                     let answers = String::from_utf8_lossy(&answers);
                     let wrong =
                         |error| format!("batch {batch}, operation {at}, {times} times: {error}");
-                    let followed = follow(&script, &answers).map_err(wrong)?;
+                    let followed = follow(script, &answers).map_err(wrong)?;
                     let is_unsure = answers.contains("it is not known");
                     let most = if is_unsure { most } else { 0 };
-                    look(&folder, &followed, most).map_err(wrong)?;
+                    look(folder, &said, &followed, most).map_err(wrong)?;
                     not_done += usize::from(answers.contains("not done: "));
                     unsure += usize::from(is_unsure);
                     cases += 1;
@@ -312,13 +338,13 @@ fn random(place: &Path, options: &Options) -> Result<String, String> {
         let part = *rng.pick(&[0, 1, 4, RECORD_BYTES / 2, RECORD_BYTES, usize::MAX]);
         let _ = fs::remove_dir_all(&folder);
         let files = Faulty::new(Fault { at, part, then: Then::End });
-        let manner = Manner { batch, ..Manner::default() };
-        let mut answers = Vec::new();
-        let _ = play(&files, &folder, &script, compacted, manner, &mut answers);
+        let (mut answers, mut said) = (Vec::new(), Said::default());
+        let play = Play { files: &files, folder: &folder, script: &script, compacted, batch };
+        let _ = play.run(&mut answers, &mut said);
         files.lose(|most| rng.next_u64() % (most + 1)).map_err(text)?;
         let followed = follow(&script, &String::from_utf8_lossy(&answers)).map_err(wrong)?;
         let most = if batch { lines } else { 1 };
-        let more = look(&folder, &followed, most).map_err(wrong)?;
+        let more = look(&folder, &said, &followed, most).map_err(wrong)?;
         if !files.came() {
             return Err(wrong("the end did not come".to_string()));
         }
@@ -329,12 +355,13 @@ fn random(place: &Path, options: &Options) -> Result<String, String> {
     Ok(format!("{} random scripts with random ends, {calls} calls answered", options.cases))
 }
 
-/// The folder of the script, compacted or not, with its answers followed.
-fn made(folder: &Path, compacted: usize) -> Result<Vec<Line>, String> {
-    let script = script();
+/// Makes the folder of the two days, compacted between them or not.
+fn make(folder: &Path, is_compacted: bool) -> Result<(), String> {
+    let (script, first) = days();
+    let compacted = if is_compacted { first } else { script.len() };
     let files = Faulty::new(Fault { at: NEVER, part: 0, then: Then::End });
-    play(&files, folder, &script, compacted, Manner::default(), &mut Vec::new())?;
-    Ok(script)
+    let play = Play { files: &files, folder, script: &script, compacted, batch: false };
+    play.run(&mut Vec::new(), &mut Said::default())
 }
 
 /// The books of a folder after 0, 1, 2, .. records of its journal.
@@ -352,7 +379,7 @@ fn books(folder: &Path) -> Result<Vec<library::Book>, String> {
 /// The journal cut at every byte: the folder opens with the records before.
 fn cuts(place: &Path, _: &Options) -> Result<String, String> {
     let folder = place.join("desk");
-    made(&folder, usize::MAX)?;
+    make(&folder, false)?;
     let books = books(&folder)?;
     let path = folder::journal(&folder, 0);
     let bytes = folder::read(&path)?;
@@ -373,7 +400,7 @@ fn cuts(place: &Path, _: &Options) -> Result<String, String> {
 /// One bit turned at every place of a folder: it is not opened.
 fn bits(place: &Path, _: &Options) -> Result<String, String> {
     let folder = place.join("desk");
-    made(&folder, COMPACTED)?;
+    make(&folder, true)?;
     let number = folder::newest(&folder)?;
     let (snapshot, journal) = (folder::snapshot(&folder, number), folder::journal(&folder, number));
     let (mut words, mut records) = (folder::read(&snapshot)?, folder::read(&journal)?);
@@ -507,4 +534,77 @@ fn record(rng: &mut Rng, line: &Line) -> Result<bool, String> {
         return Err(format!("a changed record of `{}` is read otherwise", line.text));
     }
     Ok(true)
+}
+
+/// The story of random scripts: every unit that it names belongs to the account that it names, in the order
+/// as lifted.
+fn stories(place: &Path, options: &Options) -> Result<String, String> {
+    let folder = place.join("desk");
+    let (mut told, mut lifted) = (0, 0);
+    for case in 0..options.cases.div_ceil(4) {
+        let mut rng = Rng::of_case(options.seed ^ STORIES, case);
+        let script = random_script(&mut rng, 60);
+        let wrong = |error: String| format!("case {case} of seed {}: {error}", options.seed);
+        operations(&folder, &script, usize::MAX, true).map_err(wrong)?;
+        let files = Faulty::new(Fault { at: NEVER, part: 0, then: Then::End });
+        let compacted = rng.range(0, 90) as usize;
+        let play = Play { files: &files, folder: &folder, script: &script, compacted, batch: true };
+        play.run(&mut Vec::new(), &mut Said::default()).map_err(wrong)?;
+        if folder.join("snapshot-1").exists() && rng.chance(1, 2) {
+            // Without it the story begins with the book of a snapshot, in the middle of a day.
+            let _ = fs::remove_file(folder.join("snapshot-0"));
+        }
+        let history = history::read(&folder).map_err(wrong)?;
+        let (facts, lifts) = look_at_story(&history).map_err(wrong)?;
+        (told, lifted) = (told + facts, lifted + lifts);
+        fs::remove_dir_all(&folder).map_err(text)?;
+    }
+    met("a unit in a story", told)?;
+    met("a fail on a day with lifts", lifted)?;
+    Ok(format!("{told} units named in stories, {lifted} after lifts"))
+}
+
+/// A number by which the stories' scripts are others than those of the ends.
+const STORIES: u64 = 0x73;
+
+/// Looks at a history's story beside its book, call by call: how many units were named, and how many of
+/// them by a cutoff on a day with lifts.
+fn look_at_story(history: &History) -> Result<(usize, usize), String> {
+    let mut story = Vec::new();
+    history.explain(true, &mut story).map_err(text)?;
+    let story = String::from_utf8_lossy(&story);
+    let mut calls = history.calls.iter();
+    let mut book = history.begins.clone();
+    let (mut named, mut lifted) = (0, 0);
+    for line in story.lines() {
+        let fact = line.split('"').nth(3).unwrap_or_default();
+        if matches!(fact, "instruction" | "lift") {
+            let call = calls.next().ok_or("the story has more calls than the journal")?;
+            book = folder::replayed(book, std::slice::from_ref(call))?;
+        }
+        let field = |name: &str| -> Option<u32> {
+            let rest = line.split_once(&format!("\"{name}\":"))?.1;
+            rest.split([',', '}']).next()?.parse().ok()
+        };
+        let (units, account) = match fact {
+            "handed" => ([field("first"), field("last")], field("account")),
+            "waits" | "partly" => ([field("unit"); 2], field("account")),
+            "fails" => ([field("first"), field("last")], field("to")),
+            _ => continue,
+        };
+        let issue = field("issue").ok_or(line)?;
+        for unit in units {
+            let found = library::calls::unit(&book, issue, unit.ok_or(line)?).unit;
+            if found.map(|unit| unit.account) != account {
+                return Err(format!("unit {unit:?} is {found:?}: {line}"));
+            }
+            named += 1;
+        }
+        let after_lift = fact == "fails" && book.lifts(issue).next().is_some();
+        lifted += usize::from(after_lift);
+    }
+    if calls.next().is_some() {
+        return Err("the story has fewer calls than the journal".to_string());
+    }
+    Ok((named, lifted))
 }
