@@ -219,7 +219,8 @@ impl<F: Files> Console<'_, F> {
         self.answers.flush()?;
         let mut line = Vec::new();
         input.by_ref().take(MOST_LINE).read_until(b'\n', &mut line)?;
-        Ok(matches!(String::from_utf8_lossy(&line).trim(), "yes" | "y"))
+        let said = String::from_utf8_lossy(&line).trim().to_lowercase();
+        Ok(said == "yes" || said == "y")
     }
 
     /// The ticket for a lift, which `commit` alone then takes.
@@ -353,4 +354,72 @@ fn of_lift(refusal: Refusal) -> String {
         _ => return refusal.to_string(),
     };
     format!("{refusal}; {what}")
+}
+
+#[cfg(test)]
+mod tests {
+    use super::*;
+    use crate::files::Disk;
+    use crate::store::{self, Opened};
+    use std::path::PathBuf;
+
+    /// A folder of a book in Settling with one unit of 40 lots for account 2, covered by stock.
+    fn folder(name: &str) -> PathBuf {
+        let folder = std::env::temp_dir().join(format!("daybook-{}-{name}", std::process::id()));
+        let _ = std::fs::remove_dir_all(&folder);
+        store::make(&mut Disk, &folder).unwrap();
+        let lines = "trade 3 8 1 150000\ntrade 3 9 2 40\nclose\ndeliver 3 9 40\n";
+        let answers = said(&folder, Manner::default(), lines);
+        assert!(answers.lines().all(|answer| answer.starts_with("done: ")), "{answers}");
+        folder
+    }
+
+    /// What a console answers to lines.
+    fn said(folder: &std::path::Path, manner: Manner, lines: &str) -> String {
+        let Opened { store, book, .. } = store::open(Disk, folder).unwrap();
+        let mut answers = Vec::new();
+        run(store, book, manner, lines.as_bytes(), &mut answers).unwrap();
+        String::from_utf8(answers).unwrap()
+    }
+
+    #[test]
+    fn a_person_is_asked_before_a_commit() {
+        let folder = folder("asked");
+        let manner = Manner { terminal: true, ..Manner::default() };
+        let answers = said(&folder, manner, "commit\nask 3 2\ncommit\nno\ncommit\nyes, why\n");
+        let lines: Vec<&str> = answers.lines().collect();
+        let prompt = "day 0, Settling> ";
+        assert!(lines[0].starts_with(&format!("{prompt}there is no ticket: ask for one")));
+        assert!(lines[1].starts_with(&format!("{prompt}ticket for unit 2 of issue 3, 40 lots")));
+        let question = format!("{prompt}lift unit 2 of issue 3, 40 lots (2,000,000 yen face) for");
+        for at in [2, 3] {
+            assert!(lines[at].starts_with(&question), "{}", lines[at]);
+            assert!(lines[at].ends_with("yes or no: nothing is lifted"), "{}", lines[at]);
+        }
+        assert_eq!((lines[4], lines.len()), (prompt, 5));
+        let answers = said(&folder, manner, "commit 3 2 2 40 0 1\nYes\norder 3\n");
+        let lines: Vec<&str> = answers.lines().collect();
+        assert!(lines[0].ends_with("yes or no: done: commit 3 2 2 40 0 1"), "{answers}");
+        assert_eq!(lines[1], "    issue 3: handed to account 2: 40 lots (2,000,000 yen face)");
+        assert_eq!(lines[3], "    unit 0: account 2, 40 lots, handed");
+        std::fs::remove_dir_all(&folder).unwrap();
+    }
+
+    #[test]
+    fn a_program_is_not_asked_and_refusals_say_what_to_do() {
+        let folder = folder("not-asked");
+        let lines = "ask 3 2\ncommit\ncommit\nwhy 3 9\nask 0 0\ncommit 3 1 1 100000 0 1\n";
+        let answers = said(&folder, Manner::default(), lines);
+        let lines: Vec<&str> = answers.lines().collect();
+        assert!(lines[1].starts_with("done: commit 3 2 2 40 0 1; issue 3: handed to account 2"));
+        assert!(
+            lines[2].starts_with("commit 3 2 2 40 0 1: refused by 17: the ticket"),
+            "{answers}"
+        );
+        assert!(lines[2].ends_with("still the unit that is meant, and commit"), "{}", lines[2]);
+        assert!(lines[3].starts_with("why 3 9: refused by 16: "), "{}", lines[3]);
+        assert!(lines[4].ends_with("`order ISSUE` shows the units"), "{}", lines[4]);
+        assert!(lines[5].starts_with("commit 3 1 1 100000 0 1: refused by 17: "), "{}", lines[5]);
+        std::fs::remove_dir_all(&folder).unwrap();
+    }
 }

@@ -72,7 +72,7 @@ fn open(folder: &Path, json: bool, batch: bool) -> Result<u8, String> {
     let Opened { store, book, note } = store::open(Disk, folder)?;
     note.iter().for_each(|note| say(note));
     if terminal {
-        println!("{}; `help` lists the lines", state_of(&book));
+        told(&format!("{}; `help` lists the lines\n", state_of(&book)))?;
     }
     let manner = Manner { terminal, json, batch };
     let ended = console::run(store, book, manner, io::stdin().lock(), &mut io::stdout().lock());
