@@ -19,6 +19,7 @@ use Rattle.rules.specs.Measures.{Every, tapeWords}
 use Rattle.rules.specs.Book.{all, isZero}
 use Rattle.rules.specs.Tape.{kindOf, readOf, quotesOf, wordsOf, fieldsFit}
 use Rattle.laws.proofs.Basics.{byTest, all-replicate}
+use Rattle.rereading.proofs.Window.{quotes-window}
 use Rattle.rereading.proofs.There.{written-is-read, quotes-read}
 use Rattle.journals.specs.Record.{recordWords, summedWords, Logged, instructed, committed, quotesFor, toldOf, Fits, commitKind, commitWord, ticketWords, callWords, padded, recordOf, checks, instructionTold, callIn, callPart, readRecord}
 use Rattle.journals.specs.Journal.{journalFrom, journalOf, Next, call, none, torn, damaged, unread, nextOf, readNext, Journal, ended, behind, goesOn, whole, readFrom, readRest, readJournal}
@@ -94,6 +95,14 @@ record-read n c rest f =
     omega (arith, length-append (recordOf n c) rest, length-record n c f) in
     rw (le-leb recordWords (length (recordOf n c ++ rest)) l, eq-eqb (getD (recordOf n c ++ rest) 0 0) n (record-number n c f rest), summed-checks summedWords (recordOf n c ++ rest) (record-summed n c f rest), record-call n c f rest)
     (call-read c f)
+
+-- and a roll's quotes are those of the words from the record's second on
+pub record-quotes : (n days rate : ℕ) (quotes rest : List ℕ) → Fits (instructed (Roll days rate) quotes) →
+    quotesOf (drop 1 (recordOf n (instructed (Roll days rate) quotes) ++ rest)) ≡ quotes
+record-quotes n days rate quotes rest f =
+    let c = instructed (Roll days rate) quotes in
+    sym (quotes-window tapeWords (drop 1 (recordOf n c ++ rest)) (omega arith)) ∙ ap quotesOf (record-call n c f rest)
+    ∙ quotes-back (Roll days rate) quotes f
 
 -- Record by record
 
