@@ -129,6 +129,10 @@ mod tests {
             assert_eq!(read(number, &[&record[..], &[7]].concat()), Ok(kept));
             assert_eq!(read(number + 1, &record), Err(TORN));
         }
+        let trade = Instruction::Trade { issue: 0, from: 4, to: 1, lots: 230_000 };
+        let trade = written(0, &Kept::Call(trade, Vec::new()));
+        assert_eq!(trade[..4], [0, 0x1010_1000, 0x8003_8270, 0]);
+        assert_eq!(trade[34..], [2_687_149_904, 1]);
         let close = written(2, &Kept::Call(Instruction::Close, Vec::new()));
         assert_eq!(close[..3], [2, 0x5000_0000, 0]);
         assert_eq!(close[34..], [0xa000_0002, 0]);
