@@ -54,6 +54,26 @@ pub fn read(words: Vec<OsString>) -> Result<Verb, String> {
             _ => {}
         }
     }
+    let (options, mut names) = parted(words);
+    let found = names.first().and_then(|first| verb_of(first));
+    let (verb, takes) = found.unwrap_or(VERBS[0]);
+    if found.is_some() {
+        names.remove(0);
+    }
+    let shown = if verb.is_empty() { "daybook DIR".to_string() } else { format!("daybook {verb}") };
+    if let Some(wrong) = options.iter().find(|option| !takes.contains(&option.as_str())) {
+        return Err(format!("`{shown}` has no option {wrong}; use\n{USAGE}"));
+    }
+    match names.as_slice() {
+        [folder] => Ok(verb_on(verb, folder.into(), &options)),
+        [] if verb.is_empty() => Err(format!("say what to do:\n{USAGE}")),
+        [] => Err(format!("{shown} needs a folder; use\n{USAGE}")),
+        _ => Err(format!("name one folder; use\n{USAGE}")),
+    }
+}
+
+/// The options and the names of a command; behind `--` every word is a name.
+fn parted(words: Vec<OsString>) -> (Vec<String>, Vec<OsString>) {
     let (mut options, mut names) = (Vec::new(), Vec::new());
     let mut words = words.into_iter();
     while let Some(word) = words.next() {
@@ -63,24 +83,13 @@ pub fn read(words: Vec<OsString>) -> Result<Verb, String> {
             _ => names.push(word),
         }
     }
-    let found = names.first().and_then(|first| verb_of(first));
-    let (verb, takes) = found.unwrap_or(VERBS[0]);
-    if found.is_some() {
-        names.remove(0);
-    }
-    if let Some(wrong) = options.iter().find(|option| !takes.contains(&option.as_str())) {
-        let verb =
-            if verb.is_empty() { "daybook DIR".to_string() } else { format!("daybook {verb}") };
-        return Err(format!("`{verb}` has no option {wrong}; use\n{USAGE}"));
-    }
+    (options, names)
+}
+
+/// What a verb does to a folder, with options that it takes.
+fn verb_on(verb: &str, folder: PathBuf, options: &[String]) -> Verb {
     let has = |option: &str| options.iter().any(|given| given == option);
-    let folder = match names.as_slice() {
-        [folder] => PathBuf::from(folder),
-        [] if verb.is_empty() => return Err(format!("say what to do:\n{USAGE}")),
-        [] => return Err(format!("daybook {verb} needs a folder; use\n{USAGE}")),
-        _ => return Err(format!("name one folder; use\n{USAGE}")),
-    };
-    Ok(match verb {
+    match verb {
         "new" => Verb::New(folder),
         "check" => Verb::Check(folder),
         "compact" => Verb::Compact(folder),
@@ -88,7 +97,7 @@ pub fn read(words: Vec<OsString>) -> Result<Verb, String> {
         "tape" => Verb::Tape(folder),
         "explain" => Verb::Explain { folder, json: has("--json") },
         _ => Verb::Open { folder, json: has("--json"), batch: has("--batch") },
-    })
+    }
 }
 
 /// The verb of a word, if it is one.

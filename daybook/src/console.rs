@@ -69,22 +69,9 @@ pub fn run<F: Files>(
     answers: &mut dyn Write,
 ) -> io::Result<Ended> {
     let mut input = BufReader::with_capacity(AT_ONCE, input);
-    let mut console = Console {
-        store,
-        next: book.clone(),
-        book,
-        ticket: None,
-        output: vec![0; OUTPUT_WORDS],
-        records: Vec::new(),
-        waiting: Vec::new(),
-        manner,
-        answers,
-        ended: Ended::Well,
-    };
-    let mut number = 0;
-    loop {
+    let mut console = Console::new(store, book, manner, answers);
+    for number in 1.. {
         console.prompt()?;
-        number += 1;
         let Some(line) = read_line(&mut input, number)? else {
             console.leave()?;
             break;
@@ -133,7 +120,28 @@ fn read_line(
     })))
 }
 
-impl<F: Files> Console<'_, F> {
+impl<'a, F: Files> Console<'a, F> {
+    /// A console on a store and its book.
+    fn new(
+        store: Store<F>,
+        book: Book,
+        manner: Manner,
+        answers: &'a mut dyn Write,
+    ) -> Console<'a, F> {
+        Console {
+            store,
+            next: book.clone(),
+            book,
+            ticket: None,
+            output: vec![0; OUTPUT_WORDS],
+            records: Vec::new(),
+            waiting: Vec::new(),
+            manner,
+            answers,
+            ended: Ended::Well,
+        }
+    }
+
     /// Asks a person for the next line.
     fn prompt(&mut self) -> io::Result<()> {
         if !self.manner.terminal {

@@ -144,21 +144,11 @@ impl History {
         for call in &self.calls {
             match call {
                 Call::Tape { instruction, quotes } => {
-                    let mut words = [0; WRITER_WORDS];
-                    let count = tape::write(instruction, quotes, &mut words).count;
-                    story.word = Some(word);
-                    word += count;
-                    match instruction {
-                        Instruction::Cutoff if has_lifts(&story.book) => cut(&mut story)?,
-                        _ => story.instruction(instruction, &words[..count])?,
-                    }
+                    word += instructed(&mut story, instruction, quotes, word)?;
                 }
-                Call::Commit(ticket) => {
-                    lift(&mut story, ticket, |line, object| {
-                        let mut out = out.borrow_mut();
-                        writeln!(out, "{}", if as_json { object } else { line })
-                    })?;
-                }
+                Call::Commit(ticket) => lift(&mut story, ticket, |line, object| {
+                    writeln!(out.borrow_mut(), "{}", if as_json { object } else { line })
+                })?,
             }
         }
         story.end()
@@ -181,6 +171,23 @@ fn begin<'a>(book: &Book, sink: &'a mut ::tape::story::Sink<'a>) -> Story<'a> {
     };
     let dealt = if book.deals_in_turn() { issues.map(dealt).collect() } else { Vec::new() };
     Story { book: book.clone(), output: vec![0; OUTPUT_WORDS], handed, dealt, word: None, sink }
+}
+
+/// An instruction that begins at a word of the tape; answers how many words it has.
+fn instructed(
+    story: &mut Story,
+    instruction: &Instruction,
+    quotes: &[u32],
+    word: usize,
+) -> io::Result<usize> {
+    let mut words = [0; WRITER_WORDS];
+    let count = tape::write(instruction, quotes, &mut words).count;
+    story.word = Some(word);
+    match instruction {
+        Instruction::Cutoff if has_lifts(&story.book) => cut(story)?,
+        _ => story.instruction(instruction, &words[..count])?,
+    }
+    Ok(count)
 }
 
 /// Does a lift stand?
@@ -219,6 +226,11 @@ fn lift(
         let (first, last) = (place, place);
         story.fact(&Fact::Handed { issue, first, last, account, lots, turn: None })?;
     }
+    waits(story, issue)
+}
+
+/// The stock that waits for the next unit of an issue, if there is some.
+fn waits(story: &mut Story, issue: u32) -> io::Result<()> {
     let (unit, handed) = story.handed[issue as usize];
     let stock = story.book.delivered_total(issue).saturating_sub(handed);
     match calls::unit(&story.book, issue, unit).unit.filter(|_| stock > 0) {

@@ -420,24 +420,29 @@ fn bits(place: &Path, _: &Options) -> Result<String, String> {
         }
         records[bit / 8] ^= 1 << (bit % 8);
     }
-    // The same of the folder, at every byte of the journal and at many of the snapshot.
-    for (path, bytes, step) in [(&snapshot, &words, 97), (&journal, &records, 1)] {
-        for at in (0..bytes.len()).step_by(step) {
-            let mut changed = bytes.clone();
-            changed[at] ^= 1 << (at % 8);
-            fs::write(path, &changed).map_err(text)?;
-            let opened = store::open(Disk, &folder);
-            let name = path.file_name().unwrap_or_default().to_string_lossy();
-            let told =
-                opened.err().ok_or(format!("byte {at} of {name} is turned, and it is opened"))?;
-            if !told.contains(&*name) || fs::read(path).map_err(text)? != changed {
-                return Err(format!("byte {at} of {name} is turned: {told}"));
-            }
-        }
-        fs::write(path, bytes).map_err(text)?;
-    }
+    turned(&folder, &snapshot, 97)?;
+    turned(&folder, &journal, 1)?;
     folder::held(&folder)?;
     Ok(format!("{} bits turned", 8 * (words.len() + records.len())))
+}
+
+/// One bit turned at every so many bytes of a file: the folder is not opened, the file is named, and it is
+/// left as it is.
+fn turned(folder: &Path, path: &Path, step: usize) -> Result<(), String> {
+    let bytes = folder::read(path)?;
+    let name = path.file_name().unwrap_or_default().to_string_lossy();
+    for at in (0..bytes.len()).step_by(step) {
+        let mut changed = bytes.clone();
+        changed[at] ^= 1 << (at % 8);
+        fs::write(path, &changed).map_err(text)?;
+        let opened = store::open(Disk, folder);
+        let told =
+            opened.err().ok_or(format!("byte {at} of {name} is turned, and it is opened"))?;
+        if !told.contains(&*name) || fs::read(path).map_err(text)? != changed {
+            return Err(format!("byte {at} of {name} is turned: {told}"));
+        }
+    }
+    fs::write(path, bytes).map_err(text)
 }
 
 /// Snapshots and records beside those of the second engine: random books and scripts, whole and damaged.
@@ -513,17 +518,7 @@ fn record(rng: &mut Rng, line: &Line) -> Result<bool, String> {
     if format::record(number, &call) != Some(words) {
         return Err(format!("`{}` has another record", line.text));
     }
-    let mut changed = words.to_vec();
-    match rng.range(0, 4) {
-        0 => changed[rng.range(0, 35) as usize] = rng.next_u32(),
-        1 => changed.truncate(rng.range(0, 35) as usize),
-        2 => changed.push(rng.next_u32()),
-        3 => {
-            changed[rng.range(0, 35) as usize] ^= 1 << rng.range(0, 31);
-            changed.push(rng.next_u32());
-        }
-        _ => {}
-    }
+    let changed = changed(rng, &words);
     let wanted = match journal::read(number, &changed) {
         Ok(_) => format::Read::Call(call),
         Err(journal::NONE) => format::Read::Nothing,
@@ -534,6 +529,23 @@ fn record(rng: &mut Rng, line: &Line) -> Result<bool, String> {
         return Err(format!("a changed record of `{}` is read otherwise", line.text));
     }
     Ok(true)
+}
+
+/// The words of a record changed, cut, with a word behind them, or as they are.
+fn changed(rng: &mut Rng, words: &[u32]) -> Vec<u32> {
+    let mut changed = words.to_vec();
+    let at = rng.range(0, words.len() as u32 - 1) as usize;
+    match rng.range(0, 4) {
+        0 => changed[at] = rng.next_u32(),
+        1 => changed.truncate(at),
+        2 => changed.push(rng.next_u32()),
+        3 => {
+            changed[at] ^= 1 << rng.range(0, 31);
+            changed.push(rng.next_u32());
+        }
+        _ => {}
+    }
+    changed
 }
 
 /// The story of random scripts: every unit that it names belongs to the account that it names, in the order
