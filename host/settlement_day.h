@@ -10,6 +10,7 @@
  *     desk      day_value day_charge day_read day_quotes day_write
  *     entries   entry_meet
  *     funds     day_bases day_shares day_funds
+ *     journal   day_journal_call day_journal_commit day_journal_read
  *     listing   day_markets day_market_fails
  *     statement day_statement
  *     trust     day_trust
@@ -92,6 +93,7 @@ static inline uint32_t day_version_fits(void)
 #define DAY_ENTRIES 2048u   /* the most fail entries of the ledger */
 #define DAY_OUT_WORDS 4096u /* an output of deliver, commit, cutoff, resolve has at least so many words */
 #define DAY_TAPE_WORDS 33u  /* the output of day_write has at least so many words */
+#define DAY_RECORD_WORDS 36u /* a record of the journal has so many words */
 #define DAY_REPORTS 256u    /* the most trade reports, and the places of the output of day_trust */
 #define DAY_SUB_ACCOUNTS 32u /* sub-accounts 0 to 31 */
 #define DAY_SETTLEMENT_ACCOUNTS 16u /* of a simulated desk: settlement accounts 0 to 15 */
@@ -185,6 +187,16 @@ static inline uint32_t day_version_fits(void)
 #define DAY_REFUSED_CHANGE_OVER 26u /* the day is not after today, or the new order is in force (turn) */
 #define DAY_REFUSED_RIGHT 27u   /* the caller has not the right: the account is not its own, or the call
                                  * is the operator's */
+
+/* ---- the journal: kind of a commit's record, and reasons, which are no refusals of the rules */
+
+#define DAY_COMMIT 15u          /* the ticket's six numbers; the tape's reader refuses the kind */
+#define DAY_JOURNAL_DONE 0u     /* the record is written, or is read */
+#define DAY_JOURNAL_OUTPUT 1u   /* writing: the output has fewer than 36 words */
+#define DAY_JOURNAL_NUMBER 4u   /* writing: the kind is none, or a number does not fit its bits */
+#define DAY_JOURNAL_NONE 1u     /* reading: no word is left */
+#define DAY_JOURNAL_TORN 2u     /* reading: the record is not whole or wrong, and nothing stands behind it */
+#define DAY_JOURNAL_DAMAGED 3u  /* reading: the record is wrong, and something stands behind it */
 
 /* ---- callers and owners */
 
@@ -564,6 +576,32 @@ uint32_t day_market_fails(uint32_t accounts, uint32_t most,
 DAY_NODISCARD
 uint32_t day_statement(const uint32_t *words, size_t words_length, uint32_t issue, uint32_t account,
                        uint64_t numbers[6]);
+
+/* The journal of calls: a record of 36 words each, counted from 0. Word 0 is the record's number; words 1 to
+ * 33 are an instruction's as they stand on a tape, or DAY_COMMIT in bits 31..28 and a ticket's six numbers,
+ * then zeros; words 34 and 35 the checksum of the others (once word 0, twice word 1, ..), low half first.
+ *
+ * Writes the record of an instruction, with the quotes of a roll, or of a ticket's commit. DAY_JOURNAL_DONE,
+ * or _OUTPUT or _NUMBER with out as it came; words behind the record keep their content. */
+DAY_NODISCARD
+uint32_t day_journal_call(uint32_t number, uint32_t kind, uint32_t a, uint32_t b, uint32_t c, uint32_t d,
+                          const uint32_t *quotes, size_t quotes_length,
+                          uint32_t *out, size_t out_length);
+
+DAY_NODISCARD
+uint32_t day_journal_commit(uint32_t number, const uint32_t ticket[6], uint32_t *out, size_t out_length);
+
+/* What stands at the front of the rest of a journal. */
+struct day_journalled {
+    uint32_t reason;     /* DAY_JOURNAL_DONE, _NONE, _TORN or _DAMAGED; all else is 0 unless it is done */
+    uint32_t kind;       /* an instruction's, or DAY_COMMIT */
+    uint32_t numbers[6]; /* an instruction's four, then 0; or a ticket's six */
+};
+
+/* Reads the record with this number, at the front of the words from there to the journal's end. The quotes of
+ * a roll are those that day_quotes gives of the words from the record's second on. */
+DAY_NODISCARD
+struct day_journalled day_journal_read(uint32_t number, const uint32_t *words, size_t words_length);
 
 /* ---- a book as a struct, and the calls on it */
 

@@ -3,6 +3,7 @@
 //! A column, the quotes, the words and an output are a pointer and a length, in this order.
 //! `host/settlement_day.h` has the same declarations for C.
 
+use crate::journal::Journalled;
 use crate::raw::{Seen, State, Turned};
 use crate::{Caller, Entry};
 
@@ -69,6 +70,31 @@ extern "C" {
         funds: u64,
         shares: *mut [u64; 64],
     ) -> u32;
+}
+
+// journal
+extern "C" {
+    pub fn day_journal_call(
+        number: u32,
+        kind: u32,
+        a: u32,
+        b: u32,
+        c: u32,
+        d: u32,
+        quotes: *const u32,
+        quotes_length: usize,
+        out: *mut u32,
+        out_length: usize,
+    ) -> u32;
+
+    pub fn day_journal_commit(
+        number: u32,
+        ticket: *const [u32; 6],
+        out: *mut u32,
+        out_length: usize,
+    ) -> u32;
+
+    pub fn day_journal_read(number: u32, words: *const u32, words_length: usize) -> Journalled;
 }
 
 // listing

@@ -1,7 +1,7 @@
 //! The proved library, called safely from Rust: a book and the calls on it, lifts of one unit, why a
 //! unit has not come, who may call and who may look, unit sizes tried on a simulated desk, the tape's
 //! reader and writer, value and charge, entries met, a fail inside a trust account, obligated funds for a
-//! default, every small market, an account's fails statement over a span of a tape.
+//! default, every small market, an account's fails statement over a span of a tape, the journal of calls.
 //!
 //! ```
 //! use settlement_day::{calls, Book, Instruction, OUTPUT_WORDS};
@@ -33,6 +33,7 @@ pub mod desk;
 pub mod entries;
 pub mod funds;
 mod instruction;
+pub mod journal;
 pub mod markets;
 pub mod raw;
 mod refusal;

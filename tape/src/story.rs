@@ -25,16 +25,16 @@ const MOST_LOTS: u32 = 20_000_000;
 pub type Sink<'a> = dyn FnMut(&Told) -> io::Result<()> + 'a;
 
 /// A tape as it runs.
-struct Story<'a> {
-    book: Book,
-    output: Vec<u32>,
+pub struct Story<'a> {
+    pub book: Book,
+    pub output: Vec<u32>,
     /// For each issue, today's handovers from the house: their number and lots.
-    handed: [(u32, u64); ISSUES],
+    pub handed: [(u32, u64); ISSUES],
     /// For each issue, today's units where full ones are dealt in turn.
-    dealt: Vec<Dealt>,
+    pub dealt: Vec<Dealt>,
     /// The first word of the instruction that is at work.
-    word: Option<usize>,
-    sink: &'a mut Sink<'a>,
+    pub word: Option<usize>,
+    pub sink: &'a mut Sink<'a>,
 }
 
 /// A record that a call wrote.
@@ -80,12 +80,12 @@ pub fn tell<'a>(tape: &[u8], sink: &'a mut Sink<'a>) -> io::Result<u16> {
 
 impl Story<'_> {
     /// Tells a fact of today.
-    fn fact(&mut self, fact: &Fact) -> io::Result<()> {
+    pub fn fact(&mut self, fact: &Fact) -> io::Result<()> {
         (self.sink)(&Told { day: self.book.day, word: self.word, fact })
     }
 
     /// Makes the call of an instruction and tells what it did, or why it was refused.
-    fn instruction(&mut self, instruction: &Instruction, words: &[u32]) -> io::Result<()> {
+    pub fn instruction(&mut self, instruction: &Instruction, words: &[u32]) -> io::Result<()> {
         let instruction = *instruction;
         if traded(&mut self.book, &instruction) {
             return self.fact(&Fact::Instruction { instruction, refusal: None });
@@ -289,7 +289,7 @@ impl Story<'_> {
     }
 
     /// The phase, the marked issues, the ledger and the charges at the end.
-    fn end(&mut self) -> io::Result<()> {
+    pub fn end(&mut self) -> io::Result<()> {
         self.word = None;
         let phase = self.book.phase.name().unwrap_or("no phase");
         let entries: Vec<Entry> = self.book.ledger().collect();

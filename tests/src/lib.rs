@@ -14,6 +14,7 @@ pub mod random_tapes;
 pub mod report;
 pub mod requests;
 pub mod rng;
+pub mod scripts;
 pub mod shrink;
 pub mod situations;
 pub mod steps;

@@ -1,8 +1,8 @@
 //! The facts of a tape told: as text for people, as JSON for programs, as one page of HTML.
 
 mod html;
-mod json;
-mod text;
+pub mod json;
+pub mod text;
 
 use crate::facts::{Fact, Told};
 use crate::input::{Day, Stands};

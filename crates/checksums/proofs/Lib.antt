@@ -1,0 +1,3 @@
+-- Laws of the weighted sum.
+pub mod Weights
+pub mod Bounds

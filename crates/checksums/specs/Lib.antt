@@ -1,0 +1,3 @@
+-- Checksums of words.
+pub mod Sums
+pub mod Days

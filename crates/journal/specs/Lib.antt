@@ -1,0 +1,3 @@
+-- What the journal's functions answer.
+pub mod Written
+pub mod Told

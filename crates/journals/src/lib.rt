@@ -1,0 +1,1 @@
+// The journal of calls: definitions, worked journals and theorems, no code.

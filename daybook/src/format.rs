@@ -1,0 +1,183 @@
+//! Books as the words of a snapshot, calls as the words of a record, and back: all that the folder's two
+//! formats are, so that another maker of them changes this file alone.
+
+use crate::call::Call;
+use reference::{book, calls, journal, snapshot, tape};
+use settlement_day::{Book, Instruction, Ticket, LIFT_WORDS};
+
+/// The words of a snapshot.
+pub const SNAPSHOT_WORDS: usize = snapshot::WORDS;
+/// The words of a record.
+pub const RECORD_WORDS: usize = journal::RECORD_WORDS;
+/// The bytes of a record.
+pub const RECORD_BYTES: usize = 4 * RECORD_WORDS;
+
+/// What stands where a record would begin.
+#[derive(Clone, Debug, PartialEq, Eq)]
+pub enum Read {
+    Call(Call),
+    /// No word is left.
+    Nothing,
+    /// It is not whole or wrong, and nothing stands behind it.
+    Torn,
+    /// It is wrong, and something stands behind it.
+    Damaged,
+}
+
+/// The words of a book, or why it is not saved.
+pub fn save(book: &Book) -> Result<Vec<u32>, &'static str> {
+    reference_book(book).ok_or(5).and_then(|book| snapshot::save(&book)).map_err(why)
+}
+
+/// The book of words, or why there is none.
+pub fn open(words: &[u32]) -> Result<Book, &'static str> {
+    snapshot::open(words).map(|book| library_book(&book)).map_err(why)
+}
+
+/// What the reasons say.
+fn why(reason: u32) -> &'static str {
+    match reason {
+        1 => "it has not the length of a snapshot",
+        2 => "it is of another version",
+        3 => "its checksum is wrong",
+        4 => "a number does not fit its field",
+        _ => "its book is not sound",
+    }
+}
+
+/// The record of a call with a number; none where a number of the call does not fit.
+pub fn record(number: u32, call: &Call) -> Option<[u32; RECORD_WORDS]> {
+    match call {
+        Call::Tape { instruction, quotes } => {
+            journal::write_call(number, &reference_instruction(instruction), quotes).ok()
+        }
+        Call::Commit(ticket) => Some(journal::write_commit(number, &reference_ticket(ticket))),
+    }
+}
+
+/// Reads the record with a number, with which the words begin.
+pub fn read(number: u32, words: &[u32]) -> Read {
+    match journal::read(number, words) {
+        Ok(journal::Kept::Call(instruction, quotes)) => {
+            Read::Call(Call::Tape { instruction: library_instruction(&instruction), quotes })
+        }
+        Ok(journal::Kept::Commit(ticket)) => {
+            let calls::Ticket { issue, unit, account, lots, day, count } = ticket;
+            Read::Call(Call::Commit(Ticket { issue, unit, account, lots, day, count }))
+        }
+        Err(journal::NONE) => Read::Nothing,
+        Err(journal::TORN) => Read::Torn,
+        Err(_) => Read::Damaged,
+    }
+}
+
+/// The second engine's instruction of an instruction.
+fn reference_instruction(instruction: &Instruction) -> tape::Instruction {
+    match *instruction {
+        Instruction::Trade { issue, from, to, lots } => {
+            tape::Instruction::Trade { issue, from, to, lots }
+        }
+        Instruction::Deliver { issue, account, lots } => {
+            tape::Instruction::Deliver { issue, account, lots }
+        }
+        Instruction::Resolve { issue, account, lots } => {
+            tape::Instruction::Resolve { issue, account, lots }
+        }
+        Instruction::PairOff { issue, account } => tape::Instruction::PairOff { issue, account },
+        Instruction::Close => tape::Instruction::Close,
+        Instruction::Cutoff => tape::Instruction::Cutoff,
+        Instruction::Roll { days, rate } => tape::Instruction::Roll { days, rate },
+        Instruction::Mark { issue, mark } => tape::Instruction::Mark { issue, mark },
+        Instruction::Turn { day } => tape::Instruction::Turn { day },
+    }
+}
+
+/// The library's instruction of an instruction.
+fn library_instruction(instruction: &tape::Instruction) -> Instruction {
+    match *instruction {
+        tape::Instruction::Trade { issue, from, to, lots } => {
+            Instruction::Trade { issue, from, to, lots }
+        }
+        tape::Instruction::Deliver { issue, account, lots } => {
+            Instruction::Deliver { issue, account, lots }
+        }
+        tape::Instruction::Resolve { issue, account, lots } => {
+            Instruction::Resolve { issue, account, lots }
+        }
+        tape::Instruction::PairOff { issue, account } => Instruction::PairOff { issue, account },
+        tape::Instruction::Close => Instruction::Close,
+        tape::Instruction::Cutoff => Instruction::Cutoff,
+        tape::Instruction::Roll { days, rate } => Instruction::Roll { days, rate },
+        tape::Instruction::Mark { issue, mark } => Instruction::Mark { issue, mark },
+        tape::Instruction::Turn { day } => Instruction::Turn { day },
+    }
+}
+
+/// The second engine's ticket of a ticket.
+fn reference_ticket(ticket: &Ticket) -> calls::Ticket {
+    let Ticket { issue, unit, account, lots, day, count } = *ticket;
+    calls::Ticket { issue, unit, account, lots, day, count }
+}
+
+/// The second engine's book with the same numbers; none where the phase is none.
+fn reference_book(book: &Book) -> Option<book::Book> {
+    let mut lifts = [book::Lifts::default(); book::ISSUES];
+    for (lifts, words) in lifts.iter_mut().zip(book.lifts.chunks_exact(LIFT_WORDS)) {
+        (lifts.number, lifts.count) = (words[0], words[1]);
+        for (lift, place) in lifts.moves.iter_mut().zip(words[2..].chunks_exact(2)) {
+            *lift = book::Lift { old: place[0], new: place[1] };
+        }
+    }
+    Some(book::Book {
+        day: book.day,
+        phase: match book.phase {
+            settlement_day::Phase::TAKING => book::Phase::Taking,
+            settlement_day::Phase::SETTLING => book::Phase::Settling,
+            settlement_day::Phase::CUT => book::Phase::Cut,
+            _ => return None,
+        },
+        marks: book.marks,
+        turn: book.turn,
+        nets: book.nets,
+        delivered: book.delivered,
+        lifts,
+        charges: book.charges,
+        count: book.entries,
+        issues: book.issues,
+        froms: book.froms,
+        tos: book.tos,
+        lots: book.lots,
+        days: book.days,
+    })
+}
+
+/// The library's book with the same numbers.
+fn library_book(book: &book::Book) -> Book {
+    let mut lifts = Book::fresh().lifts;
+    for (words, lifts) in lifts.chunks_exact_mut(LIFT_WORDS).zip(&book.lifts) {
+        (words[0], words[1]) = (lifts.number, lifts.count);
+        for (place, lift) in words[2..].chunks_exact_mut(2).zip(&lifts.moves) {
+            (place[0], place[1]) = (lift.old, lift.new);
+        }
+    }
+    Book {
+        day: book.day,
+        phase: match book.phase {
+            book::Phase::Taking => settlement_day::Phase::TAKING,
+            book::Phase::Settling => settlement_day::Phase::SETTLING,
+            book::Phase::Cut => settlement_day::Phase::CUT,
+        },
+        entries: book.count,
+        marks: book.marks,
+        turn: book.turn,
+        nets: book.nets,
+        delivered: book.delivered,
+        lifts,
+        charges: book.charges,
+        issues: book.issues,
+        froms: book.froms,
+        tos: book.tos,
+        lots: book.lots,
+        days: book.days,
+    }
+}
