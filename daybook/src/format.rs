@@ -2,8 +2,9 @@
 //! formats are, so that another maker of them changes this file alone.
 
 use crate::call::Call;
-use reference::{book, calls, journal, snapshot, tape};
-use settlement_day::{Book, Instruction, Ticket, LIFT_WORDS};
+use settlement_day::journal::{self, Call as Kept, Next};
+use settlement_day::{Book, LIFT_WORDS};
+use reference::{book, snapshot};
 
 /// The words of a snapshot.
 pub const SNAPSHOT_WORDS: usize = snapshot::WORDS;
@@ -47,76 +48,24 @@ fn why(reason: u32) -> &'static str {
 
 /// The record of a call with a number; none where a number of the call does not fit.
 pub fn record(number: u32, call: &Call) -> Option<[u32; RECORD_WORDS]> {
-    match call {
-        Call::Tape { instruction, quotes } => {
-            journal::write_call(number, &reference_instruction(instruction), quotes).ok()
-        }
-        Call::Commit(ticket) => Some(journal::write_commit(number, &reference_ticket(ticket))),
-    }
+    let kept = match call {
+        Call::Tape { instruction, quotes } => Kept::Instruction(*instruction, quotes.clone()),
+        Call::Commit(ticket) => Kept::Commit(*ticket),
+    };
+    journal::record(number, &kept)
 }
 
 /// Reads the record with a number, with which the words begin.
 pub fn read(number: u32, words: &[u32]) -> Read {
     match journal::read(number, words) {
-        Ok(journal::Kept::Call(instruction, quotes)) => {
-            Read::Call(Call::Tape { instruction: library_instruction(&instruction), quotes })
+        Next::Call(Kept::Instruction(instruction, quotes)) => {
+            Read::Call(Call::Tape { instruction, quotes })
         }
-        Ok(journal::Kept::Commit(ticket)) => {
-            let calls::Ticket { issue, unit, account, lots, day, count } = ticket;
-            Read::Call(Call::Commit(Ticket { issue, unit, account, lots, day, count }))
-        }
-        Err(journal::NONE) => Read::Nothing,
-        Err(journal::TORN) => Read::Torn,
-        Err(_) => Read::Damaged,
+        Next::Call(Kept::Commit(ticket)) => Read::Call(Call::Commit(ticket)),
+        Next::Nothing => Read::Nothing,
+        Next::Torn => Read::Torn,
+        Next::Damaged => Read::Damaged,
     }
-}
-
-/// The second engine's instruction of an instruction.
-fn reference_instruction(instruction: &Instruction) -> tape::Instruction {
-    match *instruction {
-        Instruction::Trade { issue, from, to, lots } => {
-            tape::Instruction::Trade { issue, from, to, lots }
-        }
-        Instruction::Deliver { issue, account, lots } => {
-            tape::Instruction::Deliver { issue, account, lots }
-        }
-        Instruction::Resolve { issue, account, lots } => {
-            tape::Instruction::Resolve { issue, account, lots }
-        }
-        Instruction::PairOff { issue, account } => tape::Instruction::PairOff { issue, account },
-        Instruction::Close => tape::Instruction::Close,
-        Instruction::Cutoff => tape::Instruction::Cutoff,
-        Instruction::Roll { days, rate } => tape::Instruction::Roll { days, rate },
-        Instruction::Mark { issue, mark } => tape::Instruction::Mark { issue, mark },
-        Instruction::Turn { day } => tape::Instruction::Turn { day },
-    }
-}
-
-/// The library's instruction of an instruction.
-fn library_instruction(instruction: &tape::Instruction) -> Instruction {
-    match *instruction {
-        tape::Instruction::Trade { issue, from, to, lots } => {
-            Instruction::Trade { issue, from, to, lots }
-        }
-        tape::Instruction::Deliver { issue, account, lots } => {
-            Instruction::Deliver { issue, account, lots }
-        }
-        tape::Instruction::Resolve { issue, account, lots } => {
-            Instruction::Resolve { issue, account, lots }
-        }
-        tape::Instruction::PairOff { issue, account } => Instruction::PairOff { issue, account },
-        tape::Instruction::Close => Instruction::Close,
-        tape::Instruction::Cutoff => Instruction::Cutoff,
-        tape::Instruction::Roll { days, rate } => Instruction::Roll { days, rate },
-        tape::Instruction::Mark { issue, mark } => Instruction::Mark { issue, mark },
-        tape::Instruction::Turn { day } => Instruction::Turn { day },
-    }
-}
-
-/// The second engine's ticket of a ticket.
-fn reference_ticket(ticket: &Ticket) -> calls::Ticket {
-    let Ticket { issue, unit, account, lots, day, count } = *ticket;
-    calls::Ticket { issue, unit, account, lots, day, count }
 }
 
 /// The second engine's book with the same numbers; none where the phase is none.

@@ -32,7 +32,8 @@ impl Desk {
     /// Runs the command with words before the folder and lines as its input.
     fn run(&self, words: &[&str], lines: &str) -> Output {
         let mut child = self.begin(words);
-        child.stdin.take().unwrap().write_all(lines.as_bytes()).unwrap();
+        // A command that ends before it reads takes no lines.
+        let _ = child.stdin.take().unwrap().write_all(lines.as_bytes());
         child.wait_with_output().unwrap()
     }
 
