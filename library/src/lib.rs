@@ -4,7 +4,7 @@
 //! default, every small market, an account's fails statement over a span of a tape.
 //!
 //! ```
-//! use library::{calls, Book, Instruction, OUTPUT_WORDS};
+//! use settlement_day::{calls, Book, Instruction, OUTPUT_WORDS};
 //!
 //! let mut book = Book::fresh();
 //! let mut out = [0; OUTPUT_WORDS];
@@ -12,7 +12,7 @@
 //! calls::close(&mut book)?;
 //! let done = calls::call(&mut book, &Instruction::Cutoff, &[], &mut out)?;
 //! assert_eq!(done.count, 1);
-//! # Ok::<(), library::Refusal>(())
+//! # Ok::<(), settlement_day::Refusal>(())
 //! ```
 //!
 //! What is refused is an `Err` of a [`Refusal`], an error that says what to do. A book may hold any

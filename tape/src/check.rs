@@ -4,7 +4,7 @@ use crate::bytes::split;
 use crate::input::{Day, Stands};
 use crate::text::why_ended;
 use crate::why::why;
-use library::{calls, tape, Book, OUTPUT_WORDS};
+use settlement_day::{calls, tape, Book, OUTPUT_WORDS};
 use std::io;
 
 /// How many instructions there are, and how many lines about refusals were told.

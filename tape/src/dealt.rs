@@ -1,7 +1,7 @@
 //! The units of an issue on a day on which full units are dealt in turn: rounds, and who takes part.
 
 use crate::units::{Run, FULL};
-use library::{calls, Book};
+use settlement_day::{calls, Book};
 
 /// Where a full unit stands: its round and its receiver, both from 1, and how many take part in the
 /// round. Like units one after another are of the rounds up to `until`.
@@ -135,7 +135,7 @@ fn rounds_of(receivers: &[Run]) -> Vec<Rounds> {
 mod tests {
     use super::*;
     use crate::units::Walk;
-    use library::place;
+    use settlement_day::place;
 
     /// A book of day 1 on which full units are dealt in turn.
     fn book(nets: &[(u32, i32)]) -> Book {

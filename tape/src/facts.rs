@@ -2,7 +2,7 @@
 
 use crate::dealt::{Rounds, Turn};
 use crate::units::Case;
-use library::{Instruction, Refusal};
+use settlement_day::{Instruction, Refusal};
 
 /// One fact. Units of an issue are numbered from 0 in their order; those from `first` to `last` are
 /// alike: of one account and of so many lots each.

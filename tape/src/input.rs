@@ -309,7 +309,7 @@ mod tests {
                     7 => &[0x9000_0000; 32],
                     _ => &[],
                 };
-                let taken = library::tape::read(&[&[head], rest].concat()).is_ok();
+                let taken = settlement_day::tape::read(&[&[head], rest].concat()).is_ok();
                 assert_eq!(begins_as_words(&head.to_le_bytes()), taken, "{head:08x}");
             }
         }

@@ -5,8 +5,8 @@ use crate::fault::{words_of, Fault, Faults, Word};
 use crate::measure::{Grouped, Lots};
 use crate::status;
 use crate::text::digits_of;
-use library::simulation::{simulate, Desk, Simulated, MOST_SIZE, SETTLEMENT_ACCOUNTS};
-use library::{Book, Refusal, ACCOUNTS, ISSUES};
+use settlement_day::simulation::{simulate, Desk, Simulated, MOST_SIZE, SETTLEMENT_ACCOUNTS};
+use settlement_day::{Book, Refusal, ACCOUNTS, ISSUES};
 
 /// The sizes that are tried where none are named.
 pub const SIZES: [u32; 9] = [100_000, 50_000, 20_000, 10_000, 5_000, 2_000, 1_000, 100, 1];

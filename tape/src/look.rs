@@ -5,8 +5,8 @@ use crate::fault::{words_of, Fault, Faults, Word};
 use crate::jam::{number, range};
 use crate::measure::{Grouped, Lots};
 use crate::status;
-use library::access::{self, Account, NOBODY, PARTICIPANTS};
-use library::{Caller, Entry, Refusal, ACCOUNTS};
+use settlement_day::access::{self, Account, NOBODY, PARTICIPANTS};
+use settlement_day::{Caller, Entry, Refusal, ACCOUNTS};
 
 /// What a line of the owners may be.
 const LINES: &str = "write `owns PARTICIPANT ACCOUNT` or `owns PARTICIPANT FIRST-LAST`";

@@ -1,8 +1,8 @@
 //! Every small market, each once, for testers: the markets, or how many of them have how many fail entries.
 
 use crate::measure::counted;
-use library::markets::{self, COUNTS};
-use library::Refusal;
+use settlement_day::markets::{self, COUNTS};
+use settlement_day::Refusal;
 
 /// What is asked: so many accounts, nets of at most so much to either side.
 #[derive(Clone, Copy, Debug, PartialEq, Eq)]

@@ -6,7 +6,7 @@ use crate::bytes::split;
 use crate::measure::counted;
 use crate::story::traded;
 use crate::text::older_roll;
-use library::{calls, tape, Book, OUTPUT_WORDS};
+use settlement_day::{calls, tape, Book, OUTPUT_WORDS};
 use std::env;
 use std::io::{self, BufRead, BufReader, BufWriter, Write};
 use std::path::{Path, PathBuf};

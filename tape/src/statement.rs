@@ -4,8 +4,8 @@
 use crate::bytes::split;
 use crate::measure::{counted, Face, Grouped};
 use crate::story::traded;
-use library::statement::{statement, Statement, MOST_INSTRUCTIONS};
-use library::{calls, tape, Book, Instruction, Phase, Refusal, OUTPUT_WORDS};
+use settlement_day::statement::{statement, Statement, MOST_INSTRUCTIONS};
+use settlement_day::{calls, tape, Book, Instruction, Phase, Refusal, OUTPUT_WORDS};
 use std::collections::BTreeSet;
 
 /// Why a span ends where it does.

@@ -4,8 +4,8 @@ use crate::bytes::split;
 use crate::dealt::{Dealt, Turn};
 use crate::measure::{counted, Face, Lots};
 use crate::story::traded;
-use library::calls::{self, Unit};
-use library::{tape, Book, Refusal, Status, ISSUES, OUTPUT_WORDS};
+use settlement_day::calls::{self, Unit};
+use settlement_day::{tape, Book, Refusal, Status, ISSUES, OUTPUT_WORDS};
 
 /// Which unit is asked of, and when: before the instruction that begins at a word, or at the end.
 #[derive(Clone, Copy, Debug, Default, PartialEq, Eq)]

@@ -10,8 +10,8 @@ use crate::facts::{Fact, Terms, Told};
 use crate::text::why_ended;
 use crate::units::{close, runs, waiting, Case, Run, Walk};
 use crate::why::{owed_today, why};
-use library::calls::{self, Done};
-use library::{
+use settlement_day::calls::{self, Done};
+use settlement_day::{
     desk, place, tape, Book, Entry, Instruction, Phase, ACCOUNTS, ISSUES, OUTPUT_WORDS, QUOTES,
 };
 use std::io;

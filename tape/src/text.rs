@@ -6,7 +6,7 @@
 use crate::bytes::{join, split};
 use crate::fault::{shown, words_of, Fault, Faults, Word};
 use crate::measure::{counted, Grouped};
-use library::{tape, Instruction, Refusal, ISSUES, WRITER_WORDS};
+use settlement_day::{tape, Instruction, Refusal, ISSUES, WRITER_WORDS};
 
 /// The instructions' forms, for errors.
 const FORMS: &str = "trade ISSUE FROM TO LOTS, close, deliver ISSUE ACCOUNT LOTS, cutoff, \

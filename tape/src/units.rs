@@ -1,6 +1,6 @@
 //! The units of an issue as runs of like ones, out of the library's answers, and a walk along them.
 
-use library::{calls, Book};
+use settlement_day::{calls, Book};
 
 /// The lots of a full unit.
 pub const FULL: u32 = 100_000;
@@ -174,7 +174,7 @@ impl Walk {
 #[cfg(test)]
 mod tests {
     use super::*;
-    use library::place;
+    use settlement_day::place;
 
     fn book(nets: &[(u32, i32)]) -> Book {
         let mut book = Book::fresh();

@@ -1,7 +1,7 @@
 //! Why the book refuses an instruction: the question that it answers 'no', and the numbers behind it.
 
 use crate::measure::{Grouped, Lots};
-use library::{Book, Instruction, Refusal, ACCOUNTS, ISSUES};
+use settlement_day::{Book, Instruction, Refusal, ACCOUNTS, ISSUES};
 
 /// The limits of a roll's numbers.
 const MOST_DAYS: u32 = 12;
@@ -112,7 +112,7 @@ pub fn owed_today(book: &Book, issue: u32, account: u32) -> u64 {
 
 /// What an account owes in the ledger in an issue.
 pub fn owed_in_ledger(book: &Book, issue: u32, account: u32) -> u64 {
-    let of = |entry: &library::Entry| {
+    let of = |entry: &settlement_day::Entry| {
         u32::from(entry.issue) == issue && u32::from(entry.from) == account
     };
     book.ledger().filter(of).map(|entry| u64::from(entry.lots)).sum()

@@ -1,23 +1,23 @@
 //! Between the library's types and the second engine's, which are each its own.
 
-use library::{LIFT_PLACES, LIFT_WORDS};
 use reference::access::Caller;
 use reference::book;
 use reference::calls::Ticket;
 use reference::tape::Instruction;
+use settlement_day::{LIFT_PLACES, LIFT_WORDS};
 
 /// The library's phase of a phase.
-pub fn phase_of(phase: book::Phase) -> library::Phase {
+pub fn phase_of(phase: book::Phase) -> settlement_day::Phase {
     match phase {
-        book::Phase::Taking => library::Phase::TAKING,
-        book::Phase::Settling => library::Phase::SETTLING,
-        book::Phase::Cut => library::Phase::CUT,
+        book::Phase::Taking => settlement_day::Phase::TAKING,
+        book::Phase::Settling => settlement_day::Phase::SETTLING,
+        book::Phase::Cut => settlement_day::Phase::CUT,
     }
 }
 
 /// The library's book with the same numbers.
-pub fn library_book(book: &book::Book) -> library::Book {
-    library::Book {
+pub fn library_book(book: &book::Book) -> settlement_day::Book {
+    settlement_day::Book {
         day: book.day,
         phase: phase_of(book.phase),
         entries: book.count,
@@ -60,25 +60,25 @@ pub fn lifts_of_words(words: &[u32; LIFT_PLACES]) -> [book::Lifts; book::ISSUES]
 }
 
 /// The library's caller of a caller.
-pub fn library_caller(caller: &Caller) -> library::Caller {
+pub fn library_caller(caller: &Caller) -> settlement_day::Caller {
     let Caller { number, owners } = *caller;
-    library::Caller { number, owners }
+    settlement_day::Caller { number, owners }
 }
 
 /// The library's ticket of a ticket.
-pub fn library_ticket(ticket: &Ticket) -> library::Ticket {
+pub fn library_ticket(ticket: &Ticket) -> settlement_day::Ticket {
     let Ticket { issue, unit, account, lots, day, count } = *ticket;
-    library::Ticket { issue, unit, account, lots, day, count }
+    settlement_day::Ticket { issue, unit, account, lots, day, count }
 }
 
 /// The second engine's book with the same numbers; none where the phase is above 2.
-pub fn reference_book(book: &library::Book) -> Option<book::Book> {
+pub fn reference_book(book: &settlement_day::Book) -> Option<book::Book> {
     Some(book::Book {
         day: book.day,
         phase: match book.phase {
-            library::Phase::TAKING => book::Phase::Taking,
-            library::Phase::SETTLING => book::Phase::Settling,
-            library::Phase::CUT => book::Phase::Cut,
+            settlement_day::Phase::TAKING => book::Phase::Taking,
+            settlement_day::Phase::SETTLING => book::Phase::Settling,
+            settlement_day::Phase::CUT => book::Phase::Cut,
             _ => return None,
         },
         marks: book.marks,
@@ -97,7 +97,7 @@ pub fn reference_book(book: &library::Book) -> Option<book::Book> {
 }
 
 /// Do the two books have the same numbers?
-pub fn same_numbers(one: &book::Book, other: &library::Book) -> bool {
+pub fn same_numbers(one: &book::Book, other: &settlement_day::Book) -> bool {
     one.day == other.day
         && phase_of(one.phase) == other.phase
         && one.count == other.entries
@@ -115,51 +115,55 @@ pub fn same_numbers(one: &book::Book, other: &library::Book) -> bool {
 }
 
 /// The library's instruction of an instruction.
-pub fn library_instruction(instruction: &Instruction) -> library::Instruction {
+pub fn library_instruction(instruction: &Instruction) -> settlement_day::Instruction {
     match *instruction {
         Instruction::Trade { issue, from, to, lots } => {
-            library::Instruction::Trade { issue, from, to, lots }
+            settlement_day::Instruction::Trade { issue, from, to, lots }
         }
         Instruction::Deliver { issue, account, lots } => {
-            library::Instruction::Deliver { issue, account, lots }
+            settlement_day::Instruction::Deliver { issue, account, lots }
         }
         Instruction::Resolve { issue, account, lots } => {
-            library::Instruction::Resolve { issue, account, lots }
+            settlement_day::Instruction::Resolve { issue, account, lots }
         }
-        Instruction::PairOff { issue, account } => library::Instruction::PairOff { issue, account },
-        Instruction::Close => library::Instruction::Close,
-        Instruction::Cutoff => library::Instruction::Cutoff,
-        Instruction::Roll { days, rate } => library::Instruction::Roll { days, rate },
-        Instruction::Mark { issue, mark } => library::Instruction::Mark { issue, mark },
-        Instruction::Turn { day } => library::Instruction::Turn { day },
+        Instruction::PairOff { issue, account } => {
+            settlement_day::Instruction::PairOff { issue, account }
+        }
+        Instruction::Close => settlement_day::Instruction::Close,
+        Instruction::Cutoff => settlement_day::Instruction::Cutoff,
+        Instruction::Roll { days, rate } => settlement_day::Instruction::Roll { days, rate },
+        Instruction::Mark { issue, mark } => settlement_day::Instruction::Mark { issue, mark },
+        Instruction::Turn { day } => settlement_day::Instruction::Turn { day },
     }
 }
 
 /// The second engine's instruction of an instruction.
-pub fn reference_instruction(instruction: &library::Instruction) -> Instruction {
+pub fn reference_instruction(instruction: &settlement_day::Instruction) -> Instruction {
     match *instruction {
-        library::Instruction::Trade { issue, from, to, lots } => {
+        settlement_day::Instruction::Trade { issue, from, to, lots } => {
             Instruction::Trade { issue, from, to, lots }
         }
-        library::Instruction::Deliver { issue, account, lots } => {
+        settlement_day::Instruction::Deliver { issue, account, lots } => {
             Instruction::Deliver { issue, account, lots }
         }
-        library::Instruction::Resolve { issue, account, lots } => {
+        settlement_day::Instruction::Resolve { issue, account, lots } => {
             Instruction::Resolve { issue, account, lots }
         }
-        library::Instruction::PairOff { issue, account } => Instruction::PairOff { issue, account },
-        library::Instruction::Close => Instruction::Close,
-        library::Instruction::Cutoff => Instruction::Cutoff,
-        library::Instruction::Roll { days, rate } => Instruction::Roll { days, rate },
-        library::Instruction::Mark { issue, mark } => Instruction::Mark { issue, mark },
-        library::Instruction::Turn { day } => Instruction::Turn { day },
+        settlement_day::Instruction::PairOff { issue, account } => {
+            Instruction::PairOff { issue, account }
+        }
+        settlement_day::Instruction::Close => Instruction::Close,
+        settlement_day::Instruction::Cutoff => Instruction::Cutoff,
+        settlement_day::Instruction::Roll { days, rate } => Instruction::Roll { days, rate },
+        settlement_day::Instruction::Mark { issue, mark } => Instruction::Mark { issue, mark },
+        settlement_day::Instruction::Turn { day } => Instruction::Turn { day },
     }
 }
 
 /// The library's entry of an entry.
-pub fn library_entry(entry: book::Entry) -> library::Entry {
+pub fn library_entry(entry: book::Entry) -> settlement_day::Entry {
     let book::Entry { issue, from, to, lots, day } = entry;
-    library::Entry { issue, from, to, lots, day }
+    settlement_day::Entry { issue, from, to, lots, day }
 }
 
 #[cfg(test)]
@@ -194,9 +198,9 @@ mod tests {
     #[test]
     fn a_difference_in_any_field_is_seen() {
         let fresh = book::Book::fresh();
-        let changes: [fn(&mut library::Book); 18] = [
+        let changes: [fn(&mut settlement_day::Book); 18] = [
             |book| book.day = 1,
-            |book| book.phase = library::Phase(3),
+            |book| book.phase = settlement_day::Phase(3),
             |book| book.entries = 1,
             |book| book.marks[0] = 1,
             |book| book.marks[15] = 255,
@@ -215,11 +219,14 @@ mod tests {
             |book| book.days[2_047] = 1,
         ];
         for change in changes {
-            let mut book = library::Book::fresh();
+            let mut book = settlement_day::Book::fresh();
             change(&mut book);
             assert!(!same_numbers(&fresh, &book));
         }
-        let damaged = library::Book { phase: library::Phase(3), ..library::Book::fresh() };
+        let damaged = settlement_day::Book {
+            phase: settlement_day::Phase(3),
+            ..settlement_day::Book::fresh()
+        };
         assert_eq!(reference_book(&damaged), None);
     }
 }

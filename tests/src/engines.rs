@@ -3,9 +3,9 @@
 use crate::convert::{library_book, library_ticket, same_numbers};
 use crate::requests::instruction;
 use crate::steps::{Call, Step};
-use library::{raw, LIFT_WORDS};
 use reference::book::{place, Book, ACCOUNTS, ENTRIES, ISSUES};
 use reference::calls::{self, Status, Ticket};
+use settlement_day::{raw, LIFT_WORDS};
 
 /// The words before and after a lent output, which no call may touch.
 const MARGIN: usize = 8;
@@ -25,7 +25,7 @@ pub struct Engines {
     pub reference: Book,
     /// The second engine's book as it was before the last step.
     pub before: Book,
-    library: library::Book,
+    library: settlement_day::Book,
     /// The words of the last call's output after it, margins included; the library's are the same.
     output: Vec<u32>,
     /// How many calls were compared.
@@ -119,7 +119,7 @@ fn inner(output: &mut [u32]) -> &mut [u32] {
 fn same(
     form: &str,
     (answer, book, output): (Answer, &Book, &[u32]),
-    (answer2, book2, output2): (Answer, &library::Book, &[u32]),
+    (answer2, book2, output2): (Answer, &settlement_day::Book, &[u32]),
 ) -> Result<(), [String; 2]> {
     let tell = |one: String, other: String| Err([one, format!("{other} ({form})")]);
     if answer != answer2 {
@@ -143,8 +143,8 @@ fn answer_text(answer: Answer) -> String {
 }
 
 /// The first field in which two books differ.
-pub fn book_difference(one: &library::Book, other: &library::Book) -> [String; 2] {
-    let both = |tell: &dyn Fn(&library::Book) -> String| [tell(one), tell(other)];
+pub fn book_difference(one: &settlement_day::Book, other: &settlement_day::Book) -> [String; 2] {
+    let both = |tell: &dyn Fn(&settlement_day::Book) -> String| [tell(one), tell(other)];
     let differs = |texts: &[String; 2]| texts[0] != texts[1];
     let header = both(&|book| {
         let (entries, turn, marks) = (book.entries, book.turn, book.marks);
@@ -248,7 +248,7 @@ pub fn by_reference_on_sound(book: &mut Book, call: &Call, out: &mut [u32]) -> A
 }
 
 /// The library's answer.
-pub fn by_library(book: &mut library::Book, call: &Call, out: &mut [u32]) -> Answer {
+pub fn by_library(book: &mut settlement_day::Book, call: &Call, out: &mut [u32]) -> Answer {
     let answer = match *call {
         Call::Sound => return plain(raw::sound(&book.columns()), &[]),
         Call::Unit { issue, k } => {
@@ -268,7 +268,7 @@ pub fn by_library(book: &mut library::Book, call: &Call, out: &mut [u32]) -> Ans
             raw::commit(&mut book.columns_mut(), &library_ticket(ticket).numbers(), out)
         }
         Call::Roll { days, rate, ref quotes } => {
-            let roll = library::Instruction::Roll { days, rate };
+            let roll = settlement_day::Instruction::Roll { days, rate };
             raw::call(&mut book.columns_mut(), &roll.fields(), quotes, out)
         }
         ref call => raw::call(&mut book.columns_mut(), &instruction(call).fields(), &[], out),

@@ -8,10 +8,10 @@ use crate::random_calls::random_call;
 use crate::random_lifts::Tickets;
 use crate::rng::Rng;
 use crate::steps::Call;
-use library::raw;
 use reference::access::{read, without_right, Caller, ReadAnswer};
 use reference::book::Book;
 use reference::simulation::{simulate, Outcome, Plan, Units};
+use settlement_day::raw;
 
 /// A request of a book.
 #[derive(Clone, Debug, PartialEq, Eq)]
@@ -86,7 +86,7 @@ fn asked(book: &mut Book, request: &Request, out: &mut [u32]) -> Answer {
 
 /// The library's answer.
 pub fn library_answer(
-    book: &mut library::Book,
+    book: &mut settlement_day::Book,
     caller: &Caller,
     request: &Request,
     out: &mut [u32],
@@ -124,7 +124,7 @@ pub fn library_answer(
             raw::commit_as(caller, &mut book.columns_mut(), &library_ticket(ticket).numbers(), out)
         }
         Call::Roll { days, rate, ref quotes } => {
-            let roll = library::Instruction::Roll { days, rate };
+            let roll = settlement_day::Instruction::Roll { days, rate };
             raw::call_as(caller, &mut book.columns_mut(), &roll.fields(), quotes, out)
         }
         ref call => {
@@ -135,8 +135,8 @@ pub fn library_answer(
 }
 
 /// The instruction of a call that is one.
-pub(crate) fn instruction(call: &Call) -> library::Instruction {
-    use library::Instruction;
+pub(crate) fn instruction(call: &Call) -> settlement_day::Instruction {
+    use settlement_day::Instruction;
     match *call {
         Call::Trade { issue, from, to, lots } => Instruction::Trade { issue, from, to, lots },
         Call::Close => Instruction::Close,
@@ -166,7 +166,12 @@ fn seen(answer: ReadAnswer) -> Answer {
 }
 
 /// A reading in plain numbers: net, charge, whether there is an entry, its issue and accounts, lots, day.
-fn seen_numbers(number: u32, net: i32, charge: i64, entry: Option<library::Entry>) -> Answer {
+fn seen_numbers(
+    number: u32,
+    net: i32,
+    charge: i64,
+    entry: Option<settlement_day::Entry>,
+) -> Answer {
     let found = u64::from(entry.is_some());
     let (ends, lots, day) = entry.map_or((0, 0, 0), |e| {
         let ends = u64::from(e.issue) << 16 | u64::from(e.from) << 8 | u64::from(e.to);

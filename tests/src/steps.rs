@@ -4,9 +4,9 @@
 //! between them, and can be replayed.
 
 use crate::convert::lift_words;
-use library::LIFT_WORDS;
 use reference::book::{place, Book, Entry, Phase, ACCOUNTS, ENTRIES, ISSUES};
 use reference::calls::Ticket;
+use settlement_day::LIFT_WORDS;
 use std::fmt;
 use std::str::FromStr;
 

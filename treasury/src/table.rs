@@ -1,8 +1,8 @@
 //! The table of a default: what the proved library answers, as text and as JSON.
 
 use crate::file::{Fault, Participant};
-use library::funds::{self, Amounts, MOST_AMOUNT, PARTICIPANTS};
-use library::Refusal;
+use settlement_day::funds::{self, Amounts, MOST_AMOUNT, PARTICIPANTS};
+use settlement_day::Refusal;
 
 /// The participants of a default, the factor that their bases come from (none where bases are given),
 /// and the funds (none where only bases are asked for).

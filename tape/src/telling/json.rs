@@ -6,7 +6,7 @@ use crate::facts::{Fact, Told};
 use crate::input::Stands;
 use crate::measure::write_number;
 use crate::units::Case;
-use library::{Instruction, Refusal};
+use settlement_day::{Instruction, Refusal};
 use std::io::{self, Write};
 
 /// Tells a fact of an instruction that stands there.

@@ -5,7 +5,7 @@ use crate::facts::{Fact, Told};
 use crate::input::Stands;
 use crate::measure::{counted, Face, Grouped, Line, Lots, Price, Rate};
 use crate::units::Case;
-use library::Instruction;
+use settlement_day::Instruction;
 use std::io::{self, Write};
 
 /// Tells a fact of an instruction that stands there.

@@ -4,7 +4,7 @@ use super::{day_of, Ended, Verb};
 use crate::options::{flag, valued, Given, Opt, HEX, JSON, WORDS};
 use crate::output::Output;
 use crate::telling::{explain, Form, Only};
-use library::{ACCOUNTS, ISSUES};
+use settlement_day::{ACCOUNTS, ISSUES};
 
 const HTML: Opt = flag("--html");
 const ISSUE: Opt = valued("--issue", "a number from 0 to 15");

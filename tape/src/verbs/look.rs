@@ -4,7 +4,7 @@ use super::{day_of, get, name_of, put, Ended, Verb};
 use crate::input::text_of;
 use crate::look::{owners_of, read, Question};
 use crate::options::{number, valued, Given, Opt, HEX, JSON, WORDS};
-use library::access::OPERATOR;
+use settlement_day::access::OPERATOR;
 
 const AT: Opt = valued("--at", "the number of a word");
 const AS: Opt = valued("--as", "the number of a caller");
@@ -35,7 +35,7 @@ fn act(given: &Given) -> Result<Ended, String> {
         owners_of(&text).map_err(|faults| faults.listed(&name, ["error", "errors"]).join("\n"))?;
     let caller = given.number(&AS, 0..=u32::MAX)?.unwrap_or(OPERATOR);
     let question = Question {
-        caller: library::Caller { number: caller, owners },
+        caller: settlement_day::Caller { number: caller, owners },
         issue: number("ISSUE", issue, 0..=u32::MAX)?,
         account: number("ACCOUNT", account, 0..=u32::MAX)?,
         at: given.number(&AT, 0..=usize::MAX)?,

@@ -3,7 +3,7 @@
 use super::{day_of, put, Ended, Verb};
 use crate::options::{flag, number, Given, Opt, HEX, JSON, WORDS};
 use crate::statement::Told;
-use library::{ACCOUNTS, ISSUES};
+use settlement_day::{ACCOUNTS, ISSUES};
 
 const HTML: Opt = flag("--html");
 const ALL: Opt = flag("--all");

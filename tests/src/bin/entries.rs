@@ -3,8 +3,8 @@
 //! Every combination of a few lots, lengths and places, then random cases. `--replay` takes the
 //! place, the lots asked and then the lots of the entries.
 
-use library::{entries, Entry};
 use reference::book;
+use settlement_day::{entries, Entry};
 use std::fmt;
 use std::process::ExitCode;
 use tests::convert::library_entry;

@@ -7,8 +7,8 @@
 //! words around it are compared. `--replay` takes what is called (`bases`, `shares` or `funds`), the
 //! factor in tenths, the funds, the number of participants, their averages, and for `shares` bases.
 
-use library::{funds as proved, Refusal};
 use reference::funds::{self as model, Amounts, MOST_AMOUNT, MOST_PARTICIPANTS};
+use settlement_day::{funds as proved, Refusal};
 use std::collections::BTreeSet;
 use std::fmt;
 use std::process::ExitCode;

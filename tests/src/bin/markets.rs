@@ -7,9 +7,9 @@
 //! Last the second engine's own counts, for some lists. `--replay` takes `list`, accounts, most and
 //! places, or `fails`, accounts, most and delivered lots.
 
-use library::{markets as proved, Refusal};
 use reference::book::{place, Book, ISSUES};
 use reference::markets::{self as model, COUNTS, PLACES};
+use settlement_day::{markets as proved, Refusal};
 use std::collections::{BTreeMap, BTreeSet};
 use std::fmt;
 use std::process::ExitCode;

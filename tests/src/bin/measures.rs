@@ -3,8 +3,8 @@
 //! Every combination of edges, then random cases. `--replay value L P A` and
 //! `--replay charge L P D R A` run one case alone.
 
-use library::raw;
 use reference::measures::{self, MOST_ACCRUED, MOST_DAYS, MOST_LOTS, MOST_PRICE, MOST_RATE};
+use settlement_day::raw;
 use std::collections::BTreeSet;
 use std::fmt;
 use std::process::ExitCode;

@@ -7,9 +7,9 @@
 //! which a book's full units are dealt in turn, which changes nothing here. `--replay` takes `size S`,
 //! `turn DAY`, `settle ACCOUNT SETTLEMENT`, `hold PLACE LOTS` and `net PLACE NET`.
 
-use library::raw::{self, Simulated};
 use reference::book::{place, Book, ACCOUNTS, ISSUES};
 use reference::simulation::{simulate, Outcome, Units, SETTLEMENT_ACCOUNTS};
+use settlement_day::raw::{self, Simulated};
 use std::collections::BTreeSet;
 use std::process::ExitCode;
 use tests::convert::library_book;

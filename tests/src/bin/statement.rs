@@ -6,8 +6,8 @@
 //! fails of all accounts are all fails that were written. `--replay` takes an issue, an account and the
 //! words in hexadecimal.
 
-use library::{statement::write, Refusal};
 use reference::statement::{fails, statement as model, MOST_INSTRUCTIONS};
+use settlement_day::{statement::write, Refusal};
 use std::collections::BTreeSet;
 use std::fmt;
 use std::path::Path;

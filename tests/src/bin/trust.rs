@@ -8,9 +8,9 @@
 //! the number of reports, of each report its sub-account, counterparty, lots and earlier fail, and
 //! then the draw.
 
-use library::trust::{self as proved, Reports};
-use library::Refusal;
 use reference::trust::{self as model, Report, LAST_SUB_ACCOUNT, MOST_REPORTS};
+use settlement_day::trust::{self as proved, Reports};
+use settlement_day::Refusal;
 use std::collections::BTreeSet;
 use std::fmt;
 use std::process::ExitCode;

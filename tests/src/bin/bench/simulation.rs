@@ -1,9 +1,9 @@
 //! Unit sizes on a simulated desk: a full market with inventories from next to nothing to all that is
 //! owed, and the market that takes the most rounds.
 
-use library::raw::{self, Simulated};
 use reference::book::{place, Book, ACCOUNTS, ISSUES};
 use reference::simulation::{simulate, Units, SETTLEMENT_ACCOUNTS};
+use settlement_day::raw::{self, Simulated};
 use std::time::Instant;
 use tests::convert::library_book;
 use tests::desks::Trial;

@@ -6,9 +6,9 @@
 //! that a call does not use change nothing.
 
 use crate::Failure;
-use library::raw::{self, Answer, AskAnswer, Columns, ColumnsMut, StatusAnswer, UnitAnswer};
-use library::{Book, Fields, Phase};
 use reference::measures::same_quotes;
+use settlement_day::raw::{self, Answer, AskAnswer, Columns, ColumnsMut, StatusAnswer, UnitAnswer};
+use settlement_day::{Book, Fields, Phase};
 use tests::books::{random_book, Shape};
 use tests::convert::library_book;
 use tests::engines::pattern;

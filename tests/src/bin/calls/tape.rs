@@ -4,11 +4,11 @@
 //! and one past, outputs of every length at the edge, random words; written and read back both ways.
 
 use crate::Failure;
-use library::raw::{self, ReadAnswer, WriteAnswer};
-use library::{Fields, Instruction as LibraryInstruction};
 use reference::book::QUOTES;
 use reference::questions::WRITER_OUTPUT;
 use reference::tape::{self, Instruction};
+use settlement_day::raw::{self, ReadAnswer, WriteAnswer};
+use settlement_day::{Fields, Instruction as LibraryInstruction};
 use std::collections::BTreeMap;
 use std::fmt::Display;
 use tests::convert::{library_instruction, reference_instruction};

@@ -2,9 +2,9 @@
 //! lifts, beside units stored one by one.
 
 use crate::Failure;
-use library::raw::{self, UnitAnswer};
 use reference::book::{Book, Phase};
 use reference::units::units_of;
+use settlement_day::raw::{self, UnitAnswer};
 use tests::books::{deliver_some, lift_some, move_lots, two_of, MENU};
 use tests::convert::{library_book, same_numbers};
 use tests::report::Mismatch;
