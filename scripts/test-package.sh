@@ -49,6 +49,28 @@ same 'where the links lead' "$(basename "$shared")" \
     "$(readlink "$prefix/lib/libsettlement_day.so" "$prefix/lib/libsettlement_day.so.${version%%.*}" | sort -u)"
 same 'the version that pkg-config tells' "$version" "$(pkg-config --modversion settlement-day)"
 
+# What crates share under one name stays apart where they are joined, and a function is in one of them.
+mkdir "$home/join"
+crate() { # NAME NUMBER FUNCTION
+    printf 'int shared(void) { return %s; }\nint %s(void) { return shared(); }\n' "$2" "$3" |
+        gcc -fPIC -O0 -c -x c -o "$home/join/$1.o" -
+    ar rcs "$home/join/lib$1.a" "$home/join/$1.o"
+}
+crate one 1 day_one
+crate two 2 day_two
+crate other 3 day_one
+scripts/join.sh "$home/join/joined.a" "$home/join/libone.a" "$home/join/libtwo.a" >/dev/null
+same 'what is global of joined crates' $'day_one\nday_two\nday_version' "$(given "$home/join/joined.a")"
+echo 'int day_one(void); int day_two(void); int main(void) { return day_one() * 10 + day_two(); }' |
+    gcc -o "$home/join/both" -x c - -x none "$home/join/joined.a"
+status=0
+"$home/join/both" || status=$?
+same 'what joined crates call' 12 "$status"
+if scripts/join.sh "$home/join/twice.a" "$home/join/libone.a" "$home/join/libother.a" 2>"$home/said"; then
+    wrong 'a function of two crates is joined'
+fi
+same 'what is said of it' 'in more than one crate: day_one' "$(cat "$home/said")"
+
 # The example of the document, by its own lines, in folders that are empty before.
 block() { # KIND NUMBER: a block of code of docs/HOSTS.md
     awk -v kind="$1" -v wanted="$2" '
