@@ -10,6 +10,7 @@ pub mod fault;
 pub mod input;
 mod interrupt;
 pub mod jam;
+pub mod ledger;
 pub mod look;
 pub mod markets;
 pub mod measure;

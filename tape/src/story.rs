@@ -7,6 +7,7 @@
 use crate::bytes::split;
 use crate::dealt::{Dealt, Turn};
 use crate::facts::{Fact, Terms, Told};
+use crate::ledger::pair_off;
 use crate::text::why_ended;
 use crate::units::{close, runs, waiting, Case, Run, Walk};
 use crate::why::{owed_today, why};
@@ -92,7 +93,8 @@ impl Story<'_> {
         }
         let roll = matches!(instruction, Instruction::Roll { .. });
         let quotes = if roll { tape::quotes(words) } else { [0; QUOTES] };
-        let entries: Vec<Entry> = if roll { self.book.ledger().collect() } else { Vec::new() };
+        let on_entries = roll || matches!(instruction, Instruction::PairOff { .. });
+        let entries = if on_entries { self.book.ledger().collect() } else { Vec::new() };
         let answer = calls::call(&mut self.book, &instruction, &quotes, &mut self.output);
         let refusal = answer
             .refused()
@@ -113,7 +115,9 @@ impl Story<'_> {
             }
             Instruction::Cutoff => self.cut(answer.count),
             Instruction::Resolve { .. } => self.resolved(answer.count),
-            Instruction::PairOff { issue, account } => self.paired(&answer, issue, account),
+            Instruction::PairOff { issue, account } => {
+                self.paired(&answer, entries, issue, account)
+            }
             Instruction::Trade { .. }
             | Instruction::Roll { .. }
             | Instruction::Mark { .. }
@@ -256,10 +260,19 @@ impl Story<'_> {
         Ok(())
     }
 
-    /// The steps of a pair-off, and the issue's entries after it.
-    fn paired(&mut self, answer: &Answer, issue: u32, account: u32) -> io::Result<()> {
+    /// The steps of a pair-off, with the entries that meet, and the issue's entries after it.
+    fn paired(
+        &mut self,
+        answer: &Answer,
+        mut before: Vec<Entry>,
+        issue: u32,
+        account: u32,
+    ) -> io::Result<()> {
         let Answer { count: steps, cancelled, .. } = *answer;
         self.fact(&Fact::Paired { issue, account, steps, cancelled })?;
+        for step in pair_off(&mut before, issue, account, self.book.day) {
+            self.fact(&Fact::Met { issue, account, step })?;
+        }
         let entries: Vec<Entry> =
             self.book.ledger().filter(|entry| u32::from(entry.issue) == issue).collect();
         for Entry { from, to, lots, day: since, .. } in entries {

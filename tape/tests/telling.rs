@@ -121,9 +121,9 @@ fn named<'a>(objects: &'a [Object], name: &str) -> Vec<&'a Object> {
 }
 
 #[test]
-fn the_settled_days_and_the_change_over_are_told_as_stored() {
+fn some_samples_are_told_as_stored() {
     let folder = Path::new(env!("CARGO_MANIFEST_DIR")).join("../tapes");
-    for name in ["p5-to-p9", "change-over"] {
+    for name in ["p5-to-p9", "change-over", "two-days"] {
         let read = |extension: &str| {
             let file = folder.join(name).with_extension(extension);
             fs::read_to_string(&file).unwrap_or_else(|error| panic!("{}: {error}", file.display()))
@@ -193,6 +193,9 @@ fn text_says_why() {
         "account 5 fails account 3: 25,000 lots (1,250,000,000 yen face), of unit 6",
         "value 250,000,000 yen at 100.000, accrued 0.000, 1 day at 3.00 percent a year",
         "2 steps, 25 lots cancelled",
+        "the fail of account 1 to account 2 since day 0 meets that of account 2 to account 3 since day 1: 20 lots \
+         (1,000,000 yen face); account 1 now owes them to account 3\n",
+        "since day 0 meets that of account 2 to account 1 since day 1: 5 lots (250,000 yen face); they fall away\n",
         "in the ledger: issue 3: account 1 owes account 3 20 lots (1,000,000 yen face), since day 1",
         "account 4 hands to account 3: 1,000 lots (50,000,000 yen face)",
         "reading ends, refused by 14",
@@ -300,7 +303,7 @@ fn every_fact_of_json_is_in_the_documents() {
     let mut names: Vec<&Value> = seen.iter().map(|object| &object["fact"]).collect();
     names.sort_by_key(|name| format!("{name:?}"));
     names.dedup();
-    assert_eq!(names.len(), 22, "{names:?}");
+    assert_eq!(names.len(), 23, "{names:?}");
     for object in &seen {
         let Value::Text(name) = &object["fact"] else { panic!("{object:?}") };
         let row = documents.lines().find(|line| line.starts_with(&format!("| `{name}` |")));

@@ -3,6 +3,7 @@
 use crate::dealt::{Rounds, Turn};
 use crate::facts::{Fact, Told};
 use crate::input::Stands;
+use crate::ledger::Step;
 use crate::measure::{counted, Face, Grouped, Line, Lots, Price, Rate};
 use crate::units::Case;
 use library::Instruction;
@@ -232,6 +233,7 @@ fn fail(out: &mut impl Write, fact: &Fact) -> io::Result<()> {
         Fact::Paired { steps, cancelled, .. } => {
             write!(out, "{}, {} cancelled", counted(*steps, "step"), Lots(*cancelled))
         }
+        Fact::Met { account, step, .. } => met(out, *account, step),
         Fact::Left { issue, from, to, lots, since } => {
             write!(out, "in the ledger: ")?;
             entry(out, &[*issue, *from, *to, *lots], *since)
@@ -241,6 +243,18 @@ fn fail(out: &mut impl Write, fact: &Fact) -> io::Result<()> {
         }
         _ => Ok(()),
     }
+}
+
+/// A step of an account's pair-off: the entries that meet, and what comes of it.
+fn met(out: &mut impl Write, account: u32, step: &Step) -> io::Result<()> {
+    let Step { from, from_since, to, to_since, lots } = *step;
+    let face = Face(lots.into());
+    write!(out, "the fail of account {from} to account {account} since day {from_since} meets ")?;
+    write!(out, "that of account {account} to account {to} since day {to_since}: {face}; ")?;
+    if step.falls_away() {
+        return write!(out, "they fall away");
+    }
+    write!(out, "account {from} now owes them to account {to}")
 }
 
 /// An account's charges; or one charge, with the value, the price, accrued interest, the rate and the
