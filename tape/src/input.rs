@@ -231,6 +231,11 @@ impl Day {
         Ok(())
     }
 
+    /// The names of its files.
+    pub fn names(&self) -> Vec<String> {
+        self.sources.iter().map(|source| source.name.clone()).collect()
+    }
+
     /// Where the instruction that begins at a word stands; the file is named where there are several.
     pub fn stands(&self, word: usize) -> Stands<'_> {
         let several = self.sources.len() > 1;

@@ -85,6 +85,21 @@ fn trade(out: &mut impl Write, line: &mut Line, instruction: &Instruction) -> io
     out.write_all(line.bytes())
 }
 
+/// What an instruction says, as a text.
+pub fn said(instruction: &Instruction) -> String {
+    let mut text = Vec::new();
+    // A write to memory does not fail.
+    let _ = sentence(&mut text, instruction);
+    String::from_utf8_lossy(&text).to_string()
+}
+
+/// Something that an instruction did, as a text.
+pub fn told(fact: &Fact) -> String {
+    let mut text = Vec::new();
+    let _ = detail(&mut text, fact);
+    String::from_utf8_lossy(&text).to_string()
+}
+
 /// What an instruction says.
 fn sentence(out: &mut impl Write, instruction: &Instruction) -> io::Result<()> {
     match *instruction {
@@ -296,7 +311,7 @@ fn dealt(turn: &Option<Turn>) -> String {
 }
 
 /// The units of a fail: those from the first to the last, or so many of them that lie apart.
-fn failed_units(first: u32, last: u32, units: u32) -> String {
+pub fn failed_units(first: u32, last: u32, units: u32) -> String {
     match units {
         _ if last + 1 - first == units => units_text(first, last).0,
         2 => format!("units {first} and {last}"),
@@ -313,12 +328,12 @@ fn units_text(first: u32, last: u32) -> (String, &'static str) {
 }
 
 /// Days with their measure.
-fn days_text(days: u32) -> String {
+pub fn days_text(days: u32) -> String {
     format!("{days} day{}", if days == 1 { "" } else { "s" })
 }
 
 /// Numbers with commas and a last 'and' between them.
-fn listed(numbers: &[u32]) -> String {
+pub fn listed(numbers: &[u32]) -> String {
     let names: Vec<String> = numbers.iter().map(u32::to_string).collect();
     match names.split_last() {
         Some((last, before)) if !before.is_empty() => format!("{} and {last}", before.join(", ")),
