@@ -2,6 +2,7 @@
 //! unit has not come, whether smaller units would loosen a jam, what a participant sees of an account,
 //! every small market, and an account's fails statement.
 
+pub mod account;
 pub mod bytes;
 pub mod check;
 pub mod dealt;
@@ -17,6 +18,7 @@ pub mod measure;
 pub mod options;
 pub mod output;
 pub mod run;
+pub mod standing;
 pub mod statement;
 pub mod status;
 pub mod story;

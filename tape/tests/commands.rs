@@ -203,8 +203,26 @@ fn why_tells_of_a_unit() {
     let (status, printed, said) = ended(&["why", "-", "0", "2"], text);
     assert_eq!((status, said.as_str()), (1, ""));
     assert!(printed.ends_with("refused by 16: issue 0 has no unit 2, its units are 0 to 1\n"));
+    let of_account = ended(&["why", "--account", "2", "--issue", "0", "-"], text);
+    let told = "at the end of the tape, day 0, Cut: account 2 is due 150,000 lots (7,500,000,000 yen face) of issue 0 in 2 \
+        units\n  unit 0, 100,000 lots (5,000,000,000 yen face), is handed\n  unit 1, 50,000 lots (2,500,000,000 yen \
+        face), wholly failed: at the cutoff nothing of it had come\n  account 1 owes it 50,000 lots (2,500,000,000 yen \
+        face) of the issue since day 0\n";
+    assert_eq!(of_account, (0, told.into(), "".into()));
+    let settling = ended(&["why", "--account=2", "--issue=0", "--at=3"], text);
+    assert!(
+        settling.1.starts_with("before word 3, line 3, day 0, Settling: account 2"),
+        "{settling:?}"
+    );
+    let taking = ended(&["why", "--account=2", "--issue=0"], b"trade 0 1 2 5\n");
+    assert!(taking.0 == 1 && taking.1.contains("Taking: refused by 3"), "{taking:?}");
     for (words, told) in [
-        (&["why", "-", "0"][..], "why needs a day, an issue and a unit"),
+        (&["why", "--account=2", "-"][..], "--account and --issue go together"),
+        (&["why", "--issue=2", "-", "0", "0"], "--account and --issue go together"),
+        (&["why", "--account=64", "--issue=0", "-"], "--account needs a number from 0 to 63"),
+        (&["why", "--day=1", "--account=2", "--issue=0", "-"], "--day 1: the tape ends on day 0"),
+        (&["why", "--day=0", "--at=3", "-", "0", "0"], "--at and --day contradict each other"),
+        (&["why", "-", "0"], "why needs a day, an issue and a unit"),
         (&["why", "0", "1"], "why needs a day, an issue and a unit"),
         (&["why", "-", "0", "x"], "UNIT needs a number from 0 to 4294967295, not \"x\""),
         (&["why", "--at", "1", "-", "0", "0"], "trade begins at word 0 and has 2"),

@@ -11,6 +11,7 @@ use page::Page;
 use std::io::{self, Write};
 
 pub use json::escaped;
+pub use text::failed_units;
 
 /// The form in which facts are told.
 #[derive(Clone, Copy, Debug, Default, PartialEq, Eq)]
