@@ -17,6 +17,7 @@ pub mod markets;
 pub mod measure;
 pub mod options;
 pub mod output;
+mod progress;
 pub mod run;
 pub mod standing;
 pub mod statement;

@@ -3,6 +3,7 @@
 use crate::bytes::split;
 use crate::input::Day;
 use crate::measure::counted;
+use crate::progress::Meter;
 use crate::story::traded;
 use library::{calls, tape, Book, Instruction, Phase, OUTPUT_WORDS};
 
@@ -64,9 +65,11 @@ pub fn run(tape: &[u8], when: When) -> Result<Stood, String> {
     let mut book = Book::fresh();
     let mut output = vec![0; OUTPUT_WORDS];
     let mut closed = None;
+    let mut meter = Meter::of_words(words.len());
     let mut at = 0;
     let until = if let When::Before(word) = when { word } else { usize::MAX };
     while at < until && (at < words.len() || !stray.is_empty()) {
+        meter.at(at);
         let Ok((instruction, count)) = tape::read(&words[at..]) else { break };
         if until < at + count {
             return Err(inside(&instruction, at, count));

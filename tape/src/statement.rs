@@ -4,6 +4,7 @@
 use crate::bytes::split;
 use crate::input::Day;
 use crate::measure::{counted, Face, Grouped};
+use crate::progress::Meter;
 use crate::story::traded;
 use library::statement::{statement, Statement, MOST_INSTRUCTIONS};
 use library::{calls, tape, Book, Instruction, Phase, Refusal, OUTPUT_WORDS};
@@ -74,7 +75,9 @@ impl Told {
         let (words, stray) = split(&day.tape);
         let (span, named) = run(&words, !stray.is_empty());
         let mut rows = Vec::new();
-        for (issue, account) in named {
+        let mut meter = Meter::of_things("statement", named.len());
+        for (at, (issue, account)) in named.into_iter().enumerate() {
+            meter.at(at);
             let statement = statement(&words, issue, account)?;
             if statement != Statement::default() {
                 rows.push(Row { issue, account, statement });

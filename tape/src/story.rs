@@ -8,6 +8,7 @@ use crate::bytes::split;
 use crate::dealt::{Dealt, Turn};
 use crate::facts::{Fact, Terms, Told};
 use crate::ledger::pair_off;
+use crate::progress::Meter;
 use crate::text::why_ended;
 use crate::units::{close, runs, waiting, Case, Run, Walk};
 use crate::why::{owed_today, why};
@@ -60,8 +61,10 @@ pub fn tell<'a>(tape: &[u8], sink: &'a mut Sink<'a>) -> io::Result<u16> {
         sink,
     };
     story.fact(&Fact::Day { day: 0, turn: 0 })?;
+    let mut meter = Meter::of_words(words.len());
     let mut at = 0;
     while at < words.len() || !stray.is_empty() {
+        meter.at(at);
         story.word = Some(at);
         match tape::read(&words[at..]) {
             Ok((instruction, count)) => {

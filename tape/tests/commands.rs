@@ -2,9 +2,10 @@
 
 use std::ffi::OsStr;
 use std::fs;
-use std::io::Write;
+use std::io::{Read, Write};
 use std::os::unix::ffi::OsStrExt;
 use std::os::unix::fs::PermissionsExt;
+use std::os::unix::process::ExitStatusExt;
 use std::path::{Path, PathBuf};
 use std::process::{Child, Command, Output, Stdio};
 use std::thread::sleep;
@@ -334,6 +335,52 @@ fn a_run_that_is_interrupted_leaves_the_old_file_and_no_other() {
         assert_eq!(fs::read(&out).unwrap(), b"what was there");
         fs::remove_dir_all(folder).unwrap();
     }
+}
+
+#[test]
+fn a_pipe_that_nobody_reads_ends_it_without_a_message() {
+    let folder = folder("unread");
+    let day = file(&folder, "day.tape", &[0, 0, 0, 0x60].repeat(200_000));
+    for words in [&["explain"][..], &["explain", "--json"], &["check"], &["read"]] {
+        let words = words.iter().map(OsStr::new).chain([day.as_os_str()]);
+        let mut child = begun(&words.collect::<Vec<_>>());
+        drop(child.stdin.take());
+        let mut first = [0; 64];
+        child.stdout.take().expect("a pipe").read_exact(&mut first).expect("some bytes");
+        let ended = child.wait_with_output().expect("the tool ends");
+        assert_eq!(ended.status.signal(), Some(13), "{:?}", ended.status);
+        assert_eq!(String::from_utf8_lossy(&ended.stderr), "");
+    }
+    fs::remove_dir_all(folder).unwrap();
+}
+
+#[test]
+fn long_work_tells_its_progress_at_a_terminal() {
+    let folder = folder("progress");
+    let day = file(&folder, "day.tape", &[0, 0, 0, 0x60].repeat(8_000_000));
+    let tool = env!("CARGO_BIN_EXE_tape");
+    for verb in ["check", "explain --html", "why --account 0 --issue 0", "run --program /bin/true"]
+    {
+        // `script` gives it a terminal; what is told goes elsewhere.
+        let command = format!("exec {tool} {verb} {} >/dev/null", day.display());
+        let mut terminal = Command::new("script")
+            .args(["-qec", &command, "/dev/null"])
+            .stdin(Stdio::null())
+            .stdout(Stdio::piped())
+            .spawn()
+            .expect("script, of Debian's package bsdutils");
+        let start = Instant::now();
+        let mut shown = [0; 160];
+        terminal.stdout.take().expect("a pipe").read_exact(&mut shown).expect("progress is told");
+        assert!(start.elapsed() >= Duration::from_secs(2), "{verb}: {:?}", start.elapsed());
+        terminal.kill().expect("it is at work");
+        terminal.wait().expect("it ends");
+        let shown = String::from_utf8_lossy(&shown);
+        let line = "\r\u{1b}[Ktape: word ";
+        assert!(shown.starts_with(line) && shown.contains(" of 8,000,000, "), "{verb}: {shown:?}");
+        assert!(shown.matches(line).count() > 1, "{verb}: {shown:?}");
+    }
+    fs::remove_dir_all(folder).unwrap();
 }
 
 #[test]
