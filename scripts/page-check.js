@@ -17,6 +17,10 @@ for (const element of document.body.querySelectorAll('*:not(script)')) {
   if (box.right > edge + 0.5 || box.left < -0.5)
     wrong.push(`over the edge: <${element.tagName.toLowerCase()}> ${box.left} to ${box.right}: ${text(element).slice(0, 40)}`);
 }
+// Every text, with the head before it on a narrow screen, fits its box.
+for (const box of document.body.querySelectorAll('td, th, li, p, h1, h2, h3, h4, .badge'))
+  if (box.clientWidth > 0 && (box.scrollWidth > box.clientWidth + 1 || box.scrollHeight > box.clientHeight + 1))
+    wrong.push(`over its box: <${box.tagName.toLowerCase()}> ${text(box).slice(0, 40)}`);
 if (elements < 20) wrong.push(`only ${elements} elements are seen`);
 
 // Every text can be read: a contrast of at least 4.5 with what it stands on. A sign is a part of a bar:

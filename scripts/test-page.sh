@@ -1,7 +1,7 @@
 #!/usr/bin/env bash
 # Looks at the pages of `tape explain --html` in headless Chromium, 1,280 and 390 pixels wide, in the light, in
-# the dark and as on paper: no element stands over the edge, every text can be read by its computed
-# contrast, the states of units can be told apart without colour, and the numbers are those of --json.
+# the dark and as on paper: no element stands over the edge, every text fits its box and can be read by its
+# computed contrast, the states of units can be told apart without colour, and the numbers are those of --json.
 # Where there is no Chromium it is installed from Debian's packages if CI is set; where none can be had,
 # nothing is tested, the last line says `not run`, and the status is 3.
 # Usage: test-page.sh [TOOL]
@@ -60,7 +60,7 @@ ask() { # NAME PAGE FACTS WIDTH
         printf '  %s\n' "${told[@]:6:12}"
         exit 1
     fi
-    echo "$1, $4 pixels: ${told[2]} elements inside the edge, ${told[3]} texts read in the light and in the dark, ${told[5]} numbers' rows compared"
+    echo "$1, $4 pixels: ${told[2]} elements inside the edge, ${told[3]} texts read in the light and in the dark, ${told[5]} rows of numbers compared"
 }
 
 # A market of 63 receivers in 16 issues, in the new order, partly delivered.
@@ -106,6 +106,7 @@ refused() { # WHAT EDIT
 refused 'a wrong number' 's/<td>60,500<\/td>/<td>60,501<\/td>/'
 refused 'a unit in another state' '0,/<b class="badge handed">handed<\/b><\/td>/s//<b class="badge failed">failed<\/b><\/td>/'
 refused 'an element that is too wide' 's/<h1>/<h1 style="width:500px">/'
+refused 'a text over its box' 's/display: flow-root;/display: block; height: 1em;/'
 refused 'a pale text' 's/--on-handed: #ffffff/--on-handed: #66aacc/'
 refused 'states by colour alone' 's/border-style: d[a-z]*;//; s/repeating-linear-gradient([^;]*;/var(--ink);/'
 echo 'the pages in a browser: as they must be'

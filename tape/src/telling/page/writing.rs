@@ -78,6 +78,10 @@ impl Page {
         if self.end.phase.is_some() {
             writeln!(out, "<p><a href=\"#end\">At the end: ledger and charges</a></p>")?;
         }
+        if self.only.account.is_none() {
+            let command = "<code>tape explain --html --account N</code>";
+            writeln!(out, "<p>What one account is told: {command}.</p>")?;
+        }
         writeln!(out, "</nav>")
     }
 
