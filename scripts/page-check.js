@@ -6,6 +6,15 @@ const facts = JSON.parse(document.getElementById('facts').textContent);
 const number = text => Number(text.replace(/[^0-9.-]/g, ''));
 const text = cell => cell.textContent.trim();
 
+// The rules of a medium are put in force, or out of it; a page for paper is looked at as such.
+const sheets = [...document.styleSheets].flatMap(sheet => [...sheet.cssRules]);
+const force = (media, then) => sheets.filter(rule => rule.media && rule.media.mediaText.includes(media)).forEach(rule => (rule.media.mediaText = then));
+const paper = 'paper' in document.getElementById('facts').dataset;
+if (paper) {
+  force('print', 'all');
+  force('screen', 'not all');
+}
+
 // Nothing stands over the edge.
 const edge = document.documentElement.clientWidth;
 if (document.documentElement.scrollWidth > edge) wrong.push(`the page is ${document.documentElement.scrollWidth} wide`);
@@ -221,12 +230,11 @@ try {
   wrong.push(`${error}`);
 }
 const day = readable();
-// The same in the dark, and on paper: the rules of those media are put in force.
-const sheets = [...document.styleSheets].flatMap(sheet => [...sheet.cssRules]);
-const force = (media, then) => sheets.filter(rule => rule.media && rule.media.mediaText.includes(media)).forEach(rule => (rule.media.mediaText = then));
-force('prefers-color-scheme: dark', 'all');
+// The same in the dark, and in the colours of paper.
+if (!paper) force('prefers-color-scheme: dark', 'all');
 const dark = readable();
-if (getComputedStyle(document.body).backgroundColor === 'rgb(255, 255, 255)') wrong.push('there is no dark page');
+const white = getComputedStyle(document.body).backgroundColor === 'rgb(255, 255, 255)';
+if (white !== paper) wrong.push(paper ? 'paper is not white' : 'there is no dark page');
 force('print', 'all');
 readable();
 document.body.innerHTML = '';

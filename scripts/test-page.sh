@@ -1,6 +1,6 @@
 #!/usr/bin/env bash
-# Looks at the pages of `tape explain --html` in headless Chromium, 1,280 and 390 pixels wide, in the light, in
-# the dark and as on paper: no element stands over the edge, every text fits its box and can be read by its
+# Looks at the pages of `tape explain --html` in headless Chromium, 1,280 and 390 pixels wide and as on paper, in
+# the light and in the dark: no element stands over the edge, every text fits its box and can be read by its
 # computed contrast, the states of units can be told apart without colour, and the numbers are those of --json.
 # Where there is no Chromium it is installed from Debian's packages if CI is set; where none can be had,
 # nothing is tested, the last line says `not run`, and the status is 3.
@@ -10,6 +10,8 @@ cd "$(dirname "$0")/.."
 
 tool=${1:-build/release/tape}
 not_run=3
+# The pixels of an A4 page between its margins.
+paper=718
 folder=$(mktemp -d)
 trap 'rm -rf "$folder"' EXIT
 
@@ -27,10 +29,10 @@ chromium=$(browser) || {
 
 # A page with the check and the facts in it, in a frame of so many pixels: a window may be no narrower
 # than the browser likes.
-framed() { # PAGE FACTS WIDTH OUT
+framed() { # PAGE FACTS WIDTH OUT MEDIUM
     {
         sed '/<\/body>/,$d' "$1"
-        echo '<script type="application/json" id="facts">['
+        printf '<script type="application/json" id="facts" data-%s>[\n' "$5"
         sed '$!s/$/,/' "$2"
         printf ']</script>\n<script>\n'
         cat scripts/page-check.js
@@ -46,8 +48,8 @@ framed() { # PAGE FACTS WIDTH OUT
 }
 
 # Asks a page at a width.
-ask() { # NAME PAGE FACTS WIDTH
-    framed "$2" "$3" "$4" "$folder/framed.html"
+ask() { # NAME PAGE FACTS WIDTH [MEDIUM]
+    framed "$2" "$3" "$4" "$folder/framed.html" "${5:-screen}"
     nice "$chromium" --headless --no-sandbox --disable-gpu --hide-scrollbars --window-size=1400,1000 --virtual-time-budget=60000 \
         --user-data-dir="$folder/user" --dump-dom "file://$folder/framed.html" >"$folder/dom" 2>"$folder/said" ||
         { echo "$1: the browser failed"; tail -n 3 "$folder/said"; exit 1; }
@@ -60,7 +62,7 @@ ask() { # NAME PAGE FACTS WIDTH
         printf '  %s\n' "${told[@]:6:12}"
         exit 1
     fi
-    echo "$1, $4 pixels: ${told[2]} elements inside the edge, ${told[3]} texts read in the light and in the dark, ${told[5]} rows of numbers compared"
+    echo "$1, $4 pixels: ${told[2]} elements inside the edge, ${told[3]} texts read by their contrast, ${told[5]} rows of numbers compared"
 }
 
 # A market of 63 receivers in 16 issues, in the new order, partly delivered.
@@ -79,6 +81,7 @@ look() { # NAME TAPE WORDS..: the page of these words; an account's is compared 
     case ${1:-} in --account) shift 2 ;; esac
     "$tool" explain --json "$@" "$tape" >"$folder/facts"
     for width in 1280 390; do ask "$name" "$folder/page.html" "$folder/facts" "$width"; done
+    ask "$name, on paper" "$folder/page.html" "$folder/facts" "$paper" paper
 }
 
 market >"$folder/market.txt"
