@@ -2,9 +2,9 @@
 //! formats are, so that another maker of them changes this file alone.
 
 use crate::call::Call;
+use reference::{book, snapshot};
 use settlement_day::journal::{self, Call as Kept, Next};
 use settlement_day::{Book, LIFT_WORDS};
-use reference::{book, snapshot};
 
 /// The words of a snapshot.
 pub const SNAPSHOT_WORDS: usize = snapshot::WORDS;

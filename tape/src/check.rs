@@ -2,6 +2,7 @@
 
 use crate::bytes::split;
 use crate::input::{Day, Stands};
+use crate::progress::Meter;
 use crate::text::why_ended;
 use crate::why::why;
 use settlement_day::{calls, tape, Book, OUTPUT_WORDS};
@@ -20,8 +21,10 @@ pub fn check(day: &Day, tell: &mut dyn FnMut(&str) -> io::Result<()>) -> io::Res
     let mut book = Book::fresh();
     let mut output = vec![0; OUTPUT_WORDS];
     let mut checked = Checked::default();
+    let mut meter = Meter::of_words(words.len());
     let mut at = 0;
     while at < words.len() || !stray.is_empty() {
+        meter.at(at);
         match tape::read(&words[at..]) {
             Ok((instruction, count)) => {
                 checked.instructions += 1;

@@ -1,6 +1,7 @@
 //! The facts of a tape: what each instruction did to the book, in the order in which it came.
 
 use crate::dealt::{Rounds, Turn};
+use crate::ledger::Step;
 use crate::units::Case;
 use settlement_day::{Instruction, Refusal};
 
@@ -39,6 +40,9 @@ pub enum Fact {
     Resolved { issue: u32, from: u32, to: u32, lots: u32 },
     /// What a pair-off did.
     Paired { issue: u32, account: u32, steps: usize, cancelled: u64 },
+    /// A step of a pair-off: lots that `from` fails the account since a day meet lots that the account
+    /// fails `to` since another. Where the two are not one account, `from` now owes them to `to`.
+    Met { issue: u32, account: u32, step: Step },
     /// An entry of the issue's ledger after a pair-off.
     Left { issue: u32, from: u32, to: u32, lots: u32, since: u16 },
     /// The charge that a roll lays on an entry, and what it is made of.
@@ -93,6 +97,7 @@ impl Fact {
             | Fact::Fails { issue, .. }
             | Fact::Resolved { issue, .. }
             | Fact::Paired { issue, .. }
+            | Fact::Met { issue, .. }
             | Fact::Left { issue, .. }
             | Fact::Marked { issue }
             | Fact::Entry { issue, .. }
@@ -108,6 +113,7 @@ impl Fact {
             Fact::Tie { accounts, .. } => accounts.clone(),
             Fact::Rounds { rounds, .. } => rounds.accounts.clone(),
             Fact::SmallAfterFull { account, follower, .. } => vec![*account, *follower],
+            Fact::Met { account, step, .. } => vec![step.from, *account, step.to],
             Fact::Units { account, .. }
             | Fact::Owes { account, .. }
             | Fact::Handed { account, .. }

@@ -231,6 +231,20 @@ impl Day {
         Ok(())
     }
 
+    /// The names of its files.
+    pub fn names(&self) -> Vec<String> {
+        self.sources.iter().map(|source| source.name.clone()).collect()
+    }
+
+    /// A word with where it stands: `word 9, line 10`, and the file where there are several.
+    pub fn named(&self, word: usize) -> String {
+        let Stands { file, line, .. } = self.stands(word);
+        let line = line.map(|line| format!("line {line}"));
+        let place: Vec<String> = file.map(String::from).into_iter().chain(line).collect();
+        let place = if place.is_empty() { String::new() } else { format!(", {}", place.join(" ")) };
+        format!("word {word}{place}")
+    }
+
     /// Where the instruction that begins at a word stands; the file is named where there are several.
     pub fn stands(&self, word: usize) -> Stands<'_> {
         let several = self.sources.len() > 1;

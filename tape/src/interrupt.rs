@@ -1,5 +1,5 @@
 //! A run that is interrupted leaves no half-written file: the one file that is being written is named
-//! here, and a signal that ends the program removes it first.
+//! here, and a signal that ends the program removes it first. A pipe that nobody reads ends it too.
 
 use std::ffi::{c_char, c_int, CString};
 use std::os::unix::ffi::OsStrExt;
@@ -10,6 +10,8 @@ use std::sync::Once;
 
 /// The signals by which a run is interrupted: a closed terminal, a key, and `kill`.
 const SIGNALS: [c_int; 3] = [1, 2, 15];
+/// The signal of a pipe that nobody reads.
+const UNREAD: c_int = 13;
 /// What a signal does where no function is set for it: the default, or nothing.
 const DEFAULT: usize = 0;
 const IGNORED: usize = 1;
@@ -44,6 +46,11 @@ pub fn writing(file: &Path) {
 /// The file is in its place, or removed.
 pub fn written() {
     WRITING.store(ptr::null_mut(), Ordering::SeqCst);
+}
+
+/// Ends the program by the signal of a pipe that nobody reads, which it ignores otherwise.
+pub fn end_unread() {
+    interrupted(UNREAD);
 }
 
 /// Removes the file and ends the program by the signal.

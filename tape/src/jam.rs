@@ -3,7 +3,7 @@
 
 use crate::fault::{words_of, Fault, Faults, Word};
 use crate::measure::{Grouped, Lots};
-use crate::status;
+use crate::standing::{run, When};
 use crate::text::digits_of;
 use settlement_day::simulation::{simulate, Desk, Simulated, MOST_SIZE, SETTLEMENT_ACCOUNTS};
 use settlement_day::{Book, Refusal, ACCOUNTS, ISSUES};
@@ -156,8 +156,9 @@ pub struct Tried {
 
 /// The book of a tape at its end.
 pub fn book_of(tape: &[u8]) -> Result<(Book, Option<usize>), String> {
-    let (book, word, ended) = status::run(tape, None)?;
-    Ok((book, ended.then_some(word)))
+    let stood = run(tape, When::End)?;
+    let ended = stood.ended().then_some(stood.word);
+    Ok((stood.book, ended))
 }
 
 /// Tries sizes on a book's nets.

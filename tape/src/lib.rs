@@ -2,6 +2,7 @@
 //! unit has not come, whether smaller units would loosen a jam, what a participant sees of an account,
 //! every small market, and an account's fails statement.
 
+pub mod account;
 pub mod bytes;
 pub mod check;
 pub mod dealt;
@@ -10,12 +11,15 @@ pub mod fault;
 pub mod input;
 mod interrupt;
 pub mod jam;
+pub mod ledger;
 pub mod look;
 pub mod markets;
 pub mod measure;
 pub mod options;
 pub mod output;
+mod progress;
 pub mod run;
+pub mod standing;
 pub mod statement;
 pub mod status;
 pub mod story;

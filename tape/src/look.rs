@@ -2,9 +2,10 @@
 //! entry, as a participant with its owners or as the operator.
 
 use crate::fault::{words_of, Fault, Faults, Word};
+use crate::input::Day;
 use crate::jam::{number, range};
 use crate::measure::{Grouped, Lots};
-use crate::status;
+use crate::standing::{run, When};
 use settlement_day::access::{self, Account, NOBODY, PARTICIPANTS};
 use settlement_day::{Caller, Entry, Refusal, ACCOUNTS};
 
@@ -66,26 +67,27 @@ pub struct Seen {
     day: u16,
     phase: &'static str,
     word: usize,
-    /// Did reading end there by a refusal?
-    ended: bool,
+    /// The moment in words.
+    moment: String,
     /// Net and charge, and all entries, or the refusal.
     answer: Result<(Account, Vec<Entry>), Refusal>,
 }
 
 /// Runs a tape on a fresh book and reads the account; an error is that no instruction begins at the word.
-pub fn read(tape: &[u8], question: &Question) -> Result<Seen, String> {
-    let (book, word, ended) = status::run(tape, question.at)?;
+pub fn read(day: &Day, question: &Question) -> Result<Seen, String> {
+    let stood = run(&day.tape, question.at.map_or(When::End, When::Before))?;
+    let book = &stood.book;
     let Question { ref caller, issue, account, .. } = *question;
     let mut entries = Vec::new();
     let answer = loop {
-        match access::read(caller, &book, issue, account, entries.len() as u32) {
+        match access::read(caller, book, issue, account, entries.len() as u32) {
             Ok(Account { entry: Some(entry), .. }) => entries.push(entry),
             Ok(last) => break Ok((last, entries)),
             Err(refusal) => break Err(refusal),
         }
     };
-    let phase = book.phase.name().unwrap_or("no phase");
-    Ok(Seen { question: *question, day: book.day, phase, word, ended, answer })
+    let (phase, word, moment) = (stood.phase(), stood.word, stood.moment(day));
+    Ok(Seen { question: *question, day: book.day, phase, word, moment, answer })
 }
 
 impl Seen {
@@ -96,13 +98,8 @@ impl Seen {
 
     /// For people: a line for the account, and one for each entry.
     pub fn text(&self) -> String {
-        let Seen { question: Question { issue, account, at, .. }, day, phase, word, .. } = *self;
-        let at = match at {
-            Some(_) => format!("before word {word}"),
-            None if self.ended => format!("where reading ends, at word {word}"),
-            None => "at the end of the tape".to_string(),
-        };
-        let head = format!("{at}, day {day}, {phase}");
+        let Seen { question: Question { issue, account, .. }, day, phase, ref moment, .. } = *self;
+        let head = format!("{moment}, day {day}, {phase}");
         let (seen, entries) = match &self.answer {
             Ok(answer) => answer,
             Err(refusal) => return format!("{head}: {}\n", refusal.said()),
@@ -160,16 +157,16 @@ fn net_of(net: i32) -> String {
 #[cfg(test)]
 mod tests {
     use super::*;
-    use crate::text;
+    use crate::input::Taken;
 
     const OWNERS: &str = "# two agents\nowns 0 5\nowns 1 2-3\n";
 
     fn seen(caller: u32, account: u32) -> Seen {
         let day = "trade 0 4 1 230000\ntrade 0 5 2 250000\ntrade 0 5 3 150000\nclose\n\
                    deliver 0 5 345000\ndeliver 0 4 200000\ncutoff\n";
-        let tape = text::to_tape(day).unwrap();
+        let day = Day::of("day.txt", day.as_bytes().to_vec(), Taken::Apart).unwrap();
         let caller = Caller { number: caller, owners: owners_of(OWNERS).unwrap() };
-        read(&tape, &Question { caller, issue: 0, account, at: None }).unwrap()
+        read(&day, &Question { caller, issue: 0, account, at: None }).unwrap()
     }
 
     #[test]

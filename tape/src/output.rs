@@ -3,9 +3,10 @@
 
 use crate::interrupt;
 use crate::options::{Given, FORCE, OUT};
+use crate::progress;
 use std::ffi::OsStr;
 use std::fs::{self, File};
-use std::io::{self, Write};
+use std::io::{self, IsTerminal, Write};
 use std::path::{Path, PathBuf};
 use std::process;
 
@@ -57,6 +58,7 @@ impl Output {
     /// Opens it.
     pub fn open(self) -> Result<Writer, String> {
         let name = self.name();
+        let terminal = self == Output::Standard && io::stdout().is_terminal();
         let (to, place): (Box<dyn Write>, _) = match self {
             Output::Standard => (Box::new(io::stdout().lock()), None),
             Output::Device(path) => {
@@ -73,7 +75,7 @@ impl Output {
                 (Box::new(file), Some(Place { beside, path, replace }))
             }
         };
-        Ok(Writer { name, to: Some(to), place })
+        Ok(Writer { name, to: Some(to), place, terminal })
     }
 
     /// Its name in what is told.
@@ -97,6 +99,8 @@ pub struct Writer {
     name: String,
     to: Option<Box<dyn Write>>,
     place: Option<Place>,
+    /// Is it standard output, and that a terminal?
+    terminal: bool,
 }
 
 impl Writer {
@@ -161,11 +165,21 @@ impl Drop for Writer {
 
 impl Write for Writer {
     fn write(&mut self, bytes: &[u8]) -> io::Result<usize> {
-        self.to.as_mut().map_or(Ok(bytes.len()), |to| to.write(bytes))
+        if self.terminal {
+            progress::spoken();
+        }
+        self.to.as_mut().map_or(Ok(bytes.len()), |to| to.write(bytes)).inspect_err(unread)
     }
 
     fn flush(&mut self) -> io::Result<()> {
-        self.to.as_mut().map_or(Ok(()), |to| to.flush())
+        self.to.as_mut().map_or(Ok(()), |to| to.flush()).inspect_err(unread)
+    }
+}
+
+/// Where nobody reads on, as behind `| head`, the program ends as others do, and says nothing.
+fn unread(error: &io::Error) {
+    if error.kind() == io::ErrorKind::BrokenPipe {
+        interrupt::end_unread();
     }
 }
 

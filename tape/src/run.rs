@@ -4,6 +4,7 @@
 
 use crate::bytes::split;
 use crate::measure::counted;
+use crate::progress::Meter;
 use crate::story::traded;
 use crate::text::older_roll;
 use settlement_day::{calls, tape, Book, OUTPUT_WORDS};
@@ -121,8 +122,10 @@ fn wanted(tape: &[u8]) -> Lines {
     let mut book = Book::fresh();
     let mut output = vec![0; OUTPUT_WORDS];
     let mut lines = Lines::default();
+    let mut meter = Meter::of_words(words.len());
     let mut at = 0;
     while at < words.len() || !stray.is_empty() {
+        meter.at(at);
         lines.instructions += 1;
         let Ok((instruction, count)) = tape::read(&words[at..]) else { break };
         if !traded(&mut book, &instruction) {

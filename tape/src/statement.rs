@@ -2,7 +2,9 @@
 //! came of it, and what it resolved.
 
 use crate::bytes::split;
+use crate::input::Day;
 use crate::measure::{counted, Face, Grouped};
+use crate::progress::Meter;
 use crate::story::traded;
 use settlement_day::statement::{statement, Statement, MOST_INSTRUCTIONS};
 use settlement_day::{calls, tape, Book, Instruction, Phase, Refusal, OUTPUT_WORDS};
@@ -29,6 +31,16 @@ struct Span {
     settling: bool,
 }
 
+impl Span {
+    /// The word at which it ends before the tape does.
+    fn ends(&self, day: &Day) -> String {
+        match self.end {
+            End::Tape => String::new(),
+            End::Refused(word, _) | End::Full(word) => day.named(word),
+        }
+    }
+}
+
 /// A statement and whose it is.
 #[derive(Clone, Copy, Debug, PartialEq, Eq)]
 struct Row {
@@ -41,6 +53,8 @@ struct Row {
 #[derive(Clone, Debug, PartialEq, Eq)]
 pub struct Told {
     span: Span,
+    /// The word at which the span ends, with its line where that stands in a text.
+    ends: String,
     /// Is it one account's?
     one: bool,
     rows: Vec<Row>,
@@ -48,25 +62,28 @@ pub struct Told {
 
 impl Told {
     /// The statement of an account in an issue.
-    pub fn one(bytes: &[u8], issue: u32, account: u32) -> Result<Told, Refusal> {
-        let (words, stray) = split(bytes);
+    pub fn one(day: &Day, issue: u32, account: u32) -> Result<Told, Refusal> {
+        let (words, stray) = split(&day.tape);
         let (span, _) = run(&words, !stray.is_empty());
         let statement = statement(&words, issue, account)?;
-        Ok(Told { span, one: true, rows: vec![Row { issue, account, statement }] })
+        let rows = vec![Row { issue, account, statement }];
+        Ok(Told { span, ends: span.ends(day), one: true, rows })
     }
 
     /// The statements of all issues and accounts that have a number in them.
-    pub fn all(bytes: &[u8]) -> Result<Told, Refusal> {
-        let (words, stray) = split(bytes);
+    pub fn all(day: &Day) -> Result<Told, Refusal> {
+        let (words, stray) = split(&day.tape);
         let (span, named) = run(&words, !stray.is_empty());
         let mut rows = Vec::new();
-        for (issue, account) in named {
+        let mut meter = Meter::of_things("statement", named.len());
+        for (at, (issue, account)) in named.into_iter().enumerate() {
+            meter.at(at);
             let statement = statement(&words, issue, account)?;
             if statement != Statement::default() {
                 rows.push(Row { issue, account, statement });
             }
         }
-        Ok(Told { span, one: false, rows })
+        Ok(Told { span, ends: span.ends(day), one: false, rows })
     }
 
     /// For people: a list of one account's numbers, or a table.
@@ -122,10 +139,10 @@ impl Told {
         };
         let end = match end {
             End::Tape => String::new(),
-            End::Refused(word, refusal) => {
-                format!("; reading ends at word {word}, refused by {}", refusal.number())
+            End::Refused(_, refusal) => {
+                format!("; reading ends at {}, refused by {}", self.ends, refusal.number())
             }
-            End::Full(word) => format!("; the words from word {word} on are behind the span"),
+            End::Full(_) => format!("; the words from {} on are behind the span", self.ends),
         };
         let open = if settling {
             format!("; day {day} is still settling: of it only resolves are counted")
@@ -271,18 +288,22 @@ it failed, and those that it resolved since. Due is delivered and failed togethe
 #[cfg(test)]
 mod tests {
     use super::*;
-    use crate::text;
+    use crate::input::Taken;
 
     const TWO_DAYS: &str = "trade 0 4 1 100\ntrade 0 5 2 50\nclose\ndeliver 0 4 60\ndeliver 0 5 60\n\
         cutoff\nresolve 0 4 15\nroll 1 300 100000 accrued 0\ntrade 0 4 2 30\nclose\nresolve 0 4 5\n";
 
+    fn day(text: &str) -> Day {
+        Day::of("day.txt", text.as_bytes().to_vec(), Taken::Apart).unwrap()
+    }
+
     fn told(text: &str) -> Told {
-        Told::all(&text::to_tape(text).unwrap()).unwrap()
+        Told::all(&day(text)).unwrap()
     }
 
     #[test]
     fn one_account_is_told_as_a_list() {
-        let tape = text::to_tape(TWO_DAYS).unwrap();
+        let tape = day(TWO_DAYS);
         let text = Told::one(&tape, 0, 4).unwrap().text();
         let expected = "\
 account 4, issue 0: lots over 11 instructions, 1 refused; day 1 is still settling: of it only resolves \
@@ -325,11 +346,13 @@ are counted
     fn where_the_span_ends_is_told() {
         let cut = told("trade 0 1 2 5\nclose\nword 0\ncutoff\n");
         assert_eq!(cut.span.end, End::Refused(3, Refusal::Word));
-        assert!(cut.text().contains("; reading ends at word 3, refused by 14"));
+        assert!(cut.text().contains("; reading ends at word 3, line 3, refused by 14"));
         let full = told(&"pair-off 0 1\n".repeat(4_096));
         assert_eq!((full.span.end, full.span.instructions), (End::Tape, 4_096));
         let over = told(&"pair-off 0 1\n".repeat(4_097));
         assert_eq!((over.span.end, over.span.instructions), (End::Full(4_096), 4_096));
-        assert!(over.text().contains("; the words from word 4096 on are behind the span"));
+        assert!(over
+            .text()
+            .contains("; the words from word 4096, line 4097 on are behind the span"));
     }
 }

@@ -1,18 +1,29 @@
-//! Why a unit has not come: the tape is run up to a word, and the book is asked.
+//! Why a unit has not come: the tape is run up to a moment, and the book is asked.
 
-use crate::bytes::split;
 use crate::dealt::{Dealt, Turn};
-use crate::measure::{counted, Face, Lots};
-use crate::story::traded;
+use crate::input::Day;
+use crate::measure::{Face, Lots};
+use crate::standing::{run, When};
 use settlement_day::calls::{self, Unit};
-use settlement_day::{tape, Book, Refusal, Status, ISSUES, OUTPUT_WORDS};
+use settlement_day::{Book, Refusal, Status, ISSUES};
 
-/// Which unit is asked of, and when: before the instruction that begins at a word, or at the end.
+/// Which unit is asked of, and when.
 #[derive(Clone, Copy, Debug, Default, PartialEq, Eq)]
 pub struct Question {
     pub issue: u32,
     pub unit: u32,
-    pub at: Option<usize>,
+    pub when: When,
+}
+
+/// A unit and what the book tells of it.
+#[derive(Clone, Copy, Debug, PartialEq, Eq)]
+pub struct Asked {
+    pub issue: u32,
+    pub number: u32,
+    pub unit: Unit,
+    /// Where the unit stands, if it is a full one dealt in turn.
+    pub turn: Option<Turn>,
+    pub status: Status,
 }
 
 /// What the book tells, and where the tape stood.
@@ -21,57 +32,31 @@ pub struct Told {
     question: Question,
     day: u16,
     phase: &'static str,
-    /// The word at which the tape stood.
+    /// The word at which the tape stood, its line, and the moment in words.
     word: usize,
-    /// Did reading end there by a refusal?
-    ended: bool,
-    answer: Result<(Unit, Status), (Refusal, String)>,
-    /// Where the unit stands, if it is a full one dealt in turn.
-    turn: Option<Turn>,
+    line: Option<usize>,
+    moment: String,
+    answer: Result<Asked, (Refusal, String)>,
 }
 
-/// Runs a tape on a fresh book and asks; an error is that no instruction begins at the word.
-pub fn ask(tape: &[u8], question: Question) -> Result<Told, String> {
-    let (book, word, ended) = run(tape, question.at)?;
+/// Runs a tape on a fresh book and asks; an error is that there is no such moment.
+pub fn ask(day: &Day, question: Question) -> Result<Told, String> {
+    let stood = run(&day.tape, question.when)?;
+    let book = &stood.book;
     let Question { issue, unit: k, .. } = question;
-    let found = calls::unit(&book, issue, k).and_then(|unit| unit.ok_or(Refusal::Unit));
-    let answer = calls::status(&book, issue, k)
-        .and_then(|status| found.map(|unit| (unit, status)))
-        .map_err(|refusal| (refusal, why_refused(&book, question, refusal)));
-    let phase = book.phase.name().unwrap_or("no phase");
-    let dealt = book.deals_in_turn().then(|| Dealt::of(&book, issue));
-    let turn = dealt.and_then(|dealt| dealt.turn_of(k)).map(|(_, turn)| turn);
-    Ok(Told { question, day: book.day, phase, word, ended, answer, turn })
-}
-
-/// The book after the instructions before a word, or after all that can be read; where that is, and
-/// whether reading ended there by a refusal.
-pub fn run(tape: &[u8], until: Option<usize>) -> Result<(Book, usize, bool), String> {
-    let (words, stray) = split(tape);
-    let mut book = Book::fresh();
-    let mut output = vec![0; OUTPUT_WORDS];
-    let mut at = 0;
-    while until.is_none_or(|until| at < until) && (at < words.len() || !stray.is_empty()) {
-        let Ok((instruction, count)) = tape::read(&words[at..]) else { break };
-        if until.is_some_and(|until| until < at + count) {
-            let name = instruction.name();
-            return Err(format!(
-                "--at needs the first word of an instruction: {name} begins at word {at} and has {}",
-                counted(count, "word")
-            ));
+    let found = calls::unit(book, issue, k).and_then(|unit| unit.ok_or(Refusal::Unit));
+    let told = calls::status(book, issue, k).and_then(|status| found.map(|unit| (unit, status)));
+    let answer = match told {
+        Ok((unit, status)) => {
+            let dealt = book.deals_in_turn().then(|| Dealt::of(book, issue));
+            let turn = dealt.and_then(|dealt| dealt.turn_of(k)).map(|(_, turn)| turn);
+            Ok(Asked { issue, number: k, unit, turn, status })
         }
-        if !traded(&mut book, &instruction) {
-            let quotes = tape::quotes(&words[at..]);
-            // What is refused changes nothing, and the run goes on.
-            let _ = calls::call(&mut book, &instruction, &quotes, &mut output);
-        }
-        at += count;
-    }
-    match until {
-        Some(until) if at < until => Err(format!("--at {until}: reading ends at word {at}")),
-        Some(_) => Ok((book, at, false)),
-        None => Ok((book, at, at < words.len() || !stray.is_empty())),
-    }
+        Err(refusal) => Err((refusal, why_refused(book, question, refusal))),
+    };
+    let (phase, word) = (stood.phase(), stood.word);
+    let (line, moment) = (stood.line(day), stood.moment(day));
+    Ok(Told { question, day: book.day, phase, word, line, moment, answer })
 }
 
 /// Why the book does not tell, with the numbers behind it.
@@ -99,85 +84,96 @@ impl Told {
 
     /// A sentence for the telephone.
     pub fn sentence(&self) -> String {
-        let Told { question: Question { issue, unit: k, .. }, day, phase, word, ended, .. } = *self;
-        let at = match self.question.at {
-            Some(_) => format!("before word {word}"),
-            None if ended => format!("where reading ends, at word {word}"),
-            None => "at the end of the tape".to_string(),
-        };
-        let (unit, status) = match &self.answer {
-            Ok(answer) => *answer,
-            Err((refusal, why)) => {
-                return format!(
-                    "{at}, day {day}, {phase}: refused by {}: {why}\n",
-                    refusal.number()
-                )
+        let Told { day, phase, ref moment, .. } = *self;
+        let head = format!("{moment}, day {day}, {phase}");
+        match &self.answer {
+            Ok(Asked { issue, number, unit, turn, status }) => {
+                let turn = turn.map_or(String::new(), |turn| format!(" ({})", turn.words()));
+                let (lots, account) = (Face(unit.lots.into()), unit.account);
+                let of =
+                    format!("unit {number} of issue {issue}, {lots} for account {account}{turn}");
+                format!("{head}: {of}, {}\n", phrase(status, false))
             }
-        };
-        let of = format!(
-            "unit {k} of issue {issue}, {} for account {}{}",
-            Face(unit.lots.into()),
-            unit.account,
-            self.turn.map_or(String::new(), |turn| format!(" ({})", turn.words()))
-        );
-        let told = match status {
-            Status::Handed => "is handed".to_string(),
-            Status::Waiting { lots } => format!(
-                "waits: with {} more delivered in the issue, and no lift between, it is handed",
-                Lots(lots.into())
-            ),
-            Status::PartlyFailed { lots } => {
-                format!("partly failed: at the cutoff it lacked {}", Face(lots.into()))
-            }
-            Status::WhollyFailed => {
-                "wholly failed: at the cutoff nothing of it had come".to_string()
-            }
-        };
-        format!("{at}, day {day}, {phase}: {of}, {told}\n")
+            Err((refusal, why)) => format!("{head}: refused by {}: {why}\n", refusal.number()),
+        }
     }
 
     /// The same as an object of JSON.
     pub fn json(&self) -> String {
-        let Told { question: Question { issue, unit: k, .. }, day, phase, word, .. } = *self;
+        let Told { question: Question { issue, unit: k, .. }, day, phase, word, line, .. } = *self;
+        let line = line.map_or(String::new(), |line| format!(",\"line\":{line}"));
         let head = format!(
-            "{{\"fact\":\"status\",\"day\":{day},\"phase\":\"{phase}\",\"word\":{word},\
-             \"issue\":{issue},\"unit\":{k}"
+            "{{\"fact\":\"status\",\"day\":{day},\"phase\":\"{phase}\",\"word\":{word}{line}"
         );
-        let (unit, status) = match &self.answer {
-            Ok(answer) => *answer,
+        match &self.answer {
+            Ok(asked) => format!("{head},{}}}\n", json_of(asked)),
             Err((refusal, why)) => {
-                return format!("{head},\"refusal\":{},\"why\":\"{why}\"}}\n", refusal.number())
+                let number = refusal.number();
+                format!("{head},\"issue\":{issue},\"unit\":{k},\"refusal\":{number},\"why\":\"{why}\"}}\n")
             }
-        };
-        let Unit { account, lots } = unit;
-        let told = match status {
-            Status::Handed => "\"handed\"".to_string(),
-            Status::Waiting { lots } => format!("\"waiting\",\"wants\":{lots}"),
-            Status::PartlyFailed { lots } => format!("\"partly failed\",\"lacks\":{lots}"),
-            Status::WhollyFailed => format!("\"wholly failed\",\"lacks\":{lots}"),
-        };
-        let turn = self.turn.map_or(String::new(), |Turn { round, receiver, of, .. }| {
-            format!(",\"round\":{round},\"receiver\":{receiver},\"of\":{of}")
-        });
-        let unit = format!("\"account\":{account},\"lots\":{lots}{turn}");
-        format!("{head},\"refusal\":0,{unit},\"status\":{told}}}\n")
+        }
     }
+}
+
+/// What is told of a unit, or of several that are alike.
+pub fn phrase(status: &Status, several: bool) -> String {
+    match *status {
+        Status::Handed => format!("{} handed", if several { "are" } else { "is" }),
+        Status::Waiting { lots } => format!(
+            "waits: with {} more delivered in the issue, and no lift between, it is handed",
+            Lots(lots.into())
+        ),
+        Status::PartlyFailed { lots } => {
+            format!("partly failed: at the cutoff it lacked {}", Face(lots.into()))
+        }
+        Status::WhollyFailed => {
+            let it = if several { "them" } else { "it" };
+            format!("wholly failed: at the cutoff nothing of {it} had come")
+        }
+    }
+}
+
+/// The fields of a unit and its status in JSON.
+pub fn json_of(asked: &Asked) -> String {
+    let Asked { issue, number, unit: Unit { account, lots }, turn, status } = asked;
+    let told = match status {
+        Status::Handed => "\"handed\"".to_string(),
+        Status::Waiting { lots } => format!("\"waiting\",\"wants\":{lots}"),
+        Status::PartlyFailed { lots } => format!("\"partly failed\",\"lacks\":{lots}"),
+        Status::WhollyFailed => format!("\"wholly failed\",\"lacks\":{lots}"),
+    };
+    let turn = turn.map_or(String::new(), |Turn { round, receiver, of, .. }| {
+        format!(",\"round\":{round},\"receiver\":{receiver},\"of\":{of}")
+    });
+    let unit = format!("\"account\":{account},\"lots\":{lots}{turn}");
+    format!("\"issue\":{issue},\"unit\":{number},\"refusal\":0,{unit},\"status\":{told}")
 }
 
 #[cfg(test)]
 mod tests {
     use super::*;
+    use crate::input::Taken;
     use crate::text;
 
     /// P5 to P8 and a resolve; instructions begin at words 0, 2, 4, 6, 7, 9, 11 and 12.
-    fn day() -> Vec<u8> {
+    fn tape() -> Vec<u8> {
         let lines = "trade 0 4 1 230000\ntrade 0 5 2 250000\ntrade 0 5 3 150000\nclose\n\
             deliver 0 5 345000\ndeliver 0 4 200000\ncutoff\nresolve 0 4 6000\n";
         text::to_tape(lines).unwrap()
     }
 
+    /// Words as a day.
+    fn of_words(tape: Vec<u8>) -> Day {
+        Day::of("day.tape", tape, Taken::Words).unwrap()
+    }
+
+    fn asked(tape: Vec<u8>, issue: u32, unit: u32, at: Option<usize>) -> Result<Told, String> {
+        let when = at.map_or(When::End, When::Before);
+        ask(&of_words(tape), Question { issue, unit, when })
+    }
+
     fn told(unit: u32, at: Option<usize>) -> Told {
-        ask(&day(), Question { issue: 0, unit, at }).unwrap()
+        asked(tape(), 0, unit, at).unwrap()
     }
 
     #[test]
@@ -223,7 +219,7 @@ mod tests {
         let lines = "turn 1\nclose\ncutoff\nroll 1 300 100000\ntrade 0 4 1 230000\n\
             trade 0 5 2 250000\ntrade 0 5 3 150000\nclose\ndeliver 0 5 345000\n";
         let tape = text::to_tape(lines).unwrap();
-        let of = |unit| ask(&tape, Question { issue: 0, unit, at: None }).unwrap();
+        let of = |unit| asked(tape.clone(), 0, unit, None).unwrap();
         let waits = "for account 2 (round 2, receiver 1 of 2), waits: with 55,000 lots more";
         assert!(of(3).sentence().contains(waits), "{}", of(3).sentence());
         assert!(of(2).sentence().ends_with("account 3 (round 1, receiver 3 of 3), is handed\n"));
@@ -238,10 +234,10 @@ mod tests {
             settled yet\n";
         assert_eq!(told(0, Some(6)).sentence(), taking);
         assert!(told(0, Some(6)).refused());
-        let of = |issue| ask(&day(), Question { issue, unit: 0, at: None }).unwrap().sentence();
+        let of = |issue| asked(tape(), issue, 0, None).unwrap().sentence();
         assert!(of(1).ends_with("refused by 16: issue 1 has no units today\n"));
         let one = text::to_tape("trade 0 1 2 3\nclose\n").unwrap();
-        let one = ask(&one, Question { issue: 0, unit: 1, at: None }).unwrap().sentence();
+        let one = asked(one, 0, 1, None).unwrap().sentence();
         assert!(
             one.ends_with("refused by 16: issue 0 has no unit 1, its one unit is 0\n"),
             "{one}"
@@ -251,17 +247,37 @@ mod tests {
 
     #[test]
     fn a_word_that_begins_no_instruction_is_an_error() {
-        let at = |at| ask(&day(), Question { at: Some(at), ..Question::default() }).unwrap_err();
+        let at = |at| asked(tape(), 0, 0, Some(at)).unwrap_err();
         assert!(at(8).ends_with("deliver begins at word 7 and has 2 words"));
         assert_eq!(at(15), "--at 15: reading ends at word 14");
     }
 
     #[test]
     fn a_damaged_tape_is_asked_where_reading_ends() {
-        let mut tape = day();
+        let mut tape = tape();
         tape.extend([1, 0, 0, 0x50]);
-        let told = ask(&tape, Question { issue: 0, unit: 4, at: None }).unwrap().sentence();
+        let told = asked(tape.clone(), 0, 4, None).unwrap().sentence();
         assert!(told.starts_with("where reading ends, at word 14, day 0, Cut: unit 4"), "{told}");
-        assert!(ask(&tape, Question { issue: 0, unit: 4, at: Some(14) }).is_ok());
+        assert!(asked(tape, 0, 4, Some(14)).is_ok());
+    }
+
+    #[test]
+    fn the_line_of_a_text_stands_beside_the_word_and_a_day_that_was_can_be_asked() {
+        let text = "# a day\ntrade 0 4 1 5\nclose\ncutoff\n\nroll 1 300 100000\ntrade 0 4 1 7\nclose\nword 1\n";
+        let day = Day::of("day.txt", text.as_bytes().to_vec(), Taken::Apart).unwrap();
+        let of = |when| ask(&day, Question { issue: 0, unit: 0, when }).unwrap();
+        let before = of(When::Before(3)).sentence();
+        assert!(before.starts_with("before word 3, line 4, day 0, Settling: unit 0"), "{before}");
+        let was = of(When::EndOf(0)).sentence();
+        assert!(
+            was.starts_with("before word 4, line 6, day 0, Cut: unit 0 of issue 0, 5 lots"),
+            "{was}"
+        );
+        let ends = of(When::End).sentence();
+        assert!(
+            ends.starts_with("where reading ends, at word 40, line 9, day 1, Settling"),
+            "{ends}"
+        );
+        assert!(of(When::EndOf(0)).json().contains("\"word\":4,\"line\":6,\"issue\":0"));
     }
 }

@@ -7,6 +7,8 @@
 use crate::bytes::split;
 use crate::dealt::{Dealt, Turn};
 use crate::facts::{Fact, Terms, Told};
+use crate::ledger::pair_off;
+use crate::progress::Meter;
 use crate::text::why_ended;
 use crate::units::{close, runs, waiting, Case, Run, Walk};
 use crate::why::{owed_today, why};
@@ -59,8 +61,10 @@ pub fn tell<'a>(tape: &[u8], sink: &'a mut Sink<'a>) -> io::Result<u16> {
         sink,
     };
     story.fact(&Fact::Day { day: 0, turn: 0 })?;
+    let mut meter = Meter::of_words(words.len());
     let mut at = 0;
     while at < words.len() || !stray.is_empty() {
+        meter.at(at);
         story.word = Some(at);
         match tape::read(&words[at..]) {
             Ok((instruction, count)) => {
@@ -92,7 +96,8 @@ impl Story<'_> {
         }
         let roll = matches!(instruction, Instruction::Roll { .. });
         let quotes = if roll { tape::quotes(words) } else { [0; QUOTES] };
-        let entries: Vec<Entry> = if roll { self.book.ledger().collect() } else { Vec::new() };
+        let on_entries = roll || matches!(instruction, Instruction::PairOff { .. });
+        let entries = if on_entries { self.book.ledger().collect() } else { Vec::new() };
         let answer = calls::call(&mut self.book, &instruction, &quotes, &mut self.output);
         let refusal =
             answer.err().map(|refusal| (refusal, why(&self.book, &instruction, &quotes, refusal)));
@@ -109,7 +114,7 @@ impl Story<'_> {
             }
             Instruction::Cutoff => self.cut(done.count),
             Instruction::Resolve { .. } => self.resolved(done.count),
-            Instruction::PairOff { issue, account } => self.paired(done, issue, account),
+            Instruction::PairOff { issue, account } => self.paired(done, entries, issue, account),
             Instruction::Trade { .. }
             | Instruction::Roll { .. }
             | Instruction::Mark { .. }
@@ -252,10 +257,19 @@ impl Story<'_> {
         Ok(())
     }
 
-    /// The steps of a pair-off, and the issue's entries after it.
-    fn paired(&mut self, done: Done, issue: u32, account: u32) -> io::Result<()> {
+    /// The steps of a pair-off, with the entries that meet, and the issue's entries after it.
+    fn paired(
+        &mut self,
+        done: Done,
+        mut before: Vec<Entry>,
+        issue: u32,
+        account: u32,
+    ) -> io::Result<()> {
         let Done { count: steps, cancelled } = done;
         self.fact(&Fact::Paired { issue, account, steps, cancelled })?;
+        for step in pair_off(&mut before, issue, account, self.book.day) {
+            self.fact(&Fact::Met { issue, account, step })?;
+        }
         let entries: Vec<Entry> =
             self.book.ledger().filter(|entry| u32::from(entry.issue) == issue).collect();
         for Entry { from, to, lots, day: since, .. } in entries {

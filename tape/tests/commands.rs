@@ -2,9 +2,10 @@
 
 use std::ffi::OsStr;
 use std::fs;
-use std::io::Write;
+use std::io::{Read, Write};
 use std::os::unix::ffi::OsStrExt;
 use std::os::unix::fs::PermissionsExt;
+use std::os::unix::process::ExitStatusExt;
 use std::path::{Path, PathBuf};
 use std::process::{Child, Command, Output, Stdio};
 use std::thread::sleep;
@@ -203,8 +204,26 @@ fn why_tells_of_a_unit() {
     let (status, printed, said) = ended(&["why", "-", "0", "2"], text);
     assert_eq!((status, said.as_str()), (1, ""));
     assert!(printed.ends_with("refused by 16: issue 0 has no unit 2, its units are 0 to 1\n"));
+    let of_account = ended(&["why", "--account", "2", "--issue", "0", "-"], text);
+    let told = "at the end of the tape, day 0, Cut: account 2 is due 150,000 lots (7,500,000,000 yen face) of issue 0 in 2 \
+        units\n  unit 0, 100,000 lots (5,000,000,000 yen face), is handed\n  unit 1, 50,000 lots (2,500,000,000 yen \
+        face), wholly failed: at the cutoff nothing of it had come\n  account 1 owes it 50,000 lots (2,500,000,000 yen \
+        face) of the issue since day 0\n";
+    assert_eq!(of_account, (0, told.into(), "".into()));
+    let settling = ended(&["why", "--account=2", "--issue=0", "--at=3"], text);
+    assert!(
+        settling.1.starts_with("before word 3, line 3, day 0, Settling: account 2"),
+        "{settling:?}"
+    );
+    let taking = ended(&["why", "--account=2", "--issue=0"], b"trade 0 1 2 5\n");
+    assert!(taking.0 == 1 && taking.1.contains("Taking: refused by 3"), "{taking:?}");
     for (words, told) in [
-        (&["why", "-", "0"][..], "why needs a day, an issue and a unit"),
+        (&["why", "--account=2", "-"][..], "--account and --issue go together"),
+        (&["why", "--issue=2", "-", "0", "0"], "--account and --issue go together"),
+        (&["why", "--account=64", "--issue=0", "-"], "--account needs a number from 0 to 63"),
+        (&["why", "--day=1", "--account=2", "--issue=0", "-"], "--day 1: the tape ends on day 0"),
+        (&["why", "--day=0", "--at=3", "-", "0", "0"], "--at and --day contradict each other"),
+        (&["why", "-", "0"], "why needs a day, an issue and a unit"),
         (&["why", "0", "1"], "why needs a day, an issue and a unit"),
         (&["why", "-", "0", "x"], "UNIT needs a number from 0 to 4294967295, not \"x\""),
         (&["why", "--at", "1", "-", "0", "0"], "trade begins at word 0 and has 2"),
@@ -316,6 +335,52 @@ fn a_run_that_is_interrupted_leaves_the_old_file_and_no_other() {
         assert_eq!(fs::read(&out).unwrap(), b"what was there");
         fs::remove_dir_all(folder).unwrap();
     }
+}
+
+#[test]
+fn a_pipe_that_nobody_reads_ends_it_without_a_message() {
+    let folder = folder("unread");
+    let day = file(&folder, "day.tape", &[0, 0, 0, 0x60].repeat(200_000));
+    for words in [&["explain"][..], &["explain", "--json"], &["check"], &["read"]] {
+        let words = words.iter().map(OsStr::new).chain([day.as_os_str()]);
+        let mut child = begun(&words.collect::<Vec<_>>());
+        drop(child.stdin.take());
+        let mut first = [0; 64];
+        child.stdout.take().expect("a pipe").read_exact(&mut first).expect("some bytes");
+        let ended = child.wait_with_output().expect("the tool ends");
+        assert_eq!(ended.status.signal(), Some(13), "{:?}", ended.status);
+        assert_eq!(String::from_utf8_lossy(&ended.stderr), "");
+    }
+    fs::remove_dir_all(folder).unwrap();
+}
+
+#[test]
+fn long_work_tells_its_progress_at_a_terminal() {
+    let folder = folder("progress");
+    let day = file(&folder, "day.tape", &[0, 0, 0, 0x60].repeat(8_000_000));
+    let tool = env!("CARGO_BIN_EXE_tape");
+    for verb in ["check", "explain --html", "why --account 0 --issue 0", "run --program /bin/true"]
+    {
+        // `script` gives it a terminal; what is told goes elsewhere.
+        let command = format!("exec {tool} {verb} {} >/dev/null", day.display());
+        let mut terminal = Command::new("script")
+            .args(["-qec", &command, "/dev/null"])
+            .stdin(Stdio::null())
+            .stdout(Stdio::piped())
+            .spawn()
+            .expect("script, of Debian's package bsdutils");
+        let start = Instant::now();
+        let mut shown = [0; 160];
+        terminal.stdout.take().expect("a pipe").read_exact(&mut shown).expect("progress is told");
+        assert!(start.elapsed() >= Duration::from_secs(2), "{verb}: {:?}", start.elapsed());
+        terminal.kill().expect("it is at work");
+        terminal.wait().expect("it ends");
+        let shown = String::from_utf8_lossy(&shown);
+        let line = "\r\u{1b}[Ktape: word ";
+        assert!(shown.starts_with(line) && shown.contains(" of 8,000,000, "), "{verb}: {shown:?}");
+        assert!(shown.matches(line).count() > 1, "{verb}: {shown:?}");
+    }
+    fs::remove_dir_all(folder).unwrap();
 }
 
 #[test]

@@ -84,7 +84,7 @@ fn the_settled_days_are_told() {
 #[test]
 fn the_statements_of_all_accounts_are_stored() {
     let sample = Path::new(env!("CARGO_MANIFEST_DIR")).join("../tapes/fails-statement.txt");
-    let told = Told::all(&tape_of(&sample)).expect("the statements").text();
+    let told = Told::all(&day_of(&sample)).expect("the statements").text();
     let stored = fs::read_to_string(sample.with_extension("statement"));
     assert_eq!(told, stored.expect("the stored statements"));
 }

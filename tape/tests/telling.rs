@@ -4,7 +4,7 @@ use std::collections::BTreeMap;
 use std::fs;
 use std::path::Path;
 use tape::input::{Day, Taken};
-use tape::telling::{explain, explained, Form, Only};
+use tape::telling::{explain, explained, Form, Only, Untold};
 use tape::text;
 
 /// A value of a flat JSON object.
@@ -121,9 +121,9 @@ fn named<'a>(objects: &'a [Object], name: &str) -> Vec<&'a Object> {
 }
 
 #[test]
-fn the_settled_days_and_the_change_over_are_told_as_stored() {
+fn some_samples_are_told_as_stored() {
     let folder = Path::new(env!("CARGO_MANIFEST_DIR")).join("../tapes");
-    for name in ["p5-to-p9", "change-over"] {
+    for name in ["p5-to-p9", "change-over", "two-days"] {
         let read = |extension: &str| {
             let file = folder.join(name).with_extension(extension);
             fs::read_to_string(&file).unwrap_or_else(|error| panic!("{}: {error}", file.display()))
@@ -168,13 +168,20 @@ fn full_units_dealt_in_turn_have_round_and_receiver() {
     }
     let page = told(Form::Html, Only::default(), CHANGED);
     for part in [
-        "due in 8 units, full units dealt in turn (the new order)</p>",
-        "title=\"unit 3 of account 2, 100,000 lots, round 2, receiver 2 of 2: 0 lots handed, 100,000 lots failed, 0 lots open\"",
-        "title=\"unit 1 of account 2, 100,000 lots, round 1, receiver 2 of 2: 50,000 lots handed, 50,000 lots failed, 0 lots open\"",
+        "The new order: full units are dealt in turn since day 1. 3 trades; close at line 8, word 42;",
+        "<p>680,000 lots (34,000,000,000 yen face) due in 8 units.</p>",
+        "<td>0</td><td>1, round 1</td><td>100,000</td><td><b class=\"badge handed\">handed</b></td>",
+        "<td>1</td><td>2, round 1</td><td>100,000</td><td><b class=\"badge partly\">partly failed</b> 50,000 handed, \
+         50,000 failed</td>",
+        "<td>2–3</td><td>1 and 2, one each in round 2</td><td>2 × 100,000</td><td><b class=\"badge failed\">",
+        "<td>4–5</td><td>1, rounds 3–4</td><td>2 × 100,000</td><td><b class=\"badge failed\">failed</b></td>",
         "<p>Full units are dealt in turn from day 1 on.</p>",
     ] {
         assert!(page.contains(part), "{part}\n{page}");
     }
+    let of_two = told(Form::Html, Only { account: Some(2), ..Only::default() }, CHANGED);
+    let row = "<td>3</td><td>2, round 2, receiver 2 of 2</td><td>100,000</td><td><b class=\"badge failed\">";
+    assert!(of_two.contains(row), "{of_two}");
     let to_come = told(Form::Text, Only::default(), "turn 2\nclose\ncutoff\nroll 1 300 1\n");
     let line = "\nDay 1, the old order: full units are dealt in turn from day 2 on\n";
     assert!(to_come.contains(line), "{to_come}");
@@ -193,6 +200,9 @@ fn text_says_why() {
         "account 5 fails account 3: 25,000 lots (1,250,000,000 yen face), of unit 6",
         "value 250,000,000 yen at 100.000, accrued 0.000, 1 day at 3.00 percent a year",
         "2 steps, 25 lots cancelled",
+        "the fail of account 1 to account 2 since day 0 meets that of account 2 to account 3 since day 1: 20 lots \
+         (1,000,000 yen face); account 1 now owes them to account 3\n",
+        "since day 0 meets that of account 2 to account 1 since day 1: 5 lots (250,000 yen face); they fall away\n",
         "in the ledger: issue 3: account 1 owes account 3 20 lots (1,000,000 yen face), since day 1",
         "account 4 hands to account 3: 1,000 lots (50,000,000 yen face)",
         "reading ends, refused by 14",
@@ -217,7 +227,7 @@ fn marks_are_told_in_plain_words() {
         assert!(text.contains(line), "{line}\n{text}");
     }
     let page = told(Form::Html, Only::default(), MARKED);
-    assert!(page.contains("<p>In multiples of 100,000 yen face, even lots only: issue 3</p>"));
+    assert!(page.contains("<p>In multiples of 100,000 yen face, even lots only: issue 3.</p>"));
     assert!(!told(Form::Html, Only::default(), DAYS).contains("even lots only"));
     let of_five = told(Form::Text, Only { issue: Some(5), ..Only::default() }, MARKED);
     assert!(of_five.contains("mark: issue 5") && !of_five.contains("issue 3"), "{of_five}");
@@ -300,7 +310,7 @@ fn every_fact_of_json_is_in_the_documents() {
     let mut names: Vec<&Value> = seen.iter().map(|object| &object["fact"]).collect();
     names.sort_by_key(|name| format!("{name:?}"));
     names.dedup();
-    assert_eq!(names.len(), 22, "{names:?}");
+    assert_eq!(names.len(), 23, "{names:?}");
     for object in &seen {
         let Value::Text(name) = &object["fact"] else { panic!("{object:?}") };
         let row = documents.lines().find(|line| line.starts_with(&format!("| `{name}` |")));
@@ -433,43 +443,133 @@ fn ones_are_told_in_the_singular() {
 #[test]
 fn a_page_counts_the_units_that_it_shows() {
     let of = |account| told(Form::Html, Only { account, ..Only::default() }, DAYS);
-    assert!(of(None).contains("<p>630,000 lots (31,500,000,000 yen face) due in 8 units</p>"));
+    assert!(of(None).contains("<p>630,000 lots (31,500,000,000 yen face) due in 8 units.</p>"));
     assert!(of(Some(1)).contains("<p><b>Only what is of account 1 is shown.</b></p>"));
     assert!(!of(None).contains("Only what is"));
     assert!(of(None).contains("<td>5,000</td><td>100.000</td><td>0.000</td><td>250,000,000</td>"));
-    assert!(of(Some(1)).contains("<p>230,000 lots (11,500,000,000 yen face) due in 3 units</p>"));
+    assert!(of(Some(1)).contains("<p>230,000 lots (11,500,000,000 yen face) due in 3 units.</p>"));
     let day = "trade 0 9 1 230000\ntrade 0 9 8 7\nclose\n";
     let page = told(Form::Html, Only { account: Some(8), ..Only::default() }, day);
-    assert!(page.contains("<p>7 lots (350,000 yen face) due in 1 unit</p>"), "{page}");
-    assert!(page.contains("title=\"unit 3 of account 8, 7 lots: 0 lots handed"), "{page}");
+    assert!(page.contains("<p>7 lots (350,000 yen face) due in 1 unit.</p>"), "{page}");
+    assert!(
+        page.contains("<td>3</td><td>8</td><td>7</td><td><b class=\"badge open\">open</b></td>")
+    );
 }
 
 #[test]
 fn html_is_one_page_with_nothing_from_elsewhere() {
     let page = told(Form::Html, Only::default(), DAYS);
     assert!(page.starts_with("<!DOCTYPE html>") && page.trim_end().ends_with("</html>"));
-    for absent in ["<script", "http", "src=", "href=", "url(", "@import"] {
+    for absent in ["<script", "http", "src=", "url(", "@import", "title="] {
         assert!(!page.contains(absent), "{absent}");
     }
-    for tag in ["html", "head", "body", "style", "div", "table", "tr", "td", "th", "ul", "h2", "b"]
+    for link in page.split("href=\"").skip(1) {
+        let name = link.strip_prefix('#').and_then(|link| link.split_once('"')).expect("a link").0;
+        assert!(page.contains(&format!("id=\"{name}\"")), "{name}");
+    }
+    for tag in
+        ["html", "head", "body", "style", "div", "table", "tr", "td", "th", "ul", "li", "section"]
     {
         let opened =
             page.matches(&format!("<{tag}>")).count() + page.matches(&format!("<{tag} ")).count();
         assert_eq!(opened, page.matches(&format!("</{tag}>")).count(), "{tag}");
     }
     for part in [
-        "<h2>Day 0, issue 0</h2>",
-        "<h2>Day 1, issue 3</h2>",
-        "units 0–1 of account 2, 100,000 lots each, 200,000 lots in all: 200,000 lots handed, 0 lots",
-        "\"unit 5 of account 2, 50,000 lots: 45,000 lots handed, 5,000 lots failed, 0 lots open\"",
-        "<span class=\"handed\" style=\"flex-grow:45000\"></span><span class=\"partly\" \
-         style=\"flex-grow:5000\">",
-        "<span class=\"failed\" style=\"flex-grow:50000\">",
+        "<h1>Settlement days 0 to 1</h1>\n<p>day.txt: 17 instructions, 2 refused.</p>",
+        "<p><b>The tape is not read to its end: line 18, word 60: reading ends, refused by 14",
+        "<td><a href=\"#day-0-issue-0\">0</a> <a href=\"#day-0-issue-3\">3</a></td>",
+        "<h3>Day 1, issue 3</h3>",
+        "<td>0–1</td><td>2</td><td>2 × 100,000</td><td><b class=\"badge handed\">handed</b></td>",
+        "<b class=\"badge partly\">partly failed</b> 45,000 handed, 5,000 failed</td>",
         "<h3>Ledger of fails</h3>",
         "<td>-226,026</td>",
     ] {
         assert!(page.contains(part), "{part}\n{page}");
     }
     let one = told(Form::Html, Only { issue: Some(3), ..Only::default() }, DAYS);
-    assert!(!one.contains("issue 0</h2>") && one.contains("issue 3</h2>"));
+    assert!(!one.contains("issue 0</h3>") && one.contains("issue 3</h3>"));
+}
+
+#[test]
+fn a_page_tells_what_became_of_each_fail() {
+    let page = told(Form::Html, Only::default(), DAYS);
+    for part in [
+        "<td>4</td><td>2</td><td>5,000</td><td>250,000,000</td><td>unit 5</td><td><ul><li>charged 20,547 yen at the \
+         roll of day 0</li><li>5,000 lots resolved on day 1, line 17, word 58</li><li>nothing is left of it</li></ul>",
+        "<li>1,000 lots resolved on day 1, line 17, word 58</li><li>24,000 lots still open at the end of the tape</li>",
+        "<td>1</td><td>2</td><td>30</td><td>1,500,000</td><td>unit 0</td><td><ul><li>charged 123 yen at the roll of \
+         day 0</li><li>20 lots paired off by account 2 on day 1, line 16, word 57</li><li>5 lots paired off by account \
+         2 on day 1, line 16, word 57</li><li>5 lots still open at the end of the tape</li></ul>",
+        "<td>1</td><td>3</td><td>20</td><td>1,000,000</td><td>the pair-off of account 2</td><td>20 lots still open",
+        "<ul><li>5,000 lots to account 2, failed on day 0</li><li>1,000 lots to account 3, failed on day 0</li></ul>",
+        "<h3>Roll: 1 day at 3.00&nbsp;% a year</h3>",
+    ] {
+        assert!(page.contains(part), "{part}\n{page}");
+    }
+    // What became of a fail is told on the page of its day, too.
+    let first = told(Form::Html, Only { day: Some(0), ..Only::default() }, DAYS);
+    assert!(first.contains("<li>5,000 lots resolved on day 1, line 17, word 58</li>"), "{first}");
+    assert!(first.contains("<h1>Settlement day 0</h1>") && !first.contains("Day 1, issue"));
+}
+
+#[test]
+fn an_account_s_page_is_what_it_is_told() {
+    let of = |account| told(Form::Html, Only { account: Some(account), ..Only::default() }, DAYS);
+    let three = of(3);
+    for part in [
+        "<h1>Account 3, settlement days 0 to 1</h1>",
+        "<h2>What it was to receive</h2>\n<table class=\"receives\">",
+        "<a href=\"#day-0-issue-0\">0</a></td><td>0</td><td>150,000</td><td>100,000</td><td>50,000<ul><li>25,000 \
+         by account 4</li><li>25,000 by account 5</li></ul></td><td>0</td><td>0</td><td>50,000</td><td>205,478</td>",
+        "<td><a href=\"#day-1-issue-0\">1</a></td><td>0</td><td>0</td><td>0</td><td>0</td><td>1,000</td><td>0</td>\
+         <td>49,000</td><td>0</td>",
+        "<h2>What it was to deliver</h2>\n<p>None.</p>",
+    ] {
+        assert!(three.contains(part), "{part}\n{three}");
+    }
+    let two = of(2);
+    let delivers = "<td><a href=\"#day-1-issue-3\">1</a></td><td>3</td><td>25</td><td>0</td><td>25<ul><li>20 to \
+        account 3</li><li>5 to account 1</li></ul></td><td>0</td><td>25</td><td>0</td><td>0</td>";
+    assert!(two.contains(delivers), "{two}");
+    assert!(!told(Form::Html, Only::default(), DAYS).contains("What it was to receive"));
+}
+
+#[test]
+fn a_page_that_would_be_too_long_is_refused_with_what_to_do() {
+    let long = |deliveries: usize| {
+        let text = format!("trade 0 1 2 20000000\nclose\n{}", "deliver 0 1 1\n".repeat(deliveries));
+        let mut page = Vec::new();
+        explain(&day(&text), Form::Html, Only::default(), &mut page).map(|_| page.len())
+    };
+    let error = long(20_000).expect_err("too long");
+    let Untold::Long(what) = error else { panic!("{error:?}") };
+    assert!(
+        what.starts_with("a page has at most 20,000 rows, and this one would have more by day 0")
+    );
+    assert!(what.contains("--day N") && what.contains("leave out --html"), "{what}");
+    assert!(long(9_000).expect("a page") < 5_000_000);
+    // Refused instructions are listed up to 50, with how many more there are.
+    let page = told(Form::Html, Only::default(), &"cutoff\n".repeat(30_000));
+    assert!(page.contains("<h3>Refused: 30,000</h3>") && page.len() < 50_000, "{}", page.len());
+    assert!(page.contains("<p>29,950 more are not listed here: tape check lists all.</p>"));
+}
+
+#[test]
+fn two_hundred_like_units_are_one_row_of_a_page() {
+    let text = "trade 0 1 2 20000000\ntrade 0 3 4 15000000\nclose\ndeliver 0 1 12345678\ncutoff\n";
+    for (text, rows) in
+        [(text.to_string(), 4), (format!("turn 1\nclose\ncutoff\nroll 1 1 1\n{text}"), 5)]
+    {
+        let page = told(Form::Html, Only::default(), &text);
+        let table = page.split("<table class=\"order\">").nth(1).expect("the order");
+        let table = table.split("</table>").next().unwrap_or_default();
+        assert_eq!(table.matches("<tr><td>").count(), rows, "{table}");
+        let handed = match rows {
+            4 => "units 0–122 to account 2: 123 × 100,000 lots</td>",
+            _ => {
+                "units 0–122, rounds 1–62, 100,000 lots each: 62 to account 2, 61 to account 4</td>"
+            }
+        };
+        assert!(page.contains(handed), "{page}");
+    }
 }

@@ -4,6 +4,7 @@
 use crate::dealt::Turn;
 use crate::facts::{Fact, Told};
 use crate::input::Stands;
+use crate::ledger::Step;
 use crate::measure::write_number;
 use crate::units::Case;
 use settlement_day::{Instruction, Refusal};
@@ -58,6 +59,7 @@ fn name(fact: &Fact) -> &'static str {
         Fact::NothingFails => "nothing-fails",
         Fact::Resolved { .. } => "resolved",
         Fact::Paired { .. } => "paired",
+        Fact::Met { .. } => "met",
         Fact::Left { .. } => "left",
         Fact::Charge { .. } => "charge",
         Fact::ReadingEnds { .. } => "reading-ends",
@@ -226,6 +228,12 @@ fn fail(out: &mut impl Write, fact: &Fact) -> io::Result<()> {
         Fact::Paired { issue, account, steps, cancelled } => {
             numbers(out, &[("issue", wide(*issue)), ("account", wide(*account))])?;
             numbers(out, &[("steps", *steps as u64), ("cancelled", *cancelled)])
+        }
+        Fact::Met { issue, account, step: Step { from, from_since, to, to_since, lots } } => {
+            numbers(out, &[("issue", wide(*issue)), ("account", wide(*account))])?;
+            numbers(out, &[("from", wide(*from)), ("fromSince", (*from_since).into())])?;
+            numbers(out, &[("to", wide(*to)), ("toSince", (*to_since).into())])?;
+            field(out, "lots", wide(*lots))
         }
         _ => Ok(()),
     }

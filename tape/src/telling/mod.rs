@@ -1,15 +1,17 @@
 //! The facts of a tape told: as text for people, as JSON for programs, as one page of HTML.
 
-mod html;
 pub mod json;
+mod page;
 pub mod text;
 
 use crate::facts::{Fact, Told};
 use crate::input::{Day, Stands};
 use crate::story;
+use page::Page;
 use std::io::{self, Write};
 
 pub use json::escaped;
+pub use text::failed_units;
 
 /// The form in which facts are told.
 #[derive(Clone, Copy, Debug, Default, PartialEq, Eq)]
@@ -64,8 +66,23 @@ fn tell<'a>(tape: &[u8], only: Only, sink: &'a mut story::Sink<'a>) -> io::Resul
     story::tell(tape, &mut narrowed)
 }
 
+/// Why facts are not told.
+#[derive(Debug)]
+pub enum Untold {
+    /// The output could not be written.
+    Output(io::Error),
+    /// A page would be too long: what to do.
+    Long(String),
+}
+
+impl From<io::Error> for Untold {
+    fn from(error: io::Error) -> Untold {
+        Untold::Output(error)
+    }
+}
+
 /// Runs a day and tells its facts in a form; answers the day on which it ends.
-pub fn explain(day: &Day, form: Form, only: Only, output: &mut dyn Write) -> io::Result<u16> {
+pub fn explain(day: &Day, form: Form, only: Only, output: &mut dyn Write) -> Result<u16, Untold> {
     let mut output = io::BufWriter::with_capacity(1 << 16, output);
     let out = &mut output;
     let stands = |told: &Told| told.word.map_or(Stands::default(), |word| day.stands(word));
@@ -84,14 +101,17 @@ pub fn explain(day: &Day, form: Form, only: Only, output: &mut dyn Write) -> io:
         }
         Form::Json => tell(&day.tape, only, &mut |told| json::tell(out, told, stands(told)))?,
         Form::Html => {
-            let mut page = html::Page::default();
-            let mut note = |told: &Told| {
-                page.note(told, stands(told));
-                Ok(())
+            let mut page = Page::new(only, day.names());
+            let mut note = |told: &Told| match page.note(told, stands(told)) {
+                true => Ok(()),
+                false => Err(io::ErrorKind::OutOfMemory.into()),
             };
-            let last = tell(&day.tape, only, &mut note)?;
-            page.write(only, out)?;
-            last
+            let last = story::tell(&day.tape, &mut note);
+            if let Some(what) = page.too_long() {
+                return Err(Untold::Long(what));
+            }
+            page.write(out)?;
+            last?
         }
     };
     output.flush()?;
@@ -101,6 +121,7 @@ pub fn explain(day: &Day, form: Form, only: Only, output: &mut dyn Write) -> io:
 /// The text of a day for people.
 pub fn explained(day: &Day) -> String {
     let mut text = Vec::new();
-    let told = explain(day, Form::Text, Only::default(), &mut text);
-    told.map_or_else(|error| error.to_string(), |_| String::from_utf8_lossy(&text).to_string())
+    // A write to memory does not fail.
+    let _ = explain(day, Form::Text, Only::default(), &mut text);
+    String::from_utf8_lossy(&text).to_string()
 }

@@ -3,6 +3,7 @@
 use crate::dealt::{Rounds, Turn};
 use crate::facts::{Fact, Told};
 use crate::input::Stands;
+use crate::ledger::Step;
 use crate::measure::{counted, Face, Grouped, Line, Lots, Price, Rate};
 use crate::units::Case;
 use settlement_day::Instruction;
@@ -82,6 +83,21 @@ fn trade(out: &mut impl Write, line: &mut Line, instruction: &Instruction) -> io
     line.put(if lots == 1 { b" lot (" } else { b" lots (" }).grouped(lots * 50_000);
     line.put(b" yen face) of issue ").number(issue.into()).put(b"\n");
     out.write_all(line.bytes())
+}
+
+/// What an instruction says, as a text.
+pub fn said(instruction: &Instruction) -> String {
+    let mut text = Vec::new();
+    // A write to memory does not fail.
+    let _ = sentence(&mut text, instruction);
+    String::from_utf8_lossy(&text).to_string()
+}
+
+/// Something that an instruction did, as a text.
+pub fn told(fact: &Fact) -> String {
+    let mut text = Vec::new();
+    let _ = detail(&mut text, fact);
+    String::from_utf8_lossy(&text).to_string()
 }
 
 /// What an instruction says.
@@ -232,6 +248,7 @@ fn fail(out: &mut impl Write, fact: &Fact) -> io::Result<()> {
         Fact::Paired { steps, cancelled, .. } => {
             write!(out, "{}, {} cancelled", counted(*steps, "step"), Lots(*cancelled))
         }
+        Fact::Met { account, step, .. } => met(out, *account, step),
         Fact::Left { issue, from, to, lots, since } => {
             write!(out, "in the ledger: ")?;
             entry(out, &[*issue, *from, *to, *lots], *since)
@@ -241,6 +258,18 @@ fn fail(out: &mut impl Write, fact: &Fact) -> io::Result<()> {
         }
         _ => Ok(()),
     }
+}
+
+/// A step of an account's pair-off: the entries that meet, and what comes of it.
+fn met(out: &mut impl Write, account: u32, step: &Step) -> io::Result<()> {
+    let Step { from, from_since, to, to_since, lots } = *step;
+    let face = Face(lots.into());
+    write!(out, "the fail of account {from} to account {account} since day {from_since} meets ")?;
+    write!(out, "that of account {account} to account {to} since day {to_since}: {face}; ")?;
+    if step.falls_away() {
+        return write!(out, "they fall away");
+    }
+    write!(out, "account {from} now owes them to account {to}")
 }
 
 /// An account's charges; or one charge, with the value, the price, accrued interest, the rate and the
@@ -282,7 +311,7 @@ fn dealt(turn: &Option<Turn>) -> String {
 }
 
 /// The units of a fail: those from the first to the last, or so many of them that lie apart.
-fn failed_units(first: u32, last: u32, units: u32) -> String {
+pub fn failed_units(first: u32, last: u32, units: u32) -> String {
     match units {
         _ if last + 1 - first == units => units_text(first, last).0,
         2 => format!("units {first} and {last}"),
@@ -299,12 +328,12 @@ fn units_text(first: u32, last: u32) -> (String, &'static str) {
 }
 
 /// Days with their measure.
-fn days_text(days: u32) -> String {
+pub fn days_text(days: u32) -> String {
     format!("{days} day{}", if days == 1 { "" } else { "s" })
 }
 
 /// Numbers with commas and a last 'and' between them.
-fn listed(numbers: &[u32]) -> String {
+pub fn listed(numbers: &[u32]) -> String {
     let names: Vec<String> = numbers.iter().map(u32::to_string).collect();
     match names.split_last() {
         Some((last, before)) if !before.is_empty() => format!("{} and {last}", before.join(", ")),

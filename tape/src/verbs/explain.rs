@@ -3,7 +3,7 @@
 use super::{day_of, Ended, Verb};
 use crate::options::{flag, valued, Given, Opt, HEX, JSON, WORDS};
 use crate::output::Output;
-use crate::telling::{explain, Form, Only};
+use crate::telling::{explain, Form, Only, Untold};
 use settlement_day::{ACCOUNTS, ISSUES};
 
 const HTML: Opt = flag("--html");
@@ -16,7 +16,8 @@ pub(super) const VERB: Verb = Verb {
     usage: "\
 tape explain [--hex | --words] [--json | --html] [--issue N] [--account N] [--day N] [DAY..]
         runs a tape and tells what it does, day by day, or only what is of an issue, an account or a
-        day: as text, as JSON (one object a line) or as one page of HTML",
+        day: as text, as JSON (one object a line) or as one page of HTML, with --account N the
+        account's page",
     options: &[HEX, WORDS, JSON, HTML, ISSUE, ACCOUNT, DAY],
     act,
 };
@@ -36,7 +37,10 @@ fn act(given: &Given) -> Result<Ended, String> {
     let output = Output::of(given)?;
     let day = day_of(given, &given.names)?;
     let mut writer = output.open()?;
-    let last = explain(&day, form, only, &mut writer).map_err(|error| writer.failed(&error))?;
+    let last = explain(&day, form, only, &mut writer).map_err(|untold| match untold {
+        Untold::Output(error) => writer.failed(&error),
+        Untold::Long(what) => what,
+    })?;
     if let Some(wanted) = only.day.filter(|wanted| *wanted > last) {
         return Err(format!("--day {wanted}: the tape ends on day {last}"));
     }

@@ -40,7 +40,7 @@ fn act(given: &Given) -> Result<Ended, String> {
         account: number("ACCOUNT", account, 0..=u32::MAX)?,
         at: given.number(&AT, 0..=usize::MAX)?,
     };
-    let seen = read(&day_of(given, days)?.tape, &question)?;
+    let seen = read(&day_of(given, days)?, &question)?;
     put(given, if given.has(&JSON) { seen.json() } else { seen.text() }.as_bytes())?;
     Ok(if seen.refused() { Ended::Badly } else { Ended::Well })
 }

@@ -15,6 +15,7 @@ mod write;
 use crate::input::{Day, Taken};
 use crate::options::{Given, Opt, FORCE, HEX, OUT, WORDS};
 use crate::output::Output;
+use crate::progress;
 use std::ffi::{OsStr, OsString};
 use std::fs;
 use std::io::{self, Read, Write};
@@ -114,6 +115,7 @@ fn help() -> String {
 
 /// Says something on standard error, each of its lines by itself.
 pub fn say(text: &str) {
+    progress::spoken();
     // Where standard error fails, nothing is left to say it to.
     let _ = writeln!(io::stderr(), "tape: {}", text.replace('\n', "\ntape: "));
 }

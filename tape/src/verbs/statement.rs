@@ -22,7 +22,7 @@ tape statement [--hex | --words] [--json | --html] --all [DAY..]
 fn act(given: &Given) -> Result<Ended, String> {
     given.not_both(&JSON, &HTML)?;
     let told = if given.has(&ALL) {
-        Told::all(&day_of(given, &given.names)?.tape)
+        Told::all(&day_of(given, &given.names)?)
     } else {
         let [days @ .., issue, account] = given.names.as_slice() else {
             return Err(format!("statement needs a day, an issue and an account:\n{}", VERB.usage));
@@ -32,7 +32,7 @@ fn act(given: &Given) -> Result<Ended, String> {
         }
         let issue = number("ISSUE", issue, 0..=ISSUES as u32 - 1)?;
         let account = number("ACCOUNT", account, 0..=ACCOUNTS as u32 - 1)?;
-        Told::one(&day_of(given, days)?.tape, issue, account)
+        Told::one(&day_of(given, days)?, issue, account)
     }
     .map_err(|refusal| refusal.said())?;
     let told = match (given.has(&JSON), given.has(&HTML)) {

@@ -1,0 +1,118 @@
+//! A tape run on a fresh book up to a moment: before a word, at the end of a day, or at its own end.
+
+use crate::bytes::split;
+use crate::input::Day;
+use crate::measure::counted;
+use crate::progress::Meter;
+use crate::story::traded;
+use settlement_day::{calls, tape, Book, Instruction, Phase, OUTPUT_WORDS};
+
+/// The moment up to which a tape is run.
+#[derive(Clone, Copy, Debug, Default, PartialEq, Eq)]
+pub enum When {
+    /// All that can be read.
+    #[default]
+    End,
+    /// Before the instruction that begins at a word.
+    Before(usize),
+    /// Before the roll that ends a day, or at the tape's end if it is that day then.
+    EndOf(u16),
+    /// The end of the last day that was closed.
+    LastClosed,
+}
+
+/// A book as the tape has brought it to a moment.
+pub struct Stood {
+    pub book: Book,
+    /// The word at which the tape stands.
+    pub word: usize,
+    /// Is it before an instruction?
+    before: bool,
+    /// Did reading end there by a refusal?
+    ended: bool,
+}
+
+impl Stood {
+    /// The moment in words, with the line where it stands in a text.
+    pub fn moment(&self, day: &Day) -> String {
+        let word = self.word;
+        if !self.before && !self.ended {
+            return "at the end of the tape".to_string();
+        }
+        let at = if self.before { "before" } else { "where reading ends, at" };
+        format!("{at} {}", day.named(word))
+    }
+
+    /// Did reading end there by a refusal?
+    pub fn ended(&self) -> bool {
+        self.ended
+    }
+
+    /// The line of the instruction at which the tape stands, if it stands in a text.
+    pub fn line(&self, day: &Day) -> Option<usize> {
+        day.stands(self.word).line.filter(|_| self.before || self.ended)
+    }
+
+    /// The phase of the book.
+    pub fn phase(&self) -> &'static str {
+        self.book.phase.name().unwrap_or("no phase")
+    }
+}
+
+/// Runs a tape up to a moment; an error is that there is no such moment.
+pub fn run(tape: &[u8], when: When) -> Result<Stood, String> {
+    let (words, stray) = split(tape);
+    let mut book = Book::fresh();
+    let mut output = vec![0; OUTPUT_WORDS];
+    let mut closed = None;
+    let mut meter = Meter::of_words(words.len());
+    let mut at = 0;
+    let until = if let When::Before(word) = when { word } else { usize::MAX };
+    while at < until && (at < words.len() || !stray.is_empty()) {
+        meter.at(at);
+        let Ok((instruction, count)) = tape::read(&words[at..]) else { break };
+        if until < at + count {
+            return Err(inside(&instruction, at, count));
+        }
+        let roll = matches!(instruction, Instruction::Roll { .. });
+        let before = roll.then(|| book.clone());
+        if !traded(&mut book, &instruction) {
+            let quotes = tape::quotes(&words[at..]);
+            calls::call(&mut book, &instruction, &quotes, &mut output);
+        }
+        if let Some(before) = before.filter(|before| before.day != book.day) {
+            let stood = Stood { book: before, word: at, before: true, ended: false };
+            if when == When::EndOf(stood.book.day) {
+                return Ok(stood);
+            }
+            closed = Some(stood);
+        }
+        at += count;
+    }
+    let left = at < words.len() || !stray.is_empty();
+    let before = matches!(when, When::Before(_));
+    let stood = Stood { book, word: at, before, ended: left && !before };
+    reached(stood, when, closed)
+}
+
+/// The moment that is wanted, where the tape has been run as far as it goes.
+fn reached(stood: Stood, when: When, closed: Option<Stood>) -> Result<Stood, String> {
+    match when {
+        When::Before(word) if stood.word < word => {
+            Err(format!("--at {word}: reading ends at word {}", stood.word))
+        }
+        When::EndOf(day) if stood.book.day != day => {
+            Err(format!("--day {day}: the tape ends on day {}", stood.book.day))
+        }
+        When::LastClosed if stood.book.phase == Phase::TAKING => Ok(closed.unwrap_or(stood)),
+        _ => Ok(stood),
+    }
+}
+
+/// What is said of a word that begins no instruction.
+fn inside(instruction: &Instruction, at: usize, count: usize) -> String {
+    let (name, words) = (instruction.name(), counted(count, "word"));
+    format!(
+        "--at needs the first word of an instruction: {name} begins at word {at} and has {words}"
+    )
+}

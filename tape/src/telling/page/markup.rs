@@ -1,0 +1,198 @@
+//! The pieces that a page is written with: tables that become cards on a phone, sections, the state of a
+//! unit as a word and as a part of a bar.
+
+use super::parts::State;
+use crate::measure::Grouped;
+use std::io::{self, Write};
+
+/// A kind of table: its class, its heads, and the columns that are numbers.
+pub struct Kind {
+    class: &'static str,
+    heads: &'static [&'static str],
+    numbers: &'static [usize],
+}
+
+pub const DAYS: Kind = Kind {
+    class: "days",
+    heads: &["Day", "Order", "Issues", "Trades", "Refused", "Fails", "Roll"],
+    numbers: &[3, 4, 5],
+};
+pub const ORDER: Kind =
+    Kind { class: "order", heads: &["Units", "Account", "Lots", "State", "Place"], numbers: &[2] };
+pub const HANDED: Kind = Kind {
+    class: "handed-over",
+    heads: &["When", "Account", "Delivers, lots", "Handed", "Waits", "Still owes, lots"],
+    numbers: &[2, 5],
+};
+pub const FAILS: Kind = Kind {
+    class: "fails",
+    heads: &["From account", "To account", "Lots", "Yen face", "Of", "What became of it"],
+    numbers: &[0, 1, 2, 3],
+};
+pub const LATER: Kind =
+    Kind { class: "later", heads: &["When", "What", "What came of it"], numbers: &[] };
+pub const CHARGES: Kind = Kind {
+    class: "charges",
+    heads: &[
+        "Issue",
+        "From account",
+        "To account",
+        "Lots",
+        "Price",
+        "Accrued",
+        "Value, yen",
+        "Charge, yen",
+    ],
+    numbers: &[0, 1, 2, 3, 4, 5, 6, 7],
+};
+pub const LEDGER: Kind = Kind {
+    class: "ledger",
+    heads: &["Issue", "From account", "To account", "Lots", "Yen face", "Since day"],
+    numbers: &[0, 1, 2, 3, 4, 5],
+};
+pub const CHARGED: Kind = Kind { class: "charged", heads: &["Account", "Yen"], numbers: &[0, 1] };
+pub const RECEIVES: Kind = Kind {
+    class: "receives",
+    heads: &[
+        "Day",
+        "Issue",
+        "Due",
+        "Received",
+        "Failed",
+        "Resolved",
+        "Paired off",
+        "Still open",
+        "Given, yen",
+    ],
+    numbers: &[0, 1, 2, 3, 5, 6, 7, 8],
+};
+pub const DELIVERS: Kind = Kind {
+    class: "delivers",
+    heads: &[
+        "Day",
+        "Issue",
+        "Owed",
+        "Delivered",
+        "Failed",
+        "Resolved",
+        "Paired off",
+        "Still open",
+        "Charged, yen",
+    ],
+    numbers: &[0, 1, 2, 3, 5, 6, 7, 8],
+};
+/// All kinds of tables.
+const KINDS: [&Kind; 10] =
+    [&DAYS, &ORDER, &HANDED, &FAILS, &LATER, &CHARGES, &LEDGER, &CHARGED, &RECEIVES, &DELIVERS];
+
+/// The style of the page: colours, patterns and layout, and the heads that stand before each cell on a
+/// narrow screen.
+pub fn style(out: &mut impl Write) -> io::Result<()> {
+    out.write_all(include_bytes!("page.css"))?;
+    writeln!(out, "@media print, (min-width: 701px) {{")?;
+    for Kind { class, numbers, .. } in KINDS {
+        for column in *numbers {
+            let at = column + 1;
+            writeln!(out, ".{class} tr > :nth-child({at}) {{ text-align: right; }}")?;
+            writeln!(out, ".{class} tr > td:nth-child({at}) {{ white-space: nowrap; }}")?;
+        }
+    }
+    writeln!(out, "}}")?;
+    writeln!(out, "@media screen and (max-width: 700px) {{")?;
+    for Kind { class, heads, .. } in KINDS {
+        for (at, head) in (1..).zip(*heads) {
+            writeln!(out, ".{class} tr > td:nth-child({at})::before {{ content: \"{head}\"; }}")?;
+        }
+    }
+    writeln!(out, "}}")
+}
+
+/// A table, if it has rows.
+pub fn table(out: &mut impl Write, kind: &Kind, rows: &[Vec<String>]) -> io::Result<()> {
+    if rows.is_empty() {
+        return writeln!(out, "<p>None.</p>");
+    }
+    writeln!(out, "<table class=\"{}\">\n<thead><tr>", kind.class)?;
+    kind.heads.iter().try_for_each(|head| write!(out, "<th scope=\"col\">{head}</th>"))?;
+    writeln!(out, "</tr></thead>\n<tbody>")?;
+    for row in rows {
+        write!(out, "<tr>")?;
+        row.iter().try_for_each(|cell| write!(out, "<td>{cell}</td>"))?;
+        writeln!(out, "</tr>")?;
+    }
+    writeln!(out, "</tbody>\n</table>")
+}
+
+/// A section with a heading that can be linked to.
+pub fn section_of<W: Write>(
+    out: &mut W,
+    id: &str,
+    title: &str,
+    inside: impl FnOnce(&mut W) -> io::Result<()>,
+) -> io::Result<()> {
+    writeln!(out, "<section id=\"{id}\">\n<h2>{title}</h2>")?;
+    inside(out)?;
+    writeln!(out, "</section>")
+}
+
+/// Sentences as a list, if there are any.
+pub fn list(out: &mut impl Write, class: &str, sentences: &[String]) -> io::Result<()> {
+    if sentences.is_empty() {
+        return Ok(());
+    }
+    writeln!(out, "<ul class=\"{class}\">")?;
+    sentences.iter().try_for_each(|one| writeln!(out, "<li>{}</li>", escaped(one)))?;
+    writeln!(out, "</ul>")
+}
+
+/// Sentences as a list inside a cell.
+pub fn cell_of(sentences: &[String]) -> String {
+    match sentences {
+        [] => String::new(),
+        [one] => escaped(one),
+        all => {
+            let all: String = all.iter().map(|one| format!("<li>{}</li>", escaped(one))).collect();
+            format!("<ul>{all}</ul>")
+        }
+    }
+}
+
+/// A state as a word on its colour.
+pub fn badge(state: State) -> String {
+    format!("<b class=\"badge {}\">{}</b>", state.class(), state.word())
+}
+
+/// A bar of so many lots, with parts in their states: each from so many lots on, so many long.
+pub fn bar(all: u64, parts: &[(State, u64, u64)]) -> String {
+    let percent = |lots: u64| lots as f64 * 100.0 / all.max(1) as f64;
+    let part = |(state, from, lots): &(State, u64, u64)| {
+        let (left, width) = (percent(*from), percent(*lots));
+        let class = state.class();
+        format!("<i class=\"{class}\" style=\"left:{left:.2}%;width:{width:.2}%\"></i>")
+    };
+    let parts: String = parts.iter().map(part).collect();
+    format!("<span class=\"bar\" aria-hidden=\"true\">{parts}</span>")
+}
+
+/// A number with a comma before every three digits.
+pub fn number(number: impl Into<i128>) -> String {
+    Grouped(number.into()).to_string()
+}
+
+/// Lots as their face in yen, 50,000 a lot.
+pub fn face(lots: impl Into<i128>) -> String {
+    number(lots.into() * 50_000)
+}
+
+/// Units from one to another.
+pub fn range(first: u32, last: u32) -> String {
+    if first == last {
+        return first.to_string();
+    }
+    format!("{first}–{last}")
+}
+
+/// Text with the letters that HTML has a use for.
+pub fn escaped(text: &str) -> String {
+    text.replace('&', "&amp;").replace('<', "&lt;").replace('>', "&gt;")
+}
