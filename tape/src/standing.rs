@@ -78,7 +78,7 @@ pub fn run(tape: &[u8], when: When) -> Result<Stood, String> {
         let before = roll.then(|| book.clone());
         if !traded(&mut book, &instruction) {
             let quotes = tape::quotes(&words[at..]);
-            calls::call(&mut book, &instruction, &quotes, &mut output);
+            let _ = calls::call(&mut book, &instruction, &quotes, &mut output);
         }
         if let Some(before) = before.filter(|before| before.day != book.day) {
             let stood = Stood { book: before, word: at, before: true, ended: false };
