@@ -2,7 +2,7 @@
 use mathlib.Core.Path.{_≡_}
 use mathlib.Core.Bool.{cond}
 use mathlib.Core.List.{List, [], _∷_, _++_}
-use Prim.Native.Nat.{ℕ, _+_, _-_, _≤_, _<_}
+use Prim.Native.Nat.{ℕ, _-_, _≤_}
 use denote.Ref.{RefT, now}
 use denote.Triple.Both.{Both}
 use lib.ListN.{length, getD, set, take, drop, replicate}
@@ -49,10 +49,6 @@ pub record Held (n : ℕ) (is fs ts xs ds : List ℕ) : Type 0 where
 abbrev pub Stored : ℕ → Entry → List ℕ → List ℕ → List ℕ → List ℕ → List ℕ → List ℕ → List ℕ → List ℕ → List ℕ → List ℕ → Type 0
 Stored at e i₀ f₀ t₀ x₀ d₀ i f t x d = EachPair (λ g c₀ c. c ≡ set c₀ at (g e)) i₀ f₀ t₀ x₀ d₀ i f t x d
 
--- the entry at a place stored at another
-abbrev pub Copied : ℕ → ℕ → List ℕ → List ℕ → List ℕ → List ℕ → List ℕ → List ℕ → List ℕ → List ℕ → List ℕ → List ℕ → Type 0
-Copied to at i₀ f₀ t₀ x₀ d₀ i f t x d = EachPair (λ g c₀ c. c ≡ set c₀ to (getD c₀ at 0)) i₀ f₀ t₀ x₀ d₀ i f t x d
-
 -- places from n on are 0 in whole columns
 pub record Unused (n : ℕ) (is fs ts xs ds : List ℕ) : Type 0 where
   pub most : n ≤ mostEntries
@@ -72,11 +68,6 @@ pub record Kept (es : List Entry) (n : ℕ) (is fs ts xs ds : List ℕ) : Type 0
 abbrev pub withoutZeros : List Entry → List Entry
 withoutZeros [] = []
 withoutZeros (e ∷ es) = cond (isZero (e .lots)) (withoutZeros es) (e ∷ withoutZeros es)
-
--- the entry at place k again at place w, unless it is at 0; r is the place behind it
-pub record MovedUp (k w r : ℕ) (i₀ f₀ t₀ x₀ d₀ i f t x d : List ℕ) : Type 0 where
-  pub none : getD x₀ k 0 ≡ 0 → (r ≡ w) × EachPair (λ g c₀ c. c ≡ c₀) i₀ f₀ t₀ x₀ d₀ i f t x d
-  pub one : 0 < getD x₀ k 0 → (r ≡ w + 1) × Copied w k i₀ f₀ t₀ x₀ d₀ i f t x d
 
 -- By name: columns as a contract has them, lent, and before and after
 

@@ -2,14 +2,12 @@
 // entries; the others are 0.
 use rules::Entry;
 ghost use mathlib.Core.Path.{_≡_};
-ghost use mathlib.Core.Bool.{cond, _&&_};
-ghost use mathlib.Core.List.{List, [], _∷_, _++_};
-ghost use Prim.Native.Nat.{ℕ, _+_, _-_, _≤_, _<_, min};
+ghost use mathlib.Core.Bool.{_&&_};
+ghost use mathlib.Core.List.{[], _∷_, _++_};
+ghost use Prim.Native.Nat.{_+_, _-_, _≤_, _<_, min};
 ghost use lib.Dec.{eqb};
-ghost use lib.ListN.{length};
-ghost use Rattle.rules.specs.Ledger.{entry, isFrom, lotsOf};
-ghost use Rattle.rules.specs.Book.{entries as entriesOf};
-ghost use Rattle.ledger.specs.Columns.{Stored, Copied, Unused, Cleared, withoutZeros, MovedUp, whole, held, before, kept, changed};
+ghost use Rattle.rules.specs.Ledger.{entry};
+ghost use Rattle.ledger.specs.Columns.{Stored, Unused, Cleared, whole, held, before, kept, changed};
 
 // An entry at a place, whatever stood there.
 fn store(
@@ -71,51 +69,6 @@ pub fn is_of(issue: u8, account: u8, i: u32, a: u32) -> bool
     false
 }
 
-// The lots of an entry where it is of issue i from account a, else 0.
-fn lots_from(issue: u8, from: u8, x: u32, i: u32, a: u32) -> u64
-    ensures { λ r. ⌜ r ≡ cond (eqb issue i && eqb from a) x 0 ⌝ }
-{
-    if is_of(issue, from, i, a) {
-        return x as u64;
-    }
-    0
-}
-
-// The lots that account a owes in issue i: of all entries from it. Whoever is owed and since when
-// does not matter.
-pub fn owed_lots(entries: usize, issues: &[u8], froms: &[u8], lots: &[u32], i: u32, a: u32) -> u64
-    requires { ⌜ (entries ≤ 2048) × (length (now issues) ≡ 2048) × (length (now froms) ≡ 2048) × (length (now lots) ≡ 2048) ⌝ }
-    ensures { λ r. ⌜ ((ts ds : List ℕ) → r ≡ lotsOf (isFrom i a) (entriesOf entries (now (issues .entry)) (now (froms .entry)) ts (now (lots .entry)) ds)) ⌝ }
-{
-    let mut t: u64 = 0;
-    let mut k = 0;
-    while k < entries {
-        t += lots_from(issues[k], froms[k], lots[k], i, a);
-        k += 1;
-    }
-    t
-}
-
-// The entry at one place again at another.
-fn copy(
-    issues: &mut [u8],
-    froms: &mut [u8],
-    tos: &mut [u8],
-    lots: &mut [u32],
-    days: &mut [u16],
-    to: usize,
-    at: usize,
-)
-    requires { ⌜ (to < 2048) × (at < 2048) × whole issues froms tos lots days ⌝ }
-    ensures { λ _. ⌜ changed (Copied to at) issues froms tos lots days ⌝ }
-{
-    issues[to] = issues[at];
-    froms[to] = froms[at];
-    tos[to] = tos[at];
-    lots[to] = lots[at];
-    days[to] = days[at];
-}
-
 // The lots left of an entry that is met by m lots: it is taken out of its columns and met in a lent
 // slice of entry structs.
 pub fn left_of(issue: u8, from: u8, to: u8, lots: u32, day: u16, m: u32) -> u32
@@ -133,7 +86,7 @@ pub fn left_of(issue: u8, from: u8, to: u8, lots: u32, day: u16, m: u32) -> u32
 }
 
 // Places from w on are 0. Those from `entries` on are so already.
-fn clear(
+pub fn clear(
     w: usize,
     entries: usize,
     issues: &mut [u8],
@@ -150,51 +103,6 @@ fn clear(
         store(issues, froms, tos, lots, days, j, 0, 0, 0, 0, 0);
         j += 1;
     }
-}
-
-// The entry at place k again at place w, unless it is at 0; answers the place behind it.
-fn move_up(
-    issues: &mut [u8],
-    froms: &mut [u8],
-    tos: &mut [u8],
-    lots: &mut [u32],
-    days: &mut [u16],
-    k: usize,
-    w: usize,
-) -> usize
-    requires { ⌜ (k < 2048) × (w ≤ k) × whole issues froms tos lots days ⌝ }
-    ensures { λ r. ⌜ changed (MovedUp k w r) issues froms tos lots days ⌝ }
-{
-    if lots[k] == 0 {
-        return w;
-    }
-    if k == w {
-        return w + 1;
-    }
-    copy(issues, froms, tos, lots, days, w, k);
-    w + 1
-}
-
-// Entries at 0 go and later ones move up; answers the number of those that stay.
-pub fn remove_zeros(
-    entries: usize,
-    issues: &mut [u8],
-    froms: &mut [u8],
-    tos: &mut [u8],
-    lots: &mut [u32],
-    days: &mut [u16],
-) -> usize
-    requires { ⌜ held entries issues froms tos lots days ⌝ }
-    ensures { λ r. ⌜ kept (withoutZeros (before entries issues froms tos lots days)) r issues froms tos lots days ⌝ }
-{
-    let mut k = 0;
-    let mut w = 0;
-    while k < entries {
-        w = move_up(issues, froms, tos, lots, days, k, w);
-        k += 1;
-    }
-    clear(w, entries, issues, froms, tos, lots, days);
-    w
 }
 
 // The entries of a second ledger, in its columns is, fs, ts, xs, ds, behind those of the first.

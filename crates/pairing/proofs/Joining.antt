@@ -12,6 +12,8 @@ use Rattle.laws.proofs.Sound.{SoundEntry, all-each, entry-parts}
 use Rattle.laws.proofs.Pairing.{pairing-steps}
 use Rattle.ledger.specs.Columns.{Whole, Held, Kept, withoutZeros}
 use Rattle.ledger.proofs.Entries.{kept-held, kept-entries}
+use Rattle.seeking.proofs.Passing.{none-start}
+use Rattle.removing.specs.Moves.{zeroAt, Removable}
 use Rattle.stepping.specs.declared.Made.{Made}
 use Rattle.stepping.specs.Steps.{Pairable, WasMade}
 use Rattle.pairing.specs.Pairs.{WasPaired}
@@ -48,6 +50,18 @@ module _ {p : Pairing} {n : ℕ} {r : Made} {is fs ts xs ds mi mf mt mx md : Lis
     joined-whole =
         kept-held (entries w is′ fs′ ts′ xs′ ds′ ++ entries (r .more) mi mf mt mx md) (w + r .more) i₃ f₃ t₃ x₃ d₃ k
         (omega (arith, k .count, join-few)) .whole
+
+-- entries at 0 stand anywhere
+pub made-removable : {p : Pairing} {n : ℕ} {r : Made} {is fs ts xs ds mi mf mt mx md : List ℕ} → WasMade p n r is fs ts xs ds mi mf mt mx md →
+    Removable n 0 n is fs ts xs ds
+made-removable {n = n} {xs = xs} m =
+    record {
+      held = m .held;
+      part = omega arith;
+      inside = omega arith;
+      noneBefore = none-start (zeroAt xs) 0;
+      noneBehind = none-start (zeroAt xs) n;
+    }
 
 -- the steps are few
 pub few-steps : (today i a n s : ℕ) (is fs ts xs ds : List ℕ) → Pairable n i is fs ts xs ds →

@@ -73,7 +73,7 @@ fn pair_all(
         &mut ds,
     );
     let more = made.more;
-    let stay = ledger::remove_zeros(entries, issues, froms, tos, lots, days);
+    let stay = removing::remove_zeros(entries, 0, entries, issues, froms, tos, lots, days);
     ledger::append_all(
         stay,
         issues,

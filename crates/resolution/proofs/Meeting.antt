@@ -7,15 +7,15 @@ use Prim.Native.Nat.{ℕ, zero, suc, _+_, _-_, _*_, _≤_, _<_}
 use native.Mathlib.Numerals.{add-one}
 use native.Mathlib.Omega.{arith}
 use lib.Dec.{leb, ltb}
-use lib.ListN.{length, getD, set, drop, length-map}
-use lib.Seq.{sets, length-sets, sets-eq}
-use borrow.Author.Tests.{leb-true, leb-false, ltb-true, ltb-false}
+use lib.ListN.{length, getD, set, drop, length-map, length-drop}
+use lib.Seq.{sets, length-sets, sets-eq, getD-drop, getD-set-other}
+use borrow.Author.Tests.{ne-eqb, leb-true, leb-false, ltb-true, ltb-false}
 use Rattle.rules.specs.declared.Entry.{Entry}
 use Rattle.rules.specs.Measures.{outputWords}
 use Rattle.rules.specs.Ledger.{putEntry, isFrom, metBy, meet, met}
 use Rattle.rules.specs.Book.{isZero, entries, entrySound}
 use Rattle.rules.specs.Records.{recordOf, words, over}
-use Rattle.laws.proofs.Basics.{byTest, and-left, Every, each-map}
+use Rattle.laws.proofs.Basics.{byTest, and-left, Every, each-map, each-at}
 use Rattle.laws.proofs.Sound.{SoundEntry, all-each, entry-parts, parts-entry}
 use Rattle.laws.proofs.Ledger.{noEntry, entry-at}
 use Rattle.laws.proofs.Meeting.{withLots, length-putEntry, length-met}
@@ -25,6 +25,7 @@ use Rattle.ledger.proofs.Entries.{entries-length}
 use Rattle.ledger.proofs.Zeros.{put-zeros}
 use Rattle.ledger.proofs.Lots.{lotsAt, entries-lots, held-lots}
 use Rattle.seeking.specs.Places.{isAt, NoneIn, Passed, CanLook}
+use Rattle.removing.specs.Moves.{zeroAt, Removable}
 use Rattle.meeting.specs.declared.Met.{Met}
 use Rattle.meeting.specs.Meeting.{alone, CanMeet, WasMet}
 use Rattle.resolution.specs.Resolving.{Resolvable, Resolved}
@@ -291,3 +292,49 @@ meets-over {k = k} s (suc m) h l z =
 pub meets-skip : {i a x₀ : ℕ} {es₀ : List Entry} {n k m r x : ℕ} {is fs ts xs ds o₀ o : List ℕ} → Passed (isAt is fs i a) n k m →
     Meets i a x₀ es₀ n k r x is fs ts xs ds o₀ o → Meets i a x₀ es₀ n m r x is fs ts xs ds o₀ o
 meets-skip {m = m} p s = meets-over s m (p .start) (p .most) (p .none)
+
+-- entries from place k on are not at 0 where they are sound
+none-from : (k n : ℕ) (is fs ts xs ds : List ℕ) → k ≤ n → Every SoundEntry (drop k (entries n is fs ts xs ds)) → NoneIn (zeroAt xs) k n
+none-from k n is fs ts xs ds m ss j h l =
+    let es = entries n is fs ts xs ds in
+    let z : k + (j - k) ≡ j = omega arith in
+    let e : getD (drop k es) (j - k) noEntry ≡ entryAt j is fs ts xs ds =
+    getD-drop k es (j - k) noEntry ∙ ap (λ y. getD es y noEntry) z ∙ entry-at n is fs ts xs ds j l in
+    let s = each-at SoundEntry (drop k es) noEntry (j - k) ss (omega (arith, length-drop k es, entries-length n is fs ts xs ds)) in
+    ne-eqb (getD xs j 0) 0 (λ y. omega (arith, s .some, ap (λ d. d .lots) e))
+
+-- entries before the first that is met stay as they were
+pub record Front (first k : ℕ) (xs : List ℕ) : Type 0 where
+  pub start : first ≤ k
+  pub none : NoneIn (zeroAt xs) 0 first
+
+pub front-starts : {i a x₀ : ℕ} {es₀ : List Entry} {n r x : ℕ} {is fs ts xs ds o₀ o : List ℕ} →
+    Meets i a x₀ es₀ n 0 r x is fs ts xs ds o₀ o → (m : ℕ) → m ≤ n → Front m m xs
+front-starts {n = n} {is = is} {fs = fs} {ts = ts} {xs = xs} {ds = ds} s m p =
+    record {
+      start = omega arith;
+      none = λ j h l. none-from 0 n is fs ts xs ds (omega arith) (s .sound) j h (omega arith);
+    }
+
+pub front-more : {i a x k r : ℕ} {t : Met} {e : Entry} {first m : ℕ} {xs xs′ o o′ : List ℕ} → Front first k xs →
+    WasMet i a x k r t e xs xs′ o o′ → k + 1 ≤ m → Front first m xs′
+front-more {i} {a} {x} {k} {r} {t} {e} {first} {m} {xs} f w p =
+    record {
+      start = omega (arith, f .start);
+      none =
+          λ j h l.
+          ap (λ y. isZero (getD y j 0)) (w .lots)
+          ∙ ap isZero (getD-set-other xs k j (getD xs k 0 - metBy (isFrom i a) x e) 0 (λ q. omega (arith, f .start)))
+          ∙ f .none j h l;
+    }
+
+pub meets-removable : {i a x₀ : ℕ} {es₀ : List Entry} {n k r x first : ℕ} {is fs ts xs ds o₀ o : List ℕ} →
+    Meets i a x₀ es₀ n k r x is fs ts xs ds o₀ o → Front first k xs → Removable n first k is fs ts xs ds
+meets-removable {n = n} {k = k} {is = is} {fs = fs} {ts = ts} {xs = xs} {ds = ds} s f =
+    record {
+      held = s .held;
+      part = f .start;
+      inside = s .some;
+      noneBefore = f .none;
+      noneBehind = none-from k n is fs ts xs ds (s .some) (s .sound);
+    }

@@ -59,14 +59,15 @@ fn resolve_in(
 {
     let mut n = 0;
     let mut left = x;
-    let mut k = next_from(left, entries, 0, issues, froms, i, a);
+    let first = next_from(left, entries, 0, issues, froms, i, a);
+    let mut k = first;
     while (k < entries) & (0 < left) {
         let t = meet_at(k, n, i, a, left, issues, froms, tos, lots, days, out);
         n = t.records;
         left = t.left;
         k = next_from(left, entries, k + 1, issues, froms, i, a);
     }
-    let stay = ledger::remove_zeros(entries, issues, froms, tos, lots, days);
+    let stay = removing::remove_zeros(entries, first, k, issues, froms, tos, lots, days);
     Counts {
         entries: stay,
         records: n,

@@ -11,6 +11,7 @@ ghost use Rattle.seeking.specs.Places.{noneOf, canLook, passedBy, foundB
 
 // Places that are looked at together, many of them and few.
 const MANY: usize = 64;
+
 const FEW: usize = 16;
 
 // Whether no entry at places s to before e is of issue i and account a. Every place is looked at: so
@@ -53,14 +54,7 @@ fn pass(
 }
 
 // The same behind large blocks and then small ones.
-fn pass_all(
-    entries: usize,
-    at: usize,
-    issues: &[u8],
-    accounts: &[u8],
-    i: u32,
-    a: u32,
-) -> usize
+fn pass_all(entries: usize, at: usize, issues: &[u8], accounts: &[u8], i: u32, a: u32) -> usize
     requires { ⌜ canLook entries at issues accounts ⌝ }
     ensures { λ r. ⌜ passedBy entries at r i a issues accounts ⌝ }
 {
@@ -76,14 +70,7 @@ fn pass_all(
 
 // The first place from `at` on with an entry of issue i and account a, the number of entries where there
 // is none.
-pub fn seek(
-    entries: usize,
-    at: usize,
-    issues: &[u8],
-    accounts: &[u8],
-    i: u32,
-    a: u32,
-) -> usize
+pub fn seek(entries: usize, at: usize, issues: &[u8], accounts: &[u8], i: u32, a: u32) -> usize
     requires { ⌜ canLook entries at issues accounts ⌝ }
     ensures { λ r. ⌜ foundBy entries at r i a issues accounts ⌝ }
 {

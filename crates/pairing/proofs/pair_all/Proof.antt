@@ -1,13 +1,16 @@
 -- `pairing::pair_all` meets its contract: the steps are made, entries at 0 go, the entries P to Q follow.
 use mathlib.Core.Path.{sym, _∙_}
 use native.Mathlib.Omega.{arith}
-use Rattle.pairing.proofs.Joining.{zeros-held, join-few, join-held, joined, joined-whole, few-steps}
+use Rattle.pairing.proofs.Joining.{zeros-held, made-removable, join-few, join-held, joined, joined-whole, few-steps}
 use borrow.Author.Needs.{needs}
 use Rattle.pairing.proofs.pair_all.Statement.{statement}
 use Rattle.pairing.proofs.pair_all.Tie as tie
 
 make-steps-requires : tie.Need-make-steps-requires
 make-steps-requires c κs = (c .before .before .before .before .before .before .before .before .before .before .before .before .before .before .before .pre, zeros-held)
+
+remove-zeros-requires : tie.Need-remove-zeros-requires
+remove-zeros-requires c κs = made-removable (c .before .before .before .before .before .before .before .before .before .before .before .before .make-steps .ensures)
 
 append-all-requires : tie.Need-append-all-requires
 append-all-requires c κs =
@@ -33,6 +36,6 @@ pub pair-all-spec : {M : Type 1} → statement M
 pair-all-spec =
     tie.close
     (tie.spec (λ c. search needs) (λ c. search needs) (λ c. search needs) (λ c. search needs) (λ c. search needs)
-    make-steps-requires (λ c κs. search needs) (λ c. search needs) (λ c. search needs) (λ c. search needs)
+    make-steps-requires remove-zeros-requires (λ c. search needs) (λ c. search needs) (λ c. search needs)
     (λ c. search needs) (λ c. search needs) append-all-requires add-t69 (λ c. search needs) (λ c. search needs)
     (λ c. search needs) same-length-4 (λ c. search needs) returns)

@@ -1,0 +1,2 @@
+-- What the contracts of taking entries out cite.
+pub mod Moves
