@@ -17,9 +17,8 @@ use Rattle.laws.proofs.Basics.{Every, byTest, and-left, and-right, and-both, al
 use Rattle.laws.proofs.Sound.{SoundEntry, SoundLedger, SoundBook, sound-parts, each-all, zero-at, within-at, net-bounded}
 use Rattle.laws.proofs.Ledger.{noEntry, length-entries, entry-at, sound-at}
 use Rattle.checksums.specs.Sums.{wordSize, below}
-use Rattle.snapshots.specs.Words.{fits32, fits64}
+use Rattle.snapshots.specs.Words.{fits32, fits64, Fields, InRange}
 use Rattle.snapshots.specs.Snapshot.{Typed}
-use Rattle.snapshots.proofs.Words.{Fields, InRange}
 
 -- Signed numbers by their size
 

@@ -17,7 +17,7 @@ use Rattle.laws.proofs.Basics.{byTest, and-left, and-right, and-both, cond-true
 use Rattle.laws.proofs.Ledger.{getD-first, getD-tail}
 use Rattle.checksums.specs.Sums.{wordSize, below}
 use Rattle.checksums.proofs.Bounds.{all-drop}
-use Rattle.snapshots.specs.Words.{lastWord, signWord, phaseWord, phaseIn, signedWord, signedIn, lowWord, highWord, longIn, longWords, longsIn, fits32, fits64, entryWord, issueIn, fromIn, toIn, dayIn, entryWords, joined, parted}
+use Rattle.snapshots.specs.Words.{lastWord, signWord, phaseWord, phaseIn, signedWord, signedIn, lowWord, highWord, longIn, longWords, longsIn, fits32, fits64, entryWord, issueIn, fromIn, toIn, dayIn, entryWords, Fields, InRange, joined, parted}
 
 pub phase-back : (p : Phase) → phaseIn (phaseWord p) ≡ p
 phase-back Taking = refl
@@ -160,13 +160,6 @@ all-parted p (n ∷ ns) ws h =
 
 -- Entries
 
--- numbers that fit the fields of an entry's word
-pub record Fields (i f t d : ℕ) : Type 0 where
-  pub issue : i < 16
-  pub from : f < 64
-  pub to : t < 64
-  pub day : d < 65536
-
 pub record FieldsBack (i f t d : ℕ) : Type 0 where
   pub issue : issueIn (entryWord i f t d) ≡ i
   pub from : fromIn (entryWord i f t d) ≡ f
@@ -221,10 +214,6 @@ entries-at [] fs ts ds k h = absurd (omega arith)
 entries-at (i ∷ is) fs ts ds zero h = rw (getD-first fs, getD-first ts, getD-first ds)
 entries-at (i ∷ is) fs ts ds (suc k) h =
     entries-at is (tail fs) (tail ts) (tail ds) k (omega arith) ∙ rw (getD-tail fs k, getD-tail ts k, getD-tail ds k)
-
--- the columns' numbers fit at each entry
-abbrev pub InRange : List ℕ → List ℕ → List ℕ → List ℕ → Type 0
-InRange is fs ts ds = (k : ℕ) → Fields (getD is k 0) (getD fs k 0) (getD ts k 0) (getD ds k 0)
 
 module _ (is fs ts ds : List ℕ) where
   -- a column is read back by its field

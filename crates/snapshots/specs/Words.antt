@@ -2,9 +2,9 @@
 -- entry issue, from, to and day in one word.
 use mathlib.Core.Bool.{Bool, cond}
 use mathlib.Core.List.{List, [], _∷_, _++_, tail}
-use Prim.Native.Nat.{ℕ, zero, suc, _+_, _-_, _*_, _/_, _%_}
+use Prim.Native.Nat.{ℕ, zero, suc, _+_, _-_, _*_, _<_, _/_, _%_}
 use lib.Dec.{ltb}
-use lib.ListN.{take, drop}
+use lib.ListN.{getD, take, drop}
 use lib.IntN.{ℤ, pos, negsuc}
 use Rattle.rules.specs.declared.Phase.{Phase}
 use Rattle.rules.specs.declared.Phase.the-variants.{Taking, Settling, Cut}
@@ -88,6 +88,17 @@ dayIn w = fieldIn 1 65536 w
 abbrev pub entryWords : List ℕ → List ℕ → List ℕ → List ℕ → List ℕ
 entryWords [] fs ts ds = []
 entryWords (i ∷ is) fs ts ds = entryWord i (headOr0 fs) (headOr0 ts) (headOr0 ds) ∷ entryWords is (tail fs) (tail ts) (tail ds)
+
+-- numbers that fit the fields of an entry's word
+pub record Fields (i f t d : ℕ) : Type 0 where
+  pub issue : i < 16
+  pub from : f < 64
+  pub to : t < 64
+  pub day : d < 65536
+
+-- and at each entry of the columns
+abbrev pub InRange : List ℕ → List ℕ → List ℕ → List ℕ → Type 0
+InRange is fs ts ds = (k : ℕ) → Fields (getD is k 0) (getD fs k 0) (getD ts k 0) (getD ds k 0)
 
 -- columns one behind the other, and words taken apart by the widths of columns
 abbrev pub joined : List (List ℕ) → List ℕ
