@@ -190,10 +190,9 @@ pub fields-word : (w : ℕ) → w < wordSize → entryWord (issueIn w) (fromIn w
 fields-word w h =
     let a : w / 4194304 ≡ w / 65536 / 64 = omega arith in
     let b : w / 268435456 ≡ w / 65536 / 64 / 64 = omega arith in
-    let c : w / 1 ≡ w = omega arith in
     let e : w / 65536 / 64 / 64 < 16 = omega (arith, h) in
     let g : w / 65536 / 64 / 64 % 16 ≡ w / 65536 / 64 / 64 = below-sixteen (w / 65536 / 64 / 64) e in
-    rw (a, b, c, g)
+    rw (a, b, g)
     (together (w / 65536 / 64 / 64) (w / 65536 / 64 % 64) (w / 65536 / 64) (w / 65536 % 64) (w / 65536) (w % 65536) w
     (div-64 (w / 65536 / 64)) (div-64 (w / 65536)) (omega arith))
   where

@@ -82,7 +82,7 @@ abbrev pub toIn : ℕ → ℕ
 toIn w = fieldIn 65536 64 w
 
 abbrev pub dayIn : ℕ → ℕ
-dayIn w = fieldIn 1 65536 w
+dayIn w = w % 65536
 
 -- of each entry of a ledger's columns
 abbrev pub entryWords : List ℕ → List ℕ → List ℕ → List ℕ → List ℕ
