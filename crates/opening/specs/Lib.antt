@@ -1,0 +1,2 @@
+-- What opening judges, and what it answers.
+pub mod Judging

@@ -1,0 +1,2 @@
+-- Numbers and columns read back from words.
+pub mod Words

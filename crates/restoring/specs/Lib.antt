@@ -1,0 +1,2 @@
+-- What is taken from words, and what that needs.
+pub mod Taking

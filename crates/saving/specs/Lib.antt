@@ -1,0 +1,2 @@
+-- What saving lays down, and what it needs.
+pub mod Laying
