@@ -5,7 +5,7 @@ BUILD := build
 # The crates whose functions hosts call: one library is joined of them.
 LIBRARY_CRATES := callers desk entries funds host journal listing statement trust
 # The programs that are installed, with a man page each; and those whose words a shell completes.
-PROGRAMS := target/bin/dayrun $(BUILD)/release/tape $(BUILD)/release/treasury
+PROGRAMS := target/bin/dayrun $(BUILD)/release/tape $(BUILD)/release/treasury $(BUILD)/release/daybook
 COMPLETED := tape treasury
 # Where it is installed; DESTDIR stands before it while a package is made.
 PREFIX ?= /usr/local
@@ -38,7 +38,7 @@ help:
 	@echo 'make uninstall       remove what was installed there'
 	@echo 'make clean           remove everything that was built'
 	@echo 'The proved program is target/bin/dayrun, the tool for tapes build/release/tape,'
-	@echo 'the treasurer'\''s command build/release/treasury.'
+	@echo 'the treasurer'\''s command build/release/treasury, the desk'\''s console build/release/daybook.'
 
 test:
 	@scripts/test.sh

@@ -20,7 +20,14 @@ proofs() {
     scripts/proved.sh mark "$sources"
 }
 
-step 'tools' scripts/tools.sh rt make gcc g++ cargo rustc
+# The pages of `tape explain --html`, looked at in Chromium; 3 says that there is none, so that they were not looked at.
+pages() {
+    local status=0
+    scripts/test-page.sh build/release/tape || status=$?
+    [ "$status" -eq 3 ] || return "$status"
+}
+
+step 'tools' scripts/tools.sh rt make gcc g++ cargo rustc pkg-config
 step 'what is shown of the proofs' scripts/test-progress.sh
 step 'make day and make run' scripts/test-day.sh
 mkdir -p build
@@ -40,6 +47,8 @@ step 'what the host of a fails statement prints' scripts/test-statement-host.sh 
 step 'the stack that a call needs' build/stack
 step 'the tests in Rust' cargo test --release --offline
 step 'the test programs' cargo build --release --offline
+step 'the package' scripts/test-package.sh
+step 'the pages in a browser' pages
 step 'value and charge beside the second engine' build/release/measures
 step 'entries beside the second engine' build/release/entries
 step 'a trust account beside the second engine' build/release/trust
@@ -51,5 +60,6 @@ step 'the calls beside the second engine' build/release/calls
 step 'callers beside the second engine' build/release/callers
 step 'the program beside the second engine' build/release/tapes
 step 'the program where input or output fails' build/release/failures
+step 'the desk'\''s console where writing fails' build/release/daybook_faults
 
 printf '%s\n' "$verdict"
