@@ -1,21 +1,23 @@
 -- What is seen of a journal that is not as it was written: cut inside its last record, it is torn there; a record with a
 -- word changed, two words exchanged, words lowered, or another number is not read: torn where nothing stands behind it,
 -- else damaged.
-use mathlib.Core.Path.{_≡_, sym, ap, subst, _∙_}
+use mathlib.Core.Path.{_≡_, refl, sym, ap, subst, _∙_}
+use mathlib.Core.Bool.{_&&_, false≢true}
 use mathlib.Core.List.{List, [], _∷_, _++_, append-nil, append-assoc}
 use Prim.Native.Nat.{ℕ, zero, suc, _+_, _≤_, _<_}
 use native.Mathlib.Nat.{add-zero, zero-add}
 use native.Mathlib.Omega.{arith}
 use borrow.Author.Tests.{le-leb, lt-leb, ne-eqb}
 use lib.Dec.{leb, eqb}
-use lib.ListN.{length, getD, set, take, length-append, length-set, List·getD-append}
-use lib.Seq.{length-take-le, take-append-le, take-append-add}
+use lib.ListN.{length, getD, set, take, drop, length-append, length-set, List·getD-append}
+use lib.Seq.{length-take-le, getD-take, getD-drop, take-append-le, take-append-add}
 use Rattle.rules.specs.Measures.{Every, tapeWords}
-use Rattle.laws.proofs.Basics.{byTest}
-use Rattle.checksums.specs.Sums.{exchanged, Under}
-use Rattle.journals.specs.Record.{recordWords, summedWords, Logged, Fits, recordOf, checks, callPart, readRecord}
+use Rattle.rules.specs.Tape.{readOf}
+use Rattle.laws.proofs.Basics.{byTest, either}
+use Rattle.checksums.specs.Sums.{weighted, exchanged, Under}
+use Rattle.journals.specs.Record.{recordWords, summedWords, Logged, Fits, recordOf, checks, callIn, callPart, readRecord}
 use Rattle.journals.specs.Journal.{journalFrom, journalOf, readNext, Ending, ended, torn, damaged, readRest, readJournal}
-use Rattle.journals.proofs.Checked.{Summed, is-summed, one-kept, two-kept, lowered-same}
+use Rattle.journals.proofs.Checked.{Summed, is-summed, summed-checks, one-kept, two-kept, lowered-same}
 use Rattle.journals.proofs.Parts.{length-record, record-summed, record-number}
 use Rattle.journals.proofs.There.{before, journal-read}
 
@@ -41,6 +43,30 @@ sum-unread n ws d =
     byTest (leb recordWords (length ws))
     (λ u. byTest (eqb (getD ws 0 0) n) (λ v. rw (u, v, t)) (λ v. rw (u, v)))
     (λ u. rw u))
+
+-- a checksum of 0 is that of zeros alone, and they tell no call
+weighted-zero : (ws : List ℕ) (i : ℕ) → weighted ws ≡ 0 → getD ws i 0 ≡ 0
+weighted-zero [] i e = refl
+weighted-zero (w ∷ ws) zero e = omega (arith, e)
+weighted-zero (w ∷ ws) (suc i) e = weighted-zero ws i (omega (arith, e))
+
+no-call : (ps : List ℕ) → getD ps 0 0 ≡ 0 → callIn ps ≡ []
+unfolding callIn readOf
+no-call [] e = refl
+no-call (p ∷ ps) e = rw e
+
+zero-unread : (n : ℕ) (ws : List ℕ) → getD ws summedWords 0 ≡ 0 → getD ws (suc summedWords) 0 ≡ 0 → readRecord n ws ≡ []
+unfolding readRecord
+zero-unread n ws l h =
+    byTest (checks summedWords ws)
+    (λ t.
+    let z : weighted (take summedWords ws) ≡ 0 = omega (arith, is-summed summedWords ws t, l, h) in
+    let f : getD (callPart ws) 0 0 ≡ 0 =
+    getD-take tapeWords (drop 1 ws) 0 0 (omega arith) ∙ getD-drop 1 ws 0 0 ∙ sym (getD-take summedWords ws 1 0 (omega arith))
+    ∙ weighted-zero (take summedWords ws) 1 z in
+    rw (no-call (callPart ws) f)
+    (either (λ (cs : List Logged). cs ≡ []) (leb recordWords (length ws) && eqb (getD ws 0 0) n && checks summedWords ws) refl refl))
+    (λ t. sum-unread n ws (λ s. false≢true (sym t ∙ summed-checks summedWords ws s)))
 
 -- a record is read from its own words
 module _ (n : ℕ) (ws more : List ℕ) (h : length ws ≡ recordWords) where
@@ -123,6 +149,10 @@ module _ (cs : List Logged) (fit : Every Fits cs) where
   number-seen n c f d =
       seen (recordOf n c) (length-record n c f)
       (number-unread (length cs) (recordOf n c) (λ e. d (sym (number-is n c f) ∙ e)))
+
+  -- words that end with a checksum of 0, as where all words from some place of a record on are lost and read as 0
+  pub zero-seen : (ws : List ℕ) → length ws ≡ recordWords → getD ws summedWords 0 ≡ 0 → getD ws (suc summedWords) 0 ≡ 0 → Seen cs ws
+  zero-seen ws e l h = seen ws e (zero-unread (length cs) ws l h)
 
   module _ (c : Logged) (f : Fits c) where
     -- the next record
