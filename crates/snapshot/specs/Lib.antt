@@ -1,0 +1,2 @@
+-- What a host's snapshot answers.
+pub mod Host
