@@ -8,8 +8,8 @@ const DIRECTORY: &str = "STATICLIB_DIR";
 /// Where the archives are otherwise, seen from this package.
 const DEFAULT_DIRECTORY: &str = "../target/staticlib";
 /// The crates whose archives are linked.
-const CRATES: [&str; 8] =
-    ["desk", "entries", "funds", "host", "journal", "listing", "statement", "trust"];
+const CRATES: [&str; 9] =
+    ["desk", "entries", "funds", "host", "journal", "listing", "snapshot", "statement", "trust"];
 
 fn main() {
     let directory = archive_directory();

@@ -5,6 +5,7 @@
 
 use crate::journal::Journalled;
 use crate::raw::{Seen, State, Turned};
+use crate::snapshot::Opened;
 use crate::{Caller, Entry};
 
 // libdesk.a
@@ -525,4 +526,54 @@ extern "C" {
         out: *mut u32,
         out_length: usize,
     ) -> u32;
+}
+
+// libsnapshot.a
+extern "C" {
+    pub fn day_save(
+        state: State,
+        nets: *const i32,
+        nets_length: usize,
+        delivered: *const u32,
+        delivered_length: usize,
+        lifts: *const u32,
+        lifts_length: usize,
+        charges: *const i64,
+        charges_length: usize,
+        issues: *const u8,
+        issues_length: usize,
+        froms: *const u8,
+        froms_length: usize,
+        tos: *const u8,
+        tos_length: usize,
+        lots: *const u32,
+        lots_length: usize,
+        days: *const u16,
+        days_length: usize,
+        out: *mut u32,
+        out_length: usize,
+    ) -> u32;
+
+    pub fn day_open(
+        words: *const u32,
+        words_length: usize,
+        nets: *mut i32,
+        nets_length: usize,
+        delivered: *mut u32,
+        delivered_length: usize,
+        lifts: *mut u32,
+        lifts_length: usize,
+        charges: *mut i64,
+        charges_length: usize,
+        issues: *mut u8,
+        issues_length: usize,
+        froms: *mut u8,
+        froms_length: usize,
+        tos: *mut u8,
+        tos_length: usize,
+        lots: *mut u32,
+        lots_length: usize,
+        days: *mut u16,
+        days_length: usize,
+    ) -> Opened;
 }

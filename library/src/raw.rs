@@ -69,7 +69,7 @@ pub struct Columns<'a> {
 
 impl Columns<'_> {
     /// Its state.
-    fn state(&self) -> State {
+    pub(crate) fn state(&self) -> State {
         let Columns { day, phase, entries, turn, marks, .. } = *self;
         State { day, phase, entries, turn, marks: *marks }
     }
@@ -107,7 +107,7 @@ impl ColumnsMut<'_> {
     }
 
     /// Puts a state in the place of its own.
-    fn put(&mut self, state: State) {
+    pub(crate) fn put(&mut self, state: State) {
         *self.day = state.day;
         *self.phase = state.phase;
         *self.entries = state.entries;
@@ -213,6 +213,8 @@ macro_rules! on_book {
         )
     };
 }
+
+pub(crate) use on_book;
 
 /// Is the book sound? 1 if it is, 0 if not.
 pub fn sound(book: &Columns) -> u32 {
