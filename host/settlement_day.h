@@ -574,6 +574,7 @@ uint32_t day_market_fails(uint32_t accounts, uint32_t most,
 
 /* Writes the words of a sound book from the output's first on; what stands behind them stays. 0 done, 1 the output has
  * fewer words than a snapshot, 5 no sound book. A refusal leaves the output as it came. */
+DAY_NODISCARD
 uint32_t day_save(struct day_state state, const int32_t *nets, size_t nets_length, const uint32_t *delivered,
                   size_t delivered_length, const uint32_t *lifts, size_t lifts_length, const int64_t *charges,
                   size_t charges_length, const uint8_t *issues, size_t issues_length, const uint8_t *froms,
@@ -589,6 +590,7 @@ struct day_opened {
 /* The book of words, in lent columns. 0 opened; 1 another number of words, or a column of another length than a book's;
  * 2 another version; 3 the checksum; 4 a number that does not fit its field; 5 no sound book. A refusal leaves the
  * columns as they came. */
+DAY_NODISCARD
 struct day_opened day_open(const uint32_t *words, size_t words_length, int32_t *nets, size_t nets_length,
                            uint32_t *delivered, size_t delivered_length, uint32_t *lifts, size_t lifts_length,
                            int64_t *charges, size_t charges_length, uint8_t *issues, size_t issues_length,

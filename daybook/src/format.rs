@@ -2,9 +2,8 @@
 //! formats are, so that another maker of them changes this file alone.
 
 use crate::call::Call;
-use reference::{book, snapshot};
 use settlement_day::journal::{self, Call as Kept, Next};
-use settlement_day::{Book, LIFT_WORDS};
+use settlement_day::{snapshot, Book};
 
 /// The words of a snapshot.
 pub const SNAPSHOT_WORDS: usize = snapshot::WORDS;
@@ -27,12 +26,12 @@ pub enum Read {
 
 /// The words of a book, or why it is not saved.
 pub fn save(book: &Book) -> Result<Vec<u32>, &'static str> {
-    reference_book(book).ok_or(5).and_then(|book| snapshot::save(&book)).map_err(why)
+    snapshot::save(book).map_err(why)
 }
 
 /// The book of words, or why there is none.
 pub fn open(words: &[u32]) -> Result<Book, &'static str> {
-    snapshot::open(words).map(|book| library_book(&book)).map_err(why)
+    snapshot::open(words).map_err(why)
 }
 
 /// What the reasons say.
@@ -65,68 +64,5 @@ pub fn read(number: u32, words: &[u32]) -> Read {
         Next::Nothing => Read::Nothing,
         Next::Torn => Read::Torn,
         Next::Damaged => Read::Damaged,
-    }
-}
-
-/// The second engine's book with the same numbers; none where the phase is none.
-fn reference_book(book: &Book) -> Option<book::Book> {
-    let mut lifts = [book::Lifts::default(); book::ISSUES];
-    for (lifts, words) in lifts.iter_mut().zip(book.lifts.chunks_exact(LIFT_WORDS)) {
-        (lifts.number, lifts.count) = (words[0], words[1]);
-        for (lift, place) in lifts.moves.iter_mut().zip(words[2..].chunks_exact(2)) {
-            *lift = book::Lift { old: place[0], new: place[1] };
-        }
-    }
-    Some(book::Book {
-        day: book.day,
-        phase: match book.phase {
-            settlement_day::Phase::TAKING => book::Phase::Taking,
-            settlement_day::Phase::SETTLING => book::Phase::Settling,
-            settlement_day::Phase::CUT => book::Phase::Cut,
-            _ => return None,
-        },
-        marks: book.marks,
-        turn: book.turn,
-        nets: book.nets,
-        delivered: book.delivered,
-        lifts,
-        charges: book.charges,
-        count: book.entries,
-        issues: book.issues,
-        froms: book.froms,
-        tos: book.tos,
-        lots: book.lots,
-        days: book.days,
-    })
-}
-
-/// The library's book with the same numbers.
-fn library_book(book: &book::Book) -> Book {
-    let mut lifts = Book::fresh().lifts;
-    for (words, lifts) in lifts.chunks_exact_mut(LIFT_WORDS).zip(&book.lifts) {
-        (words[0], words[1]) = (lifts.number, lifts.count);
-        for (place, lift) in words[2..].chunks_exact_mut(2).zip(&lifts.moves) {
-            (place[0], place[1]) = (lift.old, lift.new);
-        }
-    }
-    Book {
-        day: book.day,
-        phase: match book.phase {
-            book::Phase::Taking => settlement_day::Phase::TAKING,
-            book::Phase::Settling => settlement_day::Phase::SETTLING,
-            book::Phase::Cut => settlement_day::Phase::CUT,
-        },
-        entries: book.count,
-        marks: book.marks,
-        turn: book.turn,
-        nets: book.nets,
-        delivered: book.delivered,
-        lifts,
-        charges: book.charges,
-        issues: book.issues,
-        froms: book.froms,
-        tos: book.tos,
-        lots: book.lots,
-        days: book.days,
     }
 }

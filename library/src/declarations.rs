@@ -5,6 +5,7 @@
 
 use crate::journal::Journalled;
 use crate::raw::{Seen, State, Turned};
+use crate::snapshot::Opened;
 use crate::{Caller, Entry};
 
 // desk
@@ -167,7 +168,7 @@ on_book! {
     ) -> u32
 }
 
-// host, with a caller
+// callers
 on_book! {
     const fn day_unit_as(
         caller: Caller, state: State; issue: u32, k: u32, answer: *mut [u32; 3]
@@ -207,6 +208,10 @@ on_book! {
 on_book! {
     const fn day_look(caller: Caller, state: State; issue: u32, account: u32, k: u32) -> Seen
 }
+
+// snapshot
+on_book! { const fn day_save(state: State; out: *mut u32, out_length: usize) -> u32 }
+on_book! { mut fn day_open(words: *const u32, words_length: usize;) -> Opened }
 
 // statement
 extern "C" {

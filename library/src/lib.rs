@@ -38,6 +38,7 @@ pub mod markets;
 pub mod raw;
 mod refusal;
 pub mod simulation;
+pub mod snapshot;
 pub mod statement;
 pub mod tape;
 pub mod trust;

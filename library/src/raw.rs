@@ -6,8 +6,8 @@
 
 use crate::declarations::{
     day_ask, day_ask_as, day_call, day_call_as, day_charge, day_commit, day_commit_as, day_look,
-    day_quotes, day_read, day_simulate, day_simulate_as, day_sound, day_status, day_status_as,
-    day_unit, day_unit_as, day_value, day_write,
+    day_open, day_quotes, day_read, day_save, day_simulate, day_simulate_as, day_sound, day_status,
+    day_status_as, day_unit, day_unit_as, day_value, day_write,
 };
 use crate::{Caller, Entry, Fields, ISSUES, QUOTES};
 
@@ -105,7 +105,7 @@ columns! { lent! {} }
 
 impl Columns<'_> {
     /// Its state.
-    fn state(&self) -> State {
+    pub(crate) fn state(&self) -> State {
         let Columns { day, phase, entries, turn, marks, .. } = *self;
         State { day, phase, entries, turn, marks: *marks }
     }
@@ -124,7 +124,7 @@ impl ColumnsMut<'_> {
     }
 
     /// Puts a state in the place of its own.
-    fn put(&mut self, state: State) {
+    pub(crate) fn put(&mut self, state: State) {
         *self.day = state.day;
         *self.phase = state.phase;
         *self.entries = state.entries;
@@ -324,6 +324,28 @@ pub fn simulate_as(
         ))
     };
     Simulated { refusal, deliveries, rounds, owed }
+}
+
+/// Writes the snapshot of a sound book: 0, or 1 (the output has fewer words) or 5 (no sound book) with the
+/// output as it came.
+#[must_use = "a book that is not saved would be missed"]
+pub fn save(book: &Columns, out: &mut [u32]) -> u32 {
+    // SAFETY: columns and output are given with their lengths and live through the call; the output, lent
+    // as `&mut`, overlaps none of them.
+    unsafe { with_columns!(day_save(book.state(); book.as_ptr; out.as_mut_ptr(), out.len())) }
+}
+
+/// Opens a snapshot in the columns of a book: 0, or 1 length, 2 version, 3 checksum, 4 a number that does not
+/// fit its field, 5 not sound, with the book as it came.
+#[must_use = "a book that is not opened would be missed"]
+pub fn open(words: &[u32], book: &mut ColumnsMut) -> u32 {
+    // SAFETY: words and columns are given with their lengths and live through the call; each column is a
+    // reference of its own.
+    let opened = unsafe { with_columns!(day_open(words.as_ptr(), words.len(); book.as_mut_ptr;)) };
+    if opened.reason == 0 {
+        book.put(opened.state);
+    }
+    opened.reason
 }
 
 /// The call of an instruction given by its fields, made in place on any book.
