@@ -1,7 +1,7 @@
 # The commands of the settlement-day book. `make help` lists them.
 
 BUILD := build
-LIBRARIES := $(foreach name,desk entries funds host journal listing statement trust,target/staticlib/lib$(name).a)
+LIBRARIES := $(foreach name,desk entries funds host journal listing snapshot statement trust,target/staticlib/lib$(name).a)
 HOSTS := $(BUILD)/measures $(BUILD)/day $(BUILD)/trust $(BUILD)/sizes $(BUILD)/funds $(BUILD)/markets $(BUILD)/statement $(BUILD)/stack
 CFLAGS := -std=c11 -O2 -Wall -Wextra -Wpedantic -Werror
 CXXFLAGS := -std=c++17 -Wall -Wextra -Wpedantic -Werror
