@@ -10,6 +10,7 @@
  *     target/staticlib/libfunds.a     day_bases day_shares day_funds
  *     target/staticlib/libjournal.a   day_journal_call day_journal_commit day_journal_read
  *     target/staticlib/liblisting.a   day_markets day_market_fails
+ *     target/staticlib/libsnapshot.a  day_save, day_open
  *     target/staticlib/libstatement.a day_statement
  *     target/staticlib/libtrust.a     day_trust
  *
@@ -495,6 +496,32 @@ uint32_t day_markets(uint32_t accounts, uint32_t most, int32_t *out, size_t out_
  * Refused by 7, also where there are not as many delivered lots as accounts, with counts of 0. */
 uint32_t day_market_fails(uint32_t accounts, uint32_t most,
                           const uint32_t *delivered, size_t delivered_length, uint32_t counts[5]);
+
+/* A snapshot of a book (docs/SNAPSHOT.md): so many words, four bytes each and little-endian on the disk. */
+#define DAY_SNAPSHOT_WORDS 6583u
+
+/* Writes the words of a sound book from the output's first on; what stands behind them stays. 0 done, 1 the output has
+ * fewer words than a snapshot, 5 no sound book. A refusal leaves the output as it came. */
+uint32_t day_save(struct day_state state, const int32_t *nets, size_t nets_length, const uint32_t *delivered,
+                  size_t delivered_length, const uint32_t *lifts, size_t lifts_length, const int64_t *charges,
+                  size_t charges_length, const uint8_t *issues, size_t issues_length, const uint8_t *froms,
+                  size_t froms_length, const uint8_t *tos, size_t tos_length, const uint32_t *lots, size_t lots_length,
+                  const uint16_t *days, size_t days_length, uint32_t *out, size_t out_length);
+
+/* What opening gives: the reason, and the state, that of a fresh book where it is refused. */
+struct day_opened {
+    uint32_t reason;
+    struct day_state state;
+};
+
+/* The book of words, in lent columns. 0 opened; 1 another number of words, or a column of another length than a book's;
+ * 2 another version; 3 the checksum; 4 a number that does not fit its field; 5 no sound book. A refusal leaves the
+ * columns as they came. */
+struct day_opened day_open(const uint32_t *words, size_t words_length, int32_t *nets, size_t nets_length,
+                           uint32_t *delivered, size_t delivered_length, uint32_t *lifts, size_t lifts_length,
+                           int64_t *charges, size_t charges_length, uint8_t *issues, size_t issues_length,
+                           uint8_t *froms, size_t froms_length, uint8_t *tos, size_t tos_length, uint32_t *lots,
+                           size_t lots_length, uint16_t *days, size_t days_length);
 
 /* An account's fails statement in an issue, from a tape's first 4,096 instructions, or fewer, run on a fresh
  * book: numbers has lots due to deliver at closes, lots delivered by cutoffs, lots failed, lots resolved,
