@@ -73,6 +73,7 @@ done
 all=$left
 cores=$(nproc 2>/dev/null || echo 1)
 [ "$cores" -le 2 ] || cores=2
+at_once=${RT_JOBS:-$cores} # so many are proved at a time, here and where the table was measured
 
 # The seconds since the start; a test names a file that has them.
 gone() {
@@ -80,10 +81,10 @@ gone() {
 }
 
 # How long so many seconds of the table take by the clock. At the beginning that is the table divided
-# by the cores; the more is proved, the more the pace so far counts.
+# by how many are proved at once; the more is proved, the more the pace so far counts.
 by_the_clock() { # SECONDS
     local weight=30 # seconds by the clock for which the table speaks
-    echo $(($1 * ($(gone) + weight) / (all - left + weight * cores)))
+    echo $(($1 * ($(gone) + weight) / (all - left + weight * at_once)))
 }
 
 minutes() { # SECONDS of the table

@@ -15,8 +15,9 @@ step() { # NAME COMMAND..
 # that it began together: with twice as many at once as there are cores, none idles beside a long proof.
 proofs() {
     local sources
+    export RT_JOBS=${RT_JOBS:-$((2 * $(nproc)))}
     sources=$(scripts/proved.sh sources)
-    RT_JOBS=${RT_JOBS:-$((2 * $(nproc)))} rt ci 2>&1 | scripts/progress.sh build/proofs.log || return 1
+    rt ci 2>&1 | scripts/progress.sh build/proofs.log || return 1
     scripts/proved.sh mark "$sources"
 }
 
