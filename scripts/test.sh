@@ -36,7 +36,7 @@ step 'proofs' proofs
 verdict=$(tail -n 1 build/proofs.log)
 [[ $verdict =~ ^[0-9]+\ passed,\ 0\ failed$ ]] || { echo 'tests failed: no verdict on the proofs'; exit 1; }
 
-step 'the libraries' make --no-print-directory -j "$(nproc)" libraries
+step 'the libraries' make --no-print-directory libraries
 step 'the hosts in C' make --no-print-directory hosts
 step 'what the host of value and charge prints' scripts/test-host.sh build/measures
 step 'what the host of the book prints' scripts/test-day-host.sh build/day
