@@ -29,7 +29,7 @@ const MOST_SHOWN: usize = 400;
 /// may take.
 const TRADES: u32 = 1_000_000;
 const RUNS: u32 = 5;
-const MOST_TIMES: f64 = 10.0;
+const MOST_TIMES: f64 = 8.0;
 /// How often that is measured again on a machine with other work on it.
 const ROUNDS: u32 = 5;
 /// The program's own options.
@@ -187,7 +187,7 @@ impl Programs {
         Ok(())
     }
 
-    /// `tape explain` on a million trades takes at most ten times as long as the program.
+    /// `tape explain` on a million trades takes at most eight times as long as the program.
     fn explaining(&self) -> Result<(), String> {
         let mut rng = Rng::new(11);
         let mut words = Vec::new();
