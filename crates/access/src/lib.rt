@@ -1,8 +1,13 @@
 // Who may call, who may look (document 02, F-10): the rights of a caller, the refusal of one that has not the
 // right, and reading an account.
+use rules::ACCOUNTS;
 use rules::Caller;
 use rules::Entry;
 use rules::Instruction;
+use rules::LAST_ACCOUNT;
+use rules::LAST_ISSUE;
+use rules::LAST_PARTICIPANT;
+use rules::OPERATOR;
 use rules::Seen;
 use rules::State;
 ghost use mathlib.Core.Path.{_≡_};
@@ -19,7 +24,7 @@ ghost use Rattle.access.specs.Places.{eitherEnd, canPlace, placed, CanSe
 pub fn is_operator(w: Caller) -> bool
     ensures { λ r. ⌜ r ≡ isOperator w ⌝ }
 {
-    w.number == 16
+    w.number == OPERATOR
 }
 
 // Is the account the caller's own? None is the operator's, nor that of any other number above 15.
@@ -27,10 +32,10 @@ pub fn is_own(w: Caller, a: u32) -> bool
     ensures { λ r. ⌜ r ≡ owns w a ⌝ }
 {
     let number = w.number;
-    if 15 < number {
+    if LAST_PARTICIPANT < number {
         return false;
     }
-    if 63 < a {
+    if LAST_ACCOUNT < a {
         return false;
     }
     let owners = w.owners;
@@ -82,13 +87,13 @@ pub fn refuse(good: bool, i: u32, f: u32, t: u32) -> u32
     if !good {
         return 3;
     }
-    if 15 < i {
+    if LAST_ISSUE < i {
         return 4;
     }
-    if 63 < f {
+    if LAST_ACCOUNT < f {
         return 5;
     }
-    if 63 < t {
+    if LAST_ACCOUNT < t {
         return 5;
     }
     27
@@ -180,7 +185,7 @@ fn see(
     requires { ⌜ CanSee count (now nets) (now charges) (now issues) (now froms) (now tos) (now lots) (now days) i a ⌝ }
     ensures { λ r. ⌜ seenAnswer r ≡ seenOf count (now (nets .entry)) (now (charges .entry)) (now (issues .entry)) (now (froms .entry)) (now (tos .entry)) (now (lots .entry)) (now (days .entry)) i a k ⌝ }
 {
-    let net = nets[(i * 64 + a) as usize];
+    let net = nets[(i * ACCOUNTS + a) as usize];
     let charge = charges[a as usize];
     let at = place_of(count, issues, froms, tos, i, a, k);
     if count <= at {
@@ -216,10 +221,10 @@ pub fn look_in(
     requires { ⌜ CanLook count (now nets) (now charges) (now issues) (now froms) (now tos) (now lots) (now days) ⌝ }
     ensures { λ r. ⌜ seenAnswer r ≡ lookOf w count (now (nets .entry)) (now (charges .entry)) (now (issues .entry)) (now (froms .entry)) (now (tos .entry)) (now (lots .entry)) (now (days .entry)) i a k ⌝ }
 {
-    if 15 < i {
+    if LAST_ISSUE < i {
         return Seen::Refused(4);
     }
-    if 63 < a {
+    if LAST_ACCOUNT < a {
         return Seen::Refused(5);
     }
     if !may_read(w, a) {

@@ -4,6 +4,8 @@ use book::due;
 use book::even_in;
 use book::owed;
 use book::within;
+use rules::ACCOUNT_COUNT;
+use rules::ISSUE_COUNT;
 use rules::State;
 ghost use mathlib.Core.Path.{_≡_};
 ghost use Prim.Native.Nat.{_≤_, _<_};
@@ -22,7 +24,7 @@ fn row_sound<'a>(net: &'a [i32], delivered: &'a [u32]) -> bool
     let mut dues: u64 = 0;
     let mut oweds: u64 = 0;
     let mut i: usize = 0;
-    while i < 64 {
+    while i < ACCOUNT_COUNT {
         let n = net[i];
         let d = due(n);
         let o = owed(n);
@@ -41,9 +43,9 @@ pub fn nets_sound<'a>(nets: &'a [i32], delivered: &'a [u32]) -> bool
 {
     let mut good = true;
     let mut i: usize = 0;
-    while i < 16 {
-        let s = i * 64;
-        let e = s + 64;
+    while i < ISSUE_COUNT {
+        let s = i * ACCOUNT_COUNT;
+        let e = s + ACCOUNT_COUNT;
         good = good & row_sound(&nets[s..e], &delivered[s..e]);
         i += 1;
     }
@@ -66,7 +68,7 @@ fn row_even<'a>(net: &'a [i32], delivered: &'a [u32]) -> bool
 {
     let mut good = true;
     let mut i: usize = 0;
-    while i < 64 {
+    while i < ACCOUNT_COUNT {
         let n = net[i];
         good = good & net_even(n) & (delivered[i] % 2 == 0);
         i += 1;
@@ -82,8 +84,8 @@ fn issue_even<'a>(s: State, nets: &'a [i32], delivered: &'a [u32], i: usize) -> 
     if s.marks[i] == 0 {
         return true;
     }
-    let b = i * 64;
-    let e = b + 64;
+    let b = i * ACCOUNT_COUNT;
+    let e = b + ACCOUNT_COUNT;
     row_even(&nets[b..e], &delivered[b..e])
 }
 
@@ -94,7 +96,7 @@ pub fn cells_even<'a>(s: State, nets: &'a [i32], delivered: &'a [u32]) -> bool
 {
     let mut good = true;
     let mut i: usize = 0;
-    while i < 16 {
+    while i < ISSUE_COUNT {
         good = good & issue_even(s, nets, delivered, i);
         i += 1;
     }

@@ -1,7 +1,13 @@
 // The book's leaves: signed nets as lots due and lots owed, an issue's rows, the phases, and a book of
 // its state and columns.
 
+use rules::ACCOUNT_COUNT;
 use rules::Book;
+use rules::CELL_COUNT;
+use rules::ISSUE_COUNT;
+use rules::LAST_ISSUE;
+use rules::LIFT_CELLS;
+use rules::MOST_ENTRIES;
 use rules::Phase;
 use rules::State;
 ghost use mathlib.Core.Path.{_≡_};
@@ -44,18 +50,23 @@ pub fn raised(n: i32, x: u32) -> i32
     n + (x as i32)
 }
 
+// the bounds of a net
+const LEAST_NET: i32 = -20_000_000;
+
+const MOST_NET: i32 = 20_000_000;
+
 // Does the net lie in −20,000,000..20,000,000?
 pub fn within(n: i32) -> bool
     ensures { λ r. ⌜ r ≡ withinSize mostLots n ⌝ }
 {
-    -20_000_000 <= n && n <= 20_000_000
+    LEAST_NET <= n && n <= MOST_NET
 }
 
 // Are lots in this issue even, if it is marked? There is no mark of an issue above 15.
-fn lots_even(marks: [u8; 16], i: u32, x: u32) -> bool
+fn lots_even(marks: [u8; ISSUE_COUNT], i: u32, x: u32) -> bool
     ensures { λ r. ⌜ r ≡ lotsEven marks i x ⌝ }
 {
-    if 15 < i {
+    if LAST_ISSUE < i {
         return true;
     }
     if marks[i as usize] == 0 {
@@ -146,7 +157,7 @@ pub fn cut(p: Phase) -> bool
 }
 
 // The state of these numbers. It is written by the setters below and nowhere else field by field.
-pub fn state_of(day: u16, phase: Phase, entries: usize, turn: u32, marks: [u8; 16]) -> State
+pub fn state_of(day: u16, phase: Phase, entries: usize, turn: u32, marks: [u8; ISSUE_COUNT]) -> State
     ensures { λ r. ⌜ r ≡ stateOf day phase entries turn marks ⌝ }
 {
     State {
@@ -161,15 +172,15 @@ pub fn state_of(day: u16, phase: Phase, entries: usize, turn: u32, marks: [u8; 1
 // The book of a state and its columns.
 pub fn book_in(
     state: State,
-    nets: [i32; 1024],
-    delivered: [u32; 1024],
-    lifts: [u32; 288],
-    charges: [i64; 64],
-    issues: [u8; 2048],
-    froms: [u8; 2048],
-    tos: [u8; 2048],
-    lots: [u32; 2048],
-    days: [u16; 2048],
+    nets: [i32; CELL_COUNT],
+    delivered: [u32; CELL_COUNT],
+    lifts: [u32; LIFT_CELLS],
+    charges: [i64; ACCOUNT_COUNT],
+    issues: [u8; MOST_ENTRIES],
+    froms: [u8; MOST_ENTRIES],
+    tos: [u8; MOST_ENTRIES],
+    lots: [u32; MOST_ENTRIES],
+    days: [u16; MOST_ENTRIES],
 ) -> Book
     ensures { λ r. ⌜ r ≡ bookOf state nets delivered lifts charges issues froms tos lots days ⌝ }
 {
@@ -211,7 +222,7 @@ pub fn with_entries(s: State, entries: usize) -> State
 }
 
 // The state with other marks.
-pub fn with_marks(s: State, marks: [u8; 16]) -> State
+pub fn with_marks(s: State, marks: [u8; ISSUE_COUNT]) -> State
     ensures { λ r. ⌜ r ≡ withMarks s marks ⌝ }
 {
     let mut next = s;
@@ -260,16 +271,16 @@ pub fn fresh() -> Book
             phase: Phase::Taking,
             entries: 0,
             turn: 0,
-            marks: [0; 16],
+            marks: [0; ISSUE_COUNT],
         },
-        nets: [0; 1024],
-        delivered: [0; 1024],
-        lifts: [0; 288],
-        charges: [0; 64],
-        issues: [0; 2048],
-        froms: [0; 2048],
-        tos: [0; 2048],
-        lots: [0; 2048],
-        days: [0; 2048],
+        nets: [0; CELL_COUNT],
+        delivered: [0; CELL_COUNT],
+        lifts: [0; LIFT_CELLS],
+        charges: [0; ACCOUNT_COUNT],
+        issues: [0; MOST_ENTRIES],
+        froms: [0; MOST_ENTRIES],
+        tos: [0; MOST_ENTRIES],
+        lots: [0; MOST_ENTRIES],
+        days: [0; MOST_ENTRIES],
     }
 }

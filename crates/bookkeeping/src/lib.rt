@@ -1,5 +1,7 @@
 // The scan of ledger and charges for soundness: one pass over each column. Any content is scanned, no sum wraps.
 use book::taking;
+use rules::ACCOUNT_COUNT;
+use rules::MOST_ENTRIES;
 use rules::Phase;
 use rules::State;
 ghost use mathlib.Core.Path.{_≡_};
@@ -123,7 +125,7 @@ pub fn ledger_sound<'a>(
     ensures { λ r. ⌜ r ≡ ledgerSound (s .day) (s .entries) (now (issues .entry)) (now (froms .entry)) (now (tos .entry)) (now (lots .entry)) (now (days .entry)) ⌝ }
 {
     let n = s.entries;
-    if 2048 < n {
+    if MOST_ENTRIES < n {
         return false;
     }
     let used = entries_sound(s, issues, froms, tos, lots, days);
@@ -158,7 +160,7 @@ pub fn charges_sound(today: u16, charges: &[i64]) -> bool
     let mut paid_high: u64 = 0;
     let mut paid_low: u64 = 0;
     let mut i: usize = 0;
-    while i < 64 {
+    while i < ACCOUNT_COUNT {
         let c = charges[i];
         let got = credit(c);
         let paid = debit(c);

@@ -22,7 +22,9 @@ use rules::Asked;
 use rules::Caller;
 use rules::Entry;
 use rules::Found;
+use rules::ISSUE_COUNT;
 use rules::Instruction;
+use rules::OUTPUT_WORDS;
 use rules::Seen;
 use told::Told;
 ghost use mathlib.Core.Path.{_≡_};
@@ -390,7 +392,7 @@ pub extern "C" fn day_commit_as<'a>(
         );
     }
     *count = 0;
-    if out.len() < 4096 {
+    if out.len() < OUTPUT_WORDS {
         return 1;
     }
     let settling = book::settling(phase_of(state.phase));
@@ -439,7 +441,7 @@ pub extern "C" fn day_simulate_as<'a>(
     size: u32,
     deliveries: &mut u64,
     rounds: &mut u64,
-    owed: &mut [u32; 16],
+    owed: &mut [u32; ISSUE_COUNT],
 ) -> u32
     ensures { λ r. ⌜ tried r (now (deliveries .exit)) (now (rounds .exit)) (now (owed .exit)) ≡ daySimulationBy w (state .phase) (bookAt state (columns nets delivered lifts charges issues froms tos lots days)) (now (settles .entry)) (now (inventories .entry)) size ⌝ }
 {
@@ -479,7 +481,7 @@ pub extern "C" fn day_simulate_as<'a>(
     );
     *deliveries = 0;
     *rounds = 0;
-    *owed = [0; 16];
+    *owed = [0; ISSUE_COUNT];
     early(sizes::asks::refusal(good, settles, inventories, size))
 }
 

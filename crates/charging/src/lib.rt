@@ -1,4 +1,5 @@
 // Each entry of the ledger charged, in place.
+use rules::ISSUE_COUNT;
 ghost use mathlib.Core.Path.{_≡_};
 ghost use lib.IntN.{pos, _+ℤ_, _-ℤ_};
 ghost use Rattle.charging.specs.Charging.{Room, Payable, paid, canCharge, wasCharged};
@@ -48,7 +49,7 @@ pub fn charge_entries<'a>(
     let mut k: usize = 0;
     while k < entries {
         let i = issues[k] as usize;
-        let y = measures::charge_of(lots[k], quotes[i], days, rate, quotes[16 + i]);
+        let y = measures::charge_of(lots[k], quotes[i], days, rate, quotes[ISSUE_COUNT + i]);
         let f = froms[k] as usize;
         let t = tos[k] as usize;
         pay(charges, f, t, y);

@@ -1,4 +1,5 @@
 // What a commit does in place: the lifted unit handed on where stock covers it, and one lift more in the column.
+use rules::LIFT_WORDS;
 use rules::Ticket;
 ghost use mathlib.Core.Path.{_≡_};
 ghost use Rattle.rules.specs.Lifts.{liftOf};
@@ -23,7 +24,7 @@ pub fn put_lift(lifts: &mut [u32], i: usize, old: u32, new: u32)
     requires { ⌜ CanPut (now lifts) i ⌝ }
     ensures { λ _. ⌜ now (lifts .exit) ≡ withLift (now (lifts .entry)) i (liftOf old new) ⌝ }
 {
-    let s = i * 18;
+    let s = i * LIFT_WORDS;
     let number = lifts[s];
     let at = s + 2 * number as usize + 2;
     lifts[s + 1] = lifts[s + 1] + 1;

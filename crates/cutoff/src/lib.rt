@@ -4,6 +4,8 @@ use cutting::Counts;
 use cutting::count_issue;
 use cutting::cut_issue;
 use cutting::numbers;
+use rules::ISSUE_COUNT;
+use rules::MOST_ENTRIES;
 use rules::Phase;
 use rules::State;
 ghost use Prim.Native.Nat.{_≤_};
@@ -15,9 +17,6 @@ ghost use Rattle.cutoff.specs.All.{Fits, Asked, CanCutAll, WasCutAll};
 
 // The most fails of an issue.
 const ISSUE_FAILS: usize = 126;
-
-// The most entries of a ledger.
-const MOST_ENTRIES: usize = 2048;
 
 // Is there room for the entries of a cutoff of all issues behind so many old ones? Counting stops where the issues
 // that are left cannot make too many, and where there are too many already.
@@ -33,8 +32,8 @@ fn has_room<'a>(
 {
     let mut i: usize = 0;
     let mut n = old;
-    while i < 16 {
-        if n + ISSUE_FAILS * (16 - i) <= MOST_ENTRIES {
+    while i < ISSUE_COUNT {
+        if n + ISSUE_FAILS * (ISSUE_COUNT - i) <= MOST_ENTRIES {
             return true;
         }
         if MOST_ENTRIES < n {
@@ -90,7 +89,7 @@ fn cutoff_in<'a>(
     let mut i: usize = 0;
     let mut n = entries;
     let mut w: usize = 0;
-    while i < 16 {
+    while i < ISSUE_COUNT {
         let k = cut_issue(
             dealt,
             nets,

@@ -1,7 +1,9 @@
 // The cutoff of one issue: the stock goes to the next unit (record 10), then the shortfalls are laid
 // against what the units lack, each overlap an entry of the ledger and a record (12).
 use book::owed;
+use rules::ACCOUNT_COUNT;
 use rules::Entry;
+use runs::RUN_COUNT;
 use units::Cursor;
 use units::Next;
 ghost use mathlib.Core.Path.{_≡_};
@@ -132,8 +134,8 @@ fn prepare(
     requires { ⌜ CanReady (now nets) (now delivered) (now lifts) i (now runs) (now missing) ⌝ }
     ensures { λ r. ⌜ IsReady false (now (nets .entry)) (now (delivered .entry)) (now (lifts .entry)) i (now (runs .exit)) (now (missing .exit)) r ⌝ }
 {
-    let s = i * 64;
-    let e = s + 64;
+    let s = i * ACCOUNT_COUNT;
+    let e = s + ACCOUNT_COUNT;
     let n = units::prepare(nets, lifts, i, runs);
     let d = book::total(&delivered[s..e]);
     book::missing_of(&nets[s..e], &delivered[s..e], missing);
@@ -158,8 +160,8 @@ fn prepare_dealt(
     requires { ⌜ CanReady (now nets) (now delivered) (now lifts) i (now runs) (now missing) ⌝ }
     ensures { λ r. ⌜ IsReady true (now (nets .entry)) (now (delivered .entry)) (now (lifts .entry)) i (now (runs .exit)) (now (missing .exit)) r ⌝ }
 {
-    let s = i * 64;
-    let e = s + 64;
+    let s = i * ACCOUNT_COUNT;
+    let e = s + ACCOUNT_COUNT;
     let d = book::total(&delivered[s..e]);
     book::missing_of(&nets[s..e], &delivered[s..e], missing);
     let b = stretching::start(nets, lifts, i, d, runs);
@@ -212,8 +214,8 @@ fn settled(nets: &[i32], delivered: &[u32], i: usize) -> bool
     requires { ⌜ CellLengths (now nets) (now delivered) × (i < 16) ⌝ }
     ensures { λ r. ⌜ r ≡ allDelivered (row i (now (nets .entry))) (row i (now (delivered .entry))) ⌝ }
 {
-    let s = i * 64;
-    let e = s + 64;
+    let s = i * ACCOUNT_COUNT;
+    let e = s + ACCOUNT_COUNT;
     all_delivered(&nets[s..e], &delivered[s..e])
 }
 
@@ -252,8 +254,8 @@ pub fn cut_issue(
     if settled(nets, delivered, i) {
         return numbers(n, 0);
     }
-    let mut runs = [0u32; 144];
-    let mut missing = [0u32; 64];
+    let mut runs = [0u32; RUN_COUNT];
+    let mut missing = [0u32; ACCOUNT_COUNT];
     let p = prepare_for(dealt, nets, delivered, lifts, i, &mut runs, &mut missing);
     let c = p.cursor;
     let v = hand_stock(out, i as u32, c.to, p.stock);
@@ -282,8 +284,8 @@ pub fn count_issue(dealt: bool, nets: &[i32], delivered: &[u32], lifts: &[u32], 
     if settled(nets, delivered, i) {
         return 0;
     }
-    let mut runs = [0u32; 144];
-    let mut missing = [0u32; 64];
+    let mut runs = [0u32; RUN_COUNT];
+    let mut missing = [0u32; ACCOUNT_COUNT];
     let p = prepare_for(dealt, nets, delivered, lifts, i, &mut runs, &mut missing);
     let k = p.n;
     let c = p.cursor;

@@ -7,6 +7,7 @@ use playing::End;
 use playing::Sent;
 use playing::play;
 use playing::show;
+use rules::OUTPUT_WORDS;
 ghost use mathlib.Core.Path.{_≡_};
 ghost use mathlib.Core.Bool.{true, false};
 ghost use Prim.Native.Nat.{_+_};
@@ -14,6 +15,13 @@ ghost use lib.ListN.{length};
 ghost use Rattle.rules.specs.Text.{closingText};
 ghost use Rattle.playing.specs.Playing.{mostReads, Buffers, Played};
 ghost use Rattle.dayrun.specs.Day.{Closed, Whole};
+
+// so many bytes are read at once, their words, and the bytes of their lines
+const READ_BYTES: usize = 16384;
+
+const READ_WORDS: usize = 4096;
+
+const TEXT_BYTES: usize = 327680;
 
 // Writes the lines of the ledger and the charges of the book in which a run ended.
 fn finish(text: &mut [u8], e: End) -> Sent
@@ -73,9 +81,9 @@ fn day(bytes: &mut [u8], words: &mut [u32], text: &mut [u8], out: &mut [u32]) ->
 }
 
 fn main() {
-    let mut bytes = [0u8; 16384];
-    let mut words = [0u32; 4096];
-    let mut text = [0u8; 327680];
-    let mut out = [0u32; 4096];
+    let mut bytes = [0u8; READ_BYTES];
+    let mut words = [0u32; READ_WORDS];
+    let mut text = [0u8; TEXT_BYTES];
+    let mut out = [0u32; OUTPUT_WORDS];
     day(&mut bytes, &mut words, &mut text, &mut out);
 }

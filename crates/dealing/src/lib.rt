@@ -3,7 +3,11 @@ use handover::number;
 use inturn::deal_out;
 use lifted::lift_all;
 use ordering::ranked;
+use rules::ACCOUNTS;
 use rules::Found;
+use rules::LIFT_WORDS;
+use runs::RANK_COUNT;
+use runs::UNIT_WORD;
 use unlifting::before_lifts;
 use unlifting::least;
 ghost use mathlib.Core.Path.{_≡_};
@@ -37,7 +41,7 @@ fn full_runs(runs: &[u32], n: usize) -> usize
 {
     let mut m = 0;
     while m < n {
-        if runs[m] < 6400000 {
+        if runs[m] < UNIT_WORD {
             return m;
         }
         m += 1;
@@ -88,8 +92,8 @@ pub fn prepare(nets: &[i32], lifts: &[u32], i: usize, keys: &mut [u32], runs: &m
     let ranks = rank(nets, i, keys);
     let n = ranks.n;
     copy(keys, n, runs);
-    let s = i * 18;
-    let e = s + 18;
+    let s = i * LIFT_WORDS;
+    let e = s + LIFT_WORDS;
     let lifted = lift_all(&lifts[s..e], runs, n);
     Ready { ranks, lifted }
 }
@@ -102,8 +106,8 @@ pub fn units_from(keys: &[u32], p: Ranks, lifts: &[u32], i: usize, k: u32, out: 
 {
     let n = p.n;
     let m = p.full;
-    let s = i * 18;
-    let e = s + 18;
+    let s = i * LIFT_WORDS;
+    let e = s + LIFT_WORDS;
     window(keys, n, m, &lifts[s..e], k, out);
 }
 
@@ -112,7 +116,7 @@ pub fn unit(nets: &[i32], lifts: &[u32], i: usize, k: u32) -> Found
     requires { ⌜ CanOrder (now nets) (now lifts) i ⌝ }
     ensures { λ r. ⌜ r ≡ foundOf (drop k (orderIn true (now (nets .entry)) (now (lifts .entry)) i)) ⌝ }
 {
-    let mut keys = [0u32; 128];
+    let mut keys = [0u32; RANK_COUNT];
     let p = rank(nets, i, &mut keys);
     let n = p.n;
     if number(&keys, n) <= k {
@@ -121,5 +125,5 @@ pub fn unit(nets: &[i32], lifts: &[u32], i: usize, k: u32) -> Found
     let mut out = [0u32; 1];
     units_from(&keys, p, lifts, i, k, &mut out);
     let word = out[0];
-    Found::Unit(word % 64, word / 64)
+    Found::Unit(word % ACCOUNTS, word / ACCOUNTS)
 }

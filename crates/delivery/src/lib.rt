@@ -1,6 +1,10 @@
 // deliver: an account's delivered lots rise, and the next units are handed over whole, in the order of the
 // day.
 use answers::Turn;
+use rules::ACCOUNT_COUNT;
+use rules::LAST_ACCOUNT;
+use rules::LAST_ISSUE;
+use rules::LIFT_WORDS;
 use rules::State;
 use serving::serve_in;
 ghost use mathlib.Core.Path.{_≡_};
@@ -25,13 +29,13 @@ fn deliver_in(
     requires { ⌜ CanDeliver (now nets) (now delivered) (now lifts) i a x (now out) ⌝ }
     ensures { λ r. ⌜ Delivered dealt (now (nets .entry)) (now (delivered .entry)) (now (delivered .exit)) (now (lifts .entry)) (now (lifts .exit)) i a x (now (out .entry)) (now (out .exit)) r ⌝ }
 {
-    let s = i as usize * 64;
-    let e = s + 64;
+    let s = i as usize * ACCOUNT_COUNT;
+    let e = s + ACCOUNT_COUNT;
     let d = book::total(&delivered[s..e]);
     let at = s + a as usize;
     delivered[at] = delivered[at] + x;
     let n = serve_in(dealt, nets, lifts, i, d, x, out);
-    let c = i as usize * 18 + 1;
+    let c = i as usize * LIFT_WORDS + 1;
     lifts[c] = lifts[c] + 1;
     n
 }
@@ -45,10 +49,10 @@ fn deliver_asks<'a>(s: State, nets: &'a [i32], delivered: &'a [u32], i: u32, a: 
     if !book::settling(phase) {
         return 3;
     }
-    if 15 < i {
+    if LAST_ISSUE < i {
         return 4;
     }
-    if 63 < a {
+    if LAST_ACCOUNT < a {
         return 5;
     }
     if !measures::lots_right(x) {
@@ -57,7 +61,7 @@ fn deliver_asks<'a>(s: State, nets: &'a [i32], delivered: &'a [u32], i: u32, a: 
     if !book::even_in(s, i, x) {
         return 19;
     }
-    let at = i as usize * 64 + a as usize;
+    let at = i as usize * ACCOUNT_COUNT + a as usize;
     let n = nets[at];
     if book::owed(n) < delivered[at] + x {
         return 9;

@@ -2,7 +2,9 @@
 use crate::fields::fields;
 use crate::fields::instruction_of;
 use crate::fields::is_kind;
+use rules::QUOTE_COUNT;
 use rules::Read;
+use rules::TAPE_WORDS;
 ghost use mathlib.Core.Path.{_≡_};
 ghost use lib.ListN.{replicate};
 ghost use lib.Seq.{sets};
@@ -39,10 +41,10 @@ pub extern "C" fn day_read(words: &[u32], instruction: &mut [u32; 5], count: &mu
 
 // The quotes in the words after a roll's head, sixteen prices and then sixteen accrued amounts, 0 where a word is missing.
 #[no_mangle]
-pub extern "C" fn day_quotes(words: &[u32], quotes: &mut [u32; 32])
+pub extern "C" fn day_quotes(words: &[u32], quotes: &mut [u32; QUOTE_COUNT])
     ensures { λ _. ⌜ now (quotes .exit) ≡ sets (replicate 32 0) 0 (quotesOf (now (words .entry))) ⌝ }
 {
-    *quotes = [0; 32];
+    *quotes = [0; QUOTE_COUNT];
     tape::quotes(words, quotes);
 }
 
@@ -61,7 +63,7 @@ pub extern "C" fn day_write(
     ensures { λ r. ⌜ WriteAnswerIs (dayWritten kind (instructionOf kind a b c d) (now (quotes .entry)) (now (out .entry))) (written r (now (count .exit))) (now (out .exit)) ⌝ }
 {
     *count = 0;
-    if out.len() < 33 {
+    if out.len() < TAPE_WORDS {
         return 1;
     }
     if !is_kind(kind) {

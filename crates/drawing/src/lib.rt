@@ -7,6 +7,11 @@ ghost use Rattle.rules.specs.Book.{all};
 ghost use Rattle.reports.specs.Trust.{drawRight};
 ghost use Rattle.drawing.specs.Marks.{bitOf, Unmarked, Marked, NoneTwice};
 
+// the bits of a word, and the words of a window
+const WORD_BITS: usize = 64;
+
+const WINDOW_WORDS: usize = 1024;
+
 // Is each number of the column below the limit?
 pub fn below(column: &[u32], limit: usize) -> bool
     ensures { λ r. ⌜ r ≡ all (λ x. ltb x limit) (now (column .entry)) ⌝ }
@@ -44,12 +49,12 @@ fn mark(w: usize, j: usize, marks: &mut [u64]) -> bool
         return true;
     }
     let d = j - w;
-    let at = d / 64;
+    let at = d / WORD_BITS;
     if marks.len() <= at {
         return true;
     }
     let word = marks[at];
-    let b = d % 64;
+    let b = d % WORD_BITS;
     if is_set(word, b) {
         return false;
     }
@@ -77,7 +82,7 @@ fn none_twice(w: usize, draw: &[u32], marks: &mut [u64]) -> bool
 fn window_right(w: usize, draw: &[u32]) -> bool
     ensures { λ r. ⌜ NoneTwice w 1024 (now (draw .entry)) r ⌝ }
 {
-    let mut marks = [0u64; 1024];
+    let mut marks = [0u64; WINDOW_WORDS];
     none_twice(w, draw, &mut marks)
 }
 

@@ -1,5 +1,9 @@
 // Runs after a delivered total: those that wait, and of them each account's full lots at the place of
 // its first full run, however many lifts have parted them.
+use rules::ACCOUNTS;
+use rules::ACCOUNT_COUNT;
+use rules::UNIT_LOTS;
+use runs::UNIT_WORD;
 ghost use mathlib.Core.Path.{_≡_};
 ghost use mathlib.Core.List.{map};
 ghost use lib.ListN.{getD};
@@ -21,12 +25,12 @@ pub fn hand(runs: &mut [u32], n: usize, d: u32) -> Waiting
     let mut j = 0;
     while j < n {
         let key = runs[j];
-        let held = key / 64;
+        let held = key / ACCOUNTS;
         if left < held {
-            runs[j] = key - left / 100000 * 6400000;
+            runs[j] = key - left / UNIT_LOTS * UNIT_WORD;
             return Waiting {
                 run: j,
-                stock: left % 100000,
+                stock: left % UNIT_LOTS,
             };
         }
         left -= held;
@@ -46,9 +50,9 @@ fn sums(runs: &[u32], full: &mut [u32])
     let mut j = 0;
     while j < runs.len() {
         let key = runs[j];
-        let a = (key % 64) as usize;
+        let a = (key % ACCOUNTS) as usize;
         let x = full[a];
-        full[a] = x + key / 6400000 * 100000;
+        full[a] = x + key / UNIT_WORD * UNIT_LOTS;
         j += 1;
     }
 }
@@ -63,10 +67,10 @@ fn spread(runs: &mut [u32], full: &mut [u32])
         let i = j;
         let key = runs[i];
         j += 1;
-        if 6400000 <= key {
-            let a = (key % 64) as usize;
+        if UNIT_WORD <= key {
+            let a = (key % ACCOUNTS) as usize;
             let x = full[a];
-            runs[i] = x * 64 + key % 64;
+            runs[i] = x * ACCOUNTS + key % ACCOUNTS;
             full[a] = 0;
         }
     }
@@ -77,7 +81,7 @@ pub fn gather(runs: &mut [u32])
     requires { ⌜ CanGather (now runs) ⌝ }
     ensures { λ _. ⌜ map partOf (now (runs .exit)) ≡ laid (fullsOf (now (runs .entry))) (map partOf (now (runs .entry))) ⌝ }
 {
-    let mut full = [0u32; 64];
+    let mut full = [0u32; ACCOUNT_COUNT];
     sums(runs, &mut full);
     spread(runs, &mut full);
 }

@@ -1,4 +1,7 @@
 // Along an issue's units: the unit behind a place, how many there are, and what a delivered total covers.
+use rules::ACCOUNTS;
+use rules::UNIT_LOTS;
+use runs::MOST_SMALL;
 ghost use mathlib.Core.Path.{_≡_};
 ghost use Prim.Native.Nat.{_≤_};
 ghost use lib.ListN.{length};
@@ -33,18 +36,18 @@ pub fn next_unit(runs: &[u32], n: usize, s: Seat) -> NextUnit
     let mut k = s.passed;
     while j < n {
         let key = runs[j];
-        let lots = key / 64;
-        let c = (lots + 99999) / 100000;
+        let lots = key / ACCOUNTS;
+        let c = (lots + MOST_SMALL) / UNIT_LOTS;
         if k < c {
-            let left = lots - k * 100000;
+            let left = lots - k * UNIT_LOTS;
             let next = Seat {
                 run: j,
                 passed: k + 1,
             };
-            if left < 100000 {
-                return NextUnit::Unit(key % 64, left, next);
+            if left < UNIT_LOTS {
+                return NextUnit::Unit(key % ACCOUNTS, left, next);
             }
-            return NextUnit::Unit(key % 64, 100000, next);
+            return NextUnit::Unit(key % ACCOUNTS, UNIT_LOTS, next);
         }
         k -= c;
         j += 1;
@@ -60,7 +63,7 @@ pub fn number(runs: &[u32], n: usize) -> u32
     let mut count: u32 = 0;
     let mut j = 0;
     while j < n {
-        count += (runs[j] / 64 + 99999) / 100000;
+        count += (runs[j] / ACCOUNTS + MOST_SMALL) / UNIT_LOTS;
         j += 1;
     }
     count
@@ -81,15 +84,15 @@ pub fn handover(runs: &[u32], n: usize, d: u32) -> Handed
     let mut count: u32 = 0;
     let mut j = 0;
     while j < n {
-        let lots = runs[j] / 64;
+        let lots = runs[j] / ACCOUNTS;
         if left < lots {
             return Handed {
-                count: count + left / 100000,
-                stock: left % 100000,
+                count: count + left / UNIT_LOTS,
+                stock: left % UNIT_LOTS,
             };
         }
         left -= lots;
-        count += (lots + 99999) / 100000;
+        count += (lots + MOST_SMALL) / UNIT_LOTS;
         j += 1;
     }
     Handed { count, stock: left }

@@ -1,13 +1,14 @@
 // The nine calls of a tape on a host's book: any numbers, any columns.
+use answers::Turn;
 use crate::DayState;
 use crate::DayTurned;
 use crate::number_of;
 use crate::sound_at;
 use crate::state_in;
-use answers::Turn;
 use desk::fields::instruction_of;
 use desk::fields::is_kind;
 use rules::Instruction;
+use rules::OUTPUT_WORDS;
 ghost use mathlib.Core.Path.{_≡_};
 ghost use mathlib.Core.List.{[]};
 ghost use Rattle.rules.specs.Questions.{firstNo};
@@ -21,7 +22,7 @@ ghost use Rattle.host.specs.Calls.{refusedBy, turnedOf, DayCalled};
 pub fn output_asks(x: Instruction, out: &[u32]) -> u32
     ensures { λ r. ⌜ r ≡ firstNo (outputAsks (callOf x [] (now (out .entry)))) ⌝ }
 {
-    if 4096 <= out.len() {
+    if OUTPUT_WORDS <= out.len() {
         return 0;
     }
     match x {

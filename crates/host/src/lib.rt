@@ -67,6 +67,11 @@ pub mod calls;
 pub mod lifts;
 pub mod questions;
 
+use rules::ACCOUNT_COUNT;
+use rules::CELL_COUNT;
+use rules::ISSUE_COUNT;
+use rules::LIFT_CELLS;
+use rules::MOST_ENTRIES;
 use rules::Phase;
 use rules::State;
 ghost use mathlib.Core.Path.{_≡_};
@@ -80,7 +85,7 @@ pub struct DayState {
     pub phase: u32,
     pub entries: usize,
     pub turn: u32,
-    pub marks: [u8; 16],
+    pub marks: [u8; ISSUE_COUNT],
 }
 
 // What a call of a host gives: the refusal's number (0: done), the count of records (for pair-off, steps),
@@ -143,10 +148,10 @@ pub fn sound_at<'a>(
     if 2 < phase {
         return false;
     }
-    let cells = (nets.len() == 1024) & (delivered.len() == 1024);
-    let flat = (lifts.len() == 288) & (charges.len() == 64);
-    let accounts = (issues.len() == 2048) & (froms.len() == 2048) & (tos.len() == 2048);
-    if !(cells & flat & accounts & (lots.len() == 2048) & (days.len() == 2048)) {
+    let cells = (nets.len() == CELL_COUNT) & (delivered.len() == CELL_COUNT);
+    let flat = (lifts.len() == LIFT_CELLS) & (charges.len() == ACCOUNT_COUNT);
+    let accounts = (issues.len() == MOST_ENTRIES) & (froms.len() == MOST_ENTRIES) & (tos.len() == MOST_ENTRIES);
+    if !(cells & flat & accounts & (lots.len() == MOST_ENTRIES) & (days.len() == MOST_ENTRIES)) {
         return false;
     }
     soundness::scan::sound_columns(

@@ -3,6 +3,7 @@ use crate::DayState;
 use crate::sound_at;
 use crate::state_in;
 use rules::Asked;
+use rules::OUTPUT_WORDS;
 use rules::Ticket;
 ghost use mathlib.Core.Path.{_≡_};
 ghost use Rattle.rules.specs.Calls.{askedAnswer};
@@ -101,7 +102,7 @@ pub extern "C" fn day_commit<'a>(
     ensures { λ r. ⌜ DayCommitted (state .phase) (bookAt state (columns nets delivered lifts charges issues froms tos lots days)) (now (ticket .entry)) out lifts r count ⌝ }
 {
     *count = 0;
-    if out.len() < 4096 {
+    if out.len() < OUTPUT_WORDS {
         return 1;
     }
     let s = state_in(state);

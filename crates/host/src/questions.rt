@@ -3,6 +3,8 @@ use crate::DayState;
 use crate::sound_at;
 use crate::state_in;
 use rules::Found;
+use rules::ISSUE_COUNT;
+use rules::LAST_ISSUE;
 use told::Told;
 ghost use mathlib.Core.Path.{_≡_};
 ghost use Rattle.rules.specs.Calls.{foundAnswer};
@@ -102,7 +104,7 @@ pub extern "C" fn day_unit<'a>(
     ) {
         return told(Found::Refused(2), answer);
     }
-    if 15 < issue {
+    if LAST_ISSUE < issue {
         return told(Found::Refused(4), answer);
     }
     let found = inquiry::unit_in(book::dealt_today(s), nets, lifts, issue as usize, k);
@@ -195,7 +197,7 @@ pub extern "C" fn day_simulate<'a>(
     size: u32,
     deliveries: &mut u64,
     rounds: &mut u64,
-    owed: &mut [u32; 16],
+    owed: &mut [u32; ISSUE_COUNT],
 ) -> u32
     ensures { λ r. ⌜ tried r (now (deliveries .exit)) (now (rounds .exit)) (now (owed .exit)) ≡ daySimulation (state .phase) (bookAt state (columns nets delivered lifts charges issues froms tos lots days)) (now (settles .entry)) (now (inventories .entry)) size ⌝ }
 {
@@ -214,7 +216,7 @@ pub extern "C" fn day_simulate<'a>(
         days,
     );
     let no = sizes::asks::refusal(good, settles, inventories, size);
-    let mut left = [0u32; 16];
+    let mut left = [0u32; ISSUE_COUNT];
     if no != 0 {
         *deliveries = 0;
         *rounds = 0;

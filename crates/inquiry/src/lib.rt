@@ -1,6 +1,7 @@
 // The unit question of a sound book, in either order.
 use handover::NextUnit;
 use rules::Found;
+use runs::RUN_COUNT;
 ghost use mathlib.Core.Path.{_≡_};
 ghost use mathlib.Core.Bool.{false};
 ghost use lib.ListN.{drop};
@@ -12,7 +13,7 @@ fn unit_of(nets: &[i32], lifts: &[u32], i: usize, k: u32) -> Found
     requires { ⌜ CanOrder (now nets) (now lifts) i ⌝ }
     ensures { λ r. ⌜ r ≡ foundOf (drop k (orderIn false (now (nets .entry)) (now (lifts .entry)) i)) ⌝ }
 {
-    let mut runs = [0u32; 144];
+    let mut runs = [0u32; RUN_COUNT];
     let n = units::prepare(nets, lifts, i, &mut runs);
     let s = handover::seek(k);
     let NextUnit::Unit(a, x, _) = handover::next_unit(&runs, n, s) else {

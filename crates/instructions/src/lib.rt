@@ -2,6 +2,7 @@
 // taken from its words: number, count and book are those of the run.
 use answers::Turn;
 use rules::Instruction;
+use rules::QUOTE_COUNT;
 use rules::State;
 ghost use mathlib.Core.Path.{_≡_};
 ghost use lib.ListN.{length};
@@ -54,7 +55,7 @@ pub fn answer(
     requires { ⌜ Begins (now words) x × ready s nets delivered lifts charges issues froms tos lots days out ⌝ }
     ensures { λ r. ⌜ (let c = columns nets delivered lifts charges issues froms tos lots days in AnsweredIn (now (words .entry)) x (c .before s) r (c .after (r .state))) ⌝ }
 {
-    let mut quotes = [0u32; 32];
+    let mut quotes = [0u32; QUOTE_COUNT];
     quotes_of(words, x, &mut quotes);
     running::answer(
         x,

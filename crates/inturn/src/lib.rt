@@ -1,6 +1,8 @@
 // Full units dealt in turn, out of the runs of the order without lifts: m runs of full units, which never
 // rise, and small units behind them. Round by round the units are never listed: a place in them is a
 // round, how many runs take part in it, and how many units of it are passed.
+use rules::ACCOUNTS;
+use runs::UNIT_WORD;
 ghost use mathlib.Core.Path.{_≡_};
 ghost use mathlib.Core.List.{map};
 ghost use Prim.Native.Nat.{_+_, _≤_};
@@ -29,7 +31,7 @@ fn narrow(runs: &[u32], n: usize, r: u32) -> usize
 {
     let mut w = n;
     while 0 < w {
-        if r < runs[w - 1] / 6400000 {
+        if r < runs[w - 1] / UNIT_WORD {
             return w;
         }
         w -= 1;
@@ -48,7 +50,7 @@ pub fn seat(runs: &[u32], n: usize, m: usize, k: u32) -> Deal
     let mut w = narrow(runs, m, 0);
     while 0 < w {
         let v = w as u32;
-        let c = runs[w - 1] / 6400000 - r;
+        let c = runs[w - 1] / UNIT_WORD - r;
         let b = v * c;
         if left < b {
             return Deal {
@@ -87,7 +89,7 @@ fn step(runs: &[u32], n: usize, m: usize, d: Deal) -> Dealt
             next,
         };
     }
-    let word = 6400000 + runs[at] % 64;
+    let word = UNIT_WORD + runs[at] % ACCOUNTS;
     if at + 1 < w {
         let next = Deal {
             round: r,

@@ -1,4 +1,6 @@
 // What a delivery of a simulated desk hands over joins the inventories, run by run.
+use desks::SETTLEMENT_COUNT;
+use rules::ACCOUNTS;
 ghost use mathlib.Core.Path.{_≡_};
 ghost use Prim.Native.Nat.{_+_, _-_, _<_};
 ghost use Rattle.runs.specs.Runs.{runsIn};
@@ -41,9 +43,9 @@ pub fn join(
     let mut j = 0;
     while j < n {
         let key = runs[j];
-        let lots = key / 64;
-        let a = (key % 64) as usize;
-        let c = i * 16 + settles[a] as usize;
+        let lots = key / ACCOUNTS;
+        let a = (key % ACCOUNTS) as usize;
+        let c = i * SETTLEMENT_COUNT + settles[a] as usize;
         let g = handed_lots(lots, e, size) - handed_lots(lots, b, size);
         inventories[c] += g;
         b = less(b, lots);

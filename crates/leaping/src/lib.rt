@@ -1,4 +1,5 @@
 // For how many rounds more an issue can hand over what a round handed over.
+use rules::ACCOUNTS;
 ghost use Rattle.runs.specs.Runs.{runsIn};
 ghost use Rattle.simulation.specs.Repeated.{AgainFor};
 ghost use Rattle.ranking.specs.Runs.{unitsOfRuns};
@@ -16,7 +17,7 @@ pub fn run_rounds(runs: &[u32], n: usize, size: u32, d: u32, x: u32) -> u32
     let mut b = d;
     let mut j = 0;
     while j < n {
-        let lots = runs[j] / 64;
+        let lots = runs[j] / ACCOUNTS;
         if b < lots {
             if lots % size != 0 {
                 return 0;

@@ -3,6 +3,11 @@
 use joining::less;
 use leaping::run_rounds;
 use rounds::smaller;
+use rules::ACCOUNT_COUNT;
+use rules::CELL_COUNT;
+use rules::ISSUE_COUNT;
+use rules::MOST_LOTS;
+use runs::RANK_COUNT;
 ghost use mathlib.Core.Path.{_≡_};
 ghost use mathlib.Core.Bool.{true};
 ghost use Prim.Native.Nat.{_*_, _≤_};
@@ -39,9 +44,9 @@ fn owed_rounds(nets: &[i32], delivered: &[u32], xs: &[u32]) -> u32
     requires { ⌜ CanOwe (now nets) (now delivered) (now xs) ⌝ }
     ensures { λ r. ⌜ (r ≤ 20000000) × OwedFor (now (nets .entry)) (now (delivered .entry)) (now (xs .entry)) r ⌝ }
 {
-    let mut k: u32 = 20_000_000;
+    let mut k: u32 = MOST_LOTS;
     let mut c: usize = 0;
-    while c < 1024 {
+    while c < CELL_COUNT {
         let net = nets[c];
         let lots = less(book::owed(net), delivered[c]);
         k = fewer(k, xs[c], lots);
@@ -65,13 +70,13 @@ pub fn leap_rounds(
 {
     let mut k = owed_rounds(nets, after, xs);
     let mut i: usize = 0;
-    while i < 16 {
-        let s = i * 64;
-        let e = s + 64;
+    while i < ISSUE_COUNT {
+        let s = i * ACCOUNT_COUNT;
+        let e = s + ACCOUNT_COUNT;
         let d = book::total(&before[s..e]);
         let x = book::total(&xs[s..e]);
-        let f = i * 128;
-        let g = f + 128;
+        let f = i * RANK_COUNT;
+        let g = f + RANK_COUNT;
         k = issue_rounds(&runs[f..g], counts[i] as usize, size, d, x, k);
         i += 1;
     }

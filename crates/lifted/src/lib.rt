@@ -1,5 +1,9 @@
 // Lifts among runs: the unit is taken out of its run, and put in where another run is split.
 use handover::Seat;
+use rules::ACCOUNTS;
+use rules::UNIT_LOTS;
+use runs::MOST_SMALL;
+use runs::UNIT_WORD;
 use sorting::shift;
 ghost use mathlib.Core.Path.{_≡_};
 ghost use Prim.Native.Nat.{_+_, _-_, _*_, _/_, _%_, _<_, min};
@@ -13,7 +17,7 @@ fn find(runs: &[u32], n: usize, k: u32) -> Seat
     let mut left = k;
     let mut j = 0;
     while j < n {
-        let c = (runs[j] / 64 + 99999) / 100000;
+        let c = (runs[j] / ACCOUNTS + MOST_SMALL) / UNIT_LOTS;
         if left < c {
             return Seat {
                 run: j,
@@ -34,11 +38,11 @@ fn piece(key: u32, m: u32) -> u32
     requires { ⌜ m * 100000 < key / 64 ⌝ }
     ensures { λ r. ⌜ r ≡ min 100000 (key / 64 - m * 100000) * 64 + key % 64 ⌝ }
 {
-    let rest = key - m * 6400000;
-    if rest < 6400000 {
+    let rest = key - m * UNIT_WORD;
+    if rest < UNIT_WORD {
         return rest;
     }
-    6400000 + key % 64
+    UNIT_WORD + key % ACCOUNTS
 }
 
 // Unit k taken out of n runs: its run falls by its lots; answers the unit as a word.
@@ -50,7 +54,7 @@ fn take_out(runs: &mut [u32], n: usize, k: u32) -> u32
     let j = s.run;
     let key = runs[j];
     let word = piece(key, s.passed);
-    runs[j] = key - word / 64 * 64;
+    runs[j] = key - word / ACCOUNTS * ACCOUNTS;
     word
 }
 
@@ -62,8 +66,8 @@ fn put_in(runs: &mut [u32], n: usize, k: u32, word: u32)
     let s = find(runs, n, k);
     let j = s.run;
     let key = runs[j];
-    let front = s.passed * 6400000;
-    runs[j] = front + key % 64;
+    let front = s.passed * UNIT_WORD;
+    runs[j] = front + key % ACCOUNTS;
     shift(runs, j + 1, n, word);
     shift(runs, j + 2, n + 1, key - front);
 }

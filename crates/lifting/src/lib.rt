@@ -3,8 +3,11 @@
 use committing::hand_on;
 use committing::put_lift;
 use rules::Asked;
+use rules::LAST_ISSUE;
+use rules::LIFT_WORDS;
 use rules::Phase;
 use rules::Ticket;
+use runs::RUN_COUNT;
 use tickets::stand_of;
 use tickets::ticket_asks;
 use tickets::ticket_in;
@@ -33,10 +36,10 @@ pub fn ask_in<'a>(
     if !book::settling(phase) {
         return Asked::Refused(3);
     }
-    if 15 < i {
+    if LAST_ISSUE < i {
         return Asked::Refused(4);
     }
-    let mut runs = [0u32; 144];
+    let mut runs = [0u32; RUN_COUNT];
     let p = stand_of(nets, delivered, lifts, i as usize, &mut runs);
     ticket_in(dealt, nets, lifts, &runs, p, day, i, k)
 }
@@ -72,14 +75,14 @@ pub fn commit_in<'a>(
     if !book::settling(phase) {
         return refused(3);
     }
-    if 15 < t.issue {
+    if LAST_ISSUE < t.issue {
         return refused(4);
     }
     let i = t.issue as usize;
-    let mut runs = [0u32; 144];
+    let mut runs = [0u32; RUN_COUNT];
     let p = stand_of(nets, delivered, lifts, i, &mut runs);
     let asked = ticket_in(dealt, nets, lifts, &runs, p, day, t.issue, t.unit);
-    let s = i * 18;
+    let s = i * LIFT_WORDS;
     let no = ticket_asks(t, asked, lifts[s]);
     if no != 0 {
         return refused(no);

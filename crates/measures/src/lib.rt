@@ -1,6 +1,7 @@
 // Value and charge of lots, and the questions 7 and 11 on the numbers that they take.
 use rules::Amount;
 use rules::Lots;
+use rules::MOST_LOTS;
 use rules::Yen;
 ghost use mathlib.Core.Path.{_≡_};
 ghost use mathlib.Core.Bool.{_&&_};
@@ -10,8 +11,6 @@ ghost use Rattle.rules.specs.Measures.{between, mostLots};
 ghost use Rattle.rules.specs.Questions.{ask, firstNo, quoteRight, termRight};
 ghost use Rattle.rules.specs.Calls.{amountAnswer, value as valueAnswer, charge as chargeAnswer};
 ghost use Rattle.measures.specs.Range.{Priced, Termed, ValueIs, ChargeIs};
-
-const MOST_LOTS: u32 = 20_000_000;
 
 const MOST_PRICE: u32 = 200_000;
 

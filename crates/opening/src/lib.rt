@@ -4,6 +4,11 @@ use checksums::checksum;
 use restoring::take_cells;
 use restoring::take_ledger;
 use restoring::take_state;
+use rules::ACCOUNT_COUNT;
+use rules::CELL_COUNT;
+use rules::ISSUE_COUNT;
+use rules::LIFT_CELLS;
+use rules::MOST_ENTRIES;
 use rules::Phase;
 use rules::State;
 use snapshots::VERSION;
@@ -71,15 +76,15 @@ fn sound_words(words: &[u32], s: State) -> bool
     requires { ⌜ length (now words) ≡ snapshotWords ⌝ }
     ensures { λ r. ⌜ r ≡ sound (bookWith (now (words .entry)) s) ⌝ }
 {
-    let mut nets = [0i32; 1024];
-    let mut delivered = [0u32; 1024];
-    let mut lifts = [0u32; 288];
-    let mut charges = [0i64; 64];
-    let mut issues = [0u8; 2048];
-    let mut froms = [0u8; 2048];
-    let mut tos = [0u8; 2048];
-    let mut lots = [0u32; 2048];
-    let mut days = [0u16; 2048];
+    let mut nets = [0i32; CELL_COUNT];
+    let mut delivered = [0u32; CELL_COUNT];
+    let mut lifts = [0u32; LIFT_CELLS];
+    let mut charges = [0i64; ACCOUNT_COUNT];
+    let mut issues = [0u8; MOST_ENTRIES];
+    let mut froms = [0u8; MOST_ENTRIES];
+    let mut tos = [0u8; MOST_ENTRIES];
+    let mut lots = [0u32; MOST_ENTRIES];
+    let mut days = [0u16; MOST_ENTRIES];
     sound_in(
         words,
         s,
@@ -106,7 +111,7 @@ pub struct Judged {
 fn judge(words: &[u32]) -> Judged
     ensures { λ r. ⌜ Judges (now (words .entry)) (r .refusal) (r .state) ⌝ }
 {
-    let none = state_of(0, Phase::Taking, 0, 0, [0; 16]);
+    let none = state_of(0, Phase::Taking, 0, 0, [0; ISSUE_COUNT]);
     let q = sealed(words);
     if q != 0 {
         return Judged {

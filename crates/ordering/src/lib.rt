@@ -1,4 +1,7 @@
 // The units of an issue in the order without lifts: the full ones are ranked by due, the small ones behind them.
+use rules::ACCOUNTS;
+use rules::ACCOUNT_COUNT;
+use rules::UNIT_LOTS;
 use sorting::rank;
 ghost use mathlib.Core.Path.{_≡_};
 ghost use mathlib.Core.List.{map};
@@ -15,7 +18,7 @@ fn rests(lots: &[u32], out: &mut [u32])
 {
     let mut i = 0;
     while i < lots.len() {
-        out[i] = lots[i] % 100000;
+        out[i] = lots[i] % UNIT_LOTS;
         i += 1;
     }
 }
@@ -28,7 +31,7 @@ fn fulls(keys: &mut [u32], n: usize)
     let mut i = 0;
     while i < n {
         let k = keys[i];
-        keys[i] = k - k / 64 % 100000 * 64;
+        keys[i] = k - k / ACCOUNTS % UNIT_LOTS * ACCOUNTS;
         i += 1;
     }
 }
@@ -39,9 +42,9 @@ fn order(dues: &[u32], runs: &mut [u32]) -> usize
     requires { ⌜ CanRank 128 (now dues) (now runs) ⌝ }
     ensures { λ r. ⌜ (r ≤ 128) × (runsIn (now (runs .exit)) r ≡ runsOf (now (dues .entry))) × OnlyOrder unitLots (now (dues .entry)) (unitsIn (now (runs .exit)) r) ⌝ }
 {
-    let n = rank(dues, runs, 100000);
+    let n = rank(dues, runs, UNIT_LOTS);
     fulls(runs, n);
-    let mut small = [0u32; 64];
+    let mut small = [0u32; ACCOUNT_COUNT];
     rests(dues, &mut small);
     let m = rank(&small, &mut runs[n..], 1);
     n + m
@@ -52,9 +55,9 @@ pub fn ranked(nets: &[i32], i: usize, runs: &mut [u32]) -> usize
     requires { ⌜ CanRankNets (now nets) i (now runs) ⌝ }
     ensures { λ r. ⌜ RankedNets (now (nets .entry)) i (now (runs .exit)) r ⌝ }
 {
-    let s = i * 64;
-    let e = s + 64;
-    let mut dues = [0u32; 64];
+    let s = i * ACCOUNT_COUNT;
+    let e = s + ACCOUNT_COUNT;
+    let mut dues = [0u32; ACCOUNT_COUNT];
     book::dues_of(&nets[s..e], &mut dues);
     order(&dues, runs)
 }

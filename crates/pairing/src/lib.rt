@@ -1,6 +1,9 @@
 // Pair-off: fails to an account set against fails from it, first against first, in one pass.
 use answers::Turn;
 use falling::next_of;
+use rules::LAST_ACCOUNT;
+use rules::LAST_ISSUE;
+use rules::MOST_ENTRIES;
 use rules::State;
 use stepping::make_steps;
 ghost use mathlib.Core.Path.{_≡_};
@@ -25,10 +28,10 @@ pub struct Steps {
 fn pair_off_asks(i: u32, a: u32) -> u32
     ensures { λ r. ⌜ r ≡ firstNo (pairOffAsks i a) ⌝ }
 {
-    if 15 < i {
+    if LAST_ISSUE < i {
         return 4;
     }
-    if 63 < a {
+    if LAST_ACCOUNT < a {
         return 5;
     }
     0
@@ -51,11 +54,11 @@ fn pair_all(
     ensures paired { λ r. ⌜ wasPaired (pairing today i a (before entries issues froms tos lots days)) r issues froms tos lots days ⌝ }
     ensures few { λ r. ⌜ fewSteps i a (before entries issues froms tos lots days) r ⌝ }
 {
-    let mut is: [u8; 2048] = [0; 2048];
-    let mut fs: [u8; 2048] = [0; 2048];
-    let mut ts: [u8; 2048] = [0; 2048];
-    let mut xs: [u32; 2048] = [0; 2048];
-    let mut ds: [u16; 2048] = [0; 2048];
+    let mut is: [u8; MOST_ENTRIES] = [0; MOST_ENTRIES];
+    let mut fs: [u8; MOST_ENTRIES] = [0; MOST_ENTRIES];
+    let mut ts: [u8; MOST_ENTRIES] = [0; MOST_ENTRIES];
+    let mut xs: [u32; MOST_ENTRIES] = [0; MOST_ENTRIES];
+    let mut ds: [u16; MOST_ENTRIES] = [0; MOST_ENTRIES];
     let made = make_steps(
         entries,
         issues,

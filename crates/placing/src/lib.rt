@@ -1,7 +1,12 @@
 // The scan of lifts for soundness, where nets and delivered lots are sound: places are tested before
 // units are lifted by them, and again beside the units that are then handed.
 use book::taking;
+use rules::ACCOUNT_COUNT;
+use rules::ISSUE_COUNT;
+use rules::LIFT_WORDS;
+use rules::MOST_LIFTS;
 use rules::Phase;
+use runs::RUN_COUNT;
 ghost use mathlib.Core.Path.{_≡_};
 ghost use mathlib.Core.Bool.{false};
 ghost use Prim.Native.Nat.{_≤_, _<_};
@@ -36,9 +41,9 @@ fn placed(nets: &[i32], lifts: &[u32], i: usize, d: u32) -> bool
     requires { ⌜ CanPlace (now nets) (now lifts) i ⌝ }
     ensures { λ r. ⌜ r ≡ placesSound (length (orderIn false (now (nets .entry)) (now (lifts .entry)) i)) (covered (orderIn false (now (nets .entry)) (now (lifts .entry)) i) d) 0 (liftsAt (now (lifts .entry)) i) ⌝ }
 {
-    let s = i * 18;
-    let e = s + 18;
-    let mut runs = [0u32; 144];
+    let s = i * LIFT_WORDS;
+    let e = s + LIFT_WORDS;
+    let mut runs = [0u32; RUN_COUNT];
     let n = ordering::ranked(nets, i, &mut runs);
     let k = handover::number(&runs, n);
     if !places_sound(&lifts[s..e], k, k) {
@@ -60,13 +65,13 @@ fn issue_lifts<'a>(
     requires { ⌜ CanScan (now nets) (now delivered) (now lifts) × (i < 16) ⌝ }
     ensures { λ r. ⌜ r ≡ liftsSound phase (orderIn false (now (nets .entry)) (now (lifts .entry))) (now (delivered .entry)) (now (lifts .entry)) i ⌝ }
 {
-    let w = i * 18;
+    let w = i * LIFT_WORDS;
     let m = lifts[w];
-    if 8 < m {
+    if MOST_LIFTS < m {
         return false;
     }
-    let s = i * 64;
-    let e = s + 64;
+    let s = i * ACCOUNT_COUNT;
+    let e = s + ACCOUNT_COUNT;
     let d = book::total(&delivered[s..e]);
     if d + m < lifts[w + 1] {
         return false;
@@ -92,7 +97,7 @@ pub fn lifts_sound<'a>(
 {
     let mut good = true;
     let mut i: usize = 0;
-    while i < 16 {
+    while i < ISSUE_COUNT {
         good = good & issue_lifts(phase, nets, delivered, lifts, i);
         i += 1;
     }

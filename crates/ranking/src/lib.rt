@@ -1,5 +1,9 @@
 // The units of every issue in the order of document 001, at any size of units, as runs: a receiver's full units are
 // one word, lots * 64 + account, and its small unit another.
+use rules::ACCOUNTS;
+use rules::ACCOUNT_COUNT;
+use rules::ISSUE_COUNT;
+use runs::RANK_COUNT;
 ghost use mathlib.Core.Path.{_≡_};
 ghost use mathlib.Core.List.{map};
 ghost use Prim.Native.Nat.{_≤_};
@@ -27,7 +31,7 @@ fn fulls(keys: &mut [u32], n: usize, size: u32)
     let mut i = 0;
     while i < n {
         let k = keys[i];
-        keys[i] = k - k / 64 % size * 64;
+        keys[i] = k - k / ACCOUNTS % size * ACCOUNTS;
         i += 1;
     }
 }
@@ -39,7 +43,7 @@ fn order(dues: &[u32], runs: &mut [u32], size: u32) -> usize
 {
     let n = sorting::rank(dues, runs, size);
     fulls(runs, n, size);
-    let mut small = [0u32; 64];
+    let mut small = [0u32; ACCOUNT_COUNT];
     rests(dues, &mut small, size);
     let m = sorting::rank(&small, &mut runs[n..], 1);
     n + m
@@ -50,9 +54,9 @@ fn rank_issue(nets: &[i32], i: usize, runs: &mut [u32], size: u32) -> usize
     requires { ⌜ CanRankAt size (now nets) i (now runs) ⌝ }
     ensures { λ r. ⌜ RankedAt size (now (nets .entry)) i (now (runs .exit)) r ⌝ }
 {
-    let s = i * 64;
-    let e = s + 64;
-    let mut dues = [0u32; 64];
+    let s = i * ACCOUNT_COUNT;
+    let e = s + ACCOUNT_COUNT;
+    let mut dues = [0u32; ACCOUNT_COUNT];
     book::dues_of(&nets[s..e], &mut dues);
     order(&dues, runs, size)
 }
@@ -63,9 +67,9 @@ pub fn rank_all(nets: &[i32], runs: &mut [u32], counts: &mut [u32], size: u32)
     ensures { λ _. ⌜ Table size (now (nets .entry)) (now (runs .exit)) (now (counts .exit)) ⌝ }
 {
     let mut i: usize = 0;
-    while i < 16 {
-        let s = i * 128;
-        let e = s + 128;
+    while i < ISSUE_COUNT {
+        let s = i * RANK_COUNT;
+        let e = s + RANK_COUNT;
         let n = rank_issue(nets, i, &mut runs[s..e], size);
         counts[i] = n as u32;
         i += 1;

@@ -1,6 +1,9 @@
 // Resolve: the ledger's fails met by an account's lots.
 use answers::Turn;
 use meeting::meet_at;
+use rules::LAST_ACCOUNT;
+use rules::LAST_ISSUE;
+use rules::MOST_LOTS;
 use rules::State;
 ghost use mathlib.Core.Path.{_≡_};
 ghost use mathlib.Core.List.{List};
@@ -88,16 +91,16 @@ fn resolve_asks<'a>(
     requires { ⌜ (s .entries ≤ 2048) × (length (now issues) ≡ 2048) × (length (now froms) ≡ 2048) × (length (now lots) ≡ 2048) ⌝ }
     ensures { λ r. ⌜ ((ts ds : List ℕ) → r ≡ firstNo (resolveAsks (s .marks) (entries (s .entries) (now (issues .entry)) (now (froms .entry)) ts (now (lots .entry)) ds) i a x)) ⌝ }
 {
-    if 15 < i {
+    if LAST_ISSUE < i {
         return 4;
     }
-    if 63 < a {
+    if LAST_ACCOUNT < a {
         return 5;
     }
     if x < 1 {
         return 7;
     }
-    if 20_000_000 < x {
+    if MOST_LOTS < x {
         return 7;
     }
     if !book::even_in(s, i, x) {

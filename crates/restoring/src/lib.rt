@@ -1,5 +1,6 @@
 // Words read back: numbers, columns and the state of a book.
 use book::state_of;
+use rules::ISSUE_COUNT;
 use rules::Phase;
 use rules::State;
 use snapshots::CHARGES;
@@ -176,7 +177,7 @@ pub fn take_state(words: &[u32]) -> Started
     requires { ⌜ length (now words) ≡ snapshotWords ⌝ }
     ensures { λ r. ⌜ TakenState (now (words .entry)) (r .state) (r .good) ⌝ }
 {
-    let mut marks = [0u8; 16];
+    let mut marks = [0u8; ISSUE_COUNT];
     take_field(&words[MARKS..NETS], &mut marks, 1, 256);
     let small = all_below(&words[MARKS..NETS], 256);
     let day = words[3];

@@ -1,6 +1,8 @@
 // roll: its questions, and its effect in place.
 use answers::Turn;
 use charging::charge_entries;
+use rules::ISSUE_COUNT;
+use rules::QUOTE_COUNT;
 use rules::State;
 ghost use mathlib.Core.Path.{_≡_};
 ghost use mathlib.Core.List.{[]};
@@ -19,8 +21,8 @@ fn quotes_right(quotes: &[u32]) -> bool
 {
     let mut good = true;
     let mut i: usize = 0;
-    while i < 16 {
-        good = good & measures::quote_right(quotes[i], quotes[16 + i]);
+    while i < ISSUE_COUNT {
+        good = good & measures::quote_right(quotes[i], quotes[ISSUE_COUNT + i]);
         i += 1;
     }
     good
@@ -38,7 +40,7 @@ fn roll_asks(s: State, days: u32, rate: u32, quotes: &[u32]) -> u32
     if !measures::term_right(days, rate) {
         return 11;
     }
-    if quotes.len() != 32 {
+    if quotes.len() != QUOTE_COUNT {
         return 11;
     }
     if !quotes_right(quotes) {

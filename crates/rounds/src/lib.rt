@@ -1,7 +1,12 @@
 // One full round of a simulated desk (document 02, F-7), by account and then issue. A delivery is handed over by
 // runs, never unit by unit.
+use desks::SETTLEMENT_COUNT;
 use joining::join;
 use joining::less;
+use rules::ACCOUNT_COUNT;
+use rules::CELL_COUNT;
+use rules::ISSUE_COUNT;
+use runs::RANK_COUNT;
 ghost use mathlib.Core.Path.{_≡_};
 ghost use Prim.Native.Nat.{min};
 ghost use Rattle.rounds.specs.Turns.{amountIn, CanAsk, CanDeliver, Delivered, CanTurn, Turned, CanRound, Rounded};
@@ -25,8 +30,8 @@ fn amount(
     requires { ⌜ CanAsk (now nets) (now settles) (now delivered) (now inventories) a i ⌝ }
     ensures { λ r. ⌜ r ≡ amountIn (now (nets .entry)) (now (settles .entry)) (now (delivered .entry)) (now (inventories .entry)) a i ⌝ }
 {
-    let c = i * 64 + a;
-    let k = i * 16 + settles[a] as usize;
+    let c = i * ACCOUNT_COUNT + a;
+    let k = i * SETTLEMENT_COUNT + settles[a] as usize;
     let net = nets[c];
     let owed = less(book::owed(net), delivered[c]);
     smaller(inventories[k], owed)
@@ -47,11 +52,11 @@ fn deliver(
     requires { ⌜ CanDeliver (now settles) (now runs) n size a i x (now delivered) (now inventories) ⌝ }
     ensures { λ _. ⌜ Delivered (now (settles .entry)) (now (runs .entry)) n size a i x (now (delivered .entry)) (now (delivered .exit)) (now (inventories .entry)) (now (inventories .exit)) ⌝ }
 {
-    let s = i * 64;
-    let e = s + 64;
+    let s = i * ACCOUNT_COUNT;
+    let e = s + ACCOUNT_COUNT;
     let d = book::total(&delivered[s..e]);
     let c = s + a;
-    let k = i * 16 + settles[a] as usize;
+    let k = i * SETTLEMENT_COUNT + settles[a] as usize;
     delivered[c] += x;
     inventories[k] -= x;
     join(runs, n, size, settles, i, d, x, inventories);
@@ -95,11 +100,11 @@ pub fn round(
 {
     let mut made: u32 = 0;
     let mut t: usize = 0;
-    while t < 1024 {
-        let a = t / 16;
-        let i = t % 16;
-        let s = i * 128;
-        let e = s + 128;
+    while t < CELL_COUNT {
+        let a = t / ISSUE_COUNT;
+        let i = t % ISSUE_COUNT;
+        let s = i * RANK_COUNT;
+        let e = s + RANK_COUNT;
         let n = counts[i] as usize;
         made += turn(
             nets,

@@ -1,5 +1,50 @@
-// The types of the settlement-day book: measures, book, answers, instructions. No code stands here;
-// what they mean is in specs/, which reads beside document 01 from top to bottom.
+// The types of the settlement-day book: measures, book, answers, instructions; and its limits, each by the name that it
+// has in specs/Measures. No code stands here; what they mean is in specs/, which reads beside document 01 from top to
+// bottom.
+
+// 16 issues, 0 to 15
+pub const ISSUE_COUNT: usize = 16;
+
+pub const LAST_ISSUE: u32 = 15;
+
+// 64 netting accounts, 0 to 63; as a count of places, and as a factor of words
+pub const ACCOUNT_COUNT: usize = 64;
+
+pub const ACCOUNTS: u32 = 64;
+
+pub const LAST_ACCOUNT: u32 = 63;
+
+// a number for each issue and account
+pub const CELL_COUNT: usize = 1024;
+
+// the lots of a full unit
+pub const UNIT_LOTS: u32 = 100_000;
+
+// the most lots of a trade, a delivery or an entry
+pub const MOST_LOTS: u32 = 20_000_000;
+
+// the places of the ledger
+pub const MOST_ENTRIES: usize = 2048;
+
+// roll's quotes: sixteen prices, sixteen accrued amounts
+pub const QUOTE_COUNT: usize = 32;
+
+// the most lifts of an issue, the words that stand for them, and those of all issues
+pub const MOST_LIFTS: u32 = 8;
+
+pub const LIFT_WORDS: usize = 18;
+
+pub const LIFT_CELLS: usize = 288;
+
+// participants are 0 to 15, the operator is 16
+pub const LAST_PARTICIPANT: u32 = 15;
+
+pub const OPERATOR: u32 = 16;
+
+// the words of an output, and of the tape writer's
+pub const OUTPUT_WORDS: usize = 4096;
+
+pub const TAPE_WORDS: usize = 33;
 
 // A quantity of bonds, in lots of 50,000 yen face.
 pub struct Lots(pub u32);
@@ -27,7 +72,7 @@ pub struct State {
     pub phase: Phase,
     pub entries: usize,
     pub turn: u32,
-    pub marks: [u8; 16],
+    pub marks: [u8; ISSUE_COUNT],
 }
 
 // The book: its state and nine columns. Nets and delivered lots of issue i and account a stand at
@@ -36,15 +81,15 @@ pub struct State {
 // are the first `entries` of five columns: issue, from, to, lots, day.
 pub struct Book {
     pub state: State,
-    pub nets: [i32; 1024],
-    pub delivered: [u32; 1024],
-    pub lifts: [u32; 288],
-    pub charges: [i64; 64],
-    pub issues: [u8; 2048],
-    pub froms: [u8; 2048],
-    pub tos: [u8; 2048],
-    pub lots: [u32; 2048],
-    pub days: [u16; 2048],
+    pub nets: [i32; CELL_COUNT],
+    pub delivered: [u32; CELL_COUNT],
+    pub lifts: [u32; LIFT_CELLS],
+    pub charges: [i64; ACCOUNT_COUNT],
+    pub issues: [u8; MOST_ENTRIES],
+    pub froms: [u8; MOST_ENTRIES],
+    pub tos: [u8; MOST_ENTRIES],
+    pub lots: [u32; MOST_ENTRIES],
+    pub days: [u16; MOST_ENTRIES],
 }
 
 // A fail entry of the ledger, laid out as in C for a host that keeps its entries as structs.
@@ -94,7 +139,7 @@ pub enum Asked {
 #[repr(C)]
 pub struct Caller {
     pub number: u32,
-    pub owners: [u8; 64],
+    pub owners: [u8; ACCOUNT_COUNT],
 }
 
 // What reading an account answers: its net, its charge and the entry; net and charge where it has no such

@@ -1,6 +1,8 @@
 // The units of an issue that more lots hand over, in the order of the day.
 use handing::hand;
 use handing::newly_covered;
+use runs::RANK_COUNT;
+use runs::RUN_COUNT;
 ghost use mathlib.Core.Bool.{true, false};
 ghost use Rattle.rules.specs.Book.{orderIn};
 ghost use Rattle.serving.specs.Serving.{CanServe, Served};
@@ -11,7 +13,7 @@ fn serve(nets: &[i32], lifts: &[u32], i: u32, d: u32, x: u32, out: &mut [u32]) -
     requires { ⌜ CanServe false (now nets) (now lifts) i d x (now out) ⌝ }
     ensures { λ r. ⌜ Served (orderIn false (now (nets .entry)) (now (lifts .entry)) i) i d x (now (out .entry)) (now (out .exit)) r ⌝ }
 {
-    let mut runs = [0u32; 144];
+    let mut runs = [0u32; RUN_COUNT];
     let n = units::prepare(nets, lifts, i as usize, &mut runs);
     let p = newly_covered(&runs, n, d, x);
     hand(&runs, n, i, p.first, p.number, out);
@@ -24,8 +26,8 @@ fn serve_dealt(nets: &[i32], lifts: &[u32], i: u32, d: u32, x: u32, out: &mut [u
     requires { ⌜ CanServe true (now nets) (now lifts) i d x (now out) ⌝ }
     ensures { λ r. ⌜ Served (orderIn true (now (nets .entry)) (now (lifts .entry)) i) i d x (now (out .entry)) (now (out .exit)) r ⌝ }
 {
-    let mut keys = [0u32; 128];
-    let mut runs = [0u32; 144];
+    let mut keys = [0u32; RANK_COUNT];
+    let mut runs = [0u32; RUN_COUNT];
     let ready = dealing::prepare(nets, lifts, i as usize, &mut keys, &mut runs);
     let p = newly_covered(&runs, ready.lifted, d, x);
     let ranks = ready.ranks;

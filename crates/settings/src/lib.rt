@@ -1,5 +1,8 @@
 // mark: its questions over nets and ledger, and its effect on the marks. turn: its question.
 use answers::Turn;
+use rules::ACCOUNT_COUNT;
+use rules::ISSUE_COUNT;
+use rules::LAST_ISSUE;
 use rules::State;
 ghost use mathlib.Core.Path.{_≡_};
 ghost use mathlib.Core.List.{List, []};
@@ -56,11 +59,11 @@ fn mark_asks<'a>(s: State, nets: &'a [i32], issues: &'a [u8], i: u32) -> u32
     requires { ⌜ (s .entries ≤ 2048) × (length (now nets) ≡ 1024) × (length (now issues) ≡ 2048) ⌝ }
     ensures { λ r. ⌜ ((fs ts xs ds : List ℕ) → r ≡ firstNo (markAsks (now (nets .entry)) (entriesOf (s .entries) (now (issues .entry)) fs ts xs ds) i)) ⌝ }
 {
-    if 15 < i {
+    if LAST_ISSUE < i {
         return 4;
     }
-    let b = i as usize * 64;
-    let e = b + 64;
+    let b = i as usize * ACCOUNT_COUNT;
+    let e = b + ACCOUNT_COUNT;
     let flat = no_net(&nets[b..e]);
     let clear = no_entry(s.entries, issues, i);
     if !(flat & clear) {
@@ -77,7 +80,7 @@ fn bit(m: u32) -> u8
 }
 
 // The marks with that of an issue set.
-fn mark_in(marks: [u8; 16], i: u32, m: u32) -> [u8; 16]
+fn mark_in(marks: [u8; ISSUE_COUNT], i: u32, m: u32) -> [u8; ISSUE_COUNT]
     requires { ⌜ i < 16 ⌝ }
     ensures { λ r. ⌜ r ≡ markedAs marks i m ⌝ }
 {

@@ -1,4 +1,9 @@
 // The questions of a simulation, where that of the book's soundness, which is asked before, is answered so.
+use desks::INVENTORY_COUNT;
+use desks::LAST_SETTLEMENT;
+use rules::ACCOUNT_COUNT;
+use rules::MOST_LOTS;
+use rules::UNIT_LOTS;
 ghost use mathlib.Core.Path.{_≡_};
 ghost use lib.Dec.{leb};
 ghost use Rattle.rules.specs.Book.{all};
@@ -25,22 +30,22 @@ pub fn refusal(good: bool, settles: &[u32], inventories: &[u32], size: u32) -> u
     if !good {
         return 2;
     }
-    if settles.len() != 64 {
+    if settles.len() != ACCOUNT_COUNT {
         return 5;
     }
-    if !at_most(settles, 15) {
+    if !at_most(settles, LAST_SETTLEMENT) {
         return 5;
     }
     if size < 1 {
         return 7;
     }
-    if 100_000 < size {
+    if UNIT_LOTS < size {
         return 7;
     }
-    if inventories.len() != 256 {
+    if inventories.len() != INVENTORY_COUNT {
         return 7;
     }
-    if !at_most(inventories, 20_000_000) {
+    if !at_most(inventories, MOST_LOTS) {
         return 7;
     }
     0

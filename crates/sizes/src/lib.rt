@@ -1,5 +1,6 @@
 // Unit sizes on a simulated desk (document 02, F-7): netting accounts that share settlement accounts deliver in
 // turn, round after round, until one makes no delivery. Rounds that do the same again are made as one step.
+use desks::INVENTORY_COUNT;
 use leaps::advance;
 use leaps::changes;
 use leaps::copy;
@@ -7,6 +8,9 @@ use leaps::leap_rounds;
 use leaps::same;
 use ranking::rank_all;
 use rounds::round;
+use rules::ACCOUNT_COUNT;
+use rules::CELL_COUNT;
+use rules::ISSUE_COUNT;
 ghost use mathlib.Core.Path.{_≡_};
 ghost use mathlib.Core.List.{map};
 ghost use Rattle.rules.specs.Measures.{sum, owedOf};
@@ -14,6 +18,9 @@ ghost use Rattle.rules.specs.Fails.{undelivered};
 ghost use Rattle.desks.specs.Desk.{plan, simulated, owedOfEach};
 ghost use Rattle.rounds.specs.Turns.{CanRound};
 ghost use Rattle.sizes.specs.Steps.{Stepped, CanEnd, EndIs, CanSum, CanSumEach, CanSimulate, SimulatedIs};
+
+// the runs of all issues
+const RANKS_OF_ALL: usize = 2048;
 
 pub mod asks;
 
@@ -36,8 +43,8 @@ fn round_and_leap(
     requires { ⌜ CanRound (now nets) (now settles) (now runs) (now counts) size (now delivered) (now inventories) ⌝ }
     ensures { λ r. ⌜ Stepped (now (nets .entry)) (now (settles .entry)) (now (runs .entry)) (now (counts .entry)) size (now (delivered .entry)) (now (delivered .exit)) (now (inventories .entry)) (now (inventories .exit)) (r .made) (r .leapt) ⌝ }
 {
-    let mut before = [0u32; 1024];
-    let mut held = [0u32; 256];
+    let mut before = [0u32; CELL_COUNT];
+    let mut held = [0u32; INVENTORY_COUNT];
     copy(delivered, &mut before);
     copy(inventories, &mut held);
     let made = round(nets, settles, runs, counts, size, delivered, inventories);
@@ -47,7 +54,7 @@ fn round_and_leap(
     if !same(&held, inventories) {
         return Step { made, leapt: 0 };
     }
-    let mut xs = [0u32; 1024];
+    let mut xs = [0u32; CELL_COUNT];
     changes(&before, delivered, &mut xs);
     let leapt = leap_rounds(nets, runs, counts, size, &before, delivered, &xs);
     advance(&xs, leapt, delivered);
@@ -93,7 +100,7 @@ fn missing(net: &[i32], delivered: &[u32]) -> u32
     requires { ⌜ CanSum (now net) (now delivered) ⌝ }
     ensures { λ r. ⌜ r ≡ sum (undelivered (map owedOf (now (net .entry))) (now (delivered .entry))) ⌝ }
 {
-    let mut short = [0u32; 64];
+    let mut short = [0u32; ACCOUNT_COUNT];
     book::missing_of(net, delivered, &mut short);
     book::total(&short)
 }
@@ -104,9 +111,9 @@ fn still_owed(nets: &[i32], delivered: &[u32], owed: &mut [u32])
     ensures { λ _. ⌜ now (owed .exit) ≡ owedOfEach (now (nets .entry)) (now (delivered .entry)) ⌝ }
 {
     let mut i: usize = 0;
-    while i < 16 {
-        let s = i * 64;
-        let e = s + 64;
+    while i < ISSUE_COUNT {
+        let s = i * ACCOUNT_COUNT;
+        let e = s + ACCOUNT_COUNT;
         owed[i] = missing(&nets[s..e], &delivered[s..e]);
         i += 1;
     }
@@ -123,11 +130,11 @@ pub fn simulate(
     requires { ⌜ CanSimulate (now nets) (now settles) (now inventories) size (now owed) ⌝ }
     ensures { λ r. ⌜ SimulatedIs (now (nets .entry)) (simulated (plan (now (nets .entry)) (now (settles .entry)) size) (now (inventories .entry))) (r .deliveries) (r .rounds) (now (owed .exit)) ⌝ }
 {
-    let mut runs = [0u32; 2048];
-    let mut counts = [0u32; 16];
+    let mut runs = [0u32; RANKS_OF_ALL];
+    let mut counts = [0u32; ISSUE_COUNT];
     rank_all(nets, &mut runs, &mut counts, size);
-    let mut delivered = [0u32; 1024];
-    let mut held = [0u32; 256];
+    let mut delivered = [0u32; CELL_COUNT];
+    let mut held = [0u32; INVENTORY_COUNT];
     copy(inventories, &mut held);
     let t = to_the_end(
         nets,

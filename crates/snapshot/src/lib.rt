@@ -4,6 +4,11 @@ use host::number_of;
 use host::sound_at;
 use host::state_in;
 use opening::open;
+use rules::ACCOUNT_COUNT;
+use rules::CELL_COUNT;
+use rules::ISSUE_COUNT;
+use rules::LIFT_CELLS;
+use rules::MOST_ENTRIES;
 use rules::Phase;
 use rules::State;
 use saving::save;
@@ -106,11 +111,11 @@ pub extern "C" fn day_open<'a>(
 ) -> DayOpened
     ensures { λ r. ⌜ (let c = columns nets delivered lifts charges issues froms tos lots days in OpenIs (now (words .entry)) r (c .before (fresh .state)) (c .after (stateIn (r .state)))) ⌝ }
 {
-    let cells = (nets.len() == 1024) & (delivered.len() == 1024);
-    let flat = (lifts.len() == 288) & (charges.len() == 64);
-    let accounts = (issues.len() == 2048) & (froms.len() == 2048) & (tos.len() == 2048);
-    if !(cells & flat & accounts & (lots.len() == 2048) & (days.len() == 2048)) {
-        let none = numbers_of(book::state_of(0, Phase::Taking, 0, 0, [0; 16]));
+    let cells = (nets.len() == CELL_COUNT) & (delivered.len() == CELL_COUNT);
+    let flat = (lifts.len() == LIFT_CELLS) & (charges.len() == ACCOUNT_COUNT);
+    let accounts = (issues.len() == MOST_ENTRIES) & (froms.len() == MOST_ENTRIES) & (tos.len() == MOST_ENTRIES);
+    if !(cells & flat & accounts & (lots.len() == MOST_ENTRIES) & (days.len() == MOST_ENTRIES)) {
+        let none = numbers_of(book::state_of(0, Phase::Taking, 0, 0, [0; ISSUE_COUNT]));
         return DayOpened {
             reason: 1,
             state: none,

@@ -1,6 +1,14 @@
 // Fails statement over a span of a tape, for hosts in C and Rust: an account's record in an issue, from the tape's
 // first 4,096 instructions, or fewer, run in place on a fresh book.
+use rules::ACCOUNT_COUNT;
+use rules::CELL_COUNT;
+use rules::ISSUE_COUNT;
 use rules::Instruction;
+use rules::LAST_ACCOUNT;
+use rules::LAST_ISSUE;
+use rules::LIFT_CELLS;
+use rules::MOST_ENTRIES;
+use rules::OUTPUT_WORDS;
 use rules::Phase;
 use rules::Read;
 use rules::State;
@@ -105,7 +113,7 @@ fn turn(
     requires { ⌜ Begins (now words) x × ready s nets delivered lifts charges issues froms tos lots days out × Within issue account × CanAdd c ⌝ }
     ensures { λ r. ⌜ (let k = columns nets delivered lifts charges issues froms tos lots days in Stepped (now (words .entry)) x issue account c (k .before s) r (k .after (r .state))) ⌝ }
 {
-    let cell = issue as usize * 64 + account as usize;
+    let cell = issue as usize * ACCOUNT_COUNT + account as usize;
     let net = nets[cell];
     let given = delivered[cell];
     let t = instructions::answer(
@@ -192,17 +200,17 @@ fn on_fresh(words: &[u32], issue: u32, account: u32) -> Statement
     requires { ⌜ Within issue account ⌝ }
     ensures { λ r. ⌜ r ≡ statementOn (now (words .entry)) issue account ⌝ }
 {
-    let s = book::state_of(0, Phase::Taking, 0, 0, [0; 16]);
-    let mut nets = [0i32; 1024];
-    let mut delivered = [0u32; 1024];
-    let mut lifts = [0u32; 288];
-    let mut charges = [0i64; 64];
-    let mut issues = [0u8; 2048];
-    let mut froms = [0u8; 2048];
-    let mut tos = [0u8; 2048];
-    let mut lots = [0u32; 2048];
-    let mut days = [0u16; 2048];
-    let mut out = [0u32; 4096];
+    let s = book::state_of(0, Phase::Taking, 0, 0, [0; ISSUE_COUNT]);
+    let mut nets = [0i32; CELL_COUNT];
+    let mut delivered = [0u32; CELL_COUNT];
+    let mut lifts = [0u32; LIFT_CELLS];
+    let mut charges = [0i64; ACCOUNT_COUNT];
+    let mut issues = [0u8; MOST_ENTRIES];
+    let mut froms = [0u8; MOST_ENTRIES];
+    let mut tos = [0u8; MOST_ENTRIES];
+    let mut lots = [0u32; MOST_ENTRIES];
+    let mut days = [0u16; MOST_ENTRIES];
+    let mut out = [0u32; OUTPUT_WORDS];
     span(
         words,
         issue,
@@ -234,10 +242,10 @@ pub extern "C" fn day_statement(
     ensures { λ r. ⌜ stated r (now (numbers .exit)) ≡ statementAnswer (now (words .entry)) issue account ⌝ }
 {
     *numbers = [0; 6];
-    if 15 < issue {
+    if LAST_ISSUE < issue {
         return 4;
     }
-    if 63 < account {
+    if LAST_ACCOUNT < account {
         return 5;
     }
     let c = on_fresh(words, issue, account);

@@ -2,7 +2,13 @@
 // failed and wholly failed. The units are those of the order as lifted, in Settling and in Cut. It goes by
 // lots alone, and those are the same, place by place, whether full units are dealt in turn or not.
 use handover::NextUnit;
+use rules::ACCOUNTS;
+use rules::ACCOUNT_COUNT;
+use rules::LAST_ISSUE;
 use rules::Phase;
+use rules::UNIT_LOTS;
+use runs::MOST_SMALL;
+use runs::RUN_COUNT;
 use told::Told;
 ghost use mathlib.Core.Path.{_≡_};
 ghost use Prim.Native.Nat.{suc};
@@ -22,10 +28,10 @@ fn lots_up_to(runs: &[u32], n: usize, k: u32) -> u32
     let mut sum: u32 = 0;
     let mut j = 0;
     while j < n {
-        let lots = runs[j] / 64;
-        let c = (lots + 99999) / 100000;
+        let lots = runs[j] / ACCOUNTS;
+        let c = (lots + MOST_SMALL) / UNIT_LOTS;
         if left < c {
-            let end = (left + 1) * 100000;
+            let end = (left + 1) * UNIT_LOTS;
             if lots < end {
                 return sum + lots;
             }
@@ -75,12 +81,12 @@ pub fn status_in<'a>(
     if book::taking(phase) {
         return Told::Refused(3);
     }
-    if 15 < i {
+    if LAST_ISSUE < i {
         return Told::Refused(4);
     }
-    let s = i as usize * 64;
-    let e = s + 64;
-    let mut runs = [0u32; 144];
+    let s = i as usize * ACCOUNT_COUNT;
+    let e = s + ACCOUNT_COUNT;
+    let mut runs = [0u32; RUN_COUNT];
     let n = units::prepare(nets, lifts, i as usize, &mut runs);
     let d = book::total(&delivered[s..e]);
     tell(phase, &runs, n, d, k)

@@ -1,6 +1,11 @@
 // The cutoff where full units are dealt in turn: the stretches of what waits, made from the front, one run
 // after the other. Units are never listed: of whole rounds each account's are taken together.
 use inturn::seat;
+use rules::ACCOUNTS;
+use rules::ACCOUNT_COUNT;
+use rules::LIFT_WORDS;
+use runs::RANK_COUNT;
+use runs::UNIT_WORD;
 use units::Position;
 use units::stand;
 use unlifting::before_lifts;
@@ -11,27 +16,30 @@ ghost use Rattle.stretching.specs.Adding.{CanAdd, Added, shareOf, CanFee
 ghost use Rattle.stretching.specs.Gaps.{CanTake, Taken, CanTakeAll, TakenAll, CanFeedPending, FedPending, CanGap, GapIs, CanPass, HasPassed};
 ghost use Rattle.stretching.specs.Spans.{CanFeedSpan, FedSpan, CanFeedWaiting, FedWaiting, CanStart, HasStarted};
 
+// at most so many lifted units part the spans that are fed as one
+const MOST_GAPS: usize = 8;
+
 // The units of one run more behind c stretches; answers how many there are then. `at` says of each account
 // where its stretch of full units stands: 0, or one more than its place.
 fn add(out: &mut [u32], c: usize, at: &mut [usize], word: u32) -> usize
     requires { ⌜ CanAdd (now out) c (now at) word ⌝ }
     ensures { λ r. ⌜ Added (now (out .entry)) (now (out .exit)) c (now (at .exit)) word r ⌝ }
 {
-    if word < 64 {
+    if word < ACCOUNTS {
         return c;
     }
-    if word < 6400000 {
+    if word < UNIT_WORD {
         out[c] = word;
         return c + 1;
     }
-    let a = (word % 64) as usize;
+    let a = (word % ACCOUNTS) as usize;
     let p = at[a];
     if p == 0 {
         at[a] = c + 1;
         out[c] = word;
         return c + 1;
     }
-    out[p - 1] = out[p - 1] + word / 64 * 64;
+    out[p - 1] = out[p - 1] + word / ACCOUNTS * ACCOUNTS;
     c
 }
 
@@ -39,14 +47,14 @@ fn add(out: &mut [u32], c: usize, at: &mut [usize], word: u32) -> usize
 fn share(word: u32, round: u32, rounds: u32) -> u32
     ensures { λ r. ⌜ partOf r ≡ shareOf round rounds (partOf word) ⌝ }
 {
-    if word < 6400000 {
+    if word < UNIT_WORD {
         return word;
     }
-    let q = word / 6400000;
+    let q = word / UNIT_WORD;
     if q <= round {
-        return word % 64;
+        return word % ACCOUNTS;
     }
-    least(rounds, q - round) * 6400000 + word % 64
+    least(rounds, q - round) * UNIT_WORD + word % ACCOUNTS
 }
 
 // What the runs from x to y have of so many rounds, behind c stretches; answers how many there are then.
@@ -129,7 +137,7 @@ fn take_off(out: &mut [u32], c: usize, at: &[usize], a: usize)
     ensures { λ _. ⌜ Taken (now (out .entry)) (now (out .exit)) c (now (at .entry)) a ⌝ }
 {
     let p = at[a];
-    out[p - 1] = out[p - 1] - 6400000;
+    out[p - 1] = out[p - 1] - UNIT_WORD;
 }
 
 // A full unit of each of n accounts taken off.
@@ -169,22 +177,22 @@ fn gap(runs: &[u32], n: usize, m: usize, at: &[usize], p: Pending, base: u32) ->
     ensures { λ r. ⌜ GapIs (now (runs .entry)) n m (now (at .entry)) p base r ⌝ }
 {
     if base == 0 {
-        return 64;
+        return ACCOUNT_COUNT;
     }
     if base - 1 != p.base + p.len {
-        return 64;
+        return ACCOUNT_COUNT;
     }
-    if 8 <= p.gaps {
-        return 64;
+    if MOST_GAPS <= p.gaps {
+        return ACCOUNT_COUNT;
     }
     let d = seat(runs, n, m, base - 1);
     let j = d.at;
     if d.wide == 0 {
-        return 64;
+        return ACCOUNT_COUNT;
     }
-    let a = (runs[j] % 64) as usize;
+    let a = (runs[j] % ACCOUNTS) as usize;
     if at[a] == 0 {
-        return 64;
+        return ACCOUNT_COUNT;
     }
     a
 }
@@ -208,7 +216,7 @@ fn pass(
 {
     let a = gap(runs, n, m, at, p, base);
     let g = p.gaps;
-    if a < 64 {
+    if a < ACCOUNT_COUNT {
         gaps[g] = a;
         let pending = Pending {
             base: p.base,
@@ -236,7 +244,7 @@ fn feed_waiting(
     requires { ⌜ CanFeedWaiting (now runs) n m (now words) k count (now out) (now at) ⌝ }
     ensures { λ r. ⌜ FedWaiting (now (runs .entry)) n m (now (words .entry)) k (now (out .exit)) r ⌝ }
 {
-    let mut gaps = [0usize; 8];
+    let mut gaps = [0usize; MOST_GAPS];
     let mut c: usize = 0;
     let mut q = Pending {
         base: 0,
@@ -267,15 +275,15 @@ pub fn start(nets: &[i32], lifts: &[u32], i: usize, d: u32, out: &mut [u32]) -> 
     requires { ⌜ CanStart (now nets) (now lifts) i (now out) ⌝ }
     ensures { λ r. ⌜ HasStarted (now (nets .entry)) (now (lifts .entry)) i d (now (out .exit)) r ⌝ }
 {
-    let mut keys = [0u32; 128];
-    let mut at = [0usize; 64];
+    let mut keys = [0u32; RANK_COUNT];
+    let mut at = [0usize; ACCOUNT_COUNT];
     let p = dealing::prepare(nets, lifts, i, &mut keys, out);
     let h = handover::handover(out, p.lifted, d);
     let k = p.ranks;
     let n = k.n;
     let count = handover::number(&keys, n);
-    let s = i * 18;
-    let e = s + 18;
+    let s = i * LIFT_WORDS;
+    let e = s + LIFT_WORDS;
     let c = feed_waiting(&keys, n, k.full, &lifts[s..e], h.count, count, out, &mut at);
     if c == 0 {
         return Begun {
@@ -286,6 +294,6 @@ pub fn start(nets: &[i32], lifts: &[u32], i: usize, d: u32, out: &mut [u32]) -> 
     let key = out[0];
     Begun {
         n: c,
-        position: stand(1, key % 64, key / 64 - h.stock, h.stock),
+        position: stand(1, key % ACCOUNTS, key / ACCOUNTS - h.stock, h.stock),
     }
 }

@@ -1,5 +1,7 @@
 // The tape: its reader and its writer.
 use rules::Instruction;
+use rules::QUOTE_COUNT;
+use rules::TAPE_WORDS;
 use rules::Word;
 use rules::Written;
 use writing::put_head;
@@ -60,7 +62,7 @@ fn word_as(w: u32, lots: u32) -> Word
             w % 1024,
             Instruction::Roll(words::days_of(w), words::rate_of(w)),
             9,
-            33,
+            TAPE_WORDS,
         ),
         8 => Word::After(8),
         9 => clear(w / 262144 % 1024, Word::After(9)),
@@ -136,7 +138,7 @@ pub fn quotes(tape: &[u32], quotes: &mut [u32])
     ensures { λ _. ⌜ now (quotes .exit) ≡ sets (now (quotes .entry)) 0 (quotesOf (now (tape .entry))) ⌝ }
 {
     let mut at = 0;
-    while at < 32 {
+    while at < QUOTE_COUNT {
         if quotes.len() <= at {
             return;
         }
@@ -153,7 +155,7 @@ pub fn quotes(tape: &[u32], quotes: &mut [u32])
 pub fn write(x: Instruction, quotes: &[u32], out: &mut [u32]) -> Written
     ensures { λ r. ⌜ WriteAnswerIs (writeOf x (now (quotes .entry)) (now (out .entry))) r (now (out .exit)) ⌝ }
 {
-    if out.len() < 33 {
+    if out.len() < TAPE_WORDS {
         return refused(1);
     }
     match x {

@@ -1,7 +1,10 @@
 // The ticket of an unhanded unit, and whether it still holds.
 use handover::NextUnit;
+use rules::ACCOUNT_COUNT;
 use rules::Asked;
 use rules::Found;
+use rules::LIFT_WORDS;
+use rules::MOST_LIFTS;
 use rules::Ticket;
 ghost use mathlib.Core.Path.{_≡_};
 ghost use mathlib.Core.Bool.{true};
@@ -32,8 +35,8 @@ pub fn stand_of<'a>(
     requires { ⌜ CanStand (now nets) (now delivered) (now lifts) i (now runs) ⌝ }
     ensures { λ r. ⌜ Stands (now (nets .entry)) (now (delivered .entry)) (now (lifts .entry)) i (now (runs .exit)) r ⌝ }
 {
-    let s = i * 64;
-    let e = s + 64;
+    let s = i * ACCOUNT_COUNT;
+    let e = s + ACCOUNT_COUNT;
     let n = units::prepare(nets, lifts, i, runs);
     let total = book::total(&delivered[s..e]);
     let h = handover::handover(runs, n, total);
@@ -111,7 +114,7 @@ pub fn ticket_in<'a>(
     requires { ⌜ CanTicket (now nets) (now lifts) i (now runs) p ⌝ }
     ensures { λ r. ⌜ askedAnswer r ≡ unhandedTicket (orderIn dealt (now (nets .entry)) (now (lifts .entry)) i) (p .handed) day (countAt (now (lifts .entry)) i) i k ⌝ }
 {
-    let at = i as usize * 18 + 1;
+    let at = i as usize * LIFT_WORDS + 1;
     let count = lifts[at];
     if dealt {
         return ticket_dealt(nets, lifts, p.handed, day, count, i, k);
@@ -136,7 +139,7 @@ pub fn ticket_asks(t: Ticket, asked: Asked, number: u32) -> u32
             if !is_same(t, u) {
                 return 17;
             }
-            if 8 <= number {
+            if MOST_LIFTS <= number {
                 return 18;
             }
             0

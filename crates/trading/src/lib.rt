@@ -1,5 +1,9 @@
 // trade and close: of each its own questions, and trade's effect in place.
 use answers::Turn;
+use rules::ACCOUNTS;
+use rules::LAST_ACCOUNT;
+use rules::LAST_ISSUE;
+use rules::MOST_LOTS;
 use rules::Phase;
 use rules::State;
 ghost use mathlib.Core.Path.{_≡_};
@@ -18,13 +22,13 @@ fn trade_asks(s: State, nets: &[i32], i: u32, f: u32, t: u32, x: u32) -> u32
     if !book::taking(phase) {
         return 3;
     }
-    if 15 < i {
+    if LAST_ISSUE < i {
         return 4;
     }
-    if 63 < f {
+    if LAST_ACCOUNT < f {
         return 5;
     }
-    if 63 < t {
+    if LAST_ACCOUNT < t {
         return 5;
     }
     if f == t {
@@ -33,17 +37,17 @@ fn trade_asks(s: State, nets: &[i32], i: u32, f: u32, t: u32, x: u32) -> u32
     if x < 1 {
         return 7;
     }
-    if 20_000_000 < x {
+    if MOST_LOTS < x {
         return 7;
     }
     if !book::even_in(s, i, x) {
         return 19;
     }
-    let from = nets[(i * 64 + f) as usize];
+    let from = nets[(i * ACCOUNTS + f) as usize];
     if !book::within(book::lowered(from, x)) {
         return 8;
     }
-    let to = nets[(i * 64 + t) as usize];
+    let to = nets[(i * ACCOUNTS + t) as usize];
     if !book::within(book::raised(to, x)) {
         return 8;
     }
@@ -55,8 +59,8 @@ fn trade_in(nets: &mut [i32], i: u32, f: u32, t: u32, x: u32)
     requires { ⌜ Tradable (now nets) i f t x ⌝ }
     ensures { λ _. ⌜ now (nets .exit) ≡ tradedNets (now (nets .entry)) i f t x ⌝ }
 {
-    let at = (i * 64 + f) as usize;
-    let to = (i * 64 + t) as usize;
+    let at = (i * ACCOUNTS + f) as usize;
+    let to = (i * ACCOUNTS + t) as usize;
     let falls = nets[at];
     let rises = nets[to];
     nets[at] = book::lowered(falls, x);

@@ -2,6 +2,9 @@
 use drawing::below;
 use drawing::draw_right;
 use eligible::sizes_of;
+use rules::ACCOUNT_COUNT;
+use rules::LAST_ACCOUNT;
+use rules::MOST_LOTS;
 use sharing::share;
 ghost use mathlib.Core.Path.{_≡_};
 ghost use Rattle.rules.specs.Measures.{mostLots};
@@ -9,6 +12,12 @@ ghost use Rattle.rules.specs.Book.{all, withinSize};
 ghost use Rattle.rules.specs.Questions.{firstNo};
 ghost use Rattle.reports.specs.Reports.{reports};
 ghost use Rattle.reports.specs.Trust.{drawnRight, fewRight, reportAsks, answered, trust};
+
+// at most so many reports, and as many words of output
+const MOST_REPORTS: usize = 256;
+
+// sub-accounts are 0 to 31
+const SUB_COUNT: usize = 32;
 
 // Are each report's lots within ±20,000,000?
 fn lots_right(lots: &[i32]) -> bool
@@ -44,10 +53,10 @@ fn drawn(subs: &[u32], parties: &[u32], lots: &[i32], earlier: &[u8], draw: &[u3
 fn few(subs: &[u32]) -> bool
     ensures { λ r. ⌜ r ≡ fewRight (now (subs .entry)) ⌝ }
 {
-    if 256 < subs.len() {
+    if MOST_REPORTS < subs.len() {
         return false;
     }
-    below(subs, 32)
+    below(subs, SUB_COUNT)
 }
 
 // The questions but the last, that of the eligible lots: the number of the first 'no', 0 where there is none.
@@ -63,19 +72,19 @@ fn report_asks(
 ) -> u32
     ensures { λ r. ⌜ r ≡ firstNo (reportAsks (reports (now (subs .entry)) (now (parties .entry)) (now (lots .entry)) (now (earlier .entry))) (now (draw .entry)) fail failing (now (out .entry))) ⌝ }
 {
-    if out.len() < 256 {
+    if out.len() < MOST_REPORTS {
         return 1;
     }
-    if 63 < failing {
+    if LAST_ACCOUNT < failing {
         return 5;
     }
-    if !below(parties, 64) {
+    if !below(parties, ACCOUNT_COUNT) {
         return 5;
     }
     if fail < 1 {
         return 7;
     }
-    if 20_000_000 < fail {
+    if MOST_LOTS < fail {
         return 7;
     }
     if !lots_right(lots) {
@@ -108,7 +117,7 @@ pub extern "C" fn day_trust(
     if no != 0 {
         return no;
     }
-    let mut sizes = [0u32; 256];
+    let mut sizes = [0u32; MOST_REPORTS];
     let sum = sizes_of(subs, lots, earlier, &mut sizes);
     if sum < fail as u64 {
         return 23;

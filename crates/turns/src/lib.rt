@@ -4,8 +4,10 @@ use report::text;
 use rules::Book;
 use rules::Instruction;
 use rules::Name;
+use rules::QUOTE_COUNT;
 use rules::Read;
 use rules::State;
+use rules::TAPE_WORDS;
 ghost use mathlib.Core.Path.{_≡_};
 ghost use Prim.Native.Nat.{_+_, _*_, _≤_, _<_, _^_};
 ghost use lib.ListN.{length};
@@ -109,7 +111,7 @@ fn turn(
     requires { ⌜ Begins (now words) x × ready s nets delivered lifts charges issues froms tos lots days out × (at + 72 ≤ length (now text)) ⌝ }
     ensures { λ r. ⌜ (let c = columns nets delivered lifts charges issues froms tos lots days in Stepped (now (words .entry)) x index (c .before s) (now (text .entry)) (now (text .exit)) at r (c .after (r .state))) ⌝ }
 {
-    let mut quotes = [0u32; 32];
+    let mut quotes = [0u32; QUOTE_COUNT];
     quotes_of(words, x, &mut quotes);
     let t = running::answer(
         x,
@@ -148,7 +150,7 @@ fn is_enough(left: usize, last: bool) -> bool
     if last {
         return 0 < left;
     }
-    33 <= left
+    TAPE_WORDS <= left
 }
 
 // The line of a last word of 1 to 3 bytes, if there is one.

@@ -1,4 +1,6 @@
 // The words of each instruction at the front of an output.
+use rules::QUOTE_COUNT;
+use rules::TAPE_WORDS;
 use rules::Written;
 ghost use mathlib.Core.Path.{_≡_};
 ghost use mathlib.Core.List.{map};
@@ -141,7 +143,7 @@ fn put_quotes(quotes: &[u32], out: &mut [u32])
     ensures { λ _. ⌜ now (out .exit) ≡ sets (now (out .entry)) 1 (map quoteWord (now (quotes .entry))) ⌝ }
 {
     let mut at = 0;
-    while at < 32 {
+    while at < QUOTE_COUNT {
         out[at + 1] = quote_word(quotes[at]);
         at += 1;
     }
@@ -151,7 +153,7 @@ fn put_quotes(quotes: &[u32], out: &mut [u32])
 fn roll_fits(days: u32, rate: u32, quotes: &[u32]) -> bool
     ensures { λ r. ⌜ r ≡ fieldsFit (Roll days rate) (now (quotes .entry)) ⌝ }
 {
-    (days < 16) & (rate < 16384) & (quotes.len() == 32) & quotes_fit(quotes)
+    (days < 16) & (rate < 16384) & (quotes.len() == QUOTE_COUNT) & quotes_fit(quotes)
 }
 
 // A roll's head and the words of its quotes at the front of the output, or refusal 15.
@@ -166,6 +168,6 @@ pub fn put_roll(days: u32, rate: u32, quotes: &[u32], out: &mut [u32]) -> Writte
     put_quotes(quotes, out);
     Written {
         refusal: 0,
-        count: 33,
+        count: TAPE_WORDS,
     }
 }
