@@ -134,27 +134,7 @@ returns c =
 pub charge-entries-spec : {M : Type 1} → statement M
 charge-entries-spec =
     tie.close
-    (tie.spec
-    Inv-loop
-    μ-loop
-    (λ c. search needs)
-    (λ c. search needs)
-    cast-i
-    (λ c. search needs)
-    (λ c. search needs)
-    mul-charge-of-2
-    shared-slice-read-charge-of-2
-    add-charge-of
-    mul-charge-of-3
-    shared-slice-read-charge-of-3
-    charge-of-requires
-    (λ c. search needs)
-    cast-f
-    (λ c. search needs)
-    cast-t
-    pay-requires
-    (λ c. search needs)
-    (λ c. search needs)
-    loop-again
-    (λ c. search needs)
-    returns)
+    (tie.spec Inv-loop μ-loop (λ c. search needs) (λ c. search needs) cast-i (λ c. search needs) (λ c. search needs)
+    mul-charge-of-2 shared-slice-read-charge-of-2 add-charge-of mul-charge-of-3 shared-slice-read-charge-of-3
+    charge-of-requires (λ c. search needs) cast-f (λ c. search needs) cast-t pay-requires (λ c. search needs)
+    (λ c. search needs) loop-again (λ c. search needs) returns)

@@ -35,17 +35,6 @@ returns c =
 pub sound-in-spec : {M : Type 1} → statement M
 sound-in-spec =
     tie.close
-    (tie.spec
-    take-cells-requires
-    take-ledger-requires
-    sound-columns-requires
-    (λ c. search needs)
-    (λ c. search needs)
-    (λ c. search needs)
-    (λ c. search needs)
-    (λ c. search needs)
-    (λ c. search needs)
-    (λ c. search needs)
-    (λ c. search needs)
-    (λ c. search needs)
-    returns)
+    (tie.spec take-cells-requires take-ledger-requires sound-columns-requires (λ c. search needs) (λ c. search needs)
+    (λ c. search needs) (λ c. search needs) (λ c. search needs) (λ c. search needs) (λ c. search needs)
+    (λ c. search needs) (λ c. search needs) returns)

@@ -47,18 +47,6 @@ returns c =
 pub take-field-spec : {M : Type 1} → statement M
 take-field-spec =
     tie.close
-    (tie.spec
-    Inv-loop
-    μ-loop
-    (λ c. search needs)
-    (λ c. search needs)
-    (λ c. search needs)
-    (λ c. search needs)
-    (λ c. search needs)
-    cast-column
-    (λ c. search needs)
-    (λ c. search needs)
-    (λ c. search needs)
-    loop-again
-    (λ c. search needs)
-    returns)
+    (tie.spec Inv-loop μ-loop (λ c. search needs) (λ c. search needs) (λ c. search needs) (λ c. search needs)
+    (λ c. search needs) cast-column (λ c. search needs) (λ c. search needs) (λ c. search needs) loop-again
+    (λ c. search needs) returns)

@@ -56,17 +56,5 @@ returns c =
 pub put32-spec : {M : Type 1} → statement M
 put32-spec =
     tie.close
-    (tie.spec
-    Inv-loop
-    μ-loop
-    loop-holds
-    (λ c. search needs)
-    shared-slice-read-out
-    add-out
-    (λ c. search needs)
-    slice-write-out
-    add-i
-    loop-less
-    loop-again
-    same-length
-    returns)
+    (tie.spec Inv-loop μ-loop loop-holds (λ c. search needs) shared-slice-read-out add-out (λ c. search needs)
+    slice-write-out add-i loop-less loop-again same-length returns)

@@ -38,13 +38,5 @@ returns c = rw (c .before .phase-word .ensures)
 pub put-state-spec : {M : Type 1} → statement M
 put-state-spec =
     tie.close
-    (tie.spec
-    cast-out
-    slice-write-out
-    phase-word-requires
-    slice-write-out-2
-    cast-out-2
-    slice-write-out-3
-    (λ c. search needs)
-    same-length
-    returns)
+    (tie.spec cast-out slice-write-out phase-word-requires slice-write-out-2 cast-out-2 slice-write-out-3
+    (λ c. search needs) same-length returns)

@@ -29,6 +29,6 @@ same-length c = simp length-set
 pub put-commit-spec : {M : Type 1} → statement M
 put-commit-spec =
     tie.close
-    (tie.spec (λ c. search needs) (λ c. search needs) slice-write-out-2 (λ c. search needs) slice-write-out-3 (λ c. search needs) slice-write-out-4
-    (λ c. search needs) slice-write-out-5 (λ c. search needs) slice-write-out-6 (λ c. search needs) slice-write-out-7 same-length
-    (λ c. search needs))
+    (tie.spec (λ c. search needs) (λ c. search needs) slice-write-out-2 (λ c. search needs) slice-write-out-3
+    (λ c. search needs) slice-write-out-4 (λ c. search needs) slice-write-out-5 (λ c. search needs) slice-write-out-6
+    (λ c. search needs) slice-write-out-7 same-length (λ c. search needs))
