@@ -89,10 +89,6 @@ pub abs-neg : (n : ℕ) → natAbs (negℤ (pos n)) ≡ n
 abs-neg zero = refl
 abs-neg (suc n) = refl
 
-pub abs-parts : (z : ℤ) → dueOf z + owedOf z ≡ natAbs z
-abs-parts (pos n) = omega arith
-abs-parts (negsuc n) = omega arith
-
 -- what is due and owed of a difference of two naturals
 sub-parts : (a b : ℕ) (t : Bool) → ltb a b ≡ t →
     dueOf (cond t (negsuc (b - suc a)) (pos (a - b))) + b ≡ a + owedOf (cond t (negsuc (b - suc a)) (pos (a - b)))

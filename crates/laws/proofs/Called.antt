@@ -119,9 +119,6 @@ pub called-sound : (b : Book) (c : Call) → Sizes b → sound b ≡ true → so
 called-sound b c z h =
     parts-sound (called b c .book) (stands b c (record { sizes = z; parts = sound-parts b h }) .parts)
 
-pub called-sizes : (b : Book) (c : Call) → Sizes b → sound b ≡ true → Sizes (called b c .book)
-called-sizes b c z h = stands b c (record { sizes = z; parts = sound-parts b h }) .sizes
-
 pub fresh-sound : sound fresh ≡ true
 unfolding sound conditions liftsSound liftConditions cellsEven
 fresh-sound = refl

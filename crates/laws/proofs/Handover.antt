@@ -6,8 +6,8 @@ use Prim.Native.Nat.{ℕ, suc, _+_, _-_, _≤_, _<_, min}
 use native.Mathlib.Omega.{arith}
 use native.Mathlib.Nat.{sub-zero, zero-add, add-zero}
 use lib.Dec.{leb, lit<}
-use lib.ListN.{length, getD, take, drop, length-drop, take-append-drop}
-use lib.Seq.{take-add, drop-drop, getD-take, length-take-le}
+use lib.ListN.{length, take, drop, length-drop, take-append-drop}
+use lib.Seq.{take-add, drop-drop, length-take-le}
 use borrow.Author.Tests.{leb-true, leb-false, le-leb}
 use Rattle.rules.specs.Measures.{total, sum, unitLots}
 use Rattle.rules.specs.Units.{AccountLots, accountLots, sumLots}
@@ -114,10 +114,6 @@ handed-extends us d x =
     let h = covered-grows us d x in
     let e : covered us (d + x) ≡ covered us d + (covered us (d + x) - covered us d) = omega arith in
     ap (λ n. take n us) e ∙ take-add (covered us d) (covered us (d + x) - covered us d) us
-
-pub handed-stays : (us : List AccountLots) (d x k : ℕ) (p : AccountLots) → k < covered us d → getD (handed us (d + x)) k p ≡ getD (handed us d) k p
-handed-stays us d x k p h =
-    getD-take (covered us (d + x)) us k p (omega (arith, covered-grows us d x)) ∙ sym (getD-take (covered us d) us k p h)
 
 -- a delivery hands over what the stock and its lots cover of the units that wait
 pub handovers-handed : (us : List AccountLots) (d x : ℕ) → handovers us d x ≡ handed (waiting us d) (stock us d + x)

@@ -1,13 +1,13 @@
 -- The ledger's columns and its list of entries are one another, by one pass over the columns; and an
 -- entry read, added or left out is a place of each column.
-use mathlib.Core.Path.{_≡_, refl, sym, ap, _∙_}
+use mathlib.Core.Path.{_≡_, refl, ap, _∙_}
 use mathlib.Core.Bool.{true}
 use mathlib.Core.List.{List, [], _∷_, _++_, map, tail}
 use Prim.Native.Nat.{ℕ, zero, suc, _-_, _≤_, _<_}
 use native.Mathlib.Omega.{arith}
 use native.Mathlib.Nat.{sub-zero, zero-sub, suc-sub-suc}
-use lib.ListN.{length, getD, set, drop, replicate, length-map, length-append, length-replicate, List·getD-map, List·getD-append}
-use lib.Seq.{drop-at, set-at, drop-nil, append-snoc}
+use lib.ListN.{length, getD, drop, replicate, length-map, length-append, length-replicate}
+use lib.Seq.{drop-at, drop-nil}
 use borrow.Author.Tests.{eqb-true}
 use Rattle.rules.specs.declared.Book.{Book}
 use Rattle.rules.specs.declared.Entry.{Entry}
@@ -95,25 +95,6 @@ pub unused-column : (f : Entry → ℕ) (es : List Entry) → all isZero (drop (
 unused-column f es =
     rw (drop-at (map f es) (replicate (mostEntries - length es) 0) (length es) (length-map es f))
     (all-replicate isZero (mostEntries - length es) 0 refl)
-
-pub column-at : (f : Entry → ℕ) (es : List Entry) (k : ℕ) → f noEntry ≡ 0 → k < length es →
-    getD (column f es) k 0 ≡ f (getD es k noEntry)
-column-at f es k z h =
-    List·getD-append (map f es) (replicate (mostEntries - length es) 0) 0 k (rw (length-map es f) h)
-    ∙ ap (getD (map f es) k) (sym z) ∙ List·getD-map f es k noEntry
-
-pub column-snoc : (f : Entry → ℕ) (es : List Entry) (e : Entry) → length es < mostEntries →
-    column f (es ++ e ∷ []) ≡ set (column f es) (length es) (f e)
-column-snoc f es e h =
-    let n : mostEntries - length es ≡ suc (mostEntries - suc (length es)) = omega arith in
-    let m : length (es ++ e ∷ []) ≡ suc (length es) = omega (arith, length-append es (e ∷ [])) in
-    let snoc : map f (es ++ e ∷ []) ≡ map f es ++ f e ∷ [] = map-append f es (e ∷ []) in
-    rw (m, snoc, n, set-at (map f es) 0 (replicate (mostEntries - suc (length es)) 0) (f e) (length es) (length-map es f))
-    (append-snoc (map f es) (f e) (replicate (mostEntries - suc (length es)) 0))
-  where
-    map-append : (g : Entry → ℕ) (us vs : List Entry) → map g (us ++ vs) ≡ map g us ++ map g vs
-    map-append g [] vs = refl
-    map-append g (u ∷ us) vs = ap (λ l. g u ∷ l) (map-append g us vs)
 
 -- the columns written from a sound ledger's entries are its columns
 

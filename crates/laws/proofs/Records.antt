@@ -39,9 +39,6 @@ head-fits k i f t hk hi hf ht = omega arith
 pub lots-lots : (x : ℕ) → x < 2 ^ 28 → ofField lotsBits (lotsWord x) ≡ x
 lots-lots x h = omega arith
 
-pub lots-fits : (x : ℕ) → x < 2 ^ 28 → lotsWord x < 2 ^ 32
-lots-fits x h = omega arith
-
 -- Records
 
 -- a record whose fields fit their bits

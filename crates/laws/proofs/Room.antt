@@ -269,8 +269,3 @@ commit-few us delivered t h l =
       length-map (handedFrom (lift v vs) (v .new) d) (handover (t .issue)),
       lift-few vs d (t .unit) (waits-short vs d (omega arith)) h l,
     )
-
-pub commit-room : (us : ℕ → List AccountLots) (delivered : List ℕ) (t : Ticket) →
-    covered (us (t .issue)) (deliveredTotal delivered (t .issue)) ≤ t .unit → t .unit < length (us (t .issue)) →
-    2 * length (commitRecords us delivered t) ≤ outputWords
-commit-room us delivered t h l = omega (arith, commit-few us delivered t h l)

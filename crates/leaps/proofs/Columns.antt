@@ -52,9 +52,6 @@ room-least k x o p = let m : min k (o / x) ≤ o / x = omega arith in omega (ari
 pub room-none : (k x o : ℕ) → x ≡ 0 → k * x ≤ o
 room-none k x o e = let q : k * x ≡ 0 = ap (λ n. k * n) e ∙ mul-zero k in omega arith
 
-pub room-less : (k j x o : ℕ) → k * x ≤ o → min k j * x ≤ o
-room-less k j x o h = let m : min k j ≤ k = omega arith in omega (arith, mul-le-mul-right x m, h)
-
 pub one-more : (f g : ℕ → ℕ) (c : ℕ) → ((i : ℕ) → i < c → f i ≡ g i) → f c ≡ g c → (i : ℕ) → i < c + 1 → f i ≡ g i
 one-more f g c h e i lt =
     byTest (eqb i c)

@@ -1,10 +1,9 @@
 -- Records one behind the other in a lent output: a record put behind n records extends them.
-use mathlib.Core.Path.{_≡_, refl, ap, _∙_}
+use mathlib.Core.Path.{_≡_, refl, ap}
 use mathlib.Core.List.{List, [], _∷_, _++_}
 use Prim.Native.Nat.{ℕ, _+_, _*_, _≤_}
-use native.Mathlib.Numerals.{add-one}
 use native.Mathlib.Omega.{arith}
-use lib.ListN.{length, drop, set, length-append, length-drop}
+use lib.ListN.{length, drop, length-append, length-drop}
 use lib.Seq.{sets, take-at, drop-drop, drop-append-add, sets-eq}
 use Rattle.rules.specs.Records.{Rec, headWord, lotsWord, words, over}
 
@@ -16,9 +15,6 @@ words-append (r ∷ rs) ss =
 pub words-length : (rs : List Rec) → length (words rs) ≡ 2 * length rs
 words-length [] = refl
 words-length (r ∷ rs) = omega (arith, words-length rs)
-
-pub over-none : (o : List ℕ) → over (words []) o ≡ o
-over-none o = refl
 
 pub over-length : (ws o : List ℕ) → length ws ≤ length o → length (over ws o) ≡ length o
 over-length ws o h = omega (arith, length-append ws (drop (length ws) o), length-drop (length ws) o)
@@ -32,21 +28,6 @@ over-more ws vs o f =
     let d : length (ws ++ vs) ≡ n + m = length-append ws vs in
     rw
     (sets-eq vs (over ws o) n (omega arith), take-at ws (drop n o) n refl, drop-append-add ws (drop n o) m, drop-drop m n o, d)
-
--- records stored behind n that are there
-pub records-more : (rs ss : List Rec) (n : ℕ) (o out new : List ℕ) → n ≡ length rs → 2 * (n + length ss) ≤ length o →
-    out ≡ over (words rs) o → new ≡ sets out (2 * n) (words ss) → new ≡ over (words (rs ++ ss)) o
-records-more rs ss n o out new e f g s =
-    let w : length (words rs) ≡ 2 * n = omega (arith, words-length rs) in
-    rw (s, g, words-append rs ss, ← w) (over-more (words rs) (words ss) o (omega (arith, words-length ss)))
-
--- the law of every loop that writes records: one more behind those that are there
-pub record-more : (rs : List Rec) (r : Rec) (n : ℕ) (o out new : List ℕ) → n ≡ length rs → 2 * n + 2 ≤ length o →
-    out ≡ over (words rs) o →
-    new ≡ set (set out (2 * n) (headWord (r .kind) (r .issue) (r .from) (r .to))) (2 * n + 1) (lotsWord (r .lots)) →
-    new ≡ over (words (rs ++ (r ∷ []))) o
-record-more rs r n o out new e f g s =
-    records-more rs (r ∷ []) n o out new e (omega arith) g (s ∙ rw (add-one (2 * n)))
 
 -- an output with records in front is as long as it was
 pub records-length : (rs : List Rec) (o : List ℕ) → 2 * length rs ≤ length o → length (over (words rs) o) ≡ length o
