@@ -38,7 +38,8 @@ use Rattle.spans.proofs.Turns.{turns-none, turns-refused, turns-read}
 use Rattle.spans.proofs.Cuts.{cut-owed}
 use Rattle.spans.proofs.Sums.{same-statement}
 use Rattle.statement.specs.declared.Step.{Step}
-use Rattle.statement.specs.Counting.{mostAdded, CanAdd, Grown, Within, Stepped, resolvedIn, acceptedIn, addedIn, plusTurn}
+use Rattle.counting.specs.Counting.{mostAdded, CanAdd, Grown, resolvedIn, addedIn}
+use Rattle.statement.specs.Counting.{Within, Stepped, plusTurn}
 
 -- One turn
 
@@ -98,20 +99,6 @@ ready-stands s nets delivered lifts charges issues froms tos lots days out r =
       sizes = record { nets = l .cells .nets; delivered = l .cells .delivered; lifts = l .lifts; charges = l .charges };
       parts = sound-parts (bookOf s nets delivered lifts charges issues froms tos lots days) (r .sound);
     }
-
--- by the number: a refused instruction adds nothing, and one that is done what it is
-pub refused-added : (c : Statement) (x : Instruction) (n : ℕ) (net : ℤ) (given i a : ℕ) → 0 < n → c ≡ addedIn c x n net given i a
-refused-added c x zero net given i a h = absurd (omega arith)
-refused-added c x (suc n) net given i a h = refl
-
-pub done-added : (c : Statement) (x y : Instruction) (n : ℕ) (net : ℤ) (given i a : ℕ) → n ≤ 0 → x ≡ y →
-    acceptedIn c y net given i a ≡ addedIn c x n net given i a
-done-added c x y zero net given i a h e = ap (λ (z : Instruction). acceptedIn c z net given i a) (sym e)
-done-added c x y (suc n) net given i a h e = absurd (omega arith)
-
--- a statement that stays as it is
-pub stays : (c : Statement) → Grown c c
-stays c = record { due = omega arith; delivered = omega arith; failed = omega arith; resolved = omega arith }
 
 -- On the way
 

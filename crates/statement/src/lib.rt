@@ -14,76 +14,15 @@ use rules::Read;
 use rules::State;
 use spans::Statement;
 ghost use mathlib.Core.Path.{_≡_};
-ghost use Prim.Native.Nat.{_≤_};
-ghost use Rattle.rules.specs.Measures.{lastIssue, lastAccount, owedOf};
 ghost use Rattle.book.specs.States.{columns, ready};
 ghost use Rattle.instructions.specs.Answering.{Begins};
 ghost use Rattle.spans.specs.Span.{turnsFrom};
 ghost use Rattle.spans.specs.Statement.{mostSpan, statementOver, statementOn, stated, statement as statementAnswer};
-ghost use Rattle.statement.specs.Counting.{CanAdd, Grown, cutIn, resolvedIn, addedIn, Within, Stepped};
+ghost use Rattle.counting.specs.Counting.{CanAdd};
+ghost use Rattle.statement.specs.Counting.{Within, Stepped};
 
 // a span has at most so many instructions
 const MOST_SPAN: usize = 4096;
-
-// What an accepted cutoff adds: what the account owes, what it delivered, and the rest, which it fails.
-fn cut(c: Statement, net: i32, given: u32) -> Statement
-    requires { ⌜ CanAdd c × (given ≤ owedOf net) ⌝ }
-    ensures { λ r. ⌜ (r ≡ cutIn c net given) × Grown c r ⌝ }
-{
-    let owed = book::owed(net);
-    Statement {
-        due: c.due + owed as u64,
-        delivered: c.delivered + given as u64,
-        failed: c.failed + (owed - given) as u64,
-        resolved: c.resolved,
-    }
-}
-
-// What an accepted resolve adds where it is the account's in the issue: its lots.
-fn resolved(c: Statement, own: bool, lots: u32) -> Statement
-    requires { ⌜ CanAdd c ⌝ }
-    ensures { λ r. ⌜ (r ≡ resolvedIn c own lots) × Grown c r ⌝ }
-{
-    if !own {
-        return c;
-    }
-    Statement {
-        due: c.due,
-        delivered: c.delivered,
-        failed: c.failed,
-        resolved: c.resolved + lots as u64,
-    }
-}
-
-// A statement with what an instruction adds, from its number and from the account's net and delivered lots
-// before it. A refused one adds nothing.
-fn added(
-    c: Statement,
-    x: Instruction,
-    refusal: u32,
-    net: i32,
-    given: u32,
-    issue: u32,
-    account: u32,
-) -> Statement
-    requires { ⌜ CanAdd c × (given ≤ owedOf net) ⌝ }
-    ensures { λ r. ⌜ (r ≡ addedIn c x refusal net given issue account) × Grown c r ⌝ }
-{
-    if 0 < refusal {
-        return c;
-    }
-    match x {
-        Instruction::Trade(_, _, _, _) => c,
-        Instruction::Deliver(_, _, _) => c,
-        Instruction::Resolve(i, a, lots) => resolved(c, (i == issue) & (a == account), lots),
-        Instruction::PairOff(_, _) => c,
-        Instruction::Close => c,
-        Instruction::Cutoff => cut(c, net, given),
-        Instruction::Roll(_, _) => c,
-        Instruction::Mark(_, _) => c,
-        Instruction::Turn(_) => c,
-    }
-}
 
 // After an instruction: the statement so far, and the state.
 struct Step {
@@ -132,7 +71,7 @@ fn turn(
         out,
     );
     let state = t.state;
-    let statement = added(c, x, t.refusal, net, given, issue, account);
+    let statement = counting::added(c, x, t.refusal, net, given, issue, account);
     Step { statement, state }
 }
 

@@ -3,11 +3,11 @@ use mathlib.Core.Path.{ap, _∙_}
 use lib.IntN.{ℤ}
 use mir.Syntax.{w32}
 use mir.ValLaws.{toZ-ofZ}
-use Rattle.statement.specs.Counting.{cutIn}
-use Rattle.statement.proofs.Counted.{refused-added, done-added, stays}
+use Rattle.counting.specs.Counting.{cutIn}
+use Rattle.counting.proofs.Numbers.{refused-added, done-added, stays}
 use borrow.Author.Needs.{needs}
-use Rattle.statement.proofs.added.Statement.{statement}
-use Rattle.statement.proofs.added.Tie as tie
+use Rattle.counting.proofs.added.Statement.{statement}
+use Rattle.counting.proofs.added.Tie as tie
 
 returns : tie.Need-returns
 returns c =

@@ -3,10 +3,10 @@ use mathlib.Core.Path.{refl}
 use native.Mathlib.Omega.{arith}
 use borrow.Author.Tests.{not-true, not-false}
 use Rattle.spans.proofs.Sums.{same-statement}
-use Rattle.statement.proofs.Counted.{stays}
+use Rattle.counting.proofs.Numbers.{stays}
 use borrow.Author.Needs.{needs}
-use Rattle.statement.proofs.resolved.Statement.{statement}
-use Rattle.statement.proofs.resolved.Tie as tie
+use Rattle.counting.proofs.resolved.Statement.{statement}
+use Rattle.counting.proofs.resolved.Tie as tie
 
 returns : tie.Need-returns
 returns c =

@@ -6,8 +6,8 @@ use mir.ValLaws.{toZ-ofZ}
 use Rattle.rules.specs.Measures.{owedOf}
 use Rattle.spans.proofs.Sums.{same-statement}
 use borrow.Author.Needs.{needs}
-use Rattle.statement.proofs.cut.Statement.{statement}
-use Rattle.statement.proofs.cut.Tie as tie
+use Rattle.counting.proofs.cut.Statement.{statement}
+use Rattle.counting.proofs.cut.Tie as tie
 
 -- a net comes as its bits
 owes : (k : tie.After-owed) → k .owed .result ≡ owedOf (k .before .args .net)

@@ -1,0 +1,2 @@
+-- Laws of what is added to a statement.
+pub mod Numbers

@@ -1,0 +1,2 @@
+-- What is added to a statement.
+pub mod Counting
