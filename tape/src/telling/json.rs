@@ -1,9 +1,10 @@
 //! The facts as JSON: one object a line, with `fact` and `day` first, then the instruction that the
-//! fact belongs to. docs/TAPE.md lists them.
+//! fact belongs to, and the names that are known last. docs/TAPE.md lists them.
 
 use crate::dealt::Turn;
 use crate::facts::{Fact, Told};
 use crate::input::Stands;
+use crate::known::{Dated, Known};
 use crate::ledger::Step;
 use crate::measure::write_number;
 use crate::units::Case;
@@ -16,6 +17,10 @@ pub fn tell(out: &mut impl Write, told: &Told, stands: Stands) -> io::Result<()>
     out.write_all(name(told.fact).as_bytes())?;
     out.write_all(b"\"")?;
     field(out, "day", told.day.into())?;
+    let known = told.known;
+    if !known.names.is_empty() {
+        out.write_all(date_field(known.day(told.day)).as_bytes())?;
+    }
     if let Some(word) = told.word {
         field(out, "word", word as u64)?;
     }
@@ -26,7 +31,64 @@ pub fn tell(out: &mut impl Write, told: &Told, stands: Stands) -> io::Result<()>
         text(out, "file", &escaped(file))?;
     }
     fields(out, told.fact)?;
+    if !known.names.is_empty() {
+        out.write_all(name_fields(told.fact, known).as_bytes())?;
+    }
     out.write_all(b"}\n")
+}
+
+/// The field of a day's date, with a comma before it; nothing where it has none.
+pub fn date_field(day: Dated) -> String {
+    day.date.map_or(String::new(), |date| format!(",\"date\":\"{date}\""))
+}
+
+/// A field of this name that is a name, with a comma before it; nothing where there is none. A name has
+/// no letter that JSON would escape.
+pub fn name_field(field: &str, name: Option<&str>) -> String {
+    name.map_or(String::new(), |name| format!(",\"{field}\":\"{name}\""))
+}
+
+/// The fields of the names of a fact, those that there are.
+fn name_fields(fact: &Fact, known: &Known) -> String {
+    let issue = fact.issue().and_then(|issue| known.names.issue_name(issue));
+    let fields = ["account_name", "from_name", "to_name"].into_iter().zip(parts(fact));
+    let fields = fields.map(|(field, account)| {
+        name_field(field, account.and_then(|account| known.names.account_name(account)))
+    });
+    name_field("issue_name", issue) + &fields.collect::<String>()
+}
+
+/// The accounts of a fact by the part that they take in it: `account`, `from` and `to`.
+fn parts(fact: &Fact) -> [Option<u32>; 3] {
+    match *fact {
+        Fact::Instruction { instruction, .. } => parts_of(&instruction),
+        Fact::Met { account, ref step, .. } => [Some(account), Some(step.from), Some(step.to)],
+        Fact::Units { account, .. }
+        | Fact::SmallAfterFull { account, .. }
+        | Fact::Owes { account, .. }
+        | Fact::Handed { account, .. }
+        | Fact::Waits { account, .. }
+        | Fact::Partly { account, .. }
+        | Fact::Paired { account, .. }
+        | Fact::Charged { account, .. } => [Some(account), None, None],
+        Fact::Fails { from, to, .. }
+        | Fact::Resolved { from, to, .. }
+        | Fact::Left { from, to, .. }
+        | Fact::Entry { from, to, .. }
+        | Fact::Charge { from, to, .. } => [None, Some(from), Some(to)],
+        _ => [None; 3],
+    }
+}
+
+/// The accounts of an instruction by the part that they take in it.
+fn parts_of(instruction: &Instruction) -> [Option<u32>; 3] {
+    match *instruction {
+        Instruction::Trade { from, to, .. } => [None, Some(from), Some(to)],
+        Instruction::Deliver { account, .. }
+        | Instruction::Resolve { account, .. }
+        | Instruction::PairOff { account, .. } => [Some(account), None, None],
+        _ => [None; 3],
+    }
 }
 
 /// A text as JSON has it between quotes.
