@@ -238,8 +238,7 @@ fn number_of(kind: Kind, word: &Word) -> Result<u32, Fault> {
     let digits = digits_of(word.text).and_then(|digits| digits.parse().ok());
     digits.filter(|number| (*number as usize) < kind.count()).ok_or_else(|| {
         let (what, most) = (kind.word(), kind.count() - 1);
-        let shown = shown(word.text);
-        word.fault(format!("{what} {shown} is no number of one: write a number from 0 to {most}"))
+        word.fault(format!("{} is no {what}: write a number from 0 to {most}", shown(word.text)))
     })
 }
 
@@ -365,5 +364,146 @@ impl fmt::Display for Date {
     fn fmt(&self, text: &mut fmt::Formatter) -> fmt::Result {
         let (year, month, day) = self.parts();
         write!(text, "{year:04}-{month:02}-{day:02}")
+    }
+}
+
+#[cfg(test)]
+mod tests {
+    use super::*;
+
+    const FILE: &str = "\u{feff}# of the desk\ndate 2026-11-17       # the date of day 0\r\n\n\
+        issue 0 JGB-350\nissue 15 Nomura\naccount 5 Nomura\n  account 63 大和証券\n";
+
+    #[test]
+    fn names_stand_for_numbers_and_back() {
+        let names = Names::parse(FILE).unwrap();
+        let issues = [0, 15, 5].map(|issue| names.issue(issue).to_string());
+        assert_eq!(issues, ["JGB-350", "Nomura", "5"]);
+        let accounts = [5, 63, 0, 99].map(|account| names.account(account).to_string());
+        assert_eq!(accounts, ["Nomura", "大和証券", "0", "99"]);
+        assert_eq!((names.issue_number("Nomura"), names.account_number("Nomura")), (Some(15), Some(5)));
+        assert_eq!((names.issue_number("大和証券"), names.issue_number("0")), (None, None));
+        assert_eq!((names.issue_name(0), names.issue_name(16)), (Some("JGB-350"), None));
+        assert_eq!((names.account_name(63), names.account_name(0)), (Some("大和証券"), None));
+        assert_eq!(names.date().map(|date| date.to_string()).as_deref(), Some("2026-11-17"));
+        let (account, number) = (names.account(5), names.account(7));
+        assert_eq!(format!("{account:>8}|{number:<3}|{number:>3}"), "  Nomura|7  |  7");
+        assert!(!names.is_empty() && Names::default().is_empty());
+        assert_eq!(Names::parse("# nothing\n\n"), Ok(Names::default()));
+        assert!(Names::default().date().is_none());
+    }
+
+    #[test]
+    fn a_name_has_letters_digits_and_five_signs() {
+        let longest = "円".repeat(MOST_LETTERS);
+        for name in ["a", "Ünal", "野村", "A-B_c.d&e/9", "tradE", "closed", longest.as_str()] {
+            let names = Names::parse(&format!("account 0 {name}\n")).unwrap();
+            assert_eq!(names.account_number(name), Some(0), "{name}");
+        }
+    }
+
+    #[test]
+    fn each_wrong_line_is_told_with_its_place() {
+        let long = format!("account 5 {}", "a".repeat(MOST_LETTERS + 1));
+        for (line, column, told) in [
+            ("isue 0 JGB", 1, "there is no line \"isue\": write one of date YYYY-MM-DD, issue NUMBER"),
+            ("issue 0", 1, "issue takes a number and a name; here is 1 word"),
+            ("account", 1, "account takes a number and a name; here are 0 words"),
+            ("account 5 A B", 1, "account takes a number and a name; here are more than 2 words"),
+            ("date", 1, "date takes a date; here are 0 words"),
+            ("date 2026 11", 1, "date takes a date; here are 2 words"),
+            ("issue 16 A", 7, "\"16\" is no issue: write a number from 0 to 15"),
+            ("account 64 A", 9, "\"64\" is no account: write a number from 0 to 63"),
+            ("account -1 A", 9, "\"-1\" is no account: write a number from 0 to 63"),
+            ("account A 5", 9, "\"A\" is no account: write a number from 0 to 63"),
+            ("  account 5 5th", 13, "\"5th\" is no name: begin it with a letter"),
+            ("account 5 -a", 11, "\"-a\" is no name: begin it with a letter"),
+            ("account 5 a!b", 11, "\"a!b\" is no name with '!': take letters, digits and - _ . & /"),
+            ("account 5 a,b", 11, "\"a,b\" is no name with ','"),
+            (&long, 11, "\"aaaaaaaaaaaaaaaaaaaaaaaaaaaaaaaaa\" is too long for a name: take at most 32"),
+            ("issue 1 roll", 9, "\"roll\" is a word of the text form: take another name"),
+            ("account 1 pair-off", 11, "\"pair-off\" is a word of the text form"),
+            ("issue 0 Again", 7, "issue 0 has the name JGB-350 already: leave one of the two lines out"),
+            ("account 6 Nomura", 11, "Nomura is the name of account 5 already: write another name"),
+            ("date 2027-01-01", 1, "day 0 has the date 2026-11-17 already: leave one of the two"),
+        ] {
+            let faults = Names::parse(&format!("{FILE}{line}\n")).unwrap_err();
+            assert_eq!(faults.count, 1, "{line}: {faults:?}");
+            let fault = &faults.first[0];
+            assert_eq!((fault.line, fault.column), (8, column), "{line}: {fault}");
+            assert!(fault.what.starts_with(told), "{line}: {fault}");
+        }
+    }
+
+    #[test]
+    fn a_date_that_the_calendar_lacks_is_told() {
+        for date in [
+            "2026-02-29", "2100-02-29", "2026-13-01", "2026-00-01", "2026-11-31", "2026-11-00",
+            "26-11-17", "2026-11-7", "2026/11/17", "2026-11-17-1", "2026-11-1x", "+026-11-17", "x",
+        ] {
+            let faults = Names::parse(&format!("date {date}\n")).unwrap_err();
+            let told = format!("{date:?} is no date: write it as YYYY-MM-DD, a day that the");
+            assert!(faults.first[0].what.starts_with(&told), "{date}: {faults:?}");
+            assert_eq!((faults.first[0].line, faults.first[0].column), (1, 6));
+        }
+        for date in ["1582-12-31", "7001-01-01", "0000-01-01"] {
+            let error = Date::parse(date).unwrap_err();
+            assert_eq!(error, format!("{date}: write a year from 1583 to 7000"));
+        }
+    }
+
+    #[test]
+    fn dates_are_those_of_the_calendar() {
+        let leap = |year: i64| year % 4 == 0 && (year % 100 != 0 || year % 400 == 0);
+        let mut date = Date::parse("1583-01-01").unwrap();
+        for year in 1_583..2_500 {
+            for month in 1..=12 {
+                let days = match month {
+                    2 => 28 + i64::from(leap(year)),
+                    4 | 6 | 9 | 11 => 30,
+                    _ => 31,
+                };
+                for day in 1..=days {
+                    assert_eq!(date.parts(), (year, month, day));
+                    assert_eq!(Date::of(year, month, day), date);
+                    date = date.after(1);
+                }
+                assert!(Date::parse(&format!("{year}-{month:02}-{}", days + 1)).is_err());
+            }
+        }
+        assert_eq!(Date::parse("1970-01-01"), Ok(Date(0)));
+        let later = Date::parse("2026-12-30").unwrap().after(12);
+        assert_eq!(later.to_string(), "2027-01-11");
+        let last = Date::parse("7000-12-31").unwrap().after(12 * u32::from(u16::MAX));
+        assert_eq!(last.to_string().len(), 10, "{last}");
+    }
+
+    #[test]
+    fn of_a_name_that_is_unknown_those_that_there_are_or_the_nearest_are_told() {
+        let names = Names::parse(FILE).unwrap();
+        let told = |kind, word| names.named(kind, word).unwrap_err();
+        let nomra = "there is no account \"Nomra\": the names file has Nomura, 大和証券";
+        assert_eq!(told(Kind::Account, "Nomra"), nomra);
+        assert!(told(Kind::Issue, "Jgb-350").ends_with("the names file has JGB-350, Nomura"));
+        assert_eq!(names.named(Kind::Account, "Nomura"), Ok(Some(5)));
+        assert_eq!([names.named(Kind::Account, "7"), names.named(Kind::Account, "-")], [Ok(None), Ok(None)]);
+        assert_eq!(Names::default().named(Kind::Account, "Nomura"), Ok(None));
+        let dated = Names::parse("date 2026-11-17\n").unwrap();
+        let none = "there is no issue \"A\": the names file names no issue, write its number";
+        assert_eq!(dated.named(Kind::Issue, "A").unwrap_err(), none);
+        let names = ["Nomura", "Daiwa", "Mizuho", "SMBC", "MUFG", "Barclays", "Citi", "Goldman", "UBS"];
+        let lines = (0..).zip(names).map(|(number, name)| format!("account {number} {name}\n"));
+        let many = Names::parse(&lines.collect::<String>()).unwrap();
+        for (word, nearest) in [("Nomra", "Nomura"), ("daiwa", "Daiwa"), ("Goldmann", "Goldman")] {
+            let told = format!("the names file has 9 names, the nearest is {nearest}");
+            assert!(many.named(Kind::Account, word).unwrap_err().ends_with(&told), "{word}");
+        }
+        assert!(many.named(Kind::Account, &"x".repeat(1_000_000)).is_err());
+    }
+
+    #[test]
+    fn a_file_that_is_wrong_throughout_takes_no_more_room() {
+        let faults = Names::parse(&"sell everything now\n".repeat(200_000)).unwrap_err();
+        assert_eq!((faults.first.len(), faults.count), (12, 200_000));
     }
 }
