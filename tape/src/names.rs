@@ -235,8 +235,8 @@ fn wants(first: &Word, wanted: &str, arguments: &[Word]) -> Fault {
 
 /// The number of an issue or an account in a names file.
 fn number_of(kind: Kind, word: &Word) -> Result<u32, Fault> {
-    let digits = digits_of(word.text).and_then(|digits| digits.parse().ok());
-    digits.filter(|number| (*number as usize) < kind.count()).ok_or_else(|| {
+    let number: Option<u32> = digits_of(word.text).and_then(|digits| digits.parse().ok());
+    number.filter(|number| (*number as usize) < kind.count()).ok_or_else(|| {
         let (what, most) = (kind.word(), kind.count() - 1);
         word.fault(format!("{} is no {what}: write a number from 0 to {most}", shown(word.text)))
     })

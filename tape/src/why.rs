@@ -45,16 +45,7 @@ fn behind(
             let (from, to) = (known.account(from), known.account(to));
             Some(format!("account {from} stands at {}, account {to} at {}", nets[0], nets[1]))
         }
-        (Refusal::Owed, Instruction::Deliver { issue, account, .. }) => {
-            let owed = Lots(owed_today(book, issue, account));
-            let (issue, account) = (known.issue(issue), known.account(account));
-            Some(format!("account {account} still owes {owed} of issue {issue} today"))
-        }
-        (Refusal::Owed, Instruction::Resolve { issue, account, .. }) => {
-            let owed = Lots(owed_in_ledger(book, issue, account));
-            let (issue, account) = (known.issue(issue), known.account(account));
-            Some(format!("account {account} owes {owed} of issue {issue} in the ledger"))
-        }
+        (Refusal::Owed, _) => owed(book, instruction, known),
         (
             Refusal::OddLots,
             Instruction::Trade { issue, .. }
@@ -72,6 +63,23 @@ fn behind(
         (Refusal::Room, _) => {
             let ies = if book.entries == 1 { "y" } else { "ies" };
             Some(format!("it has {} entr{ies} before the cutoff", book.entries))
+        }
+        _ => None,
+    }
+}
+
+/// What the account of an instruction owes: of a delivery today, of a resolve in the ledger.
+fn owed(book: &Book, instruction: &Instruction, known: &Known) -> Option<String> {
+    match *instruction {
+        Instruction::Deliver { issue, account, .. } => {
+            let owed = Lots(owed_today(book, issue, account));
+            let (issue, account) = (known.issue(issue), known.account(account));
+            Some(format!("account {account} still owes {owed} of issue {issue} today"))
+        }
+        Instruction::Resolve { issue, account, .. } => {
+            let owed = Lots(owed_in_ledger(book, issue, account));
+            let (issue, account) = (known.issue(issue), known.account(account));
+            Some(format!("account {account} owes {owed} of issue {issue} in the ledger"))
         }
         _ => None,
     }

@@ -14,9 +14,7 @@ use std::io::{self, Write};
 pub fn tell(out: &mut impl Write, told: &Told, stands: Stands) -> io::Result<()> {
     let Told { day, word, fact, known } = *told;
     match fact {
-        Fact::Day { day, turn } => {
-            writeln!(out, "Day {}{}", known.day(*day), order_of_day(*day, *turn, known))
-        }
+        Fact::Day { day, turn } => writeln!(out, "Day {}", day_text(*day, *turn, known)),
         Fact::Instruction { instruction, refusal } => {
             let mut line = Line::new();
             head(out, &mut line, word, stands)?;
@@ -39,12 +37,10 @@ pub fn tell(out: &mut impl Write, told: &Told, stands: Stands) -> io::Result<()>
         }
         Fact::End { phase, entries, charged } => {
             writeln!(out, "\nAt the end: day {}, {phase}", known.day(day))?;
-            let entries = match entries {
-                1 => "1 fail entry".to_string(),
-                entries => format!("{entries} fail entries"),
-            };
+            let ies = if *entries == 1 { "y" } else { "ies" };
             let charged = counted(*charged, "account");
-            writeln!(out, "  the whole book has {entries} in the ledger and {charged} with charges")
+            write!(out, "  the whole book has {entries} fail entr{ies} in the ledger ")?;
+            writeln!(out, "and {charged} with charges")
         }
         _ => {
             write!(out, "      ")?;
@@ -334,15 +330,15 @@ fn entry(
     write!(out, "issue {issue}: account {from} owes account {to} {lots}, since day {since}")
 }
 
-/// The order of a day, where a change-over day is named.
-fn order_of_day(day: u16, turn: u32, known: &Known) -> String {
-    let from = known.day(turn);
+/// A day, and its order where a change-over day is named.
+fn day_text(day: u16, turn: u32, known: &Known) -> String {
+    let (today, from) = (known.day(day), known.day(turn));
     match turn {
-        0 => String::new(),
+        0 => today.to_string(),
         turn if turn <= day.into() => {
-            format!(", the new order: full units are dealt in turn since day {from}")
+            format!("{today}, the new order: full units are dealt in turn since day {from}")
         }
-        _ => format!(", the old order: full units are dealt in turn from day {from} on"),
+        _ => format!("{today}, the old order: full units are dealt in turn from day {from} on"),
     }
 }
 

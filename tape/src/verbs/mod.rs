@@ -63,6 +63,9 @@ takes a date then. docs/TAPE.md explains the text form and names.
 Status: 0 done; 1 the book refuses something (check, why, look, markets), or the tape was not read
 to its end or its lines are not whole (run); 2 the words of the command, a file or a text are wrong.";
 
+/// What is said where standard input would be read twice.
+const STANDARD_ONCE: &str = "standard input is one file: name `-` once";
+
 /// How a command ended: what it was asked was found wrong, or not.
 #[derive(Clone, Copy, Debug, PartialEq, Eq)]
 pub enum Ended {
@@ -176,7 +179,7 @@ fn day_by(given: &Given, files: &[OsString], names: Names) -> Result<Day, String
     let standard = [OsString::from("-")];
     let files = if files.is_empty() { &standard } else { files };
     if files.iter().filter(|file| *file == "-").count() > 1 {
-        return Err("standard input is one file: name `-` once".to_string());
+        return Err(STANDARD_ONCE.to_string());
     }
     let (mut day, mut errors) = (Day::by(names), Vec::new());
     for file in files {

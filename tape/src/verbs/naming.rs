@@ -1,6 +1,6 @@
 //! Names on the command line: the names file, issues and accounts by their names, a day by its date.
 
-use super::{get, name_of};
+use super::{get, name_of, STANDARD_ONCE};
 use crate::input::{errors, text_of, Day};
 use crate::names::{Date, Kind, Names};
 use crate::options::{number, Given, Opt, NAMES};
@@ -14,7 +14,7 @@ pub(super) fn names_of(given: &Given) -> Result<Names, String> {
     let is_standard = |file: &OsStr| file == "-";
     let days = &given.names;
     if is_standard(file) && (days.is_empty() || days.iter().any(|day| is_standard(day))) {
-        return Err("standard input is one file: name `-` once".to_string());
+        return Err(STANDARD_ONCE.to_string());
     }
     let name = name_of(file);
     let text = text_of(&name, get(file)?)?;
