@@ -2,6 +2,7 @@
 //! days as far as it has been run.
 
 use crate::names::{Called, Date, Names};
+use crate::telling::text::listed;
 use settlement_day::Instruction;
 use std::fmt;
 
@@ -46,12 +47,12 @@ impl Known {
 
     /// Issues as they are told, with commas and a last 'and' between them.
     pub fn issues(&self, numbers: &[u32]) -> String {
-        listed(numbers.iter().map(|number| self.issue(*number).to_string()).collect())
+        listed(&numbers.iter().map(|number| self.issue(*number)).collect::<Vec<_>>())
     }
 
     /// Accounts as they are told, with commas and a last 'and' between them.
     pub fn accounts(&self, numbers: &[u32]) -> String {
-        listed(numbers.iter().map(|number| self.account(*number).to_string()).collect())
+        listed(&numbers.iter().map(|number| self.account(*number)).collect::<Vec<_>>())
     }
 
     /// The day of a date; an error says which days there are.
@@ -68,14 +69,6 @@ impl Known {
             after => format!("it is between day {} and day {}", self.day(after - 1), self.day(after)),
         };
         Err(format!("no day of the tape has the date {date}: {there_is}"))
-    }
-}
-
-/// Names with commas and a last 'and' between them.
-fn listed(names: Vec<String>) -> String {
-    match names.split_last() {
-        Some((last, before)) if !before.is_empty() => format!("{} and {last}", before.join(", ")),
-        _ => names.join(""),
     }
 }
 

@@ -579,8 +579,10 @@ fn every_verb_tells_by_names_and_dates() {
         assert!(text.contains(line), "{line}\n{text}");
     }
     let json = desk.told("explain --json --names desk.names day.txt");
-    let day = "{\"fact\":\"day\",\"day\":1,\"date\":\"2026-11-20\",\"order\":\"old\",\"turn\":0}\n";
-    assert!(json.contains(day) && json.contains("\"from_name\":\"Aoba\",\"to_name\":\"Bizen\"}\n"));
+    let day = "\"fact\":\"day\",\"day\":1,\"date\":\"2026-11-20\",\"order\":\"old\",\"turn\":0}\n";
+    let fails = "\"issue\":0,\"issue_name\":\"JGB-350\",\"from\":1,\"from_name\":\"Aoba\",\"to\":2,\
+        \"to_name\":\"Bizen\",\"lots\":50000,\"first\":1,";
+    assert!(json.contains(day) && json.contains(fails), "{json}");
     let page = desk.told("explain --html --names desk.names day.txt");
     assert!(page.contains("<h2>Day 1 (2026-11-20)</h2>"), "{page}");
     assert!(page.contains("<h3>Day 0 (2026-11-17), issue JGB-350</h3>"), "{page}");
@@ -614,10 +616,10 @@ fn names_and_dates_stand_on_the_command_line() {
         for account Aoba, waits: with 7 lots more delivered in the issue, and no lift between, it is handed\n";
     assert_eq!(unit, told);
     let was = desk.told("why --json --day 2026-11-17 --names desk.names day.txt JGB-350 1");
-    let told = "{\"fact\":\"status\",\"day\":0,\"date\":\"2026-11-17\",\"phase\":\"Cut\",\"word\":8,\"line\":6,\
+    let told = "\"fact\":\"status\",\"day\":0,\"date\":\"2026-11-17\",\"phase\":\"Cut\",\"word\":8,\"line\":6,\
         \"issue\":0,\"issue_name\":\"JGB-350\",\"unit\":1,\"refusal\":0,\"account\":2,\"account_name\":\"Bizen\",\
         \"lots\":50000,\"status\":\"wholly failed\",\"lacks\":50000}\n";
-    assert_eq!(was, told);
+    assert!(was.ends_with(told), "{was}");
     let account = "why --account Bizen --issue JGB-350 --day 2026-11-17 --names desk.names";
     let sentences = desk.told(&format!("{account} day.txt"));
     let head = "before word 8, line 6, day 0 (2026-11-17), Cut: account Bizen is due 150,000 lots (7,500,000,000 yen face) \

@@ -8,6 +8,7 @@ use crate::ledger::Step;
 use crate::measure::{counted, Face, Grouped, Line, Lots, Price, Rate};
 use crate::units::Case;
 use settlement_day::Instruction;
+use std::fmt::Display;
 use std::io::{self, Write};
 
 /// Tells a fact of an instruction that stands there.
@@ -367,6 +368,15 @@ fn units_text(first: u32, last: u32) -> (String, &'static str) {
 /// Days with their measure.
 pub fn days_text(days: u32) -> String {
     format!("{days} day{}", if days == 1 { "" } else { "s" })
+}
+
+/// Numbers or names with commas and a last 'and' between them.
+pub fn listed<T: Display>(things: &[T]) -> String {
+    let names: Vec<String> = things.iter().map(T::to_string).collect();
+    match names.split_last() {
+        Some((last, before)) if !before.is_empty() => format!("{} and {last}", before.join(", ")),
+        _ => names.join(""),
+    }
 }
 
 #[cfg(test)]
