@@ -12,6 +12,7 @@ use settlement_day::calls::{self, Done as Called};
 use settlement_day::{Book, Instruction, Refusal, Ticket, ISSUES, OUTPUT_WORDS};
 use std::io::{self, BufRead, BufReader, Read, Write};
 use tape::fault::Fault;
+use tape::known::Known;
 use tape::why::why;
 
 /// The most bytes of a line.
@@ -341,7 +342,9 @@ fn charges(book: &Book) -> Vec<(u32, i64)> {
 /// Why the book refuses a call, with the numbers behind it.
 fn why_refused(book: &Book, call: &Call, refusal: Refusal) -> String {
     match call {
-        Call::Tape { instruction, quotes } => why(book, instruction, quotes, refusal),
+        Call::Tape { instruction, quotes } => {
+            why(book, instruction, quotes, refusal, &Known::default())
+        }
         Call::Commit(_) => of_lift(refusal),
     }
 }

@@ -6,6 +6,7 @@ use crate::orders::failing;
 use ::tape::dealt::Dealt;
 use ::tape::facts::{Fact, Told};
 use ::tape::input::Stands;
+use ::tape::known::Known;
 use ::tape::measure::{counted, Face};
 use ::tape::story::Story;
 use ::tape::telling::{json, text};
@@ -173,7 +174,8 @@ fn begin<'a>(book: &Book, sink: &'a mut ::tape::story::Sink<'a>) -> Story<'a> {
         Some(_) => Dealt::default(),
     };
     let dealt = if book.deals_in_turn() { issues.map(dealt).collect() } else { Vec::new() };
-    Story { book: book.clone(), output: vec![0; OUTPUT_WORDS], handed, dealt, word: None, sink }
+    let (book, output, known) = (book.clone(), vec![0; OUTPUT_WORDS], Known::default());
+    Story { book, output, handed, dealt, word: None, known, sink }
 }
 
 /// An instruction that begins at a word of the tape; answers how many words it has.

@@ -6,7 +6,7 @@ use crate::input::Day;
 use crate::measure::{counted, Face};
 use crate::standing::{run, Stood, When};
 use crate::status::{json_of, phrase, Asked};
-use crate::telling::failed_units;
+use crate::telling::{date_field, failed_units, name_field};
 use crate::units::{runs, FULL};
 use settlement_day::calls::{self, Unit};
 use settlement_day::{Book, Entry, Phase, Status};
@@ -32,7 +32,7 @@ pub struct Told<'a> {
 /// moment.
 pub fn ask(day: &Day, question: Question) -> Result<Told<'_>, String> {
     let Question { issue, account, when } = question;
-    let stood = run(&day.tape, when)?;
+    let stood = run(day, when)?;
     let book = &stood.book;
     let settling = book.phase != Phase::TAKING;
     let numbers = if settling { units_of(book, issue, account) } else { Vec::new() };
@@ -71,8 +71,10 @@ impl Told<'_> {
 
     /// A sentence for each unit, like ones together, and one for each entry that is owed.
     pub fn sentences(&self) -> String {
-        let Question { issue, account, .. } = self.question;
-        let (moment, day) = (self.stood.moment(self.day), self.stood.book.day);
+        let known = &self.stood.known;
+        let issue = known.issue(self.question.issue);
+        let account = known.account(self.question.account);
+        let (moment, day) = (self.stood.moment(self.day), known.day(self.stood.book.day));
         let head = format!("{moment}, day {day}, {}", self.stood.phase());
         if self.refused() {
             return format!("{head}: refused by 3: trades are taken, no unit is settled yet\n");
@@ -88,7 +90,7 @@ impl Told<'_> {
         }
         for entry in &self.owed {
             let Entry { from, lots, day, .. } = *entry;
-            let lots = Face(lots.into());
+            let (from, lots, day) = (known.account(from), Face(lots.into()), known.day(day));
             told.push_str(&format!(
                 "  account {from} owes it {lots} of the issue since day {day}\n"
             ));
@@ -101,24 +103,31 @@ impl Told<'_> {
         let (day, phase, word) = (self.stood.book.day, self.stood.phase(), self.stood.word);
         let line = self.stood.line(self.day);
         let line = line.map_or(String::new(), |line| format!(",\"line\":{line}"));
-        let at = format!("\"day\":{day},\"phase\":\"{phase}\",\"word\":{word}{line}");
+        let known = &self.stood.known;
+        let date = date_field(known.day(day));
+        let at = format!("\"day\":{day}{date},\"phase\":\"{phase}\",\"word\":{word}{line}");
         let Question { issue, account, .. } = self.question;
+        let whose =
+            |field: &str, account: u32| name_field(field, known.names.account_name(account));
+        let issue = format!("{issue}{}", name_field("issue_name", known.names.issue_name(issue)));
         if self.refused() {
+            let account = format!("{account}{}", whose("account_name", account));
             return format!(
                 "{{\"fact\":\"status\",{at},\"issue\":{issue},\"account\":{account},\"refusal\":3,\
                  \"why\":\"trades are taken, no unit is settled yet\"}}\n"
             );
         }
-        let units =
-            self.units.iter().map(|one| format!("{{\"fact\":\"status\",{at},{}}}\n", json_of(one)));
+        let status = |one: &Asked| format!("{{\"fact\":\"status\",{at},{}}}\n", json_of(one, known));
         let owed = self.owed.iter().map(|entry| {
             let Entry { from, to, lots, day: since, .. } = *entry;
+            let from = format!("{from}{}", whose("from_name", from.into()));
+            let to = format!("{to}{}", whose("to_name", to.into()));
             format!(
                 "{{\"fact\":\"entry\",{at},\"issue\":{issue},\"from\":{from},\"to\":{to},\
                  \"lots\":{lots},\"since\":{since}}}\n"
             )
         });
-        units.chain(owed).collect()
+        self.units.iter().map(status).chain(owed).collect()
     }
 }
 

@@ -2,6 +2,7 @@
 
 use crate::bytes::split;
 use crate::input::{Day, Stands};
+use crate::known::Known;
 use crate::progress::Meter;
 use crate::text::why_ended;
 use crate::why::why;
@@ -20,6 +21,7 @@ pub fn check(day: &Day, tell: &mut dyn FnMut(&str) -> io::Result<()>) -> io::Res
     let (words, stray) = split(&day.tape);
     let mut book = Book::fresh();
     let mut output = vec![0; OUTPUT_WORDS];
+    let mut known = Known::of(&day.names);
     let mut checked = Checked::default();
     let mut meter = Meter::of_words(words.len());
     let mut at = 0;
@@ -29,12 +31,13 @@ pub fn check(day: &Day, tell: &mut dyn FnMut(&str) -> io::Result<()>) -> io::Res
             Ok((instruction, count)) => {
                 checked.instructions += 1;
                 let quotes = tape::quotes(&words[at..]);
-                let answer = calls::call(&mut book, &instruction, &quotes, &mut output);
-                if let Err(refusal) = answer {
-                    checked.refused += 1;
-                    let (name, why) =
-                        (instruction.name(), why(&book, &instruction, &quotes, refusal));
-                    tell(&format!("{}: {name}: {why}", place(day, at)))?;
+                match calls::call(&mut book, &instruction, &quotes, &mut output) {
+                    Ok(_) => known.done(&instruction),
+                    Err(refusal) => {
+                        checked.refused += 1;
+                        let why = why(&book, &instruction, &quotes, refusal, &known);
+                        tell(&format!("{}: {}: {why}", place(day, at), instruction.name()))?;
+                    }
                 }
                 at += count;
             }

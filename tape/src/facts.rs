@@ -1,6 +1,7 @@
 //! The facts of a tape: what each instruction did to the book, in the order in which it came.
 
 use crate::dealt::{Rounds, Turn};
+use crate::known::Known;
 use crate::ledger::Step;
 use crate::units::Case;
 use settlement_day::{Instruction, Refusal};
@@ -61,13 +62,14 @@ pub enum Fact {
     Charged { account: u32, yen: i64 },
 }
 
-/// A fact as it is told: the day that it is of, and the first word of the instruction that it belongs
-/// to; none where a day begins, and of the book at the end.
+/// A fact as it is told: the day that it is of, the first word of the instruction that it belongs to
+/// (none where a day begins, and of the book at the end), and the names and dates that are known then.
 #[derive(Clone, Copy, Debug, PartialEq, Eq)]
 pub struct Told<'a> {
     pub day: u16,
     pub word: Option<usize>,
     pub fact: &'a Fact,
+    pub known: &'a Known,
 }
 
 /// The terms of a charge: of which issue, at which price and accrued amount, for how many days at

@@ -3,6 +3,7 @@
 
 use crate::bytes;
 use crate::fault::Faults;
+use crate::names::Names;
 use crate::text::{self, Parsed, Place};
 
 /// The kinds of words with which an instruction begins, the bits of each that are unused, and the kind
@@ -153,13 +154,13 @@ pub fn of_hex(file: &str, bytes: Vec<u8>) -> Result<Vec<u8>, String> {
     bytes::of_hex(&text_of(file, bytes)?).map_err(|faults| errors(file, &faults))
 }
 
-/// A text, read; or what is wrong with it.
-pub fn parsed(file: &str, bytes: Vec<u8>) -> Result<Parsed, String> {
-    text::parse(&text_of(file, bytes)?).map_err(|faults| errors(file, &faults))
+/// A text, read by these names; or what is wrong with it.
+pub fn parsed(file: &str, bytes: Vec<u8>, names: &Names) -> Result<Parsed, String> {
+    text::parse_by(names, &text_of(file, bytes)?).map_err(|faults| errors(file, &faults))
 }
 
 /// What is wrong with a text, a line each.
-fn errors(file: &str, faults: &Faults) -> String {
+pub fn errors(file: &str, faults: &Faults) -> String {
     faults.listed(file, ["error", "errors"]).join("\n")
 }
 
@@ -168,10 +169,12 @@ pub fn notes(file: &str, notes: &Faults) -> Vec<String> {
     notes.listed(file, ["note", "notes"])
 }
 
-/// The files of a day, one after the other, as one tape.
+/// The files of a day, one after the other, as one tape, and the names by which they are read and told.
 #[derive(Clone, Debug, Default, PartialEq, Eq)]
 pub struct Day {
     pub tape: Vec<u8>,
+    /// The names of issues and accounts, and the date of day 0.
+    pub names: Names,
     /// What is to be said of lines that are right.
     pub notes: Vec<String>,
     sources: Vec<Source>,
@@ -196,6 +199,11 @@ pub struct Stands<'a> {
 }
 
 impl Day {
+    /// A day of no files yet, by these names.
+    pub fn by(names: Names) -> Day {
+        Day { names, ..Day::default() }
+    }
+
     /// The day of one file.
     pub fn of(file: &str, bytes: Vec<u8>, taken: Taken) -> Result<Day, String> {
         let mut day = Day::default();
@@ -217,7 +225,7 @@ impl Day {
             Taken::Words => (bytes, None),
             Taken::Apart if kind_of(&bytes) == Kind::Words => (bytes, None),
             Taken::Apart => {
-                let Parsed { tape, places, notes: found } = parsed(file, bytes)?;
+                let Parsed { tape, places, notes: found } = parsed(file, bytes, &self.names)?;
                 self.notes.extend(notes(file, &found));
                 (tape, Some(places))
             }
@@ -232,7 +240,7 @@ impl Day {
     }
 
     /// The names of its files.
-    pub fn names(&self) -> Vec<String> {
+    pub fn files(&self) -> Vec<String> {
         self.sources.iter().map(|source| source.name.clone()).collect()
     }
 

@@ -2,11 +2,14 @@
 //! tape's book at its end and a text with settlement accounts and inventories.
 
 use crate::fault::{words_of, Fault, Faults, Word};
+use crate::known::Dated;
 use crate::measure::{Grouped, Lots};
-use crate::standing::{run, When};
+use crate::names::{Kind, Names};
+use crate::standing::Stood;
+use crate::telling::date_field;
 use crate::text::digits_of;
 use settlement_day::simulation::{simulate, Desk, Simulated, MOST_SIZE, SETTLEMENT_ACCOUNTS};
-use settlement_day::{Book, Refusal, ACCOUNTS, ISSUES};
+use settlement_day::{Refusal, ACCOUNTS, ISSUES};
 
 /// The sizes that are tried where none are named.
 pub const SIZES: [u32; 9] = [100_000, 50_000, 20_000, 10_000, 5_000, 2_000, 1_000, 100, 1];
@@ -18,17 +21,19 @@ const MOST_LOTS: u32 = 20_000_000;
 const LINES: &str = "write `settles ACCOUNT SETTLEMENT`, `settles FIRST-LAST SETTLEMENT` or \
                      `holds SETTLEMENT ISSUE LOTS`";
 
-/// A desk as a text has it: which accounts and inventories are named.
-struct Named {
+/// A desk as a text has it: which accounts and inventories are named, and by which names.
+struct Named<'a> {
     settles: [Option<u32>; ACCOUNTS],
     holds: [Option<u32>; ISSUES * SETTLEMENT_ACCOUNTS],
+    names: &'a Names,
 }
 
 /// Reads a desk from its text: settlement accounts of the netting accounts, and inventories, 0 where
 /// none is named. Every account with a net in the book needs a settlement account.
-pub fn desk_of(text: &str, book: &Book) -> Result<Desk, Faults> {
-    let mut named =
-        Named { settles: [None; ACCOUNTS], holds: [None; ISSUES * SETTLEMENT_ACCOUNTS] };
+pub fn desk_of(text: &str, stood: &Stood) -> Result<Desk, Faults> {
+    let (book, names) = (&stood.book, &stood.known.names);
+    let (settles, holds) = ([None; ACCOUNTS], [None; ISSUES * SETTLEMENT_ACCOUNTS]);
+    let mut named = Named { settles, holds, names };
     let text = text.strip_prefix('\u{feff}').unwrap_or(text);
     let mut faults = Faults::default();
     let mut last = 1;
@@ -42,6 +47,7 @@ pub fn desk_of(text: &str, book: &Book) -> Result<Desk, Faults> {
     for account in 0..ACCOUNTS as u32 {
         let net = (0..ISSUES as u32).find(|&issue| book.net(issue, account) != 0);
         if let (Some(issue), None) = (net, named.settles[account as usize]) {
+            let (issue, account) = (names.issue(issue), names.account(account));
             let what = format!(
                 "account {account} has a net in issue {issue} and no settlement account: write \
                  `settles {account} SETTLEMENT`"
@@ -55,7 +61,7 @@ pub fn desk_of(text: &str, book: &Book) -> Result<Desk, Faults> {
     Err(faults)
 }
 
-impl Named {
+impl Named<'_> {
     /// Takes a line.
     fn take(&mut self, name: &Word, arguments: &[Word]) -> Result<(), Fault> {
         match (name.text, arguments) {
@@ -71,11 +77,12 @@ impl Named {
 
     /// Accounts that share a settlement account; each is named once.
     fn settles(&mut self, accounts: &Word, settlement: &Word) -> Result<(), Fault> {
-        let (first, last) = range(accounts)?;
+        let (first, last) = range(accounts, self.names)?;
         let settlement =
             number("a settlement account", settlement, SETTLEMENT_ACCOUNTS as u32 - 1)?;
         for account in first..=last {
             if self.settles[account as usize].replace(settlement).is_some() {
+                let account = self.names.account(account);
                 let what =
                     format!("account {account} has a settlement account already: name it once");
                 return Err(accounts.fault(what));
@@ -87,10 +94,14 @@ impl Named {
     /// What a settlement account holds of an issue; each is named once.
     fn holds(&mut self, settlement: &Word, issue: &Word, lots: &Word) -> Result<(), Fault> {
         let account = number("a settlement account", settlement, SETTLEMENT_ACCOUNTS as u32 - 1)?;
-        let of = number("an issue", issue, ISSUES as u32 - 1)?;
+        let of = match named(Kind::Issue, issue, self.names)? {
+            Some(of) => of,
+            None => number("an issue", issue, ISSUES as u32 - 1)?,
+        };
         let lots = number("lots", lots, MOST_LOTS)?;
         let place = of as usize * SETTLEMENT_ACCOUNTS + account as usize;
         if self.holds[place].replace(lots).is_some() {
+            let of = self.names.issue(of);
             let what = format!(
                 "settlement account {account} has lots of issue {of} already: name them once"
             );
@@ -108,9 +119,17 @@ impl Named {
     }
 }
 
-/// The accounts of a word: one, or a first and a last with `-` between.
-pub(crate) fn range(word: &Word) -> Result<(u32, u32), Fault> {
+/// The number of a word that is a name of the kind; none where it must be a number.
+fn named(kind: Kind, word: &Word, names: &Names) -> Result<Option<u32>, Fault> {
+    names.named(kind, word.text).map_err(|what| word.fault(what))
+}
+
+/// The accounts of a word: one, by its name or its number, or a first and a last with `-` between.
+pub(crate) fn range(word: &Word, names: &Names) -> Result<(u32, u32), Fault> {
     let most = ACCOUNTS as u32 - 1;
+    if let Some(account) = named(Kind::Account, word, names)? {
+        return Ok((account, account));
+    }
     let Some((first, last)) = word.text.split_once('-') else {
         let account = number("an account", word, most)?;
         return Ok((account, account));
@@ -145,7 +164,7 @@ pub fn sizes_of(list: &str) -> Result<Vec<u32>, String> {
 
 /// What came of each size, on which book.
 pub struct Tried {
-    day: u16,
+    day: Dated,
     phase: &'static str,
     /// Did reading end by a refusal, and at which word?
     ended: Option<usize>,
@@ -154,27 +173,16 @@ pub struct Tried {
     rows: Vec<(u32, Simulated)>,
 }
 
-/// The book of a tape at its end.
-pub fn book_of(tape: &[u8]) -> Result<(Book, Option<usize>), String> {
-    let stood = run(tape, When::End)?;
-    let ended = stood.ended().then_some(stood.word);
-    Ok((stood.book, ended))
-}
-
-/// Tries sizes on a book's nets.
-pub fn try_sizes(
-    book: &Book,
-    ended: Option<usize>,
-    desk: &Desk,
-    sizes: &[u32],
-) -> Result<Tried, Refusal> {
+/// Tries sizes on the nets of a book as the tape has brought it to its end.
+pub fn try_sizes(stood: &Stood, desk: &Desk, sizes: &[u32]) -> Result<Tried, Refusal> {
+    let book = &stood.book;
     let mut rows = Vec::new();
     for &size in sizes {
         rows.push((size, simulate(book, desk, size)?));
     }
     let owed = book.nets.iter().map(|&net| u64::from(net.min(0).unsigned_abs())).sum();
-    let phase = book.phase.name().unwrap_or("no phase");
-    Ok(Tried { day: book.day, phase, ended, owed, rows })
+    let (day, ended) = (stood.known.day(book.day), stood.ended().then_some(stood.word));
+    Ok(Tried { day, phase: stood.phase(), ended, owed, rows })
 }
 
 impl Tried {
@@ -207,13 +215,14 @@ impl Tried {
 
     /// An object of JSON for each size, a line each.
     pub fn json(&self) -> String {
-        let Tried { day, phase, owed, rows, .. } = self;
+        let Tried { day: Dated { number: day, .. }, phase, owed, rows, .. } = self;
+        let date = date_field(self.day);
         let word = self.ended.map_or("null".to_string(), |word| word.to_string());
         let object = |(size, tried): &(u32, Simulated)| {
             let Simulated { deliveries, rounds, .. } = tried;
             let issues = tried.owed.map(|lots| lots.to_string()).join(",");
             format!(
-                "{{\"fact\":\"jam\",\"day\":{day},\"phase\":\"{phase}\",\"ended\":{word},\
+                "{{\"fact\":\"jam\",\"day\":{day}{date},\"phase\":\"{phase}\",\"ended\":{word},\
                  \"owed\":{owed},\"size\":{size},\"rounds\":{rounds},\"deliveries\":{deliveries},\
                  \"stillOwed\":{},\"stillOwedByIssue\":[{issues}]}}\n",
                 tried.owed_in_all()
@@ -280,21 +289,28 @@ delivery, which is counted too. What is still owed then is jammed at that size.<
 #[cfg(test)]
 mod tests {
     use super::*;
-    use crate::text;
+    use crate::input::{Day, Taken};
+    use crate::standing::{run, When};
 
-    /// Account 0 owes 100,000 lots, of which 1 is due 60,000 and 2 is due 40,000.
-    fn ring() -> Book {
-        let tape = text::to_tape("trade 0 0 1 60000\ntrade 0 0 2 40000\n").unwrap();
-        let (book, ended) = book_of(&tape).unwrap();
-        assert_eq!(ended, None);
-        book
+    /// Account 0 owes 100,000 lots, of which 1 is due 60,000 and 2 is due 40,000; by these names.
+    fn ring_by(names: &str) -> Stood {
+        let mut day = Day::by(Names::parse(names).unwrap());
+        let text = b"trade 0 0 1 60000\ntrade 0 0 2 40000\n".to_vec();
+        day.add("ring.txt", text, Taken::Apart).unwrap();
+        let stood = run(&day, When::End).unwrap();
+        assert!(!stood.ended());
+        stood
+    }
+
+    fn ring() -> Stood {
+        ring_by("")
     }
 
     const HALF: &str = "# all three share one account\nsettles 0-2 0\nholds 0 0 50,000\n";
 
     fn tried(sizes: &[u32]) -> Tried {
-        let book = ring();
-        try_sizes(&book, None, &desk_of(HALF, &book).unwrap(), sizes).unwrap()
+        let stood = ring();
+        try_sizes(&stood, &desk_of(HALF, &stood).unwrap(), sizes).unwrap()
     }
 
     #[test]
@@ -340,6 +356,28 @@ mod tests {
         assert!(desk_of("settles 2-0 1\n", &ring()).unwrap_err().first[0]
             .what
             .contains("lower one first"));
+    }
+
+    #[test]
+    fn names_and_dates_stand_in_a_desk_and_in_what_is_told() {
+        let stood = ring_by("date 2026-11-17\nissue 0 JGB-350\naccount 0 Nomura\naccount 2 SMBC\n");
+        let desk = "settles Nomura 0\nsettles 1 0\nsettles SMBC 0\nholds 0 JGB-350 50,000\n";
+        let desk = desk_of(desk, &stood).unwrap();
+        assert_eq!(desk, desk_of(HALF, &stood).unwrap());
+        let tried = try_sizes(&stood, &desk, &[10_000]).unwrap();
+        assert!(tried.text().starts_with("at the end of the tape, day 0 (2026-11-17), Taking"));
+        assert!(tried.html().contains("day 0 (2026-11-17), Taking"));
+        let json = tried.json();
+        assert!(json.contains("\"day\":0,\"date\":\"2026-11-17\",\"phase\""), "{json}");
+        let faults = desk_of("settles 1 0\nsettles SNBC 1\nholds 0 JGB 5\n", &stood).unwrap_err();
+        let told: Vec<String> = faults.first.iter().map(ToString::to_string).collect();
+        let expected = [
+            "line 2, column 9: there is no account \"SNBC\": the names file has Nomura, SMBC",
+            "line 3, column 9: there is no issue \"JGB\": the names file has JGB-350",
+            "line 3, column 1: account Nomura has a net in issue JGB-350 and no settlement account: \
+             write `settles Nomura SETTLEMENT`",
+        ];
+        assert_eq!(told[..3], expected);
     }
 
     #[test]

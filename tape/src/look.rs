@@ -4,23 +4,27 @@
 use crate::fault::{words_of, Fault, Faults, Word};
 use crate::input::Day;
 use crate::jam::{number, range};
+use crate::known::Known;
 use crate::measure::{Grouped, Lots};
+use crate::names::Names;
 use crate::standing::{run, When};
+use crate::telling::{date_field, name_field};
 use settlement_day::access::{self, Account, NOBODY, PARTICIPANTS};
 use settlement_day::{Caller, Entry, Refusal, ACCOUNTS};
 
 /// What a line of the owners may be.
 const LINES: &str = "write `owns PARTICIPANT ACCOUNT` or `owns PARTICIPANT FIRST-LAST`";
 
-/// Reads the owners of the accounts from their text; an account that is not named is nobody's.
-pub fn owners_of(text: &str) -> Result<[u8; ACCOUNTS], Faults> {
+/// Reads the owners of the accounts from their text, by these names; an account that does not stand there
+/// is nobody's.
+pub fn owners_of(text: &str, names: &Names) -> Result<[u8; ACCOUNTS], Faults> {
     let mut owners = [NOBODY; ACCOUNTS];
     let text = text.strip_prefix('\u{feff}').unwrap_or(text);
     let mut faults = Faults::default();
     for (at, line) in (1..).zip(text.lines()) {
         let words: Vec<Word> = words_of(line, at).collect();
         if let Some((name, arguments)) = words.split_first() {
-            own(&mut owners, name, arguments)
+            own(&mut owners, name, arguments, names)
                 .err()
                 .into_iter()
                 .for_each(|fault| faults.push(fault));
@@ -33,16 +37,22 @@ pub fn owners_of(text: &str) -> Result<[u8; ACCOUNTS], Faults> {
     }
 }
 
-/// Takes a line; each account is named once.
-fn own(owners: &mut [u8; ACCOUNTS], name: &Word, arguments: &[Word]) -> Result<(), Fault> {
+/// Takes a line; each account stands once.
+fn own(
+    owners: &mut [u8; ACCOUNTS],
+    name: &Word,
+    arguments: &[Word],
+    names: &Names,
+) -> Result<(), Fault> {
     let ("owns", [participant, accounts]) = (name.text, arguments) else {
         return Err(name.fault(format!("the line is another one: {LINES}")));
     };
     let owner = number("a participant", participant, PARTICIPANTS - 1)?;
-    let (first, last) = range(accounts)?;
+    let (first, last) = range(accounts, names)?;
     for account in first..=last {
         let place = &mut owners[account as usize];
         if *place != NOBODY {
+            let account = names.account(account);
             let what = format!("account {account} has an owner already: name it once");
             return Err(accounts.fault(what));
         }
@@ -69,13 +79,14 @@ pub struct Seen {
     word: usize,
     /// The moment in words.
     moment: String,
+    known: Known,
     /// Net and charge, and all entries, or the refusal.
     answer: Result<(Account, Vec<Entry>), Refusal>,
 }
 
 /// Runs a tape on a fresh book and reads the account; an error is that no instruction begins at the word.
 pub fn read(day: &Day, question: &Question) -> Result<Seen, String> {
-    let stood = run(&day.tape, question.at.map_or(When::End, When::Before))?;
+    let stood = run(day, question.at.map_or(When::End, When::Before))?;
     let book = &stood.book;
     let Question { ref caller, issue, account, .. } = *question;
     let mut entries = Vec::new();
@@ -87,7 +98,8 @@ pub fn read(day: &Day, question: &Question) -> Result<Seen, String> {
         }
     };
     let (phase, word, moment) = (stood.phase(), stood.word, stood.moment(day));
-    Ok(Seen { question: *question, day: book.day, phase, word, moment, answer })
+    let (day, known) = (book.day, stood.known);
+    Ok(Seen { question: *question, day, phase, word, moment, known, answer })
 }
 
 impl Seen {
@@ -99,18 +111,21 @@ impl Seen {
     /// For people: a line for the account, and one for each entry.
     pub fn text(&self) -> String {
         let Seen { question: Question { issue, account, .. }, day, phase, ref moment, .. } = *self;
-        let head = format!("{moment}, day {day}, {phase}");
+        let known = &self.known;
+        let head = format!("{moment}, day {}, {phase}", known.day(day));
         let (seen, entries) = match &self.answer {
             Ok(answer) => answer,
             Err(refusal) => return format!("{head}: {}\n", refusal.said()),
         };
         let charge = Grouped(seen.charge.into());
         let net = net_of(seen.net);
+        let (issue, account) = (known.issue(issue), known.account(account));
         let mut text =
             format!("{head}: account {account} in issue {issue}: {net}, charge {charge} yen\n");
         for (k, entry) in entries.iter().enumerate() {
             let Entry { from, to, lots, day, .. } = *entry;
-            let lots = Lots(lots.into());
+            let (lots, day) = (Lots(lots.into()), known.day(day));
+            let (from, to) = (known.account(from), known.account(to));
             text.push_str(&format!("entry {k}: {from} fails {lots} to {to}, since day {day}\n"));
         }
         text
@@ -120,9 +135,14 @@ impl Seen {
     pub fn json(&self) -> String {
         let Seen { question: Question { caller, issue, account, .. }, day, phase, word, .. } =
             *self;
-        let number = caller.number;
+        let (number, known) = (caller.number, &self.known);
+        let whose =
+            |field: &str, account: u32| name_field(field, known.names.account_name(account));
+        let date = date_field(known.day(day));
+        let issue = format!("{issue}{}", name_field("issue_name", known.names.issue_name(issue)));
+        let account = format!("{account}{}", whose("account_name", account));
         let head = format!(
-            "{{\"fact\":\"account\",\"day\":{day},\"phase\":\"{phase}\",\"word\":{word},\
+            "{{\"fact\":\"account\",\"day\":{day}{date},\"phase\":\"{phase}\",\"word\":{word},\
              \"caller\":{number},\"issue\":{issue},\"account\":{account}"
         );
         match &self.answer {
@@ -130,6 +150,9 @@ impl Seen {
             Ok((seen, entries)) => {
                 let object = |entry: &Entry| {
                     let Entry { from, to, lots, day, .. } = *entry;
+                    let from = format!("{from}{}", whose("from_name", from.into()));
+                    let to = format!("{to}{}", whose("to_name", to.into()));
+                    let day = format!("{day}{}", date_field(known.day(day)));
                     format!("{{\"from\":{from},\"to\":{to},\"lots\":{lots},\"day\":{day}}}")
                 };
                 let entries: Vec<String> = entries.iter().map(object).collect();
@@ -165,7 +188,8 @@ mod tests {
         let day = "trade 0 4 1 230000\ntrade 0 5 2 250000\ntrade 0 5 3 150000\nclose\n\
                    deliver 0 5 345000\ndeliver 0 4 200000\ncutoff\n";
         let day = Day::of("day.txt", day.as_bytes().to_vec(), Taken::Apart).unwrap();
-        let caller = Caller { number: caller, owners: owners_of(OWNERS).unwrap() };
+        let owners = owners_of(OWNERS, &Names::default()).unwrap();
+        let caller = Caller { number: caller, owners };
         read(&day, &Question { caller, issue: 0, account, at: None }).unwrap()
     }
 
@@ -191,10 +215,22 @@ mod tests {
 
     #[test]
     fn wrong_owners_are_told_with_their_place() {
-        let faults =
-            owners_of("owns 16 1\nown 0 1\nowns 0 64\nowns 0 1\nowns 1 0-2\n").unwrap_err();
+        let owners = "owns 16 1\nown 0 1\nowns 0 64\nowns 0 1\nowns 1 0-2\n";
+        let faults = owners_of(owners, &Names::default()).unwrap_err();
         let places: Vec<(usize, usize)> =
             faults.first.iter().map(|fault| (fault.line, fault.column)).collect();
         assert_eq!(places, [(1, 6), (2, 1), (3, 8), (5, 8)]);
+    }
+
+    #[test]
+    fn owners_can_stand_by_the_names_of_accounts() {
+        let names = Names::parse("account 5 Nomura\naccount 7 JP-Bank\n").unwrap();
+        let owners = owners_of("owns 0 Nomura\nowns 1 2-3\nowns 2 JP-Bank\n", &names).unwrap();
+        assert_eq!((owners[5], owners[2], owners[3], owners[7], owners[4]), (0, 1, 1, 2, NOBODY));
+        let faults = owners_of("owns 0 Nomra\nowns 0 5\nowns 1 Nomura\n", &names).unwrap_err();
+        let told: Vec<String> = faults.first.iter().map(ToString::to_string).collect();
+        let unknown = "there is no account \"Nomra\": the names file has Nomura, JP-Bank";
+        assert_eq!(told[0], format!("line 1, column 8: {unknown}"));
+        assert_eq!(told[1], "line 3, column 8: account Nomura has an owner already: name it once");
     }
 }

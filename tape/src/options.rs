@@ -44,6 +44,8 @@ pub const OUT: Opt = valued("-o", "a file");
 pub const FORCE: Opt = flag("--force");
 /// Told as JSON.
 pub const JSON: Opt = flag("--json");
+/// The file that gives names to issues and accounts and a date to day 0.
+pub const NAMES: Opt = valued("--names", "a file");
 
 /// What the words of a command give: options with their values, and names.
 #[derive(Clone, Debug, Default, PartialEq, Eq)]

@@ -2,6 +2,7 @@
 
 use crate::bytes::split;
 use crate::input::Day;
+use crate::known::Known;
 use crate::measure::counted;
 use crate::progress::Meter;
 use crate::story::traded;
@@ -26,6 +27,8 @@ pub struct Stood {
     pub book: Book,
     /// The word at which the tape stands.
     pub word: usize,
+    /// The names, and the dates of the days up to then.
+    pub known: Known,
     /// Is it before an instruction?
     before: bool,
     /// Did reading end there by a refusal?
@@ -60,9 +63,10 @@ impl Stood {
 }
 
 /// Runs a tape up to a moment; an error is that there is no such moment.
-pub fn run(tape: &[u8], when: When) -> Result<Stood, String> {
-    let (words, stray) = split(tape);
+pub fn run(day: &Day, when: When) -> Result<Stood, String> {
+    let (words, stray) = split(&day.tape);
     let mut book = Book::fresh();
+    let mut known = Known::of(&day.names);
     let mut output = vec![0; OUTPUT_WORDS];
     let mut closed = None;
     let mut meter = Meter::of_words(words.len());
@@ -78,33 +82,38 @@ pub fn run(tape: &[u8], when: When) -> Result<Stood, String> {
         let before = roll.then(|| book.clone());
         if !traded(&mut book, &instruction) {
             let quotes = tape::quotes(&words[at..]);
-            let _ = calls::call(&mut book, &instruction, &quotes, &mut output);
+            if calls::call(&mut book, &instruction, &quotes, &mut output).is_ok() {
+                known.done(&instruction);
+            }
         }
         if let Some(before) = before.filter(|before| before.day != book.day) {
-            let stood = Stood { book: before, word: at, before: true, ended: false };
-            if when == When::EndOf(stood.book.day) {
-                return Ok(stood);
+            if when == When::EndOf(before.day) {
+                return Ok(Stood { book: before, word: at, known, before: true, ended: false });
             }
-            closed = Some(stood);
+            closed = Some((before, at));
         }
         at += count;
     }
     let left = at < words.len() || !stray.is_empty();
     let before = matches!(when, When::Before(_));
-    let stood = Stood { book, word: at, before, ended: left && !before };
+    let stood = Stood { book, word: at, known, before, ended: left && !before };
     reached(stood, when, closed)
 }
 
-/// The moment that is wanted, where the tape has been run as far as it goes.
-fn reached(stood: Stood, when: When, closed: Option<Stood>) -> Result<Stood, String> {
-    match when {
-        When::Before(word) if stood.word < word => {
+/// The moment that is wanted, where the tape has been run as far as it goes; `closed` is the book at the
+/// end of the last day that was closed, and the word of its roll.
+fn reached(stood: Stood, when: When, closed: Option<(Book, usize)>) -> Result<Stood, String> {
+    match (when, closed) {
+        (When::Before(word), _) if stood.word < word => {
             Err(format!("--at {word}: reading ends at word {}", stood.word))
         }
-        When::EndOf(day) if stood.book.day != day => {
-            Err(format!("--day {day}: the tape ends on day {}", stood.book.day))
+        (When::EndOf(day), _) if stood.book.day != day => {
+            let last = stood.known.day(stood.book.day);
+            Err(format!("--day {day}: the tape ends on day {last}"))
         }
-        When::LastClosed if stood.book.phase == Phase::TAKING => Ok(closed.unwrap_or(stood)),
+        (When::LastClosed, Some((book, word))) if stood.book.phase == Phase::TAKING => {
+            Ok(Stood { book, word, before: true, ended: false, ..stood })
+        }
         _ => Ok(stood),
     }
 }

@@ -3,9 +3,11 @@
 
 use crate::bytes::split;
 use crate::input::Day;
+use crate::known::Known;
 use crate::measure::{counted, Face, Grouped};
 use crate::progress::Meter;
 use crate::story::traded;
+use crate::telling::{escaped_html, name_field};
 use settlement_day::statement::{statement, Statement, MOST_INSTRUCTIONS};
 use settlement_day::{calls, tape, Book, Instruction, Phase, Refusal, OUTPUT_WORDS};
 use std::collections::BTreeSet;
@@ -55,6 +57,8 @@ pub struct Told {
     span: Span,
     /// The word at which the span ends, with its line where that stands in a text.
     ends: String,
+    /// The names, and the dates of the span's days.
+    known: Known,
     /// Is it one account's?
     one: bool,
     rows: Vec<Row>,
@@ -64,16 +68,18 @@ impl Told {
     /// The statement of an account in an issue.
     pub fn one(day: &Day, issue: u32, account: u32) -> Result<Told, Refusal> {
         let (words, stray) = split(&day.tape);
-        let (span, _) = run(&words, !stray.is_empty());
+        let mut known = Known::of(&day.names);
+        let (span, _) = run(&words, !stray.is_empty(), &mut known);
         let statement = statement(&words, issue, account)?;
         let rows = vec![Row { issue, account, statement }];
-        Ok(Told { span, ends: span.ends(day), one: true, rows })
+        Ok(Told { span, ends: span.ends(day), known, one: true, rows })
     }
 
     /// The statements of all issues and accounts that have a number in them.
     pub fn all(day: &Day) -> Result<Told, Refusal> {
         let (words, stray) = split(&day.tape);
-        let (span, named) = run(&words, !stray.is_empty());
+        let mut known = Known::of(&day.names);
+        let (span, named) = run(&words, !stray.is_empty(), &mut known);
         let mut rows = Vec::new();
         let mut meter = Meter::of_things("statement", named.len());
         for (at, (issue, account)) in named.into_iter().enumerate() {
@@ -83,7 +89,7 @@ impl Told {
                 rows.push(Row { issue, account, statement });
             }
         }
-        Ok(Told { span, ends: span.ends(day), one: false, rows })
+        Ok(Told { span, ends: span.ends(day), known, one: false, rows })
     }
 
     /// For people: a list of one account's numbers, or a table.
@@ -97,6 +103,7 @@ impl Told {
     /// One account's numbers.
     fn list(&self, row: &Row) -> String {
         let Row { issue, account, statement } = row;
+        let (issue, account) = (self.known.issue(*issue), self.known.account(*account));
         let Statement { due, delivered, failed, resolved, failed_over_due: (over, under) } =
             statement;
         let lots = [
@@ -115,18 +122,21 @@ impl Told {
         )
     }
 
-    /// A table of all rows.
+    /// A table of all rows; issues and accounts have the room that the longest of them needs.
     fn table(&self, rows: &[Row]) -> String {
-        let line = |cells: [String; 7]| {
+        let rows = rows.iter().map(|row| row.cells(&self.known));
+        let cells: Vec<[String; 7]> =
+            std::iter::once(HEADS.map(String::from)).chain(rows).collect();
+        let room = |at: usize| cells.iter().map(|row| row[at].chars().count()).max().unwrap_or(0);
+        let (of_issue, of_account) = (room(0), room(1));
+        let line = |cells: &[String; 7]| {
             let [issue, account, due, delivered, failed, resolved, ratio] = cells;
             format!(
-                "{issue:>5}  {account:>7}  {due:>13}  {delivered:>13}  {failed:>13}  {resolved:>13}  \
-                 {ratio}\n"
+                "{issue:>of_issue$}  {account:>of_account$}  {due:>13}  {delivered:>13}  \
+                 {failed:>13}  {resolved:>13}  {ratio}\n"
             )
         };
-        let heads = HEADS.map(String::from);
-        let rows = rows.iter().map(|row| line(row.cells()));
-        let table: String = std::iter::once(line(heads)).chain(rows).collect();
+        let table: String = cells.iter().map(line).collect();
         format!("{}\n{table}", self.head())
     }
 
@@ -145,6 +155,7 @@ impl Told {
             End::Full(_) => format!("; the words from {} on are behind the span", self.ends),
         };
         let open = if settling {
+            let day = self.known.day(day);
             format!("; day {day} is still settling: of it only resolves are counted")
         } else {
             String::new()
@@ -161,13 +172,16 @@ impl Told {
             End::Full(word) => ("null".to_string(), word.to_string()),
         };
         let open = if settling { day.to_string() } else { "null".to_string() };
+        let names = &self.known.names;
         let object = |row: &Row| {
             let Row { issue, account, statement } = row;
+            let name = name_field("issue_name", names.issue_name(*issue));
+            let whose = name_field("account_name", names.account_name(*account));
             let Statement { due, delivered, failed, resolved, failed_over_due: (over, under) } =
                 statement;
             format!(
-                "{{\"fact\":\"statement\",\"issue\":{issue},\"account\":{account},\"due\":{due},\
-                 \"delivered\":{delivered},\"failed\":{failed},\"resolved\":{resolved},\
+                "{{\"fact\":\"statement\",\"issue\":{issue}{name},\"account\":{account}{whose},\
+                 \"due\":{due},\"delivered\":{delivered},\"failed\":{failed},\"resolved\":{resolved},\
                  \"failedOverDue\":[{over},{under}],\"instructions\":{instructions},\
                  \"refused\":{refused},\"ended\":{ended},\"behind\":{full},\"settling\":{open}}}\n"
             )
@@ -178,7 +192,7 @@ impl Told {
     /// A page with a row and a bar for each account: what it delivered of what was due.
     pub fn html(&self) -> String {
         let heads: String = HEADS.iter().map(|head| format!("<th>{head}</th>")).collect();
-        let rows: String = self.rows.iter().map(Row::html).collect();
+        let rows: String = self.rows.iter().map(|row| row.html(&self.known)).collect();
         let head = self.head();
         format!(
             "{HEAD}<p>{head}.</p>\n<table>\n<tr>{heads}<th>delivered of due</th></tr>\n{rows}</table>\n\
@@ -189,13 +203,13 @@ impl Told {
 
 impl Row {
     /// The cells of a table.
-    fn cells(&self) -> [String; 7] {
+    fn cells(&self, known: &Known) -> [String; 7] {
         let Statement { due, delivered, failed, resolved, failed_over_due: (over, under) } =
             self.statement;
         let of = |number: u64| Grouped(number.into()).to_string();
         [
-            self.issue.to_string(),
-            self.account.to_string(),
+            known.issue(self.issue).to_string(),
+            known.account(self.account).to_string(),
             of(due),
             of(delivered),
             of(failed),
@@ -205,8 +219,9 @@ impl Row {
     }
 
     /// The row of a page.
-    fn html(&self) -> String {
-        let cells: String = self.cells().iter().map(|cell| format!("<td>{cell}</td>")).collect();
+    fn html(&self, known: &Known) -> String {
+        let cell = |cell: &String| format!("<td>{}</td>", escaped_html(cell));
+        let cells: String = self.cells(known).iter().map(cell).collect();
         let Statement { due, delivered, .. } = self.statement;
         let percent = match due {
             0 => 0.0,
@@ -224,8 +239,8 @@ impl Row {
 }
 
 /// Runs a span, and tells which accounts sold or resolved in which issues: no other has a number in its
-/// statement.
-fn run(words: &[u32], stray: bool) -> (Span, BTreeSet<(u32, u32)>) {
+/// statement. The dates of its days become known.
+fn run(words: &[u32], stray: bool, known: &mut Known) -> (Span, BTreeSet<(u32, u32)>) {
     let mut book = Book::fresh();
     let mut output = vec![0; OUTPUT_WORDS];
     let mut named = BTreeSet::new();
@@ -250,8 +265,10 @@ fn run(words: &[u32], stray: bool) -> (Span, BTreeSet<(u32, u32)>) {
         }
         if !traded(&mut book, &instruction) {
             let quotes = tape::quotes(&words[at..]);
-            let answer = calls::call(&mut book, &instruction, &quotes, &mut output);
-            refused += usize::from(answer.is_err());
+            match calls::call(&mut book, &instruction, &quotes, &mut output) {
+                Ok(_) => known.done(&instruction),
+                Err(_) => refused += 1,
+            }
         }
         at += count;
         instructions += 1;
@@ -289,6 +306,7 @@ it failed, and those that it resolved since. Due is delivered and failed togethe
 mod tests {
     use super::*;
     use crate::input::Taken;
+    use crate::names::Names;
 
     const TWO_DAYS: &str = "trade 0 4 1 100\ntrade 0 5 2 50\nclose\ndeliver 0 4 60\ndeliver 0 5 60\n\
         cutoff\nresolve 0 4 15\nroll 1 300 100000 accrued 0\ntrade 0 4 2 30\nclose\nresolve 0 4 5\n";
@@ -340,6 +358,30 @@ are counted
         assert_eq!(json.lines().count(), 2);
         let page = told(TWO_DAYS).html();
         assert!(page.contains("width:60.000%") && page.contains("60.0 percent"), "{page}");
+    }
+
+    #[test]
+    fn names_and_dates_stand_where_the_numbers_stood() {
+        let names = "date 2026-11-17\nissue 0 JGB-350\naccount 4 A&B\n";
+        let mut named = Day::by(Names::parse(names).unwrap());
+        named.add("day.txt", TWO_DAYS.as_bytes().to_vec(), Taken::Apart).unwrap();
+        let one = Told::one(&named, 0, 4).unwrap().text();
+        let head = "account A&B, issue JGB-350: lots over 11 instructions, 1 refused; day 1 \
+                    (2026-11-18) is still settling";
+        assert!(one.starts_with(head), "{one}");
+        let all = Told::all(&named).unwrap();
+        let text = all.text();
+        let lines: Vec<&str> = text.lines().skip(1).collect();
+        let heads = "  issue  account            due      delivered         failed       resolved  \
+                     failed over due";
+        assert_eq!(lines[0], heads);
+        assert!(lines[1].starts_with("JGB-350      A&B            100             60 "), "{text}");
+        assert!(lines[2].starts_with("JGB-350        5             50              0 "), "{text}");
+        let json = all.json();
+        let first = "\"issue\":0,\"issue_name\":\"JGB-350\",\"account\":4,\"account_name\":\"A&B\",";
+        assert!(json.lines().next().is_some_and(|line| line.contains(first)), "{json}");
+        assert!(json.contains("\"issue_name\":\"JGB-350\",\"account\":5,\"due\":50,"), "{json}");
+        assert!(all.html().contains("<tr><td>JGB-350</td><td>A&amp;B</td><td>100</td>"));
     }
 
     #[test]

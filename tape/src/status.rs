@@ -2,8 +2,10 @@
 
 use crate::dealt::{Dealt, Turn};
 use crate::input::Day;
+use crate::known::Known;
 use crate::measure::{Face, Lots};
 use crate::standing::{run, When};
+use crate::telling::{date_field, name_field};
 use settlement_day::calls::{self, Unit};
 use settlement_day::{Book, Refusal, Status, ISSUES};
 
@@ -36,12 +38,13 @@ pub struct Told {
     word: usize,
     line: Option<usize>,
     moment: String,
+    known: Known,
     answer: Result<Asked, (Refusal, String)>,
 }
 
 /// Runs a tape on a fresh book and asks; an error is that there is no such moment.
 pub fn ask(day: &Day, question: Question) -> Result<Told, String> {
-    let stood = run(&day.tape, question.when)?;
+    let stood = run(day, question.when)?;
     let book = &stood.book;
     let Question { issue, unit: k, .. } = question;
     let found = calls::unit(book, issue, k).and_then(|unit| unit.ok_or(Refusal::Unit));
@@ -52,15 +55,18 @@ pub fn ask(day: &Day, question: Question) -> Result<Told, String> {
             let turn = dealt.and_then(|dealt| dealt.turn_of(k)).map(|(_, turn)| turn);
             Ok(Asked { issue, number: k, unit, turn, status })
         }
-        Err(refusal) => Err((refusal, why_refused(book, question, refusal))),
+        Err(refusal) => Err((refusal, why_refused(book, question, refusal, &stood.known))),
     };
     let (phase, word) = (stood.phase(), stood.word);
     let (line, moment) = (stood.line(day), stood.moment(day));
-    Ok(Told { question, day: book.day, phase, word, line, moment, answer })
+    let (day, known) = (book.day, stood.known);
+    Ok(Told { question, day, phase, word, line, moment, known, answer })
 }
 
 /// Why the book does not tell, with the numbers behind it.
-fn why_refused(book: &Book, Question { issue, unit, .. }: Question, refusal: Refusal) -> String {
+fn why_refused(book: &Book, question: Question, refusal: Refusal, known: &Known) -> String {
+    let Question { issue, unit, .. } = question;
+    let named = known.issue(issue);
     match refusal {
         Refusal::Phase => "trades are taken, no unit is settled yet".to_string(),
         Refusal::Issue => format!("there is no issue {issue}, issues are 0 to {}", ISSUES - 1),
@@ -68,9 +74,9 @@ fn why_refused(book: &Book, Question { issue, unit, .. }: Question, refusal: Ref
             .take_while(|&k| matches!(calls::unit(book, issue, k), Ok(Some(_))))
             .last()
         {
-            Some(0) => format!("issue {issue} has no unit {unit}, its one unit is 0"),
-            Some(last) => format!("issue {issue} has no unit {unit}, its units are 0 to {last}"),
-            None => format!("issue {issue} has no units today"),
+            Some(0) => format!("issue {named} has no unit {unit}, its one unit is 0"),
+            Some(last) => format!("issue {named} has no unit {unit}, its units are 0 to {last}"),
+            None => format!("issue {named} has no units today"),
         },
         other => other.meaning().to_string(),
     }
@@ -84,12 +90,13 @@ impl Told {
 
     /// A sentence for the telephone.
     pub fn sentence(&self) -> String {
-        let Told { day, phase, ref moment, .. } = *self;
-        let head = format!("{moment}, day {day}, {phase}");
+        let Told { day, phase, ref moment, ref known, .. } = *self;
+        let head = format!("{moment}, day {}, {phase}", known.day(day));
         match &self.answer {
             Ok(Asked { issue, number, unit, turn, status }) => {
                 let turn = turn.map_or(String::new(), |turn| format!(" ({})", turn.words()));
-                let (lots, account) = (Face(unit.lots.into()), unit.account);
+                let (lots, account) = (Face(unit.lots.into()), known.account(unit.account));
+                let issue = known.issue(*issue);
                 let of =
                     format!("unit {number} of issue {issue}, {lots} for account {account}{turn}");
                 format!("{head}: {of}, {}\n", phrase(status, false))
@@ -102,14 +109,17 @@ impl Told {
     pub fn json(&self) -> String {
         let Told { question: Question { issue, unit: k, .. }, day, phase, word, line, .. } = *self;
         let line = line.map_or(String::new(), |line| format!(",\"line\":{line}"));
+        let date = date_field(self.known.day(day));
         let head = format!(
-            "{{\"fact\":\"status\",\"day\":{day},\"phase\":\"{phase}\",\"word\":{word}{line}"
+            "{{\"fact\":\"status\",\"day\":{day}{date},\"phase\":\"{phase}\",\"word\":{word}{line}"
         );
         match &self.answer {
-            Ok(asked) => format!("{head},{}}}\n", json_of(asked)),
+            Ok(asked) => format!("{head},{}}}\n", json_of(asked, &self.known)),
             Err((refusal, why)) => {
                 let number = refusal.number();
-                format!("{head},\"issue\":{issue},\"unit\":{k},\"refusal\":{number},\"why\":\"{why}\"}}\n")
+                let name = name_field("issue_name", self.known.names.issue_name(issue));
+                let of = format!("\"issue\":{issue}{name},\"unit\":{k}");
+                format!("{head},{of},\"refusal\":{number},\"why\":\"{why}\"}}\n")
             }
         }
     }
@@ -134,7 +144,7 @@ pub fn phrase(status: &Status, several: bool) -> String {
 }
 
 /// The fields of a unit and its status in JSON.
-pub fn json_of(asked: &Asked) -> String {
+pub fn json_of(asked: &Asked, known: &Known) -> String {
     let Asked { issue, number, unit: Unit { account, lots }, turn, status } = asked;
     let told = match status {
         Status::Handed => "\"handed\"".to_string(),
@@ -145,8 +155,10 @@ pub fn json_of(asked: &Asked) -> String {
     let turn = turn.map_or(String::new(), |Turn { round, receiver, of, .. }| {
         format!(",\"round\":{round},\"receiver\":{receiver},\"of\":{of}")
     });
-    let unit = format!("\"account\":{account},\"lots\":{lots}{turn}");
-    format!("\"issue\":{issue},\"unit\":{number},\"refusal\":0,{unit},\"status\":{told}")
+    let whose = name_field("account_name", known.names.account_name(*account));
+    let unit = format!("\"account\":{account}{whose},\"lots\":{lots}{turn}");
+    let name = name_field("issue_name", known.names.issue_name(*issue));
+    format!("\"issue\":{issue}{name},\"unit\":{number},\"refusal\":0,{unit},\"status\":{told}")
 }
 
 #[cfg(test)]

@@ -7,6 +7,8 @@
 use crate::bytes::split;
 use crate::dealt::{Dealt, Turn};
 use crate::facts::{Fact, Terms, Told};
+use crate::input::Day;
+use crate::known::Known;
 use crate::ledger::pair_off;
 use crate::progress::Meter;
 use crate::text::why_ended;
@@ -36,6 +38,8 @@ pub struct Story<'a> {
     pub dealt: Vec<Dealt>,
     /// The first word of the instruction that is at work.
     pub word: Option<usize>,
+    /// The names, and the dates of the days up to today.
+    pub known: Known,
     pub sink: &'a mut Sink<'a>,
 }
 
@@ -50,14 +54,15 @@ struct Record {
 }
 
 /// Runs a tape and tells its facts; answers the day on which it ends.
-pub fn tell<'a>(tape: &[u8], sink: &'a mut Sink<'a>) -> io::Result<u16> {
-    let (words, stray) = split(tape);
+pub fn tell<'a>(day: &Day, sink: &'a mut Sink<'a>) -> io::Result<u16> {
+    let (words, stray) = split(&day.tape);
     let mut story = Story {
         book: Book::fresh(),
         output: vec![0; OUTPUT_WORDS],
         handed: [(0, 0); ISSUES],
         dealt: Vec::new(),
         word: None,
+        known: Known::of(&day.names),
         sink,
     };
     story.fact(&Fact::Day { day: 0, turn: 0 })?;
@@ -85,7 +90,7 @@ pub fn tell<'a>(tape: &[u8], sink: &'a mut Sink<'a>) -> io::Result<u16> {
 impl Story<'_> {
     /// Tells a fact of today.
     pub fn fact(&mut self, fact: &Fact) -> io::Result<()> {
-        (self.sink)(&Told { day: self.book.day, word: self.word, fact })
+        (self.sink)(&Told { day: self.book.day, word: self.word, fact, known: &self.known })
     }
 
     /// Makes the call of an instruction and tells what it did, or why it was refused.
@@ -99,8 +104,8 @@ impl Story<'_> {
         let on_entries = roll || matches!(instruction, Instruction::PairOff { .. });
         let entries = if on_entries { self.book.ledger().collect() } else { Vec::new() };
         let answer = calls::call(&mut self.book, &instruction, &quotes, &mut self.output);
-        let refusal =
-            answer.err().map(|refusal| (refusal, why(&self.book, &instruction, &quotes, refusal)));
+        let why = |refusal| why(&self.book, &instruction, &quotes, refusal, &self.known);
+        let refusal = answer.err().map(|refusal| (refusal, why(refusal)));
         let told = Fact::Instruction { instruction, refusal };
         if let (Instruction::Roll { days, rate }, Ok(_)) = (instruction, answer) {
             return self.rolled(&told, &entries, days, rate, &quotes);
@@ -288,7 +293,7 @@ impl Story<'_> {
         quotes: &[u32; QUOTES],
     ) -> io::Result<()> {
         let (day, word) = (self.book.day - 1, self.word);
-        (self.sink)(&Told { day, word, fact: told })?;
+        (self.sink)(&Told { day, word, fact: told, known: &self.known })?;
         for &Entry { issue, from, to, lots, .. } in entries {
             let at = usize::from(issue) % ISSUES;
             let (price, accrued) = (quotes[at], quotes[ISSUES + at]);
@@ -296,8 +301,9 @@ impl Story<'_> {
             let yen = desk::charge(lots, price, days, rate, accrued).unwrap_or(0);
             let terms = Terms { issue: issue.into(), price, accrued, days, rate };
             let fact = Fact::Charge { terms, from: from.into(), to: to.into(), lots, value, yen };
-            (self.sink)(&Told { day, word, fact: &fact })?;
+            (self.sink)(&Told { day, word, fact: &fact, known: &self.known })?;
         }
+        self.known.done(&Instruction::Roll { days, rate });
         self.word = None;
         self.fact(&Fact::Day { day: self.book.day, turn: self.book.turn })
     }

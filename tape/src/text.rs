@@ -1,4 +1,5 @@
-//! The text form of a tape: one instruction a line, numbers in decimal, `#` begins a comment.
+//! The text form of a tape: one instruction a line, numbers in decimal, `#` begins a comment. A name of
+//! a names file can stand for the number of an issue or an account.
 //!
 //! `word HEX` and `byte HEX` put one word or one last byte on the tape as it is, so that every
 //! tape has a text form, damaged ones too.
@@ -6,6 +7,7 @@
 use crate::bytes::{join, split};
 use crate::fault::{shown, words_of, Fault, Faults, Word};
 use crate::measure::{counted, Grouped};
+use crate::names::{Kind, Names};
 use settlement_day::{tape, Instruction, Refusal, ISSUES, WRITER_WORDS};
 
 /// The instructions' forms, for errors.
@@ -14,24 +16,30 @@ const FORMS: &str = "trade ISSUE FROM TO LOTS, close, deliver ISSUE ACCOUNT LOTS
     price or sixteen, one accrued amount or sixteen), mark ISSUE MARK (1: even lots only, 0: any lots), \
     turn DAY (full units dealt in turn from that day on), word HEX, byte HEX";
 
-/// A field of an instruction: its name, the bits that it has on a tape, and the least and the highest
-/// number that the book takes.
+/// A field of an instruction: its name, the bits that it has on a tape, the least and the highest
+/// number that the book takes, and what it is where a name can stand for it.
 #[derive(Clone, Copy)]
 struct Field {
     name: &'static str,
     bits: u32,
     takes: (u32, u32),
+    kind: Option<Kind>,
 }
 
 /// A field of this name.
 const fn field(name: &'static str, bits: u32, takes: (u32, u32)) -> Field {
-    Field { name, bits, takes }
+    Field { name, bits, takes, kind: None }
 }
 
-const ISSUE: Field = field("issue", 4, (0, 15));
-const FROM: Field = field("from", 6, (0, 63));
-const TO: Field = field("to", 6, (0, 63));
-const ACCOUNT: Field = field("account", 6, (0, 63));
+/// A field of this name that is an account.
+const fn account(name: &'static str) -> Field {
+    Field { name, bits: 6, takes: (0, 63), kind: Some(Kind::Account) }
+}
+
+const ISSUE: Field = Field { name: "issue", bits: 4, takes: (0, 15), kind: Some(Kind::Issue) };
+const FROM: Field = account("from");
+const TO: Field = account("to");
+const ACCOUNT: Field = account("account");
 const LOTS: Field = field("lots", 28, (1, 20_000_000));
 const DAYS: Field = field("days", 4, (1, 12));
 const RATE: Field = field("rate", 14, (0, 10_000));
@@ -76,9 +84,14 @@ pub fn to_tape(text: &str) -> Result<Vec<u8>, Faults> {
     parse(text).map(|parsed| parsed.tape)
 }
 
-/// Reads a text, or tells what is wrong with it. A byte-order mark before the first line is passed
-/// over.
+/// Reads a text in which nothing is named, or tells what is wrong with it.
 pub fn parse(text: &str) -> Result<Parsed, Faults> {
+    parse_by(&Names::default(), text)
+}
+
+/// Reads a text by these names, or tells what is wrong with it. A byte-order mark before the first line
+/// is passed over.
+pub fn parse_by(names: &Names, text: &str) -> Result<Parsed, Faults> {
     let text = text.strip_prefix('\u{feff}').unwrap_or(text);
     let (mut parsed, mut faults) = (Parsed::default(), Faults::default());
     let mut ended = false;
@@ -87,7 +100,7 @@ pub fn parse(text: &str) -> Result<Parsed, Faults> {
         let Some(name) = words.next() else { continue };
         // One more than a line can take is enough to tell that they are too many.
         let arguments: Vec<Word> = words.take(MOST_WORDS + 1).collect();
-        match line_bytes(&name, &arguments, ended) {
+        match line_bytes(names, &name, &arguments, ended) {
             Ok(bytes) if faults.is_empty() => {
                 ended = name.text == "byte";
                 parsed.put(&name, &arguments, &bytes);
@@ -124,7 +137,12 @@ fn note_of(name: &Word, arguments: &[Word]) -> Option<&'static str> {
 }
 
 /// The bytes of one line; after a single byte only single bytes can stand.
-fn line_bytes(name: &Word, arguments: &[Word], ended: bool) -> Result<Vec<u8>, Vec<Fault>> {
+fn line_bytes(
+    names: &Names,
+    name: &Word,
+    arguments: &[Word],
+    ended: bool,
+) -> Result<Vec<u8>, Vec<Fault>> {
     if name.text == "byte" {
         return Ok(vec![raw::<u8>(name, arguments, 2).map_err(|fault| vec![fault])?]);
     }
@@ -137,7 +155,7 @@ fn line_bytes(name: &Word, arguments: &[Word], ended: bool) -> Result<Vec<u8>, V
         let word = raw::<u32>(name, arguments, 8).map_err(|fault| vec![fault])?;
         return Ok(word.to_le_bytes().to_vec());
     }
-    let (instruction, quotes) = instruction_of(name, arguments)?;
+    let (instruction, quotes) = instruction_of(names, name, arguments)?;
     let mut words = [0; WRITER_WORDS];
     match tape::write(&instruction, &quotes, &mut words) {
         Ok(count) => Ok(join(&words[..count])),
@@ -157,8 +175,12 @@ fn raw<T: TryFrom<u32>>(name: &Word, arguments: &[Word], digits: usize) -> Resul
 }
 
 /// The instruction of a line, with the quotes of a roll.
-fn instruction_of(name: &Word, words: &[Word]) -> Result<(Instruction, Vec<u32>), Vec<Fault>> {
-    let take = |fields: &[Field]| numbers(name, fields, words);
+fn instruction_of(
+    names: &Names,
+    name: &Word,
+    words: &[Word],
+) -> Result<(Instruction, Vec<u32>), Vec<Fault>> {
+    let take = |fields: &[Field]| numbers(names, name, fields, words);
     let instruction = match name.text {
         "trade" => {
             let numbers = take(&[ISSUE, FROM, TO, LOTS])?;
@@ -184,7 +206,7 @@ fn instruction_of(name: &Word, words: &[Word]) -> Result<(Instruction, Vec<u32>)
         "turn" => Instruction::Turn { day: take(&[DAY])?[0] },
         "close" => take(&[]).map(|_| Instruction::Close)?,
         "cutoff" => take(&[]).map(|_| Instruction::Cutoff)?,
-        "roll" => return roll_of(name, words),
+        "roll" => return roll_of(names, name, words),
         other => {
             let what = format!("there is no instruction {}: write one of {FORMS}", shown(other));
             return Err(vec![name.fault(what)]);
@@ -195,7 +217,11 @@ fn instruction_of(name: &Word, words: &[Word]) -> Result<(Instruction, Vec<u32>)
 
 /// A roll: days, rate, one price or sixteen; then `accrued` with one amount or sixteen, or nothing
 /// for 0.
-fn roll_of(name: &Word, words: &[Word]) -> Result<(Instruction, Vec<u32>), Vec<Fault>> {
+fn roll_of(
+    names: &Names,
+    name: &Word,
+    words: &[Word],
+) -> Result<(Instruction, Vec<u32>), Vec<Fault>> {
     let mut parts = words.splitn(2, |word| word.text == ACCRUED_WORD);
     let (first, second) = (parts.next().unwrap_or_default(), parts.next());
     let right = |count: usize| count == 1 || count == ISSUES;
@@ -215,7 +241,7 @@ fn roll_of(name: &Word, words: &[Word]) -> Result<(Instruction, Vec<u32>), Vec<F
         fields.resize(first.len() + second.len(), ACCRUED);
         all.extend_from_slice(second);
     }
-    let numbers = numbers(name, &fields, &all)?;
+    let numbers = numbers(names, name, &fields, &all)?;
     let (prices, accrued) = numbers[2..].split_at(first.len() - 2);
     let quotes = [for_issues(prices), for_issues(accrued)].concat();
     Ok((Instruction::Roll { days: numbers[0], rate: numbers[1] }, quotes))
@@ -231,16 +257,21 @@ fn for_issues(given: &[u32]) -> Vec<u32> {
 }
 
 /// The numbers of an instruction, each of which must fit its bits; all that do not are told.
-fn numbers(name: &Word, fields: &[Field], words: &[Word]) -> Result<Vec<u32>, Vec<Fault>> {
+fn numbers(
+    names: &Names,
+    name: &Word,
+    fields: &[Field],
+    words: &[Word],
+) -> Result<Vec<u32>, Vec<Fault>> {
     if words.len() != fields.len() {
-        let names: Vec<&str> = fields.iter().map(|field| field.name).collect();
-        let takes = if names.is_empty() { "no numbers".to_string() } else { names.join(", ") };
+        let wanted: Vec<&str> = fields.iter().map(|field| field.name).collect();
+        let takes = if wanted.is_empty() { "no numbers".to_string() } else { wanted.join(", ") };
         let what = format!("{} takes {takes}; {}", name.text, here(words.len(), "number"));
         return Err(vec![name.fault(what)]);
     }
     let (mut numbers, mut faults) = (Vec::new(), Vec::new());
     for (&field, word) in fields.iter().zip(words) {
-        match number(field, word) {
+        match number(names, field, word) {
             Ok(number) => numbers.push(number),
             Err(fault) => faults.push(fault),
         }
@@ -260,9 +291,13 @@ fn here(count: usize, what: &str) -> String {
     }
 }
 
-/// One number of an instruction.
-fn number(field: Field, word: &Word) -> Result<u32, Fault> {
-    let Field { name, bits, takes: (least, most) } = field;
+/// One number of an instruction, or the name that stands for it.
+fn number(names: &Names, field: Field, word: &Word) -> Result<u32, Fault> {
+    let Field { name, bits, takes: (least, most), kind } = field;
+    let named = kind.map_or(Ok(None), |kind| names.named(kind, word.text));
+    if let Some(number) = named.map_err(|what| word.fault(what))? {
+        return Ok(number);
+    }
     let Some(digits) = digits_of(word.text) else {
         let what = format!(
             "{name} {} is not a number: write digits alone, or with `,` or `_` before every three",
@@ -288,15 +323,21 @@ pub fn digits_of(word: &str) -> Option<String> {
     (grouped && all_digits).then_some(digits)
 }
 
-/// The text form of a tape; where reading ends, a comment says so and the rest stands as it is.
+/// The text form of a tape in which nothing is named.
 pub fn of_tape(tape: &[u8]) -> String {
+    of_tape_by(&Names::default(), tape)
+}
+
+/// The text form of a tape by these names; where reading ends, a comment says so and the rest stands as
+/// it is.
+pub fn of_tape_by(names: &Names, tape: &[u8]) -> String {
     let (words, stray) = split(tape);
     let mut text = String::new();
     let mut at = 0;
     while at < words.len() {
         match tape::read(&words[at..]) {
             Ok((instruction, count)) => {
-                text.push_str(&line_of(&instruction, &tape::quotes(&words[at..])));
+                text.push_str(&line_by(names, &instruction, &tape::quotes(&words[at..])));
                 text.push('\n');
                 at += count;
             }
@@ -334,18 +375,28 @@ pub fn older_roll(words: &[u32]) -> Option<&'static str> {
     (kind(head) == 7 && prices == ISSUES).then_some(OLDER_ROLL)
 }
 
-/// The line of an instruction, with the quotes of a roll.
+/// The line of an instruction in which nothing is named, with the quotes of a roll.
 pub fn line_of(instruction: &Instruction, quotes: &[u32]) -> String {
+    line_by(&Names::default(), instruction, quotes)
+}
+
+/// The line of an instruction by these names, with the quotes of a roll.
+pub fn line_by(names: &Names, instruction: &Instruction, quotes: &[u32]) -> String {
     match *instruction {
-        Instruction::Trade { issue, from, to, lots } => format!("trade {issue} {from} {to} {lots}"),
+        Instruction::Trade { issue, from, to, lots } => {
+            let (from, to) = (names.account(from), names.account(to));
+            format!("trade {} {from} {to} {lots}", names.issue(issue))
+        }
         Instruction::Deliver { issue, account, lots } => {
-            format!("deliver {issue} {account} {lots}")
+            format!("deliver {} {} {lots}", names.issue(issue), names.account(account))
         }
         Instruction::Resolve { issue, account, lots } => {
-            format!("resolve {issue} {account} {lots}")
+            format!("resolve {} {} {lots}", names.issue(issue), names.account(account))
         }
-        Instruction::PairOff { issue, account } => format!("pair-off {issue} {account}"),
-        Instruction::Mark { issue, mark } => format!("mark {issue} {mark}"),
+        Instruction::PairOff { issue, account } => {
+            format!("pair-off {} {}", names.issue(issue), names.account(account))
+        }
+        Instruction::Mark { issue, mark } => format!("mark {} {mark}", names.issue(issue)),
         Instruction::Turn { day } => format!("turn {day}"),
         Instruction::Close => "close".to_string(),
         Instruction::Cutoff => "cutoff".to_string(),
@@ -535,6 +586,58 @@ mod tests {
         let many = format!("close{}", " 1".repeat(1_000_000));
         let fault = &to_tape(&many).unwrap_err().first[0];
         assert_eq!(fault.what, "close takes no numbers; here are more than 35 numbers");
+    }
+
+    /// Two issues and two accounts with names.
+    fn names() -> Names {
+        let text = "issue 0 JGB-350\nissue 3 X/10.5_&\naccount 5 Nomura\naccount 63 大和\n";
+        Names::parse(text).unwrap()
+    }
+
+    #[test]
+    fn names_stand_for_issues_and_accounts() {
+        let named = "trade JGB-350 Nomura 大和 230000\nclose\ndeliver X/10.5_& Nomura 7\ncutoff\n\
+            resolve JGB-350 大和 1\npair-off X/10.5_& 7\nmark JGB-350 1\nturn 9\n\
+            roll 1 300 100000 accrued 0\n";
+        let plain = "trade 0 5 63 230000\nclose\ndeliver 3 5 7\ncutoff\nresolve 0 63 1\n\
+            pair-off 3 7\nmark 0 1\nturn 9\nroll 1 300 100000 accrued 0\n";
+        let tape = to_tape(plain).unwrap();
+        assert_eq!(parse_by(&names(), named).unwrap().tape, tape);
+        assert_eq!(parse_by(&names(), plain).unwrap().tape, tape);
+        assert_eq!(of_tape_by(&names(), &tape), named);
+        assert_eq!(of_tape(&tape), plain);
+        let damaged = [&tape[..], &[1, 2, 3]].concat();
+        let text = of_tape_by(&names(), &damaged);
+        assert_eq!(parse_by(&names(), &text).unwrap().tape, damaged);
+    }
+
+    #[test]
+    fn an_unknown_name_is_told_with_its_place() {
+        for (line, column, told) in [
+            (
+                "trade JGB-351 5 63 1",
+                7,
+                "there is no issue \"JGB-351\": the names file has JGB-350, X/10.5_&",
+            ),
+            (
+                "trade 0 Nomra 63 1",
+                9,
+                "there is no account \"Nomra\": the names file has Nomura, 大和",
+            ),
+            ("deliver Nomura 5 1", 9, "there is no issue \"Nomura\""),
+            ("deliver 0 nomura 1", 11, "there is no account \"nomura\""),
+            ("deliver 0 5 Nomura", 13, "lots \"Nomura\" is not a number"),
+            ("mark 16 1", 6, "issue \"16\" is too large: write a number from 0 to 15"),
+            ("turn Nomura", 6, "day \"Nomura\" is not a number"),
+        ] {
+            let faults = parse_by(&names(), &format!("close\n{line}\n")).unwrap_err();
+            assert_eq!(faults.count, 1, "{line}: {faults:?}");
+            let fault = &faults.first[0];
+            assert_eq!((fault.line, fault.column), (2, column), "{line}");
+            assert!(fault.what.starts_with(told), "{line}: {fault}");
+        }
+        let without = to_tape("deliver 0 Nomura 1").unwrap_err();
+        assert!(without.first[0].what.starts_with("account \"Nomura\" is not a number"));
     }
 
     #[test]

@@ -1,5 +1,6 @@
 //! Why the book refuses an instruction: the question that it answers 'no', and the numbers behind it.
 
+use crate::known::Known;
 use crate::measure::{Grouped, Lots};
 use settlement_day::{Book, Instruction, Refusal, ACCOUNTS, ISSUES};
 
@@ -10,47 +11,55 @@ const MOST_PRICE: u32 = 200_000;
 const MOST_ACCRUED: u32 = 10_000;
 
 /// The refusal with what the book says about it, in one sentence.
-pub fn why(book: &Book, instruction: &Instruction, quotes: &[u32], refusal: Refusal) -> String {
+pub fn why(
+    book: &Book,
+    instruction: &Instruction,
+    quotes: &[u32],
+    refusal: Refusal,
+    known: &Known,
+) -> String {
     if let (Refusal::Terms, Instruction::Roll { days, rate }) = (refusal, *instruction) {
-        let behind = terms(days, rate, quotes).unwrap_or_default();
+        let behind = terms(days, rate, quotes, known).unwrap_or_default();
         return format!("{}; {behind}", refusal.said());
     }
-    match behind(book, instruction, refusal) {
+    match behind(book, instruction, refusal, known) {
         Some(behind) => format!("{}; {behind}", refusal.said()),
         None => refusal.said(),
     }
 }
 
 /// The numbers behind a refusal, where the book or the instruction has them.
-fn behind(book: &Book, instruction: &Instruction, refusal: Refusal) -> Option<String> {
+fn behind(
+    book: &Book,
+    instruction: &Instruction,
+    refusal: Refusal,
+    known: &Known,
+) -> Option<String> {
     match (refusal, *instruction) {
         (Refusal::Phase, _) => {
             let (is, wanted) = (book.phase.name()?, phase_of(instruction)?);
             Some(format!("the book is in {is}, {} belongs to {wanted}", instruction.name()))
         }
         (Refusal::Net, Instruction::Trade { issue, from, to, .. }) => {
-            let net = |account| Grouped(book.net(issue, account).into());
-            Some(format!("account {from} stands at {}, account {to} at {}", net(from), net(to)))
+            let nets = [from, to].map(|account| Grouped(book.net(issue, account).into()));
+            let (from, to) = (known.account(from), known.account(to));
+            Some(format!("account {from} stands at {}, account {to} at {}", nets[0], nets[1]))
         }
-        (Refusal::Owed, Instruction::Deliver { issue, account, .. }) => {
-            let owed = Lots(owed_today(book, issue, account));
-            Some(format!("account {account} still owes {owed} of issue {issue} today"))
-        }
-        (Refusal::Owed, Instruction::Resolve { issue, account, .. }) => {
-            let owed = Lots(owed_in_ledger(book, issue, account));
-            Some(format!("account {account} owes {owed} of issue {issue} in the ledger"))
-        }
+        (Refusal::Owed, _) => owed(book, instruction, known),
         (
             Refusal::OddLots,
             Instruction::Trade { issue, .. }
             | Instruction::Deliver { issue, .. }
             | Instruction::Resolve { issue, .. },
-        ) => Some(format!("issue {issue} is in multiples of 100,000 yen face: give even lots")),
-        (Refusal::InUse, Instruction::Mark { issue, .. }) => Some(in_use(book, issue)),
-        (Refusal::ChangeOver, _) if book.deals_in_turn() => {
-            Some(format!("full units are dealt in turn since day {}", book.turn))
+        ) => {
+            let issue = known.issue(issue);
+            Some(format!("issue {issue} is in multiples of 100,000 yen face: give even lots"))
         }
-        (Refusal::ChangeOver, _) => Some(format!("today is day {}", book.day)),
+        (Refusal::InUse, Instruction::Mark { issue, .. }) => Some(in_use(book, issue, known)),
+        (Refusal::ChangeOver, _) if book.deals_in_turn() => {
+            Some(format!("full units are dealt in turn since day {}", known.day(book.turn)))
+        }
+        (Refusal::ChangeOver, _) => Some(format!("today is day {}", known.day(book.day))),
         (Refusal::Room, _) => {
             let ies = if book.entries == 1 { "y" } else { "ies" };
             Some(format!("it has {} entr{ies} before the cutoff", book.entries))
@@ -59,8 +68,25 @@ fn behind(book: &Book, instruction: &Instruction, refusal: Refusal) -> Option<St
     }
 }
 
+/// What the account of an instruction owes: of a delivery today, of a resolve in the ledger.
+fn owed(book: &Book, instruction: &Instruction, known: &Known) -> Option<String> {
+    match *instruction {
+        Instruction::Deliver { issue, account, .. } => {
+            let owed = Lots(owed_today(book, issue, account));
+            let (issue, account) = (known.issue(issue), known.account(account));
+            Some(format!("account {account} still owes {owed} of issue {issue} today"))
+        }
+        Instruction::Resolve { issue, account, .. } => {
+            let owed = Lots(owed_in_ledger(book, issue, account));
+            let (issue, account) = (known.issue(issue), known.account(account));
+            Some(format!("account {account} owes {owed} of issue {issue} in the ledger"))
+        }
+        _ => None,
+    }
+}
+
 /// The first number of a roll that is out of range.
-fn terms(days: u32, rate: u32, quotes: &[u32]) -> Option<String> {
+fn terms(days: u32, rate: u32, quotes: &[u32], known: &Known) -> Option<String> {
     if !(1..=MOST_DAYS).contains(&days) {
         return Some(format!("days are {days}"));
     }
@@ -68,7 +94,8 @@ fn terms(days: u32, rate: u32, quotes: &[u32]) -> Option<String> {
         return Some(format!("the rate is {}", Grouped(rate.into())));
     }
     let (prices, accrued) = quotes.split_at(ISSUES.min(quotes.len()));
-    (0..).zip(prices.iter().zip(accrued)).find_map(|(issue, (&price, &accrued))| {
+    (0_u32..).zip(prices.iter().zip(accrued)).find_map(|(issue, (&price, &accrued))| {
+        let issue = known.issue(issue);
         if !(1..=MOST_PRICE).contains(&price) {
             return Some(format!("the price of issue {issue} is {}", Grouped(price.into())));
         }
@@ -97,10 +124,11 @@ fn phase_of(instruction: &Instruction) -> Option<&'static str> {
 }
 
 /// How many accounts have a net in an issue, and how many entries it has.
-fn in_use(book: &Book, issue: u32) -> String {
+fn in_use(book: &Book, issue: u32, known: &Known) -> String {
     let nets = (0..ACCOUNTS as u32).filter(|&account| book.net(issue, account) != 0).count();
     let entries = book.ledger().filter(|entry| u32::from(entry.issue) == issue).count();
     let (s, ies) = (if nets == 1 { "" } else { "s" }, if entries == 1 { "y" } else { "ies" });
+    let issue = known.issue(issue);
     format!("issue {issue} has nets of {nets} account{s} and {entries} entr{ies} in the ledger")
 }
 

@@ -80,7 +80,7 @@ fn wrong_words_are_told_with_status_2() {
         (&["play"], "there is no `tape play`"),
         (
             &["read", "--hexa"],
-            "`tape read` has no option --hexa: it takes --hex, --words, -o, --force",
+            "`tape read` has no option --hexa: it takes --hex, --words, --names, -o, --force",
         ),
         (&["write", "--account", "1"], "`tape write` has no option --account"),
         (&["read", "a", "b"], "name one file: what is told goes to another by -o FILE"),
@@ -495,4 +495,188 @@ fn a_device_is_written_as_it_is() {
     let (status, _, said) = ended(&["check", "-o", "/dev/full"], b"close\n");
     assert!(status == 2 && said.starts_with("tape: cannot write /dev/full: "), "{said}");
     assert_eq!(ended(&["check", "-o", "-"], b"close\n").1, "1 instruction, 0 refused\n");
+}
+
+/// A names file, and two days by its names.
+const NAMES: &str = "date 2026-11-17 # a Tuesday\nissue 0 JGB-350\naccount 1 Aoba\naccount 2 Bizen\n";
+const NAMED: &str = "trade JGB-350 Aoba Bizen 150,000\nclose\ndeliver JGB-350 Aoba 100,000\n\
+    deliver JGB-350 Aoba 50,001\ncutoff\nroll 3 300 100,000 accrued 0\ntrade JGB-350 Bizen Aoba 7\nclose\n";
+
+/// A folder with the names file and the two days, and what a command in it ends with.
+struct Named(PathBuf);
+
+impl Named {
+    fn new(name: &str) -> Named {
+        let folder = folder(name);
+        file(&folder, "desk.names", NAMES.as_bytes());
+        file(&folder, "day.txt", NAMED.as_bytes());
+        Named(folder)
+    }
+
+    /// Runs the tool on these words, which have a space between, with this input.
+    fn ended(&self, words: &str, input: &[u8]) -> (i32, String, String) {
+        let mut tool = Command::new(env!("CARGO_BIN_EXE_tape"));
+        let tool = tool.args(words.split(' ')).current_dir(&self.0).stdin(Stdio::piped());
+        let mut child =
+            tool.stdout(Stdio::piped()).stderr(Stdio::piped()).spawn().expect("the tool runs");
+        let _ = child.stdin.take().expect("standard input is piped").write_all(input);
+        let output = child.wait_with_output().expect("the tool ends");
+        let text = |bytes: &[u8]| String::from_utf8_lossy(bytes).to_string();
+        (output.status.code().unwrap_or(-1), text(&output.stdout), text(&output.stderr))
+    }
+
+    /// What it prints where all is well.
+    fn told(&self, words: &str) -> String {
+        let (status, printed, said) = self.ended(words, b"");
+        assert_eq!((status, said.as_str()), (0, ""), "{words}");
+        printed
+    }
+}
+
+impl Drop for Named {
+    fn drop(&mut self) {
+        let _ = fs::remove_dir_all(&self.0);
+    }
+}
+
+#[test]
+fn names_are_written_and_read_back() {
+    let desk = Named::new("round");
+    let numbers = NAMED.replace("JGB-350", "0").replace("Aoba", "1").replace("Bizen", "2");
+    let words = tape(&["write"], numbers.as_bytes()).stdout;
+    assert_eq!(desk.told("write --names desk.names -o day.tape day.txt"), "");
+    assert_eq!(fs::read(desk.0.join("day.tape")).unwrap(), words);
+    let text = desk.told("read --names desk.names day.tape");
+    assert_eq!(text, NAMED.replace(',', ""));
+    assert_eq!(ended(&["read"], &words).1, numbers.replace(',', ""));
+    file(&desk.0, "again.txt", text.as_bytes());
+    let hex = desk.told("write --names=desk.names --hex again.txt");
+    assert_eq!(hex.as_bytes(), tape(&["write", "--hex"], numbers.as_bytes()).stdout);
+    file(&desk.0, "day.hex", hex.as_bytes());
+    assert_eq!(desk.told("read --hex --names desk.names day.hex"), text);
+    let (status, _, said) = desk.ended("write day.txt", b"");
+    assert!(status == 2 && said.starts_with("tape: day.txt:1:7: issue \"JGB-350\" is not a number"));
+}
+
+#[test]
+fn every_verb_tells_by_names_and_dates() {
+    let desk = Named::new("told");
+    let (status, printed, _) = desk.ended("check --names desk.names day.txt", b"");
+    let refused = "day.txt:4:1: deliver: refused by 9: the account does not owe that many lots; account Aoba still \
+        owes 50,000 lots of issue JGB-350 today\n8 instructions, 1 refused\n";
+    assert_eq!((status, printed.as_str()), (1, refused));
+    let (status, _, said) = desk.ended("run --program /bin/true --names desk.names day.txt", b"");
+    assert!(status == 1 && said.contains("the ledger is missing"), "{said}");
+    let text = desk.told("explain --names desk.names day.txt");
+    for line in [
+        "Day 0 (2026-11-17)\n  word 0, line 1: trade: account Aoba sells account Bizen 150,000 lots (7,500,000,000 yen \
+         face) of issue JGB-350\n",
+        "issue JGB-350: account Aoba fails account Bizen: 50,000 lots (2,500,000,000 yen face), of unit 1\n",
+        "\n\nDay 1 (2026-11-20)\n",
+        "\nAt the end: day 1 (2026-11-20), Settling\n",
+        "account Aoba owes account Bizen 50,000 lots (2,500,000,000 yen face), since day 0 (2026-11-17)\n",
+    ] {
+        assert!(text.contains(line), "{line}\n{text}");
+    }
+    let json = desk.told("explain --json --names desk.names day.txt");
+    let day = "\"fact\":\"day\",\"day\":1,\"date\":\"2026-11-20\",\"order\":\"old\",\"turn\":0}\n";
+    let fails = "\"issue\":0,\"issue_name\":\"JGB-350\",\"from\":1,\"from_name\":\"Aoba\",\"to\":2,\
+        \"to_name\":\"Bizen\",\"lots\":50000,\"first\":1,";
+    assert!(json.contains(day) && json.contains(fails), "{json}");
+    let page = desk.told("explain --html --names desk.names day.txt");
+    assert!(page.contains("<h2>Day 1 (2026-11-20)</h2>"), "{page}");
+    assert!(page.contains("<h3>Day 0 (2026-11-17), issue JGB-350</h3>"), "{page}");
+    file(&desk.0, "desk.txt", b"settles Aoba 0\nsettles Bizen 0\nholds 0 JGB-350 5\n");
+    let jam = desk.told("jam --names desk.names --sizes 1 day.txt desk.txt");
+    assert!(jam.starts_with("at the end of the tape, day 1 (2026-11-20), Settling: 7 lots owed"));
+    file(&desk.0, "owners.txt", b"owns 0 Aoba\nowns 1 Bizen\n");
+    let look = desk.told("look --names desk.names --as 1 day.txt owners.txt JGB-350 Bizen");
+    let head = "at the end of the tape, day 1 (2026-11-20), Settling: account Bizen in issue JGB-350: it owes 7 lots,";
+    assert!(look.starts_with(head), "{look}");
+    assert!(look.ends_with("entry 0: Aoba fails 50,000 lots to Bizen, since day 0 (2026-11-17)\n"));
+    let look = desk.told("look --json --names desk.names day.txt owners.txt 0 2");
+    assert!(look.contains("\"issue\":0,\"issue_name\":\"JGB-350\",\"account\":2,\"account_name\":\"Bizen\","));
+    let entry = "{\"from\":1,\"from_name\":\"Aoba\",\"to\":2,\"to_name\":\"Bizen\",\"lots\":50000,\"day\":0,\
+        \"date\":\"2026-11-17\"}";
+    assert!(look.contains(entry), "{look}");
+    let one = desk.told("statement --names desk.names day.txt JGB-350 Aoba");
+    let head = "account Aoba, issue JGB-350: lots over 8 instructions, 1 refused; day 1 (2026-11-20) is still settling";
+    assert!(one.starts_with(head), "{one}");
+    let all = desk.told("statement --all --names desk.names day.txt");
+    assert!(all.contains("\nJGB-350     Aoba        150,000        100,000"), "{all}");
+    let error = desk.ended("markets --names desk.names 2 1", b"").2;
+    assert!(error.contains("`tape markets` has no option --names"), "{error}");
+}
+
+#[test]
+fn names_and_dates_stand_on_the_command_line() {
+    let desk = Named::new("asked");
+    let unit = desk.told("why --names desk.names day.txt JGB-350 0");
+    let told = "at the end of the tape, day 1 (2026-11-20), Settling: unit 0 of issue JGB-350, 7 lots (350,000 yen face) \
+        for account Aoba, waits: with 7 lots more delivered in the issue, and no lift between, it is handed\n";
+    assert_eq!(unit, told);
+    let was = desk.told("why --json --day 2026-11-17 --names desk.names day.txt JGB-350 1");
+    let told = "\"fact\":\"status\",\"day\":0,\"date\":\"2026-11-17\",\"phase\":\"Cut\",\"word\":8,\"line\":6,\
+        \"issue\":0,\"issue_name\":\"JGB-350\",\"unit\":1,\"refusal\":0,\"account\":2,\"account_name\":\"Bizen\",\
+        \"lots\":50000,\"status\":\"wholly failed\",\"lacks\":50000}\n";
+    assert!(was.ends_with(told), "{was}");
+    let account = "why --account Bizen --issue JGB-350 --day 2026-11-17 --names desk.names";
+    let sentences = desk.told(&format!("{account} day.txt"));
+    let head = "before word 8, line 6, day 0 (2026-11-17), Cut: account Bizen is due 150,000 lots (7,500,000,000 yen face) \
+        of issue JGB-350 in 2 units\n";
+    assert!(sentences.starts_with(head), "{sentences}");
+    let owes = "  account Aoba owes it 50,000 lots (2,500,000,000 yen face) of the issue since day 0 (2026-11-17)\n";
+    assert!(sentences.ends_with(owes), "{sentences}");
+    let json = desk.told(&format!("{account} --json day.txt"));
+    let entry = "\"from\":1,\"from_name\":\"Aoba\",\"to\":2,\"to_name\":\"Bizen\",\"lots\":50000,\"since\":0}\n";
+    assert!(json.ends_with(entry), "{json}");
+    let (status, printed, _) = desk.ended("why --names desk.names day.txt JGB-350 9", b"");
+    assert!(status == 1 && printed.ends_with("issue JGB-350 has no unit 9, its one unit is 0\n"));
+    let second = desk.told("explain --day 2026-11-20 --account Aoba --issue JGB-350 --names desk.names day.txt");
+    assert!(second.starts_with("Day 1 (2026-11-20)\n") && !second.contains("Day 0"), "{second}");
+    let by_number = desk.told("explain --day 1 --account 1 --issue 0 --names desk.names day.txt");
+    assert_eq!(second, by_number);
+}
+
+#[test]
+fn wrong_names_are_told_with_what_to_do() {
+    let desk = Named::new("wrong");
+    file(&desk.0, "plain.names", b"account 1 Aoba\n");
+    file(&desk.0, "bad.names", b"date 2026-11-31\n\nissue 16 JGB\naccount 1 a,b\n");
+    for (words, told) in [
+        (
+            "explain --account Aobo --names desk.names day.txt",
+            "--account: there is no account \"Aobo\": the names file has Aoba, Bizen",
+        ),
+        ("explain --issue Aoba --names desk.names day.txt", "--issue: there is no issue \"Aoba\""),
+        ("explain --issue 16 --names desk.names day.txt", "--issue needs a number from 0 to 15, not \"16\""),
+        ("explain --issue JGB-350 day.txt", "--issue needs a number from 0 to 15, not \"JGB-350\""),
+        ("why --names desk.names day.txt JGB 0", "ISSUE: there is no issue \"JGB\""),
+        ("statement --names desk.names day.txt JGB-350 Aobo", "ACCOUNT: there is no account \"Aobo\""),
+        (
+            "explain --day 2026-11-18 --names desk.names day.txt",
+            "--day 2026-11-18: no day of the tape has the date 2026-11-18: it is between day 0 (2026-11-17) and day 1 \
+             (2026-11-20)",
+        ),
+        ("explain --day 2026-11-16 --names desk.names day.txt", "the first is day 0 (2026-11-17)"),
+        ("explain --day 2027-11-16 --names desk.names day.txt", "the last is day 1 (2026-11-20)"),
+        ("explain --day 2026-02-30 --names desk.names day.txt", "--day: \"2026-02-30\" is no date"),
+        ("why --day 2026-11-17 day.txt 0 0", "issue \"JGB-350\" is not a number"),
+        ("write --names plain.names day.txt", "there is no issue \"JGB-350\": the names file names no issue, write"),
+        ("check --names bad.names day.txt", "tape: bad.names:1:6: \"2026-11-31\" is no date"),
+        ("check --names bad.names day.txt", "\ntape: bad.names:3:7: \"16\" is no issue: write a number"),
+        ("check --names bad.names day.txt", "\ntape: bad.names:4:11: \"a,b\" is no name with ','"),
+        ("check --names none.names day.txt", "cannot read none.names"),
+        ("check --names", "--names needs a file"),
+        ("check --names -", "standard input is one file: name `-` once"),
+        ("check --names - -", "standard input is one file: name `-` once"),
+    ] {
+        let (status, printed, said) = desk.ended(words, b"close\n");
+        assert_eq!((status, printed.as_str()), (2, ""), "{words}: {said}");
+        assert!(said.contains(told), "{words}: {said}");
+    }
+    let (status, _, said) = desk.ended("explain --day 2026-11-17 --names plain.names", b"close\n");
+    assert!(status == 2 && said.contains("--day 2026-11-17: day 0 has no date: give the day's"), "{said}");
+    let (status, printed, _) = desk.ended("check --names - day.txt", NAMES.as_bytes());
+    assert!(status == 1 && printed.contains("account Aoba still owes"), "{printed}");
 }

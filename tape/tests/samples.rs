@@ -3,6 +3,7 @@
 use std::fs;
 use std::path::{Path, PathBuf};
 use tape::input::{Day, Taken};
+use tape::names::Names;
 use tape::statement::Told;
 use tape::{telling, text};
 
@@ -87,4 +88,28 @@ fn the_statements_of_all_accounts_are_stored() {
     let told = Told::all(&day_of(&sample)).expect("the statements").text();
     let stored = fs::read_to_string(sample.with_extension("statement"));
     assert_eq!(told, stored.expect("the stored statements"));
+}
+
+#[test]
+fn the_two_days_are_told_by_their_names() {
+    let sample = Path::new(env!("CARGO_MANIFEST_DIR")).join("../tapes/two-days.txt");
+    let names = fs::read_to_string(sample.with_extension("names")).expect("the names");
+    let names = Names::parse(&names).unwrap_or_else(|faults| panic!("{faults:?}"));
+    let tape = tape_of(&sample);
+    let text = text::of_tape_by(&names, &tape);
+    assert!(text.contains("trade JGB-350 Aoba Echigo 320000\n"), "{text}");
+    assert_eq!(text::parse_by(&names, &text).map(|parsed| parsed.tape), Ok(tape));
+    let mut day = Day::by(names);
+    day.add("sample", text.into_bytes(), Taken::Apart).expect("a day");
+    let told = telling::explained(&day);
+    assert!(told.starts_with("Day 0 (2026-11-19)\n"), "{told}");
+    for line in [
+        "\nDay 1 (2026-11-20), the new order: full units are dealt in turn since day 1 (2026-11-20)\n",
+        "issue JGB-350: accounts Fushimi and Ginza have the same net, 150,000 lots: the lower number",
+        "of issue FRN-12: refused by 19: lots are odd in a marked issue; issue FRN-12 is in multiples",
+        "\nAt the end: day 2 (2026-11-23), Taking\n",
+    ] {
+        assert!(told.contains(line), "{line}\n{told}");
+    }
+    assert!(!told.contains("account 3 ") && !told.contains("issue 2"), "{told}");
 }

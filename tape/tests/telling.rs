@@ -4,6 +4,7 @@ use std::collections::BTreeMap;
 use std::fs;
 use std::path::Path;
 use tape::input::{Day, Taken};
+use tape::names::Names;
 use tape::telling::{explain, explained, Form, Only, Untold};
 use tape::text;
 
@@ -572,4 +573,161 @@ fn two_hundred_like_units_are_one_row_of_a_page() {
         };
         assert!(page.contains(handed), "{page}");
     }
+}
+
+/// The dates that the days of these tests may have.
+const DATES: [&str; 4] = ["2026-12-30", "2026-12-31", "2027-01-01", "2027-01-02"];
+
+/// A day in its text form, by these names.
+fn named_by(names: &str, text: &str) -> Day {
+    let mut day = Day::by(Names::parse(names).expect("names"));
+    day.add("day.txt", text.as_bytes().to_vec(), Taken::Apart).expect("a text form");
+    day
+}
+
+/// A day in which every issue and account has a name of its own, and day 0 a date.
+fn all_named(text: &str) -> Day {
+    let issues = (0..16).map(|number| format!("issue {number} I{number:02}x\n"));
+    let accounts = (0..64).map(|number| format!("account {number} A{number:02}x\n"));
+    let names: String = issues.chain(accounts).collect();
+    named_by(&format!("date {}\n{names}", DATES[0]), text)
+}
+
+/// What is told with the numbers in the place of their names again, and without dates.
+fn numbered(told: &str) -> String {
+    let undated =
+        DATES.iter().fold(told.to_string(), |told, date| told.replace(&format!(" ({date})"), ""));
+    (0..64).fold(undated, |told, number| {
+        let (issue, account) = (format!("I{number:02}x"), format!("A{number:02}x"));
+        told.replace(&issue, &number.to_string()).replace(&account, &number.to_string())
+    })
+}
+
+/// A page without its style.
+fn unstyled(page: &str) -> String {
+    let (head, rest) = page.split_once("<style>").expect("a style");
+    head.to_string() + rest.split_once("</style>").expect("its end").1
+}
+
+/// How issues and accounts are told by their numbers, if some are.
+fn by_number(told: &str) -> Vec<String> {
+    let words = ["account ", "accounts ", "issue "];
+    let all = words.iter().flat_map(|word| (0..10).map(move |digit| format!("{word}{digit}")));
+    all.filter(|unnamed| told.contains(unnamed.as_str())).collect()
+}
+
+#[test]
+fn names_and_dates_stand_where_the_numbers_stood() {
+    for text in [DAYS, MARKED, CHANGED] {
+        let with = told_of(&all_named(text), Form::Text, Only::default());
+        assert_eq!(numbered(&with), told(Form::Text, Only::default(), text));
+        assert!(by_number(&with).is_empty(), "{:?}: {with}", by_number(&with));
+        for account in [None, Some(2), Some(4), Some(9)] {
+            let only = Only { account, ..Only::default() };
+            let page = told_of(&all_named(text), Form::Html, only);
+            assert_eq!(unstyled(&numbered(&page)), unstyled(&told(Form::Html, only, text)));
+            assert!(by_number(&page).is_empty(), "{:?}: {page}", by_number(&page));
+        }
+    }
+    let with = told_of(&all_named(DAYS), Form::Text, Only::default());
+    let page = told_of(&all_named(DAYS), Form::Html, Only::default());
+    for (day, date) in [("ay 0", "ay 0 (2026-12-30)"), ("ay 1", "ay 1 (2026-12-31)")] {
+        for told in [&with, &page] {
+            assert!(told.contains(date), "{told}");
+            assert_eq!(told.matches(day).count(), told.matches(date).count(), "{told}");
+        }
+    }
+    assert!(with.starts_with("Day 0 (2026-12-30)\n  word 0, line 1: trade: account A04x sells "));
+    assert!(with.contains("\n\nDay 1 (2026-12-31)\n"), "{with}");
+}
+
+#[test]
+fn a_page_with_names_has_them_in_every_table() {
+    let page = told_of(&all_named(DAYS), Form::Html, Only::default());
+    for part in [
+        "<h1>Settlement days 0 (2026-12-30) to 1 (2026-12-31)</h1>",
+        "<td><a href=\"#day-0\">0 (2026-12-30)</a></td><td>old</td><td><a href=\"#day-0-issue-0\">I00x</a> \
+         <a href=\"#day-0-issue-3\">I03x</a></td>",
+        "<h3>Day 1 (2026-12-31), issue I03x</h3>",
+        "<td>0–1</td><td>A02x</td><td>2 × 100,000</td>",
+        "<p>To deliver at the close: account A04x 230,000 lots, account A05x 400,000 lots.</p>",
+        "<td>A05x</td><td>345,000</td><td><ul><li>units 0–1 to account A02x: 2 × 100,000 lots</li>",
+        "<td>45,000 lots for unit 3 of account A01x</td>",
+        "<td>A04x</td><td>A02x</td><td>5,000</td><td>250,000,000</td><td>unit 5</td><td><ul><li>charged 20,547 yen at \
+         the roll of day 0 (2026-12-30)</li><li>5,000 lots resolved on day 1 (2026-12-31), line 17, word 58</li>",
+        "<td>the pair-off of account A02x</td>",
+        "<li>5,000 lots to account A02x, failed on day 0 (2026-12-30)</li>",
+        "<td>I00x</td><td>A04x</td><td>A02x</td><td>5,000</td><td>100.000</td>",
+        "<td>I03x</td><td>A01x</td><td>A03x</td><td>20</td><td>1,000,000</td><td>1 (2026-12-31)</td>",
+        "<td>A05x</td><td>-226,026</td>",
+        ".ledger tr > :nth-child(6) { text-align: left; }",
+    ] {
+        assert!(page.contains(part), "{part}\n{page}");
+    }
+    let three = told_of(&all_named(DAYS), Form::Html, Only { account: Some(3), ..Only::default() });
+    for part in [
+        "<h1>Account A03x, settlement days 0 (2026-12-30) to 1 (2026-12-31)</h1>",
+        "<p><b>Only what is of account A03x is shown.</b></p>",
+        "<td><a href=\"#day-0-issue-0\">0 (2026-12-30)</a></td><td>I00x</td><td>150,000</td><td>100,000</td><td>50,000\
+         <ul><li>25,000 by account A04x</li>",
+    ] {
+        assert!(three.contains(part), "{part}\n{three}");
+    }
+    let rule = "td, li { overflow-wrap: anywhere; }";
+    assert!(page.contains(rule) && !told(Form::Html, Only::default(), DAYS).contains(rule));
+}
+
+#[test]
+fn json_has_names_beside_its_numbers() {
+    let parsed = |text: String| -> Vec<Object> {
+        text.lines().map(|line| parse(line).unwrap_or_else(|why| panic!("{line}: {why}"))).collect()
+    };
+    let added = ["issue_name", "account_name", "from_name", "to_name", "date"];
+    for text in [DAYS, MARKED, CHANGED] {
+        let plain = parsed(told(Form::Json, Only::default(), text));
+        let with = parsed(told_of(&all_named(text), Form::Json, Only::default()));
+        assert_eq!(plain.len(), with.len());
+        for (mut one, other) in with.into_iter().zip(plain) {
+            for (field, letter) in [("issue", 'I'), ("account", 'A'), ("from", 'A'), ("to", 'A')] {
+                let name = match one.get(field) {
+                    Some(Value::Number(number)) => Some(Value::Text(format!("{letter}{number:02}x"))),
+                    _ => None,
+                };
+                assert_eq!(one.get(&format!("{field}_name")), name.as_ref(), "{one:?}");
+            }
+            let date = DATES[number(&one, "day") as usize].to_string();
+            assert_eq!(one.get("date"), Some(&Value::Text(date)), "{one:?}");
+            one.retain(|name, _| !added.contains(&name.as_str()));
+            if let Some(Value::Text(why)) = one.get("why").cloned() {
+                one.insert("why".to_string(), Value::Text(numbered(&why)));
+            }
+            // The numbers are all there, and nothing else is new.
+            assert_eq!(one, other);
+        }
+    }
+}
+
+#[test]
+fn where_some_are_named_the_others_are_numbers_and_a_page_escapes() {
+    let day = named_by("issue 3 X/1\naccount 4 A&B\n", DAYS);
+    let text = told_of(&day, Form::Text, Only::default());
+    for line in [
+        "Day 0\n  word 0, line 1: trade: account A&B sells account 1 230,000 lots",
+        "trade: account 1 sells account 2 30 lots (1,500,000 yen face) of issue X/1\n",
+        "account A&B fails account 2: 5,000 lots",
+        "\n\nDay 1\n",
+        "account A&B still owes 30,000 lots of issue 0 today",
+    ] {
+        assert!(text.contains(line), "{line}\n{text}");
+    }
+    let json = told_of(&day, Form::Json, Only::default());
+    let deliver = "\"call\":\"deliver\",\"issue\":0,\"account\":4,\"account_name\":\"A&B\",\"lots\":200000,";
+    assert!(json.contains(deliver) && !json.contains("\"date\""), "{json}");
+    for account in [None, Some(4), Some(2)] {
+        let page = told_of(&day, Form::Html, Only { account, ..Only::default() });
+        assert!(page.contains("account A&amp;B") && !page.contains("A&B"), "{page}");
+    }
+    let dated = named_by("date 2026-12-30\n", DAYS);
+    let text = told_of(&dated, Form::Text, Only { day: Some(1), ..Only::default() });
+    assert!(text.starts_with("Day 1 (2026-12-31)\n") && text.contains("since day 0 (2026-12-30)"));
 }

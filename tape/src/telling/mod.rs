@@ -10,7 +10,8 @@ use crate::story;
 use page::Page;
 use std::io::{self, Write};
 
-pub use json::escaped;
+pub use json::{date_field, escaped, name_field};
+pub(crate) use page::escaped as escaped_html;
 pub use text::failed_units;
 
 /// The form in which facts are told.
@@ -46,9 +47,9 @@ impl Only {
 
 /// Runs a tape and tells its facts, those that are wanted. An instruction is told also where it is not
 /// wanted itself but something that it did is. Answers the day on which the tape ends.
-fn tell<'a>(tape: &[u8], only: Only, sink: &'a mut story::Sink<'a>) -> io::Result<u16> {
+fn tell<'a>(day: &Day, only: Only, sink: &'a mut story::Sink<'a>) -> io::Result<u16> {
     if only == Only::default() {
-        return story::tell(tape, sink);
+        return story::tell(day, sink);
     }
     let mut held: Option<(u16, Option<usize>, Fact)> = None;
     let mut narrowed = |told: &Told| {
@@ -59,11 +60,11 @@ fn tell<'a>(tape: &[u8], only: Only, sink: &'a mut story::Sink<'a>) -> io::Resul
             return Ok(());
         }
         if let Some((day, word, fact)) = held.take().filter(|(_, word, _)| *word == told.word) {
-            sink(&Told { day, word, fact: &fact })?;
+            sink(&Told { day, word, fact: &fact, known: told.known })?;
         }
         sink(told)
     };
-    story::tell(tape, &mut narrowed)
+    story::tell(day, &mut narrowed)
 }
 
 /// Why facts are not told.
@@ -97,16 +98,16 @@ pub fn explain(day: &Day, form: Form, only: Only, output: &mut dyn Write) -> Res
                 begun = true;
                 text::tell(out, told, stands(told))
             };
-            tell(&day.tape, only, &mut tell_one)?
+            tell(day, only, &mut tell_one)?
         }
-        Form::Json => tell(&day.tape, only, &mut |told| json::tell(out, told, stands(told)))?,
+        Form::Json => tell(day, only, &mut |told| json::tell(out, told, stands(told)))?,
         Form::Html => {
-            let mut page = Page::new(only, day.names());
+            let mut page = Page::new(only, day.files());
             let mut note = |told: &Told| match page.note(told, stands(told)) {
                 true => Ok(()),
                 false => Err(io::ErrorKind::OutOfMemory.into()),
             };
-            let last = story::tell(&day.tape, &mut note);
+            let last = story::tell(day, &mut note);
             if let Some(what) = page.too_long() {
                 return Err(Untold::Long(what));
             }

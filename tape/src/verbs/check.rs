@@ -3,16 +3,16 @@
 use super::{day_of, Ended, Verb};
 use crate::check::{check, Checked};
 use crate::measure::{counted, Grouped};
-use crate::options::{Given, HEX, WORDS};
+use crate::options::{Given, HEX, NAMES, WORDS};
 use crate::output::Output;
 use std::io::{BufWriter, Write};
 
 pub(super) const VERB: Verb = Verb {
     name: "check",
     usage: "\
-tape check [--hex | --words] [DAY..]
+tape check [--hex | --words] [--names FILE] [DAY..]
         says what the book will refuse, line by line",
-    options: &[HEX, WORDS],
+    options: &[HEX, WORDS, NAMES],
     act,
 };
 

@@ -1,10 +1,11 @@
 //! `tape explain`: what a tape does, day by day.
 
-use super::{day_of, Ended, Verb};
-use crate::options::{flag, valued, Given, Opt, HEX, JSON, WORDS};
+use super::naming::{day_named, day_number, option_called};
+use super::{day_by, names_of, Ended, Verb};
+use crate::names::Kind;
+use crate::options::{flag, valued, Given, Opt, HEX, JSON, NAMES, WORDS};
 use crate::output::Output;
 use crate::telling::{explain, Form, Only, Untold};
-use settlement_day::{ACCOUNTS, ISSUES};
 
 const HTML: Opt = flag("--html");
 const ISSUE: Opt = valued("--issue", "a number from 0 to 15");
@@ -14,11 +15,12 @@ const DAY: Opt = valued("--day", "a number from 0 to 65535");
 pub(super) const VERB: Verb = Verb {
     name: "explain",
     usage: "\
-tape explain [--hex | --words] [--json | --html] [--issue N] [--account N] [--day N] [DAY..]
+tape explain [--hex | --words] [--names FILE] [--json | --html] [--issue N] [--account N] [--day N]
+             [DAY..]
         runs a tape and tells what it does, day by day, or only what is of an issue, an account or a
         day: as text, as JSON (one object a line) or as one page of HTML, with --account N the
         account's page",
-    options: &[HEX, WORDS, JSON, HTML, ISSUE, ACCOUNT, DAY],
+    options: &[HEX, WORDS, NAMES, JSON, HTML, ISSUE, ACCOUNT, DAY],
     act,
 };
 
@@ -29,13 +31,14 @@ fn act(given: &Given) -> Result<Ended, String> {
         (_, true) => Form::Html,
         _ => Form::Text,
     };
-    let only = Only {
-        issue: given.number(&ISSUE, 0..=ISSUES as u32 - 1)?,
-        account: given.number(&ACCOUNT, 0..=ACCOUNTS as u32 - 1)?,
-        day: given.number(&DAY, 0..=u16::MAX)?,
-    };
+    let names = names_of(given)?;
+    let issue = option_called(given, &names, Kind::Issue, &ISSUE)?;
+    let account = option_called(given, &names, Kind::Account, &ACCOUNT)?;
+    let wanted = day_named(given, &DAY)?;
     let output = Output::of(given)?;
-    let day = day_of(given, &given.names)?;
+    let day = day_by(given, &given.names, names)?;
+    let wanted = wanted.map(|named| day_number(named, &DAY, &day)).transpose()?;
+    let only = Only { issue, account, day: wanted };
     let mut writer = output.open()?;
     let last = explain(&day, form, only, &mut writer).map_err(|untold| match untold {
         Untold::Output(error) => writer.failed(&error),

@@ -1,9 +1,10 @@
 //! `tape jam`: whether smaller units would loosen a jam.
 
 use super::{day_of, get, name_of, put, Ended, Verb};
-use crate::input::text_of;
-use crate::jam::{book_of, desk_of, sizes_of, try_sizes, SIZES};
-use crate::options::{flag, valued, Given, Opt, HEX, JSON, WORDS};
+use crate::input::{errors, text_of};
+use crate::jam::{desk_of, sizes_of, try_sizes, SIZES};
+use crate::options::{flag, valued, Given, Opt, HEX, JSON, NAMES, WORDS};
+use crate::standing::{run, When};
 
 const HTML: Opt = flag("--html");
 const LIST: Opt = valued("--sizes", "numbers from 1 to 100000 with a comma between");
@@ -11,11 +12,11 @@ const LIST: Opt = valued("--sizes", "numbers from 1 to 100000 with a comma betwe
 pub(super) const VERB: Verb = Verb {
     name: "jam",
     usage: "\
-tape jam [--hex | --words] [--json | --html] [--sizes N,N..] DAY.. DESK
+tape jam [--hex | --words] [--names FILE] [--json | --html] [--sizes N,N..] DAY.. DESK
         tries unit sizes on a simulated desk, from the nets of the tape's book at its end: DESK is a
         text with a line `settles ACCOUNT SETTLEMENT` for each account and a line
         `holds SETTLEMENT ISSUE LOTS` for what each settlement account holds at the opening",
-    options: &[HEX, WORDS, JSON, HTML, LIST],
+    options: &[HEX, WORDS, NAMES, JSON, HTML, LIST],
     act,
 };
 
@@ -31,12 +32,11 @@ fn act(given: &Given) -> Result<Ended, String> {
         Some(list) => sizes_of(&list.to_string_lossy())?,
         None => SIZES.to_vec(),
     };
-    let (book, ended) = book_of(&day_of(given, days)?.tape)?;
+    let stood = run(&day_of(given, days)?, When::End)?;
     let name = name_of(desk);
     let text = text_of(&name, get(desk)?)?;
-    let desk = desk_of(&text, &book)
-        .map_err(|faults| faults.listed(&name, ["error", "errors"]).join("\n"))?;
-    let tried = try_sizes(&book, ended, &desk, &sizes).map_err(|refusal| refusal.said())?;
+    let desk = desk_of(&text, &stood).map_err(|faults| errors(&name, &faults))?;
+    let tried = try_sizes(&stood, &desk, &sizes).map_err(|refusal| refusal.said())?;
     let told = match (given.has(&JSON), given.has(&HTML)) {
         (true, _) => tried.json(),
         (_, true) => tried.html(),

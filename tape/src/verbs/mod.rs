@@ -6,6 +6,7 @@ mod explain;
 mod jam;
 mod look;
 mod markets;
+mod naming;
 mod read;
 mod run;
 mod statement;
@@ -13,9 +14,11 @@ mod why;
 mod write;
 
 use crate::input::{Day, Taken};
+use crate::names::Names;
 use crate::options::{Given, Opt, FORCE, HEX, OUT, WORDS};
 use crate::output::Output;
 use crate::progress;
+use naming::names_of;
 use std::ffi::{OsStr, OsString};
 use std::fs;
 use std::io::{self, Read, Write};
@@ -54,9 +57,14 @@ a name; --day=1 is --day 1.
 DAY is a tape in text form or as words, which are told apart: a tape's first byte is 00 or 01, and a
 text is UTF-8 without control characters. Several days are run one after the other as one tape.
 With --hex the words are hexadecimal numbers in text; with --words the input is words, damaged ones
-too. docs/TAPE.md explains the text form.
+too. With --names FILE names stand for issues and accounts, in and out, and days have dates: FILE is
+a text with lines `issue NUMBER NAME`, `account NUMBER NAME` and `date YYYY-MM-DD`, of day 0; --day
+takes a date then. docs/TAPE.md explains the text form and names.
 Status: 0 done; 1 the book refuses something (check, why, look, markets), or the tape was not read
 to its end or its lines are not whole (run); 2 the words of the command, a file or a text are wrong.";
+
+/// What is said where standard input would be read twice.
+const STANDARD_ONCE: &str = "standard input is one file: name `-` once";
 
 /// How a command ended: what it was asked was found wrong, or not.
 #[derive(Clone, Copy, Debug, PartialEq, Eq)]
@@ -159,15 +167,21 @@ fn taken(given: &Given) -> Result<Taken, String> {
     })
 }
 
-/// The day that these files are, one after the other; all that is wrong with them is told.
+/// The day that these files are, one after the other, by the names that the command gives.
 fn day_of(given: &Given, files: &[OsString]) -> Result<Day, String> {
+    day_by(given, files, names_of(given)?)
+}
+
+/// The day that these files are, one after the other, by these names; all that is wrong with them is
+/// told.
+fn day_by(given: &Given, files: &[OsString], names: Names) -> Result<Day, String> {
     let taken = taken(given)?;
     let standard = [OsString::from("-")];
     let files = if files.is_empty() { &standard } else { files };
     if files.iter().filter(|file| *file == "-").count() > 1 {
-        return Err("standard input is one file: name `-` once".to_string());
+        return Err(STANDARD_ONCE.to_string());
     }
-    let (mut day, mut errors) = (Day::default(), Vec::new());
+    let (mut day, mut errors) = (Day::by(names), Vec::new());
     for file in files {
         let added = get(file).and_then(|bytes| day.add(&name_of(file), bytes, taken));
         errors.extend(added.err());
@@ -216,7 +230,7 @@ mod tests {
                 assert!(words.contains(&option.name), "{}: {}", verb.name, option.name);
             }
         }
-        assert!(completion.starts_with("write --hex -o=file --force\n"));
+        assert!(completion.starts_with("write --hex --names=file -o=file --force\n"));
     }
 
     #[test]

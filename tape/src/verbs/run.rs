@@ -1,7 +1,7 @@
 //! `tape run`: the program on a tape.
 
 use super::{day_of, say, Ended, Verb};
-use crate::options::{valued, Given, Opt, HEX, WORDS};
+use crate::options::{valued, Given, Opt, HEX, NAMES, WORDS};
 use crate::output::Output;
 use crate::run::{self, Ran};
 use std::path::Path;
@@ -12,10 +12,10 @@ const PROGRAM: Opt = valued("--program", "a path");
 pub(super) const VERB: Verb = Verb {
     name: "run",
     usage: "\
-tape run [--hex | --words] [--program PATH] [DAY..]
+tape run [--hex | --words] [--names FILE] [--program PATH] [DAY..]
         runs dayrun on a tape, the one beside this tool, target/bin/dayrun, or PATH; says where its
         lines are not whole",
-    options: &[HEX, WORDS, PROGRAM],
+    options: &[HEX, WORDS, NAMES, PROGRAM],
     act,
 };
 

@@ -1,7 +1,8 @@
 //! An account's record by day and issue: what a receiver is told on the telephone, and a deliverer.
 
-use super::markup::{number, section_of, table, DELIVERS, RECEIVES};
+use super::markup::{name, number, section_of, table, DELIVERS, RECEIVES};
 use super::Page;
+use crate::known::Known;
 use crate::measure::Grouped;
 use std::io::{self, Write};
 
@@ -52,17 +53,21 @@ impl Flow {
     }
 }
 
+/// The cells of an account's record on a day in an issue.
+type Cells = fn(&Flow, &Known) -> [String; 7];
+
 impl Page {
     /// The account's record: what it was to receive and to deliver, by day and issue.
     pub(super) fn account(&self, out: &mut impl Write) -> io::Result<()> {
         if self.only.account.is_none() {
             return Ok(());
         }
-        let rows = |has: fn(&Flow) -> bool, row: fn(&Flow) -> [String; 7]| -> Vec<Vec<String>> {
+        let known = &self.known;
+        let rows = |has: fn(&Flow) -> bool, row: Cells| -> Vec<Vec<String>> {
             let flows = self.flows.iter().filter(|(_, flow)| has(flow));
             let named = |((day, issue), flow): (&(u16, u32), &Flow)| {
-                let day = self.named_day(*day, *issue);
-                [vec![day, issue.to_string()], row(flow).to_vec()].concat()
+                let (day, of) = (self.named_day(*day, *issue), name(known.issue(*issue)));
+                [vec![day, of], row(flow, known).to_vec()].concat()
             };
             flows.map(named).collect()
         };
@@ -77,20 +82,21 @@ impl Page {
     /// A day, with a link to the section of the issue on it.
     fn named_day(&self, day: u16, issue: u32) -> String {
         let there = self.days.get(&day).is_some_and(|part| part.issues.contains_key(&issue));
+        let named = self.known.day(day);
         match there {
-            true => format!("<a href=\"#day-{day}-issue-{issue}\">{day}</a>"),
-            false => day.to_string(),
+            true => format!("<a href=\"#day-{day}-issue-{issue}\">{named}</a>"),
+            false => named.to_string(),
         }
     }
 }
 
 /// The cells of what it was to receive.
-fn received(flow: &Flow) -> [String; 7] {
+fn received(flow: &Flow, known: &Known) -> [String; 7] {
     let Flow { due, received, failed, resolved, paired, owed_to, given, .. } = flow;
     [
         number(*due),
         number(*received),
-        with_whom(failed, "by"),
+        with_whom(failed, "by", known),
         number(*resolved),
         number(*paired),
         number(*owed_to),
@@ -99,12 +105,12 @@ fn received(flow: &Flow) -> [String; 7] {
 }
 
 /// The cells of what it was to deliver.
-fn delivered(flow: &Flow) -> [String; 7] {
+fn delivered(flow: &Flow, known: &Known) -> [String; 7] {
     let Flow { owed, delivered, fails, resolves, paired, owes, paid, .. } = flow;
     [
         number(*owed),
         number(*delivered),
-        with_whom(fails, "to"),
+        with_whom(fails, "to", known),
         number(*resolves),
         number(*paired),
         number(*owes),
@@ -113,7 +119,7 @@ fn delivered(flow: &Flow) -> [String; 7] {
 }
 
 /// Lots with the accounts by or to which they failed, those of one account together.
-fn with_whom(fails: &[(u32, u32)], by: &str) -> String {
+fn with_whom(fails: &[(u32, u32)], by: &str, known: &Known) -> String {
     if fails.is_empty() {
         return "0".to_string();
     }
@@ -125,6 +131,7 @@ fn with_whom(fails: &[(u32, u32)], by: &str) -> String {
         }
     }
     let one = |(account, lots): &(u32, u64)| {
+        let account = name(known.account(*account));
         format!("<li>{} {by} account {account}</li>", Grouped((*lots).into()))
     };
     let all: u64 = sums.iter().map(|(_, lots)| lots).sum();

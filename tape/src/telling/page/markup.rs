@@ -3,34 +3,44 @@
 
 use super::parts::State;
 use crate::measure::Grouped;
+use crate::names::Called;
 use std::io::{self, Write};
 
-/// A kind of table: its class, its heads, and the columns that are numbers.
+/// A kind of table: its class, its heads, the columns that are numbers, and those of issues, accounts and
+/// days, which are names and dates where they are known.
 pub struct Kind {
     class: &'static str,
     heads: &'static [&'static str],
     numbers: &'static [usize],
+    named: &'static [usize],
 }
 
 pub const DAYS: Kind = Kind {
     class: "days",
     heads: &["Day", "Order", "Issues", "Trades", "Refused", "Fails", "Roll"],
     numbers: &[3, 4, 5],
+    named: &[0, 2],
 };
-pub const ORDER: Kind =
-    Kind { class: "order", heads: &["Units", "Account", "Lots", "State", "Place"], numbers: &[2] };
+pub const ORDER: Kind = Kind {
+    class: "order",
+    heads: &["Units", "Account", "Lots", "State", "Place"],
+    numbers: &[2],
+    named: &[1],
+};
 pub const HANDED: Kind = Kind {
     class: "handed-over",
     heads: &["When", "Account", "Delivers, lots", "Handed", "Waits", "Still owes, lots"],
     numbers: &[2, 5],
+    named: &[1],
 };
 pub const FAILS: Kind = Kind {
     class: "fails",
     heads: &["From account", "To account", "Lots", "Yen face", "Of", "What became of it"],
     numbers: &[0, 1, 2, 3],
+    named: &[0, 1],
 };
 pub const LATER: Kind =
-    Kind { class: "later", heads: &["When", "What", "What came of it"], numbers: &[] };
+    Kind { class: "later", heads: &["When", "What", "What came of it"], numbers: &[], named: &[] };
 pub const CHARGES: Kind = Kind {
     class: "charges",
     heads: &[
@@ -44,13 +54,16 @@ pub const CHARGES: Kind = Kind {
         "Charge, yen",
     ],
     numbers: &[0, 1, 2, 3, 4, 5, 6, 7],
+    named: &[0, 1, 2],
 };
 pub const LEDGER: Kind = Kind {
     class: "ledger",
     heads: &["Issue", "From account", "To account", "Lots", "Yen face", "Since day"],
     numbers: &[0, 1, 2, 3, 4, 5],
+    named: &[0, 1, 2, 5],
 };
-pub const CHARGED: Kind = Kind { class: "charged", heads: &["Account", "Yen"], numbers: &[0, 1] };
+pub const CHARGED: Kind =
+    Kind { class: "charged", heads: &["Account", "Yen"], numbers: &[0, 1], named: &[0] };
 pub const RECEIVES: Kind = Kind {
     class: "receives",
     heads: &[
@@ -65,6 +78,7 @@ pub const RECEIVES: Kind = Kind {
         "Given, yen",
     ],
     numbers: &[0, 1, 2, 3, 5, 6, 7, 8],
+    named: &[0, 1],
 };
 pub const DELIVERS: Kind = Kind {
     class: "delivers",
@@ -80,14 +94,15 @@ pub const DELIVERS: Kind = Kind {
         "Charged, yen",
     ],
     numbers: &[0, 1, 2, 3, 5, 6, 7, 8],
+    named: &[0, 1],
 };
 /// All kinds of tables.
 const KINDS: [&Kind; 10] =
     [&DAYS, &ORDER, &HANDED, &FAILS, &LATER, &CHARGES, &LEDGER, &CHARGED, &RECEIVES, &DELIVERS];
 
 /// The style of the page: colours, patterns and layout, and the heads that stand before each cell on a
-/// narrow screen.
-pub fn style(out: &mut impl Write) -> io::Result<()> {
+/// narrow screen; of a page with names, that these stand to the left and are broken where they are long.
+pub fn style(out: &mut impl Write, named: bool) -> io::Result<()> {
     out.write_all(include_bytes!("page.css"))?;
     writeln!(out, "@media print, (min-width: 701px) {{")?;
     for Kind { class, numbers, .. } in KINDS {
@@ -102,6 +117,25 @@ pub fn style(out: &mut impl Write) -> io::Result<()> {
     for Kind { class, heads, .. } in KINDS {
         for (at, head) in (1..).zip(*heads) {
             writeln!(out, ".{class} tr > td:nth-child({at})::before {{ content: \"{head}\"; }}")?;
+        }
+    }
+    writeln!(out, "}}")?;
+    if named {
+        style_of_names(out)?;
+    }
+    Ok(())
+}
+
+/// What the style of a page with names has more.
+fn style_of_names(out: &mut impl Write) -> io::Result<()> {
+    writeln!(out, "td, li {{ overflow-wrap: anywhere; }}")?;
+    writeln!(out, "@media print, (min-width: 701px) {{")?;
+    for Kind { class, named, .. } in KINDS {
+        for column in *named {
+            let at = column + 1;
+            writeln!(out, ".{class} tr > :nth-child({at}) {{ text-align: left; }}")?;
+            let wide = "white-space: normal; min-width: 4.6rem;";
+            writeln!(out, ".{class} tr > td:nth-child({at}) {{ {wide} }}")?;
         }
     }
     writeln!(out, "}}")
@@ -177,6 +211,11 @@ pub fn bar(all: u64, parts: &[(State, u64, u64)]) -> String {
 /// A number with a comma before every three digits.
 pub fn number(number: impl Into<i128>) -> String {
     Grouped(number.into()).to_string()
+}
+
+/// An issue or an account as it is told.
+pub fn name(called: Called) -> String {
+    escaped(&called.to_string())
 }
 
 /// Lots as their face in yen, 50,000 a lot.

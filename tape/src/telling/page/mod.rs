@@ -10,11 +10,14 @@ mod writing;
 
 use crate::facts::Told;
 use crate::input::Stands;
+use crate::known::{Dated, Known};
 use crate::telling::Only;
 use account::Flow;
 use parts::{DayPart, Fail};
 use settlement_day::Entry;
 use std::collections::BTreeMap;
+
+pub use markup::escaped;
 
 /// The most rows of a page: units, deliveries, fails, charges and what else is shown, some megabytes.
 pub const MOST_ROWS: usize = 20_000;
@@ -24,7 +27,9 @@ pub const MOST_ROWS: usize = 20_000;
 pub struct Page {
     only: Only,
     /// The files that the tape is of.
-    names: Vec<String>,
+    files: Vec<String>,
+    /// The names and dates that are known at the end.
+    known: Known,
     instructions: usize,
     refused: usize,
     days: BTreeMap<u16, DayPart>,
@@ -39,7 +44,7 @@ pub struct Page {
     end: End,
     rows: usize,
     /// Where there are too many rows, the day on which.
-    too_long: Option<u16>,
+    too_long: Option<Dated>,
 }
 
 /// The book at the end, and where reading ended, if it did before the tape.
@@ -56,10 +61,11 @@ struct End {
 
 impl Page {
     /// An empty page, of what is wanted of these files.
-    pub fn new(only: Only, names: Vec<String>) -> Page {
+    pub fn new(only: Only, files: Vec<String>) -> Page {
         Page {
             only,
-            names,
+            files,
+            known: Known::default(),
             instructions: 0,
             refused: 0,
             days: BTreeMap::new(),

@@ -6,24 +6,27 @@ use super::parts::{DayPart, IssuePart};
 use super::{place, Page, MOST_ROWS};
 use crate::facts::{Fact, Told};
 use crate::input::Stands;
+use crate::known::Known;
 use crate::ledger::Step;
 use crate::measure::{Grouped, Lots};
 use crate::telling::text;
 use settlement_day::{Entry, Instruction};
 
-/// A fact with where its instruction stands, and whether it is wanted on the page.
+/// A fact with where its instruction stands, whether it is wanted on the page, and what is known then.
 struct Noted<'a> {
     day: u16,
     when: String,
     shown: bool,
     fact: &'a Fact,
+    known: &'a Known,
 }
 
 impl Page {
     /// Notes a fact of an instruction that stands there; answers whether the page has room for it.
     pub fn note(&mut self, told: &Told, stands: Stands) -> bool {
-        let shown = self.only.has(told);
-        let noted = Noted { day: told.day, when: place(told, stands), shown, fact: told.fact };
+        let (shown, when) = (self.only.has(told), place(told, stands));
+        let Told { day, fact, known, .. } = *told;
+        let noted = Noted { day, when, shown, fact, known };
         match told.fact {
             Fact::Day { turn, .. } if self.only.day.is_none_or(|day| day == told.day) => {
                 self.day(told.day).turn = *turn;
@@ -52,7 +55,7 @@ impl Page {
     fn row(&mut self, noted: &Noted) -> bool {
         if noted.shown && self.too_long.is_none() {
             self.rows += 1;
-            self.too_long = (self.rows > MOST_ROWS).then_some(noted.day);
+            self.too_long = (self.rows > MOST_ROWS).then(|| noted.known.day(noted.day));
         }
         noted.shown && self.too_long.is_none()
     }
@@ -100,7 +103,7 @@ impl Page {
             Instruction::Close if noted.shown => self.day(day).closed = Some(when),
             Instruction::Cutoff => self.cutoff(noted),
             Instruction::Mark { .. } | Instruction::Turn { .. } if self.row(noted) => {
-                let told = format!("{when}: {}", text::said(instruction));
+                let told = format!("{when}: {}", text::said(instruction, noted.known));
                 self.day(day).settings.push(told);
             }
             Instruction::Deliver { issue, account, lots } => {
@@ -116,7 +119,7 @@ impl Page {
             Instruction::Resolve { issue, .. } | Instruction::PairOff { issue, .. }
                 if self.is_wanted(day, issue) =>
             {
-                let (shown, what) = (self.row(noted), text::said(instruction));
+                let (shown, what) = (self.row(noted), text::said(instruction, noted.known));
                 let later = Later { when, what, came: Vec::new(), shown };
                 put(&mut self.issue(day, issue).later, later, |one| one.shown);
             }
@@ -183,8 +186,9 @@ impl Page {
     fn order(&mut self, noted: &Noted) {
         let Some(issue) = noted.fact.issue().filter(|_| noted.shown) else { return };
         let Fact::Owes { account, lots, .. } = *noted.fact else {
-            let told = text::told(noted.fact);
-            let told = told.trim_start_matches(&format!("issue {issue}: ")).to_string();
+            let told = text::told(noted.fact, noted.known);
+            let head = format!("issue {}: ", noted.known.issue(issue));
+            let told = told.trim_start_matches(&head).to_string();
             self.row(noted);
             return self.issue(noted.day, issue).neighbours.push(told);
         };
@@ -306,12 +310,13 @@ impl Page {
 
     /// Lots of a fail that are handed over in a resolve.
     fn resolved(&mut self, noted: &Noted, issue: u32, (from, to): (u32, u32), lots: u32) {
-        let (day, met) = (noted.day, Lots(lots.into()));
-        let told = format!("{met} resolved on day {day}, {}", noted.when);
+        let (day, met, known) = (noted.day, Lots(lots.into()), noted.known);
+        let told = format!("{met} resolved on day {}, {}", known.day(day), noted.when);
         let since = self.take(lots, |fail| fail.issue == issue && fail.from == from, &told);
         if self.row(noted) {
-            let of = since.map_or(String::new(), |since| format!(", failed on day {since}"));
-            let came = format!("{met} to account {to}{of}");
+            let of = |since: u16| format!(", failed on day {}", known.day(since));
+            let of = since.map_or(String::new(), of);
+            let came = format!("{met} to account {}{of}", known.account(to));
             self.came(day, issue, came);
         }
         if self.is_asked(day, issue, to) {
@@ -325,19 +330,20 @@ impl Page {
     /// Two fails that meet in a pair-off, and the one that takes their place.
     fn met(&mut self, noted: &Noted, issue: u32, account: u32, step: &Step) {
         let (day, lots) = (noted.day, Lots(step.lots.into()));
-        let told = format!("{lots} paired off by account {account} on day {day}, {}", noted.when);
+        let (by, on) = (noted.known.account(account), noted.known.day(day));
+        let told = format!("{lots} paired off by account {by} on day {on}, {}", noted.when);
         self.take(step.lots, |fail| fail.issue == issue && fail.to == account, &told);
         self.take(step.lots, |fail| fail.issue == issue && fail.from == account, &told);
         let shown = self.row(noted);
         if !step.falls_away() {
-            let of = format!("the pair-off of account {account}");
+            let of = format!("the pair-off of account {by}");
             let place = self.arises(noted, issue, (step.from, step.to), step.lots, of);
             if shown {
                 self.issue(day, issue).fails.push(place);
             }
         }
         if shown {
-            self.came(day, issue, text::told(noted.fact));
+            self.came(day, issue, text::told(noted.fact, noted.known));
         }
         for one in [step.from, account, step.to] {
             if self.is_asked(day, issue, one) {
@@ -361,8 +367,8 @@ impl Page {
         let place = self.standing.get(self.charged).copied();
         self.charged += 1;
         if let Some(became) = place.and_then(|place| self.fails[place].became.as_mut()) {
-            let yen = Grouped(yen.into());
-            became.push(format!("charged {yen} yen at the roll of day {day}"));
+            let (yen, on) = (Grouped(yen.into()), noted.known.day(day));
+            became.push(format!("charged {yen} yen at the roll of day {on}"));
         }
         if self.row(noted) {
             if let Some(roll) = &mut self.day(day).roll {
@@ -381,6 +387,7 @@ impl Page {
     fn end(&mut self, noted: &Noted) {
         if let Fact::End { phase, .. } = noted.fact {
             (self.end.day, self.end.phase) = (noted.day, noted.shown.then_some(*phase));
+            self.known = noted.known.clone();
         }
         if !self.row(noted) {
             return;

@@ -1,13 +1,14 @@
 //! A page written: head, index, legend, the days with their issues, and the book at the end.
 
 use super::markup::{
-    badge, bar, cell_of, escaped, face, list, number, range, section_of, style, table,
+    badge, bar, cell_of, escaped, face, list, name, number, range, section_of, style, table,
 };
 use super::markup::{CHARGED, CHARGES, DAYS, FAILS, HANDED, LATER, LEDGER, ORDER};
-use super::parts::{DayPart, Delivery, Handed, IssuePart, Later, Piece, Roll, State};
+use super::parts::{Charge, DayPart, Delivery, Handed, IssuePart, Later, Piece, Roll, State};
 use super::Page;
+use crate::known::Known;
 use crate::measure::{counted, Face, Lots, Price, Rate};
-use crate::telling::text::{days_text, listed};
+use crate::telling::text::days_text;
 use crate::telling::Only;
 use settlement_day::Entry;
 use std::io::{self, Write};
@@ -19,7 +20,7 @@ impl Page {
         writeln!(out, "<!DOCTYPE html>\n<html lang=\"en\">\n<head>\n<meta charset=\"utf-8\">")?;
         writeln!(out, "<meta name=\"viewport\" content=\"width=device-width, initial-scale=1\">")?;
         writeln!(out, "<title>{title}</title>\n<style>")?;
-        style(out)?;
+        style(out, !self.known.names.is_empty())?;
         writeln!(out, "</style>\n</head>\n<body>\n<header>\n<h1>{title}</h1>")?;
         self.lead(out)?;
         writeln!(out, "</header>")?;
@@ -36,15 +37,16 @@ impl Page {
     /// The title: of which account, issue and days.
     fn title(&self) -> String {
         let Only { issue, account, .. } = self.only;
-        let days: Vec<u16> = self.days.keys().copied().collect();
+        let known = &self.known;
+        let days: Vec<String> = self.days.keys().map(|day| known.day(*day).to_string()).collect();
         let days = match days.as_slice() {
             [first, .., last] => format!("settlement days {first} to {last}"),
             [one] => format!("settlement day {one}"),
             [] => "settlement days".to_string(),
         };
         let of = [
-            account.map(|account| format!("Account {account}")),
-            issue.map(|issue| format!("issue {issue}")),
+            account.map(|account| format!("Account {}", known.account(account))),
+            issue.map(|issue| format!("issue {}", known.issue(issue))),
             Some(days),
         ];
         let title = of.into_iter().flatten().collect::<Vec<_>>().join(", ");
@@ -53,11 +55,11 @@ impl Page {
 
     /// Of which files the page is, how much stands in them, and what is left out.
     fn lead(&self, out: &mut impl Write) -> io::Result<()> {
-        let (names, refused) = (self.names.join(", "), number(self.refused as i128));
+        let (files, refused) = (self.files.join(", "), number(self.refused as i128));
         let count = counted(self.instructions, "instruction");
-        writeln!(out, "<p>{}: {count}, {refused} refused.</p>", escaped(&names))?;
-        if let Some(only) = narrowed(self.only) {
-            writeln!(out, "<p><b>Only what is of {only} is shown.</b></p>")?;
+        writeln!(out, "<p>{}: {count}, {refused} refused.</p>", escaped(&files))?;
+        if let Some(only) = narrowed(self.only, &self.known) {
+            writeln!(out, "<p><b>Only what is of {} is shown.</b></p>", escaped(&only))?;
         }
         if let Some(reading) = &self.end.reading {
             writeln!(out, "<p><b>The tape is not read to its end: {}.</b></p>", escaped(reading))?;
@@ -71,8 +73,9 @@ impl Page {
 
     /// The days with links to their issues.
     fn index(&self, out: &mut impl Write) -> io::Result<()> {
+        let days = self.days.iter();
         let rows: Vec<Vec<String>> =
-            self.days.iter().map(|(day, part)| index_row(*day, part)).collect();
+            days.map(|(day, part)| index_row(*day, part, &self.known)).collect();
         writeln!(out, "<nav aria-label=\"Index\">\n<h2>Index</h2>")?;
         table(out, &DAYS, &rows)?;
         if self.end.phase.is_some() {
@@ -88,14 +91,14 @@ impl Page {
     /// A day: each issue, then the roll and what was refused.
     fn day_section(&self, out: &mut impl Write, day: u16, part: &DayPart) -> io::Result<()> {
         writeln!(out, "<section class=\"day\" id=\"day-{day}\" data-day=\"{day}\">")?;
-        writeln!(out, "<h2>Day {day}</h2>")?;
-        writeln!(out, "<p>{}</p>", escaped(&course(day, part)))?;
+        writeln!(out, "<h2>Day {}</h2>", self.known.day(day))?;
+        writeln!(out, "<p>{}</p>", escaped(&course(day, part, &self.known)))?;
         list(out, "settings", &part.settings)?;
         for (issue, of_issue) in part.issues.iter().filter(|(_, part)| part.is_shown()) {
             self.issue_section(out, day, *issue, of_issue)?;
         }
         if let Some(roll) = &part.roll {
-            rolled(out, roll)?;
+            rolled(out, roll, &self.known)?;
         }
         if part.refusals > 0 {
             writeln!(out, "<h3>Refused: {}</h3>", number(part.refusals as i128))?;
@@ -117,13 +120,14 @@ impl Page {
         issue: u32,
         part: &IssuePart,
     ) -> io::Result<()> {
+        let known = &self.known;
         writeln!(out, "<section id=\"day-{day}-issue-{issue}\" data-issue=\"{issue}\">")?;
-        writeln!(out, "<h3>Day {day}, issue {issue}</h3>")?;
+        writeln!(out, "<h3>Day {}, issue {}</h3>", known.day(day), name(known.issue(issue)))?;
         if !part.blocks.is_empty() {
-            order(out, part)?;
+            order(out, part, known)?;
         }
         let deliveries = part.deliveries.iter().filter(|one| one.shown);
-        let deliveries: Vec<Vec<String>> = deliveries.map(delivery_row).collect();
+        let deliveries: Vec<Vec<String>> = deliveries.map(|one| delivery_row(one, known)).collect();
         if !deliveries.is_empty() {
             writeln!(out, "<h4>Who handed what, when</h4>")?;
             table(out, &HANDED, &deliveries)?;
@@ -151,7 +155,7 @@ impl Page {
             0 => "nothing is left of it".to_string(),
             left => format!("{} still open at the end of the tape", Lots(left.into())),
         });
-        let accounts = [fail.from, fail.to].map(|account| account.to_string());
+        let accounts = [fail.from, fail.to].map(|account| name(self.known.account(account)));
         let rest = [number(fail.lots), face(fail.lots), escaped(&fail.of), cell_of(&became)];
         [&accounts[..], &rest].concat()
     }
@@ -159,25 +163,27 @@ impl Page {
     /// Marked issues, ledger and charges at the end.
     fn closing(&self, out: &mut impl Write) -> io::Result<()> {
         let Some(phase) = self.end.phase else { return Ok(()) };
-        let title = format!("At the end: day {}, {phase}", self.end.day);
+        let known = &self.known;
+        let title = format!("At the end: day {}, {phase}", known.day(self.end.day));
         section_of(out, "end", &title, |out| {
             if let Some(turn) = self.end.turn {
+                let turn = known.day(turn);
                 writeln!(out, "<p>Full units are dealt in turn from day {turn} on.</p>")?;
             }
             if !self.end.marked.is_empty() {
                 let s = if self.end.marked.len() == 1 { "" } else { "s" };
-                let issues = listed(&self.end.marked);
+                let issues = escaped(&known.issues(&self.end.marked));
                 let takes = "In multiples of 100,000 yen face, even lots only";
                 writeln!(out, "<p>{takes}: issue{s} {issues}.</p>")?;
             }
             writeln!(out, "<h3>Ledger of fails</h3>")?;
-            let ledger: Vec<Vec<String>> = self.end.ledger.iter().map(entry_row).collect();
-            table(out, &LEDGER, &ledger)?;
+            let ledger = self.end.ledger.iter().map(|entry| entry_row(entry, known));
+            table(out, &LEDGER, &ledger.collect::<Vec<_>>())?;
             writeln!(out, "<h3>Charges</h3>")?;
-            let charged = self.end.charged.iter();
-            let charged: Vec<Vec<String>> =
-                charged.map(|(account, yen)| vec![account.to_string(), number(*yen)]).collect();
-            table(out, &CHARGED, &charged)
+            let row = |(account, yen): &(u32, i64)| {
+                vec![name(known.account(*account)), number(*yen)]
+            };
+            table(out, &CHARGED, &self.end.charged.iter().map(row).collect::<Vec<_>>())
         })
     }
 }
@@ -192,11 +198,11 @@ impl IssuePart {
 }
 
 /// To what a page is narrowed, in words.
-fn narrowed(only: Only) -> Option<String> {
+fn narrowed(only: Only, known: &Known) -> Option<String> {
     let parts = [
-        only.issue.map(|issue| format!("issue {issue}")),
-        only.account.map(|account| format!("account {account}")),
-        only.day.map(|day| format!("day {day}")),
+        only.issue.map(|issue| format!("issue {}", known.issue(issue))),
+        only.account.map(|account| format!("account {}", known.account(account))),
+        only.day.map(|day| format!("day {}", known.day(day))),
     ];
     let parts: Vec<String> = parts.into_iter().flatten().collect();
     (!parts.is_empty()).then(|| parts.join(" and "))
@@ -211,16 +217,19 @@ fn order_name(day: u16, turn: u32) -> &'static str {
 }
 
 /// The row of a day in the index.
-fn index_row(day: u16, part: &DayPart) -> Vec<String> {
+fn index_row(day: u16, part: &DayPart, known: &Known) -> Vec<String> {
     let issues = part.issues.iter().filter(|(_, part)| part.is_shown());
-    let link = |(issue, _): (&u32, _)| format!("<a href=\"#day-{day}-issue-{issue}\">{issue}</a>");
+    let link = |(issue, _): (&u32, _)| {
+        let named = name(known.issue(*issue));
+        format!("<a href=\"#day-{day}-issue-{issue}\">{named}</a>")
+    };
     let issues: String = issues.map(link).collect::<Vec<_>>().join(" ");
     let fails: usize = part.issues.values().map(|part| part.fails.len()).sum();
     let roll = part.roll.as_ref().map_or(String::new(), |roll| {
         format!("{} at {}", days_text(roll.days), percent_a_year(roll.rate))
     });
     vec![
-        format!("<a href=\"#day-{day}\">{day}</a>"),
+        format!("<a href=\"#day-{day}\">{}</a>", known.day(day)),
         order_name(day, part.turn).to_string(),
         issues,
         number(part.trades as i128),
@@ -253,13 +262,14 @@ fn legend(out: &mut impl Write) -> io::Result<()> {
 }
 
 /// The course of a day: its order, trades, close and cutoff.
-fn course(day: u16, part: &DayPart) -> String {
+fn course(day: u16, part: &DayPart, known: &Known) -> String {
+    let from = known.day(part.turn);
     let order = match part.turn {
         0 => "The old order".to_string(),
         turn if turn <= day.into() => {
-            format!("The new order: full units are dealt in turn since day {turn}")
+            format!("The new order: full units are dealt in turn since day {from}")
         }
-        turn => format!("The old order; full units are dealt in turn from day {turn} on"),
+        _ => format!("The old order; full units are dealt in turn from day {from} on"),
     };
     let trades = counted(part.trades, "trade");
     let stands = |name: &str, when: &Option<String>| match when {
@@ -271,7 +281,7 @@ fn course(day: u16, part: &DayPart) -> String {
 }
 
 /// The units of an issue in their order, as sums, as a bar and row by row.
-fn order(out: &mut impl Write, part: &IssuePart) -> io::Result<()> {
+fn order(out: &mut impl Write, part: &IssuePart, known: &Known) -> io::Result<()> {
     let pieces = part.all_pieces();
     let units: u32 = pieces.iter().map(|piece| piece.block.count()).sum();
     let due: u64 = pieces.iter().map(|piece| piece.block.all()).sum();
@@ -279,12 +289,13 @@ fn order(out: &mut impl Write, part: &IssuePart) -> io::Result<()> {
     sums(out, &pieces, due)?;
     writeln!(out, "<div class=\"whole\">{}</div>", bar(part.lots, &joined(&pieces)))?;
     writeln!(out, "<h4>The order</h4>")?;
-    let rows: Vec<Vec<String>> = pieces.iter().map(|piece| piece_row(piece, part.lots)).collect();
-    table(out, &ORDER, &rows)?;
+    let rows = pieces.iter().map(|piece| piece_row(piece, part.lots, known));
+    table(out, &ORDER, &rows.collect::<Vec<_>>())?;
     list(out, "neighbours", &part.neighbours)?;
-    let owes = part.owes.iter();
-    let owes: Vec<String> =
-        owes.map(|(account, lots)| format!("account {account} {}", Lots(*lots))).collect();
+    let owes = |(account, lots): &(u32, u64)| {
+        format!("account {} {}", name(known.account(*account)), Lots(*lots))
+    };
+    let owes: Vec<String> = part.owes.iter().map(owes).collect();
     if owes.is_empty() {
         return Ok(());
     }
@@ -334,7 +345,7 @@ fn joined(pieces: &[Piece]) -> Vec<(State, u64, u64)> {
 }
 
 /// The row of units in one state.
-fn piece_row(piece: &Piece, all: u64) -> Vec<String> {
+fn piece_row(piece: &Piece, all: u64, known: &Known) -> Vec<String> {
     let block = &piece.block;
     let turn = match (block.rounds, block.receiver) {
         (Some((round, until)), Some((receiver, of))) => {
@@ -364,26 +375,26 @@ fn piece_row(piece: &Piece, all: u64) -> Vec<String> {
         }
         state => badge(state),
     };
-    let accounts = listed(&block.accounts);
+    let accounts = escaped(&known.accounts(&block.accounts));
     vec![units, format!("{accounts}{turn}"), lots, state, bar(all, &piece.drawn())]
 }
 
 /// The row of a delivery, or of the cutoff's remaining stock.
-fn delivery_row(delivery: &Delivery) -> Vec<String> {
+fn delivery_row(delivery: &Delivery, known: &Known) -> Vec<String> {
     let (account, lots) = match delivery.by {
-        Some((account, lots)) => (account.to_string(), number(lots)),
+        Some((account, lots)) => (name(known.account(account)), number(lots)),
         None => ("cutoff, what is in stock".to_string(), String::new()),
     };
-    let handed: Vec<String> = delivery.handed.iter().map(handed_text).collect();
+    let handed: Vec<String> = delivery.handed.iter().map(|one| handed_text(one, known)).collect();
     let waits = delivery.waits.map_or(String::new(), |(stock, unit, account)| {
-        format!("{} for unit {unit} of account {account}", Lots(stock))
+        format!("{} for unit {unit} of account {}", Lots(stock), name(known.account(account)))
     });
     let owes = delivery.still_owes.map_or(String::new(), number);
     vec![escaped(&delivery.when), account, lots, cell_of(&handed), waits, owes]
 }
 
 /// Units that a delivery handed.
-fn handed_text(handed: &Handed) -> String {
+fn handed_text(handed: &Handed, known: &Known) -> String {
     let Handed { first, last, lots, to, rounds, part } = handed;
     let rounds = rounds.map_or(String::new(), |(round, until)| {
         let s = if round == until { "" } else { "s" };
@@ -391,12 +402,15 @@ fn handed_text(handed: &Handed) -> String {
     });
     let named = format!("unit{} {}", if first == last { "" } else { "s" }, range(*first, *last));
     let lots = Lots((*lots).into());
+    let to_account = |account: u32| format!("to account {}", known.account(account));
     match to.as_slice() {
-        [(account, 1)] if *part => format!("{named} to account {account}: {lots} of it"),
-        [(account, 1)] => format!("{named} to account {account}: {lots}{rounds}"),
-        [(account, count)] => format!("{named} to account {account}: {count} × {lots}{rounds}"),
+        [(account, 1)] if *part => format!("{named} {}: {lots} of it", to_account(*account)),
+        [(account, 1)] => format!("{named} {}: {lots}{rounds}", to_account(*account)),
+        [(account, count)] => {
+            format!("{named} {}: {count} × {lots}{rounds}", to_account(*account))
+        }
         to => {
-            let each = |(account, count): &(u32, u32)| format!("{count} to account {account}");
+            let each = |(account, count): &(u32, u32)| format!("{count} {}", to_account(*account));
             let each: Vec<String> = to.iter().map(each).collect();
             format!("{named}{rounds}, {lots} each: {}", each.join(", "))
         }
@@ -413,12 +427,12 @@ fn later_row(later: &Later) -> Vec<String> {
 }
 
 /// The roll that ends a day, and its charges.
-fn rolled(out: &mut impl Write, roll: &Roll) -> io::Result<()> {
+fn rolled(out: &mut impl Write, roll: &Roll, known: &Known) -> io::Result<()> {
     let (days, rate) = (days_text(roll.days), percent_a_year(roll.rate));
     writeln!(out, "<h3>Roll: {days} at {rate}</h3>\n<p>{}.</p>", escaped(&roll.when))?;
-    let row = |charge: &super::parts::Charge| {
-        let super::parts::Charge { terms, from, to, lots, value, yen } = charge;
-        let of = [terms.issue, *from, *to].map(|number| number.to_string());
+    let row = |charge: &Charge| {
+        let Charge { terms, from, to, lots, value, yen } = charge;
+        let of = of_whom(known, terms.issue, *from, *to);
         let price = [terms.price, terms.accrued].map(|price| Price(price).to_string());
         [&of[..], &[number(*lots)], &price, &[number(*value), number(*yen)]].concat()
     };
@@ -426,8 +440,13 @@ fn rolled(out: &mut impl Write, roll: &Roll) -> io::Result<()> {
 }
 
 /// The row of an entry of the ledger.
-fn entry_row(entry: &Entry) -> Vec<String> {
+fn entry_row(entry: &Entry, known: &Known) -> Vec<String> {
     let Entry { issue, from, to, lots, day } = *entry;
-    let of = [issue, from, to].map(|number| number.to_string());
-    [&of[..], &[number(lots), face(lots), day.to_string()]].concat()
+    let of = of_whom(known, issue.into(), from.into(), to.into());
+    [&of[..], &[number(lots), face(lots), known.day(day).to_string()]].concat()
+}
+
+/// The cells of an issue and of the accounts of a fail in it.
+fn of_whom(known: &Known, issue: u32, from: u32, to: u32) -> [String; 3] {
+    [known.issue(issue), known.account(from), known.account(to)].map(name)
 }
