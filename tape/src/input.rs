@@ -159,7 +159,7 @@ pub fn parsed(file: &str, bytes: Vec<u8>) -> Result<Parsed, String> {
 }
 
 /// What is wrong with a text, a line each.
-fn errors(file: &str, faults: &Faults) -> String {
+pub(crate) fn errors(file: &str, faults: &Faults) -> String {
     faults.listed(file, ["error", "errors"]).join("\n")
 }
 

@@ -7,6 +7,7 @@ use crate::bytes::{join, split};
 use crate::fault::{shown, words_of, Fault, Faults, Word};
 use crate::measure::{counted, Grouped};
 use settlement_day::{tape, Instruction, Refusal, ISSUES, WRITER_WORDS};
+use std::ops::RangeInclusive;
 
 /// The instructions' forms, for errors.
 const FORMS: &str = "trade ISSUE FROM TO LOTS, close, deliver ISSUE ACCOUNT LOTS, cutoff, \
@@ -17,10 +18,24 @@ const FORMS: &str = "trade ISSUE FROM TO LOTS, close, deliver ISSUE ACCOUNT LOTS
 /// A field of an instruction: its name, the bits that it has on a tape, and the least and the highest
 /// number that the book takes.
 #[derive(Clone, Copy)]
-struct Field {
-    name: &'static str,
+pub(crate) struct Field {
+    pub(crate) name: &'static str,
     bits: u32,
     takes: (u32, u32),
+}
+
+impl Field {
+    /// The numbers that the book takes.
+    pub(crate) fn range(self) -> RangeInclusive<u32> {
+        self.takes.0..=self.takes.1
+    }
+
+    /// What is said of a number that is too small or too large.
+    fn outside(self, word: &Word, how: &str) -> Fault {
+        let Field { name, takes: (least, most), .. } = self;
+        let (shown, most) = (shown(word.text), Grouped(most.into()));
+        word.fault(format!("{name} {shown} is too {how}: write a number from {least} to {most}"))
+    }
 }
 
 /// A field of this name.
@@ -28,15 +43,15 @@ const fn field(name: &'static str, bits: u32, takes: (u32, u32)) -> Field {
     Field { name, bits, takes }
 }
 
-const ISSUE: Field = field("issue", 4, (0, 15));
-const FROM: Field = field("from", 6, (0, 63));
-const TO: Field = field("to", 6, (0, 63));
-const ACCOUNT: Field = field("account", 6, (0, 63));
-const LOTS: Field = field("lots", 28, (1, 20_000_000));
-const DAYS: Field = field("days", 4, (1, 12));
-const RATE: Field = field("rate", 14, (0, 10_000));
-const PRICE: Field = field("price", 18, (1, 200_000));
-const ACCRUED: Field = field("accrued", 18, (0, 10_000));
+pub(crate) const ISSUE: Field = field("issue", 4, (0, 15));
+pub(crate) const FROM: Field = field("from", 6, (0, 63));
+pub(crate) const TO: Field = field("to", 6, (0, 63));
+pub(crate) const ACCOUNT: Field = field("account", 6, (0, 63));
+pub(crate) const LOTS: Field = field("lots", 28, (1, 20_000_000));
+pub(crate) const DAYS: Field = field("days", 4, (1, 12));
+pub(crate) const RATE: Field = field("rate", 14, (0, 10_000));
+pub(crate) const PRICE: Field = field("price", 18, (1, 200_000));
+pub(crate) const ACCRUED: Field = field("accrued", 18, (0, 10_000));
 const MARK: Field = field("mark", 1, (0, 1));
 const DAY: Field = field("day", 16, (1, 65_535));
 
@@ -262,7 +277,7 @@ fn here(count: usize, what: &str) -> String {
 
 /// One number of an instruction.
 fn number(field: Field, word: &Word) -> Result<u32, Fault> {
-    let Field { name, bits, takes: (least, most) } = field;
+    let Field { name, bits, .. } = field;
     let Some(digits) = digits_of(word.text) else {
         let what = format!(
             "{name} {} is not a number: write digits alone, or with `,` or `_` before every three",
@@ -271,10 +286,18 @@ fn number(field: Field, word: &Word) -> Result<u32, Fault> {
         return Err(word.fault(what));
     };
     let number: Option<u32> = digits.parse().ok();
-    number.filter(|&number| number >> bits == 0).ok_or_else(|| {
-        let (shown, most) = (shown(word.text), Grouped(most.into()));
-        word.fault(format!("{name} {shown} is too large: write a number from {least} to {most}"))
-    })
+    number.filter(|&number| number >> bits == 0).ok_or_else(|| field.outside(word, "large"))
+}
+
+/// One number of an instruction, which must be one that the book takes.
+pub(crate) fn taken(field: Field, word: &Word) -> Result<u32, Fault> {
+    let number = number(field, word)?;
+    let range = field.range();
+    match number {
+        number if number < *range.start() => Err(field.outside(word, "small")),
+        number if number > *range.end() => Err(field.outside(word, "large")),
+        number => Ok(number),
+    }
 }
 
 /// The digits of a number that may have `,` or `_` before every three of them; none where it has

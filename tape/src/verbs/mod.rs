@@ -3,6 +3,8 @@
 
 mod check;
 mod explain;
+mod export;
+mod import;
 mod jam;
 mod look;
 mod markets;
@@ -42,6 +44,8 @@ const VERBS: &[&Verb] = &[
     &look::VERB,
     &markets::VERB,
     &statement::VERB,
+    &import::VERB,
+    &export::VERB,
 ];
 
 /// What help says of all verbs.
@@ -56,7 +60,8 @@ text is UTF-8 without control characters. Several days are run one after the oth
 With --hex the words are hexadecimal numbers in text; with --words the input is words, damaged ones
 too. docs/TAPE.md explains the text form.
 Status: 0 done; 1 the book refuses something (check, why, look, markets), or the tape was not read
-to its end or its lines are not whole (run); 2 the words of the command, a file or a text are wrong.";
+to its end (run, export) or its lines are not whole (run); 2 the words of the command, a file or a
+text are wrong.";
 
 /// How a command ended: what it was asked was found wrong, or not.
 #[derive(Clone, Copy, Debug, PartialEq, Eq)]
@@ -159,14 +164,20 @@ fn taken(given: &Given) -> Result<Taken, String> {
     })
 }
 
+/// Standard input is at most one of the files.
+fn standard_once<'a>(files: impl Iterator<Item = &'a OsStr>) -> Result<(), String> {
+    if files.filter(|file| *file == "-").count() > 1 {
+        return Err("standard input is one file: name `-` once".to_string());
+    }
+    Ok(())
+}
+
 /// The day that these files are, one after the other; all that is wrong with them is told.
 fn day_of(given: &Given, files: &[OsString]) -> Result<Day, String> {
     let taken = taken(given)?;
     let standard = [OsString::from("-")];
     let files = if files.is_empty() { &standard } else { files };
-    if files.iter().filter(|file| *file == "-").count() > 1 {
-        return Err("standard input is one file: name `-` once".to_string());
-    }
+    standard_once(files.iter().map(OsString::as_os_str))?;
     let (mut day, mut errors) = (Day::default(), Vec::new());
     for file in files {
         let added = get(file).and_then(|bytes| day.add(&name_of(file), bytes, taken));
