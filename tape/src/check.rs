@@ -6,7 +6,7 @@ use crate::known::Known;
 use crate::progress::Meter;
 use crate::text::why_ended;
 use crate::why::why;
-use settlement_day::{calls, tape, Book, OUTPUT_WORDS};
+use settlement_day::{calls, tape, Book, Refusal, OUTPUT_WORDS};
 use std::io;
 
 /// How many instructions there are, and how many lines about refusals were told.
@@ -43,14 +43,18 @@ pub fn check(day: &Day, tell: &mut dyn FnMut(&str) -> io::Result<()>) -> io::Res
             }
             Err(refusal) => {
                 checked.refused += 1;
-                let why = why_ended(&words[at..], refusal);
-                let (place, number) = (place(day, at), refusal.number());
-                tell(&format!("{place}: reading ends here: refused by {number}: {why}"))?;
+                tell(&reading_ends(day, at, refusal, &why_ended(&words[at..], refusal)))?;
                 break;
             }
         }
     }
     Ok(checked)
+}
+
+/// What is said where reading ends at a word before the tape does, and why.
+pub(crate) fn reading_ends(day: &Day, word: usize, refusal: Refusal, why: &str) -> String {
+    let (place, number) = (place(day, word), refusal.number());
+    format!("{place}: reading ends here: refused by {number}: {why}")
 }
 
 /// The place of the instruction that begins at a word: file, line and column, or file and word.

@@ -1,13 +1,16 @@
 //! Tapes for people: a text form of the words, what the book refuses, what a tape does day by day, why a
 //! unit has not come, whether smaller units would loosen a jam, what a participant sees of an account,
-//! every small market, and an account's fails statement.
+//! every small market, an account's fails statement, and CSV in and out.
 
 pub mod account;
 pub mod bytes;
 pub mod check;
+pub mod csv;
 pub mod dealt;
+pub mod export;
 pub mod facts;
 pub mod fault;
+pub mod import;
 pub mod input;
 mod interrupt;
 pub mod jam;

@@ -163,15 +163,41 @@ impl Told {
         format!("lots over {}{refused}{end}{open}", counted(instructions, "instruction"))
     }
 
+    /// What is to be said where they are not of the whole tape.
+    pub fn cut(&self) -> Option<String> {
+        (self.span.end != End::Tape).then(|| self.head())
+    }
+
+    /// Does reading end before the tape does?
+    pub fn is_unread(&self) -> bool {
+        matches!(self.span.end, End::Refused(..))
+    }
+
+    /// The numbers of the span: instructions, those refused, the word at which reading ended early, the
+    /// first word behind a full span, and the day still settling; none where there is no such.
+    pub fn span(&self) -> [Option<u64>; 5] {
+        let Span { instructions, refused, end, day, settling } = self.span;
+        let (ended, behind) = match end {
+            End::Tape => (None, None),
+            End::Refused(word, _) => (Some(word as u64), None),
+            End::Full(word) => (None, Some(word as u64)),
+        };
+        let settling = settling.then_some(u64::from(day));
+        [Some(instructions as u64), Some(refused as u64), ended, behind, settling]
+    }
+
+    /// Issue and account of each row, and its lots due, delivered, failed and resolved.
+    pub fn rows(&self) -> impl Iterator<Item = (u32, u32, [u64; 4])> + '_ {
+        self.rows.iter().map(|row| {
+            let Statement { due, delivered, failed, resolved, .. } = row.statement;
+            (row.issue, row.account, [due, delivered, failed, resolved])
+        })
+    }
+
     /// An object of JSON for each row, a line each.
     pub fn json(&self) -> String {
-        let Span { instructions, refused, end, day, settling } = self.span;
-        let (ended, full) = match end {
-            End::Tape => ("null".to_string(), "null".to_string()),
-            End::Refused(word, _) => (word.to_string(), "null".to_string()),
-            End::Full(word) => ("null".to_string(), word.to_string()),
-        };
-        let open = if settling { day.to_string() } else { "null".to_string() };
+        let text = |number: Option<u64>| number.map_or("null".to_string(), |it| it.to_string());
+        let [instructions, refused, ended, full, open] = self.span().map(text);
         let names = &self.known.names;
         let object = |row: &Row| {
             let Row { issue, account, statement } = row;

@@ -9,6 +9,7 @@ use crate::fault::{shown, words_of, Fault, Faults, Word};
 use crate::measure::{counted, Grouped};
 use crate::names::{Kind, Names};
 use settlement_day::{tape, Instruction, Refusal, ISSUES, WRITER_WORDS};
+use std::ops::RangeInclusive;
 
 /// The instructions' forms, for errors.
 const FORMS: &str = "trade ISSUE FROM TO LOTS, close, deliver ISSUE ACCOUNT LOTS, cutoff, \
@@ -19,11 +20,25 @@ const FORMS: &str = "trade ISSUE FROM TO LOTS, close, deliver ISSUE ACCOUNT LOTS
 /// A field of an instruction: its name, the bits that it has on a tape, the least and the highest
 /// number that the book takes, and what it is where a name can stand for it.
 #[derive(Clone, Copy)]
-struct Field {
-    name: &'static str,
+pub(crate) struct Field {
+    pub(crate) name: &'static str,
     bits: u32,
     takes: (u32, u32),
     kind: Option<Kind>,
+}
+
+impl Field {
+    /// The numbers that the book takes.
+    pub(crate) fn range(self) -> RangeInclusive<u32> {
+        self.takes.0..=self.takes.1
+    }
+
+    /// What is said of a number that is too small or too large.
+    fn outside(self, word: &Word, how: &str) -> Fault {
+        let Field { name, takes: (least, most), .. } = self;
+        let (shown, most) = (shown(word.text), Grouped(most.into()));
+        word.fault(format!("{name} {shown} is too {how}: write a number from {least} to {most}"))
+    }
 }
 
 /// A field of this name.
@@ -36,15 +51,15 @@ const fn account(name: &'static str) -> Field {
     Field { name, bits: 6, takes: (0, 63), kind: Some(Kind::Account) }
 }
 
-const ISSUE: Field = Field { name: "issue", bits: 4, takes: (0, 15), kind: Some(Kind::Issue) };
-const FROM: Field = account("from");
-const TO: Field = account("to");
-const ACCOUNT: Field = account("account");
-const LOTS: Field = field("lots", 28, (1, 20_000_000));
-const DAYS: Field = field("days", 4, (1, 12));
-const RATE: Field = field("rate", 14, (0, 10_000));
-const PRICE: Field = field("price", 18, (1, 200_000));
-const ACCRUED: Field = field("accrued", 18, (0, 10_000));
+pub(crate) const ISSUE: Field = Field { name: "issue", bits: 4, takes: (0, 15), kind: Some(Kind::Issue) };
+pub(crate) const FROM: Field = account("from");
+pub(crate) const TO: Field = account("to");
+pub(crate) const ACCOUNT: Field = account("account");
+pub(crate) const LOTS: Field = field("lots", 28, (1, 20_000_000));
+pub(crate) const DAYS: Field = field("days", 4, (1, 12));
+pub(crate) const RATE: Field = field("rate", 14, (0, 10_000));
+pub(crate) const PRICE: Field = field("price", 18, (1, 200_000));
+pub(crate) const ACCRUED: Field = field("accrued", 18, (0, 10_000));
 const MARK: Field = field("mark", 1, (0, 1));
 const DAY: Field = field("day", 16, (1, 65_535));
 
@@ -293,7 +308,7 @@ fn here(count: usize, what: &str) -> String {
 
 /// One number of an instruction, or the name that stands for it.
 fn number(names: &Names, field: Field, word: &Word) -> Result<u32, Fault> {
-    let Field { name, bits, takes: (least, most), kind } = field;
+    let Field { name, bits, kind, .. } = field;
     let named = kind.map_or(Ok(None), |kind| names.named(kind, word.text));
     if let Some(number) = named.map_err(|what| word.fault(what))? {
         return Ok(number);
@@ -306,10 +321,18 @@ fn number(names: &Names, field: Field, word: &Word) -> Result<u32, Fault> {
         return Err(word.fault(what));
     };
     let number: Option<u32> = digits.parse().ok();
-    number.filter(|&number| number >> bits == 0).ok_or_else(|| {
-        let (shown, most) = (shown(word.text), Grouped(most.into()));
-        word.fault(format!("{name} {shown} is too large: write a number from {least} to {most}"))
-    })
+    number.filter(|&number| number >> bits == 0).ok_or_else(|| field.outside(word, "large"))
+}
+
+/// One number of an instruction, which must be one that the book takes.
+pub(crate) fn taken(names: &Names, field: Field, word: &Word) -> Result<u32, Fault> {
+    let number = number(names, field, word)?;
+    let range = field.range();
+    match number {
+        number if number < *range.start() => Err(field.outside(word, "small")),
+        number if number > *range.end() => Err(field.outside(word, "large")),
+        number => Ok(number),
+    }
 }
 
 /// The digits of a number that may have `,` or `_` before every three of them; none where it has

@@ -60,7 +60,7 @@ pub fn escaped(text: &str) -> String {
 }
 
 /// The name of a fact.
-fn name(fact: &Fact) -> &'static str {
+pub(crate) fn name(fact: &Fact) -> &'static str {
     match fact {
         Fact::Day { .. } => "day",
         Fact::Instruction { .. } => "instruction",

@@ -3,6 +3,8 @@
 
 mod check;
 mod explain;
+mod export;
+mod import;
 mod jam;
 mod look;
 mod markets;
@@ -45,6 +47,8 @@ const VERBS: &[&Verb] = &[
     &look::VERB,
     &markets::VERB,
     &statement::VERB,
+    &import::VERB,
+    &export::VERB,
 ];
 
 /// What help says of all verbs.
@@ -61,7 +65,8 @@ too. With --names FILE names stand for issues and accounts, in and out, and days
 a text with lines `issue NUMBER NAME`, `account NUMBER NAME` and `date YYYY-MM-DD`, of day 0; --day
 takes a date then. docs/TAPE.md explains the text form and names.
 Status: 0 done; 1 the book refuses something (check, why, look, markets), or the tape was not read
-to its end or its lines are not whole (run); 2 the words of the command, a file or a text are wrong.";
+to its end (run, export) or its lines are not whole (run); 2 the words of the command, a file or a
+text are wrong.";
 
 /// What is said where standard input would be read twice.
 const STANDARD_ONCE: &str = "standard input is one file: name `-` once";
@@ -167,6 +172,14 @@ fn taken(given: &Given) -> Result<Taken, String> {
     })
 }
 
+/// Standard input is at most one of the files.
+fn standard_once<'a>(files: impl Iterator<Item = &'a OsStr>) -> Result<(), String> {
+    if files.filter(|file| *file == "-").count() > 1 {
+        return Err(STANDARD_ONCE.to_string());
+    }
+    Ok(())
+}
+
 /// The day that these files are, one after the other, by the names that the command gives.
 fn day_of(given: &Given, files: &[OsString]) -> Result<Day, String> {
     day_by(given, files, names_of(given)?)
@@ -178,9 +191,7 @@ fn day_by(given: &Given, files: &[OsString], names: Names) -> Result<Day, String
     let taken = taken(given)?;
     let standard = [OsString::from("-")];
     let files = if files.is_empty() { &standard } else { files };
-    if files.iter().filter(|file| *file == "-").count() > 1 {
-        return Err(STANDARD_ONCE.to_string());
-    }
+    standard_once(files.iter().map(OsString::as_os_str))?;
     let (mut day, mut errors) = (Day::by(names), Vec::new());
     for file in files {
         let added = get(file).and_then(|bytes| day.add(&name_of(file), bytes, taken));

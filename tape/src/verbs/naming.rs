@@ -8,14 +8,20 @@ use crate::standing::{run, When};
 use std::ffi::OsStr;
 use std::ops::RangeInclusive;
 
-/// The names of the file that a command names by `--names`; none where it names no such file.
+/// The names of the file that a command names by `--names`, beside the days that it reads; none where it
+/// names no such file.
 pub(super) fn names_of(given: &Given) -> Result<Names, String> {
-    let Some(file) = given.value(&NAMES) else { return Ok(Names::default()) };
-    let is_standard = |file: &OsStr| file == "-";
     let days = &given.names;
-    if is_standard(file) && (days.is_empty() || days.iter().any(|day| is_standard(day))) {
+    let read = days.is_empty() || days.iter().any(|day| day == "-");
+    if read && given.value(&NAMES).is_some_and(|file| file == "-") {
         return Err(STANDARD_ONCE.to_string());
     }
+    names_in(given)
+}
+
+/// The names of the file that a command names by `--names`; none where it names no such file.
+pub(super) fn names_in(given: &Given) -> Result<Names, String> {
+    let Some(file) = given.value(&NAMES) else { return Ok(Names::default()) };
     let name = name_of(file);
     let text = text_of(&name, get(file)?)?;
     Names::parse(&text).map_err(|faults| errors(&name, &faults))
