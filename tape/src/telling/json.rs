@@ -72,7 +72,7 @@ fn name(fact: &Fact) -> &'static str {
 }
 
 /// A field that is a number, without the cost of a format: a tape may have a million instructions.
-fn field(out: &mut impl Write, name: &str, value: u64) -> io::Result<()> {
+pub(crate) fn field(out: &mut impl Write, name: &str, value: u64) -> io::Result<()> {
     out.write_all(b",\"")?;
     out.write_all(name.as_bytes())?;
     out.write_all(b"\":")?;
@@ -80,7 +80,7 @@ fn field(out: &mut impl Write, name: &str, value: u64) -> io::Result<()> {
 }
 
 /// A field that is a text without quotes, backslashes or line ends.
-fn text(out: &mut impl Write, name: &str, value: &str) -> io::Result<()> {
+pub(crate) fn text(out: &mut impl Write, name: &str, value: &str) -> io::Result<()> {
     out.write_all(b",\"")?;
     out.write_all(name.as_bytes())?;
     out.write_all(b"\":\"")?;
@@ -89,7 +89,7 @@ fn text(out: &mut impl Write, name: &str, value: &str) -> io::Result<()> {
 }
 
 /// A field that is a list of numbers.
-fn list(out: &mut impl Write, name: &str, numbers: &[u32]) -> io::Result<()> {
+pub(crate) fn list(out: &mut impl Write, name: &str, numbers: &[u32]) -> io::Result<()> {
     let numbers: Vec<String> = numbers.iter().map(u32::to_string).collect();
     write!(out, ",\"{name}\":[{}]", numbers.join(","))
 }
@@ -102,12 +102,12 @@ fn dealt(out: &mut impl Write, turn: &Option<Turn>) -> io::Result<()> {
 }
 
 /// Fields that are numbers.
-fn numbers(out: &mut impl Write, fields: &[(&str, u64)]) -> io::Result<()> {
+pub(crate) fn numbers(out: &mut impl Write, fields: &[(&str, u64)]) -> io::Result<()> {
     fields.iter().try_for_each(|(name, value)| field(out, name, *value))
 }
 
 /// A refusal's number and what it says.
-fn refused(out: &mut impl Write, refusal: Refusal, why: &str) -> io::Result<()> {
+pub(crate) fn refused(out: &mut impl Write, refusal: Refusal, why: &str) -> io::Result<()> {
     field(out, "refusal", refusal.number().into())?;
     text(out, "why", why)
 }
@@ -274,7 +274,7 @@ fn owed(out: &mut impl Write, numbers: [u32; 4]) -> io::Result<()> {
 }
 
 /// The numbers of an instruction.
-fn arguments(out: &mut impl Write, instruction: &Instruction) -> io::Result<()> {
+pub(crate) fn arguments(out: &mut impl Write, instruction: &Instruction) -> io::Result<()> {
     let wide = u64::from;
     match *instruction {
         Instruction::Trade { issue, from, to, lots } => owed(out, [issue, from, to, lots]),

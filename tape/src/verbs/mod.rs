@@ -2,6 +2,7 @@
 //! To add one: write its file, with a `VERB`, and name it in `VERBS`.
 
 mod check;
+mod diff;
 mod explain;
 mod jam;
 mod look;
@@ -38,6 +39,7 @@ const VERBS: &[&Verb] = &[
     &run::VERB,
     &explain::VERB,
     &why::VERB,
+    &diff::VERB,
     &jam::VERB,
     &look::VERB,
     &markets::VERB,
@@ -55,8 +57,9 @@ DAY is a tape in text form or as words, which are told apart: a tape's first byt
 text is UTF-8 without control characters. Several days are run one after the other as one tape.
 With --hex the words are hexadecimal numbers in text; with --words the input is words, damaged ones
 too. docs/TAPE.md explains the text form.
-Status: 0 done; 1 the book refuses something (check, why, look, markets), or the tape was not read
-to its end or its lines are not whole (run); 2 the words of the command, a file or a text are wrong.";
+Status: 0 done; 1 the book refuses something (check, why, look, markets), the tapes differ (diff), or
+the tape was not read to its end or its lines are not whole (run); 2 the words of the command, a file
+or a text are wrong.";
 
 /// How a command ended: what it was asked was found wrong, or not.
 #[derive(Clone, Copy, Debug, PartialEq, Eq)]
@@ -159,14 +162,20 @@ fn taken(given: &Given) -> Result<Taken, String> {
     })
 }
 
+/// Standard input is named at most once.
+fn standard_once(files: &[OsString]) -> Result<(), String> {
+    match files.iter().filter(|file| *file == "-").count() {
+        0 | 1 => Ok(()),
+        _ => Err("standard input is one file: name `-` once".to_string()),
+    }
+}
+
 /// The day that these files are, one after the other; all that is wrong with them is told.
 fn day_of(given: &Given, files: &[OsString]) -> Result<Day, String> {
     let taken = taken(given)?;
     let standard = [OsString::from("-")];
     let files = if files.is_empty() { &standard } else { files };
-    if files.iter().filter(|file| *file == "-").count() > 1 {
-        return Err("standard input is one file: name `-` once".to_string());
-    }
+    standard_once(files)?;
     let (mut day, mut errors) = (Day::default(), Vec::new());
     for file in files {
         let added = get(file).and_then(|bytes| day.add(&name_of(file), bytes, taken));
