@@ -20,9 +20,25 @@ fn issue(number: u32) -> String {
     format!("issue {number}")
 }
 
+/// Issues as they are told.
+fn issues(numbers: &[u32]) -> String {
+    match numbers {
+        [one] => issue(*one),
+        all => format!("issues {}", listed(all)),
+    }
+}
+
 /// An account as it is told.
 fn account(number: u32) -> String {
     format!("account {number}")
+}
+
+/// An account as it is told among others in their order, with how many units of it follow one another.
+fn in_order(&(number, units): &(u32, u32)) -> String {
+    match units {
+        1 => number.to_string(),
+        units => format!("{number} ({units} units)"),
+    }
 }
 
 /// Which tape is which.
@@ -98,7 +114,7 @@ pub fn tell(
         }
         Difference::Order { issue: number, parting } => format!("  {}", order(*number, parting)),
         Difference::Sum { of, amounts } => format!("  {}", sum(of, *amounts)),
-        Difference::ReadingEnds { ends } => format!("  reading ends {}", reading_ends(days, *ends)),
+        Difference::ReadingEnds { ends } => format!("  {}", reading_ends(days, *ends)),
         Difference::Ledger => {
             "  the ledgers have the same lots in another order, or parted otherwise".to_string()
         }
@@ -194,10 +210,8 @@ fn changed(lines: &[Line; 2], quoted: &[u32]) -> String {
         other if one != other => told.push_str(&format!("; in B {}", said(&other))),
         _ => {}
     }
-    match quoted {
-        [] => {}
-        [one] => told.push_str(&format!("; the quotes of {} differ", issue(*one))),
-        all => told.push_str(&format!("; the quotes of issues {} differ", listed(all))),
+    if !quoted.is_empty() {
+        told.push_str(&format!("; the quotes of {} differ", issues(quoted)));
     }
     told
 }
@@ -230,7 +244,7 @@ fn reading_ends(days: [&Day; 2], ends: [Option<&Ends>; 2]) -> String {
         None => format!("{} is read to its end", NAMES[side]),
         Some(Ends { word, refusal, why }) => {
             let (name, place) = (NAMES[side], days[side].named(*word));
-            format!("in {name} at {place}, refused by {}: {why}", refusal.number())
+            format!("reading ends in {name} at {place}, refused by {}: {why}", refusal.number())
         }
     };
     [told(0), told(1)].join("; ")
@@ -252,11 +266,7 @@ fn order(number: u32, parting: &Parting) -> String {
 
 /// Accounts in the order of their units.
 fn order_of(receivers: &Receivers) -> String {
-    let told = |&(account, units): &(u32, u32)| match units {
-        1 => account.to_string(),
-        units => format!("{account} ({units} units)"),
-    };
-    let mut told: Vec<String> = receivers.accounts.iter().map(told).collect();
+    let mut told: Vec<String> = receivers.accounts.iter().map(in_order).collect();
     match receivers.more {
         0 if told.is_empty() => return "none".to_string(),
         0 => {}
@@ -267,11 +277,6 @@ fn order_of(receivers: &Receivers) -> String {
 
 /// A sum that differs.
 fn sum(of: &Of, both: [Amount; 2]) -> String {
-    let lots = |amount: Amount| match amount.number {
-        0 => "nothing".to_string(),
-        number => Lots(number.unsigned_abs()).to_string(),
-    };
-    let yen = |amount: Amount| format!("{} yen", Grouped(amount.number.into()));
     let (lots, yen) = (amounts(both.map(lots)), amounts(both.map(yen)));
     match *of {
         Of::Handed { issue: of, account: whose } => {
@@ -299,6 +304,22 @@ fn sum(of: &Of, both: [Amount; 2]) -> String {
     }
 }
 
+/// An amount that is lots.
+fn lots(amount: Amount) -> String {
+    match amount.number {
+        0 => "nothing".to_string(),
+        number => Lots(number.unsigned_abs()).to_string(),
+    }
+}
+
+/// An amount that is yen.
+fn yen(amount: Amount) -> String {
+    match amount.number {
+        0 => "nothing".to_string(),
+        number => format!("{} yen", Grouped(number.into())),
+    }
+}
+
 /// A setting or a net that differs.
 fn setting(of: &Of, both: [Amount; 2]) -> String {
     let told = |amount: Amount| match (of, amount.number) {
@@ -321,11 +342,9 @@ fn setting(of: &Of, both: [Amount; 2]) -> String {
 
 /// What an account was handed.
 fn handed(amount: Amount) -> String {
-    let Amount { units, number } = amount;
-    let lots = Lots(number.unsigned_abs());
-    match (units, number) {
-        (0, 0) => "nothing".to_string(),
-        (0, _) => format!("{lots} of a unit"),
-        (units, _) => format!("{}, {lots} in all", counted(units as usize, "unit")),
+    match (amount.units, amount.number) {
+        (0, 0) => lots(amount),
+        (0, _) => format!("{} of a unit", lots(amount)),
+        (units, _) => format!("{}, {} in all", counted(units as usize, "unit"), lots(amount)),
     }
 }
