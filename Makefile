@@ -6,7 +6,7 @@ BUILD := build
 LIBRARY_CRATES := callers desk entries funds host journal listing snapshot statement trust
 # The programs that are installed, with a man page each; and those whose words a shell completes.
 PROGRAMS := target/bin/dayrun $(BUILD)/release/tape $(BUILD)/release/treasury $(BUILD)/release/daybook
-COMPLETED := tape treasury
+COMPLETED := tape treasury daybook
 # Where it is installed; DESTDIR stands before it while a package is made.
 PREFIX ?= /usr/local
 DESTDIR ?=

@@ -58,11 +58,18 @@ for page in docs/man/*.[13]; do
     sed "s/@VERSION@/$version/" "$page" >"$work/$(basename "$page")"
     put 644 "$work/$(basename "$page")" "share/man/man${page##*.}/$(basename "$page")"
 done
+completion() { # PROGRAM SHELL TARGET
+    local made
+    made=$work/$(basename "$1").$2
+    scripts/completion.sh "$1" "$2" >"$made"
+    put 644 "$made" "$3"
+}
 for name in "${completed[@]}"; do
     for program in "${programs[@]}"; do
         [ "$(basename "$program")" = "$name" ] || continue
-        scripts/completion.sh "$program" >"$work/$name"
-        put 644 "$work/$name" "share/bash-completion/completions/$name"
+        completion "$program" bash "share/bash-completion/completions/$name"
+        completion "$program" zsh "share/zsh/site-functions/_$name"
+        completion "$program" fish "share/fish/vendor_completions.d/$name.fish"
     done
 done
 

@@ -131,7 +131,7 @@ if command -v man >/dev/null; then
 fi
 same 'versions that were not put into a man page' '' "$(grep -l '@VERSION@' -r "$prefix/share" || true)"
 
-# Completions: after each verb of the tool its options, by the sources of the verbs.
+# Completions in bash: after each verb of the tool its options, by the sources of the verbs.
 completed() { # WORDS OF THE COMMAND.., the last of them to be completed: what is offered
     bash -c 'source "$0"; COMP_WORDS=("$@"); COMP_CWORD=$(($# - 1)); _'"$1"'; printf "%s\n" "${COMPREPLY[@]}"' \
         "$prefix/share/bash-completion/completions/$1" "$@" | LC_ALL=C sort
@@ -147,6 +147,46 @@ same 'a verb that is completed' explain "$(completed tape exp)"
 same 'a name, which bash completes itself' '' "$(completed tape check da)"
 same 'a value, which is no option' '' "$(completed tape explain --day -)"
 same 'the options of treasury' $'--factor\n--funds\n--help\n--json\n--version' "$(completed treasury -)"
+of_daybook=$(sed -n 's/^daybook \([a-z][a-z]*\) .*/\1/p' daybook/src/arguments.rs)
+same 'the words of daybook that are completed' \
+    "$(printf '%s\n' "$of_daybook" --batch --help --json --version | LC_ALL=C sort)" "$(completed daybook '')"
+same 'the options of daybook explain' --json "$(completed daybook explain -)"
+same 'the options of daybook without a verb' $'--batch\n--help\n--json\n--version' "$(completed daybook --json -)"
+
+# Completions in zsh and fish: the same words. Where a shell is not there, its file has to name them.
+in_zsh() { # WORDS OF THE COMMAND..: what the function offers, which is called without the shell's own
+    zsh -fc 'compadd() { shift; print -l -- "$@"; }; _files() { }; file=$1; shift
+        _arguments() { print -l -- "${@%%[=:]*}" | grep "^-"; }
+        words=("$@"); CURRENT=$#; source "$file"' zsh "$prefix/share/zsh/site-functions/_$1" "$@" | LC_ALL=C sort -u
+}
+in_fish() { # WORDS OF THE COMMAND..: what fish offers
+    fish --no-config -c 'source $argv[1]; complete -C "$argv[2]"' \
+        "$prefix/share/fish/vendor_completions.d/$1.fish" "$*" | cut -f 1 | LC_ALL=C sort -u
+}
+named_in() { # FILE WORDS..: each word is in the file, as an option of the shell that it is for
+    local word
+    for word in "${@:2}"; do
+        grep -qE -- "(^|[^a-z-])(${word}|-l ${word#--}|-s ${word#-})([^a-z-]|\$)" "$1" || wrong "$1 does not name $word"
+        checks=$((checks + 1))
+    done
+}
+files=(zsh/site-functions/_tape zsh/site-functions/_treasury zsh/site-functions/_daybook
+    fish/vendor_completions.d/{tape,treasury,daybook}.fish)
+for file in "${files[@]}"; do
+    program=$(basename "$file" .fish)
+    # shellcheck disable=SC2046
+    named_in "$prefix/share/$file" $("$prefix/bin/${program#_}" --completion | tr ' ' '\n' | sed 's/=.*//' | sort -u)
+done
+for shell in zsh fish; do
+    command -v "$shell" >/dev/null || { echo "completions in $shell: not run, there is no $shell"; continue; }
+    same "the verbs in $shell" "$(LC_ALL=C sort <<<"$verbs")" "$("in_$shell" tape '')"
+    for verb in $verbs; do
+        same "the options of $verb in $shell" "$(completed tape "$verb" -)" "$("in_$shell" tape "$verb" -)"
+    done
+    same "the options of treasury in $shell" "$(completed treasury -)" "$("in_$shell" treasury -)"
+    same "the options of daybook cut in $shell" --yes "$("in_$shell" daybook cut -)"
+done
+if scripts/completion.sh "$prefix/bin/tape" csh >/dev/null 2>&1; then wrong 'a shell that is not known'; fi
 
 # Again, over what is there; then uninstalled, and nothing is left.
 install || { cat "$home/said"; wrong 'it is not installed again'; }

@@ -24,6 +24,7 @@ docs/DESK.md is for a person at the desk.";
 pub enum Verb {
     Help,
     Version,
+    Completion,
     New(PathBuf),
     Open { folder: PathBuf, json: bool, batch: bool },
     Check(PathBuf),
@@ -44,8 +45,20 @@ const VERBS: [(&str, &[&str]); 7] = [
     ("explain", &["--json"]),
 ];
 
+/// The words that a shell completes, for scripts/completion.sh: a line for each verb with its options, and
+/// one of the options without a verb.
+pub fn completion() -> String {
+    let (_, alone) = VERBS[0];
+    let line = |&(verb, takes): &(&str, &[&str])| [&[verb][..], takes].concat().join(" ") + "\n";
+    let verbs: String = VERBS[1..].iter().map(line).collect();
+    format!("{verbs}{} --help --version\n", alone.join(" "))
+}
+
 /// Reads the words of the command.
 pub fn read(words: Vec<OsString>) -> Result<Verb, String> {
+    if words == ["--completion"] {
+        return Ok(Verb::Completion);
+    }
     let before = words.iter().take_while(|word| *word != "--");
     for word in before.filter_map(|word| word.to_str()) {
         match word {
@@ -125,6 +138,26 @@ mod tests {
         assert_eq!(of("cut --yes desk"), Ok(Verb::Cut { folder: folder.clone(), yes: true }));
         assert_eq!(of("explain desk --json"), Ok(Verb::Explain { folder, json: true }));
         assert_eq!([of("--help"), of("-V")], [Ok(Verb::Help), Ok(Verb::Version)]);
+        assert_eq!(of("--completion"), Ok(Verb::Completion));
+    }
+
+    #[test]
+    fn every_verb_and_option_is_told_completed_and_in_the_manual() {
+        let manual = include_str!("../../docs/man/daybook.1").replace("\\-", "-");
+        for (verb, takes) in VERBS {
+            let line = USAGE.lines().find(|line| match verb {
+                "" => line.starts_with("daybook ["),
+                verb => line.starts_with(&format!("daybook {verb} ")),
+            });
+            let line = line.unwrap_or_else(|| panic!("no line of {verb:?}"));
+            assert!(manual.contains(verb), "{verb}");
+            for option in takes {
+                assert!(line.contains(option) && manual.contains(option), "{verb} {option}");
+            }
+        }
+        let verbs = "new\ncheck\ncompact\ncut --yes\ntape\nexplain --json\n";
+        assert_eq!(completion(), format!("{verbs}--json --batch --help --version\n"));
+        assert!(manual.contains("\n.B --completion\n"));
     }
 
     #[test]
@@ -135,6 +168,7 @@ mod tests {
             ("a b", "name one folder"),
             ("tape --json a", "`daybook tape` has no option --json"),
             ("--yes a", "`daybook DIR` has no option --yes"),
+            ("--completion a", "`daybook DIR` has no option --completion"),
         ] {
             let error = of(line).unwrap_err();
             assert!(error.starts_with(told), "{line}: {error}");

@@ -1,6 +1,6 @@
 //! What each verb does, and the status with which the command ends.
 
-use crate::arguments::{Verb, USAGE};
+use crate::arguments::{completion, Verb, USAGE};
 use crate::console::{self, Ended, Manner};
 use crate::files::Disk;
 use crate::history::{self, History};
@@ -22,6 +22,7 @@ pub fn obey(verb: Verb) -> Result<u8, String> {
     match verb {
         Verb::Help => told(&format!("{USAGE}\n")),
         Verb::Version => told(&format!("daybook {}\n", env!("CARGO_PKG_VERSION"))),
+        Verb::Completion => told(&completion()),
         Verb::New(folder) => {
             store::make(&mut Disk, &folder)?;
             let shown = folder.display();

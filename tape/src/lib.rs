@@ -1,12 +1,13 @@
 //! Tapes for people: a text form of the words, what the book refuses, what a tape does day by day, why a
-//! unit has not come, whether smaller units would loosen a jam, what a participant sees of an account,
-//! every small market, an account's fails statement, and CSV in and out.
+//! unit has not come, what differs between two tapes, whether smaller units would loosen a jam, what a
+//! participant sees of an account, every small market, an account's fails statement, and CSV in and out.
 
 pub mod account;
 pub mod bytes;
 pub mod check;
 pub mod csv;
 pub mod dealt;
+pub mod diff;
 pub mod export;
 pub mod facts;
 pub mod fault;

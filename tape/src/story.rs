@@ -10,6 +10,7 @@ use crate::facts::{Fact, Terms, Told};
 use crate::input::Day;
 use crate::known::Known;
 use crate::ledger::pair_off;
+use crate::names::Names;
 use crate::progress::Meter;
 use crate::text::why_ended;
 use crate::units::{close, runs, waiting, Case, Run, Walk};
@@ -56,38 +57,54 @@ struct Record {
 /// Runs a tape and tells its facts; answers the day on which it ends.
 pub fn tell<'a>(day: &Day, sink: &'a mut Sink<'a>) -> io::Result<u16> {
     let (words, stray) = split(&day.tape);
-    let mut story = Story {
-        book: Book::fresh(),
-        output: vec![0; OUTPUT_WORDS],
-        handed: [(0, 0); ISSUES],
-        dealt: Vec::new(),
-        word: None,
-        known: Known::of(&day.names),
-        sink,
-    };
+    let mut story = Story::fresh(&day.names, sink);
     story.fact(&Fact::Day { day: 0, turn: 0 })?;
     let mut meter = Meter::of_words(words.len());
     let mut at = 0;
     while at < words.len() || !stray.is_empty() {
         meter.at(at);
-        story.word = Some(at);
-        match tape::read(&words[at..]) {
-            Ok((instruction, count)) => {
-                story.instruction(&instruction, &words[at..])?;
-                at += count;
-            }
-            Err(refusal) => {
-                let why = why_ended(&words[at..], refusal);
-                story.fact(&Fact::ReadingEnds { refusal, why })?;
-                break;
-            }
+        match story.read(&words, at)? {
+            Some(count) => at += count,
+            None => break,
         }
     }
     story.end()?;
     Ok(story.book.day)
 }
 
+impl<'a> Story<'a> {
+    /// A story that begins with a fresh book.
+    pub fn fresh(names: &Names, sink: &'a mut Sink<'a>) -> Story<'a> {
+        Story {
+            book: Book::fresh(),
+            output: vec![0; OUTPUT_WORDS],
+            handed: [(0, 0); ISSUES],
+            dealt: Vec::new(),
+            word: None,
+            known: Known::of(names),
+            sink,
+        }
+    }
+}
+
 impl Story<'_> {
+    /// Makes the call of the instruction that begins at a word, and tells it; answers how many words it has, or
+    /// nothing where reading ends there.
+    pub fn read(&mut self, words: &[u32], at: usize) -> io::Result<Option<usize>> {
+        self.word = Some(at);
+        match tape::read(&words[at..]) {
+            Ok((instruction, count)) => {
+                self.instruction(&instruction, &words[at..])?;
+                Ok(Some(count))
+            }
+            Err(refusal) => {
+                let why = why_ended(&words[at..], refusal);
+                self.fact(&Fact::ReadingEnds { refusal, why })?;
+                Ok(None)
+            }
+        }
+    }
+
     /// Tells a fact of today.
     pub fn fact(&mut self, fact: &Fact) -> io::Result<()> {
         (self.sink)(&Told { day: self.book.day, word: self.word, fact, known: &self.known })

@@ -89,7 +89,7 @@ pub(crate) fn name(fact: &Fact) -> &'static str {
 }
 
 /// A field that is a number, without the cost of a format: a tape may have a million instructions.
-fn field(out: &mut impl Write, name: &str, value: u64) -> io::Result<()> {
+pub(crate) fn field(out: &mut impl Write, name: &str, value: u64) -> io::Result<()> {
     out.write_all(b",\"")?;
     out.write_all(name.as_bytes())?;
     out.write_all(b"\":")?;
@@ -97,7 +97,7 @@ fn field(out: &mut impl Write, name: &str, value: u64) -> io::Result<()> {
 }
 
 /// A field that is a text without quotes, backslashes or line ends.
-fn text(out: &mut impl Write, name: &str, value: &str) -> io::Result<()> {
+pub(crate) fn text(out: &mut impl Write, name: &str, value: &str) -> io::Result<()> {
     out.write_all(b",\"")?;
     out.write_all(name.as_bytes())?;
     out.write_all(b"\":\"")?;
@@ -106,7 +106,7 @@ fn text(out: &mut impl Write, name: &str, value: &str) -> io::Result<()> {
 }
 
 /// A field that is a list of numbers.
-fn list(out: &mut impl Write, name: &str, numbers: &[u32]) -> io::Result<()> {
+pub(crate) fn list(out: &mut impl Write, name: &str, numbers: &[u32]) -> io::Result<()> {
     let numbers: Vec<String> = numbers.iter().map(u32::to_string).collect();
     write!(out, ",\"{name}\":[{}]", numbers.join(","))
 }
@@ -119,7 +119,12 @@ fn dealt(out: &mut impl Write, turn: &Option<Turn>) -> io::Result<()> {
 }
 
 /// A field that is an issue or an account, `issue`, `account`, `from` or `to`, and its name beside it.
-fn called(out: &mut impl Write, known: &Known, name: &str, number: u32) -> io::Result<()> {
+pub(crate) fn called(
+    out: &mut impl Write,
+    known: &Known,
+    name: &str,
+    number: u32,
+) -> io::Result<()> {
     field(out, name, number.into())?;
     if known.names.is_empty() {
         return Ok(());
@@ -130,12 +135,12 @@ fn called(out: &mut impl Write, known: &Known, name: &str, number: u32) -> io::R
 }
 
 /// Fields that are numbers.
-fn numbers(out: &mut impl Write, fields: &[(&str, u64)]) -> io::Result<()> {
+pub(crate) fn numbers(out: &mut impl Write, fields: &[(&str, u64)]) -> io::Result<()> {
     fields.iter().try_for_each(|(name, value)| field(out, name, *value))
 }
 
 /// A refusal's number and what it says.
-fn refused(out: &mut impl Write, refusal: Refusal, why: &str) -> io::Result<()> {
+pub(crate) fn refused(out: &mut impl Write, refusal: Refusal, why: &str) -> io::Result<()> {
     field(out, "refusal", refusal.number().into())?;
     text(out, "why", why)
 }
@@ -307,7 +312,12 @@ fn units(out: &mut impl Write, known: &Known, of: [u32; 5]) -> io::Result<()> {
 }
 
 /// An account in an issue.
-fn of_account(out: &mut impl Write, known: &Known, issue: u32, account: u32) -> io::Result<()> {
+pub(crate) fn of_account(
+    out: &mut impl Write,
+    known: &Known,
+    issue: u32,
+    account: u32,
+) -> io::Result<()> {
     called(out, known, "issue", issue)?;
     called(out, known, "account", account)
 }
@@ -322,7 +332,11 @@ fn owed(out: &mut impl Write, known: &Known, of: [u32; 4]) -> io::Result<()> {
 }
 
 /// The numbers of an instruction.
-fn arguments(out: &mut impl Write, instruction: &Instruction, known: &Known) -> io::Result<()> {
+pub(crate) fn arguments(
+    out: &mut impl Write,
+    instruction: &Instruction,
+    known: &Known,
+) -> io::Result<()> {
     let wide = u64::from;
     match *instruction {
         Instruction::Trade { issue, from, to, lots } => owed(out, known, [issue, from, to, lots]),
