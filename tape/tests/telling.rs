@@ -689,10 +689,9 @@ fn json_has_names_beside_its_numbers() {
         assert_eq!(plain.len(), with.len());
         for (mut one, other) in with.into_iter().zip(plain) {
             for (field, letter) in [("issue", 'I'), ("account", 'A'), ("from", 'A'), ("to", 'A')] {
-                let name = match one.get(field) {
-                    Some(Value::Number(number)) => Some(Value::Text(format!("{letter}{number:02}x"))),
-                    _ => None,
-                };
+                let name = one.contains_key(field).then(|| {
+                    Value::Text(format!("{letter}{:02}x", number(&one, field)))
+                });
                 assert_eq!(one.get(&format!("{field}_name")), name.as_ref(), "{one:?}");
             }
             let date = DATES[number(&one, "day") as usize].to_string();
