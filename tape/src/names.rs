@@ -421,7 +421,7 @@ mod tests {
             ("account 5 -a", 11, "\"-a\" is no name: begin it with a letter"),
             ("account 5 a!", 11, "\"a!\" is no name with '!': take letters, digits and - _ . & /"),
             ("account 5 a,b", 11, "\"a,b\" is no name with ','"),
-            (&long, 11, "\"aaaaaaaaaaaaaaaaaaaaaaaaaaaaaaaaa\" is too long for a name: take at most"),
+            (long.as_str(), 11, "\"aaaaaaaaaaaaaaaaaaaaaaaaaaaaaaaaa\" is too long for a name"),
             ("issue 1 roll", 9, "\"roll\" is a word of the text form: take another name"),
             ("account 1 pair-off", 11, "\"pair-off\" is a word of the text form"),
             ("issue 0 Again", 7, "issue 0 has the name JGB-350 already: leave one of the two lines"),
