@@ -4,7 +4,11 @@
 const wrong = [];
 const facts = JSON.parse(document.getElementById('facts').textContent);
 const number = text => Number(text.replace(/[^0-9.-]/g, ''));
-const text = cell => cell.textContent.trim();
+// Names and dates stand where numbers stood alone: as the facts tell them, they are taken back.
+const parts_of = fact => ['issue', 'account', 'from', 'to'].filter(field => fact[`${field}_name`]).map(field => [fact[`${field}_name`], fact[field]]);
+const called = [...new Map(facts.flatMap(parts_of))].sort(([one], [other]) => other.length - one.length);
+const numbered = words => called.reduce((words, [name, number]) => words.replaceAll(name, number), words.replace(/ \(\d{4}-\d\d-\d\d\)/g, ''));
+const text = cell => numbered(cell.textContent.trim());
 
 // The rules of a medium are put in force, or out of it; a page for paper is looked at as such.
 const sheets = [...document.styleSheets].flatMap(sheet => [...sheet.cssRules]);

@@ -92,6 +92,8 @@ look 'one day of two' tapes/two-days.txt --day 1
 for account in 30 33 11; do
     look "account $account in two days" tapes/two-days.txt --account "$account"
 done
+look 'two days by names' tapes/two-days.txt --names tapes/two-days.names
+look 'account Ginza by names' tapes/two-days.txt --account Ginza --names tapes/two-days.names
 look '16 issues and 63 receivers' "$folder/market.txt"
 
 # A check that cannot fail is none: a page with a wrong number, one too wide and one that is pale are refused.

@@ -117,7 +117,10 @@ impl Told<'_> {
                  \"why\":\"trades are taken, no unit is settled yet\"}}\n"
             );
         }
-        let status = |one: &Asked| format!("{{\"fact\":\"status\",{at},{}}}\n", json_of(one, known));
+        let status = |one: &Asked| {
+            let unit = json_of(one, known);
+            format!("{{\"fact\":\"status\",{at},{unit}}}\n")
+        };
         let owed = self.owed.iter().map(|entry| {
             let Entry { from, to, lots, day: since, .. } = *entry;
             let from = format!("{from}{}", whose("from_name", from.into()));

@@ -62,11 +62,12 @@ impl Known {
             Err(after) => after as u32,
         };
         let last = self.dates.len() as u32;
+        let day = |number: u32| format!("day {}", self.day(number));
         let there_is = match after {
             _ if last == 0 => return Err("day 0 has no date: give the day's number".to_string()),
-            0 => format!("the first is day {}", self.day(0_u32)),
-            after if after == last => format!("the last is day {}", self.day(last - 1)),
-            after => format!("it is between day {} and day {}", self.day(after - 1), self.day(after)),
+            0 => format!("the first is {}", day(0)),
+            after if after == last => format!("the last is {}", day(last - 1)),
+            after => format!("it is between {} and {}", day(after - 1), day(after)),
         };
         Err(format!("no day of the tape has the date {date}: {there_is}"))
     }

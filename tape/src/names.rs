@@ -381,7 +381,8 @@ mod tests {
         assert_eq!(issues, ["JGB-350", "Nomura", "5"]);
         let accounts = [5, 63, 0, 99].map(|account| names.account(account).to_string());
         assert_eq!(accounts, ["Nomura", "大和証券", "0", "99"]);
-        assert_eq!((names.issue_number("Nomura"), names.account_number("Nomura")), (Some(15), Some(5)));
+        assert_eq!(names.issue_number("Nomura"), Some(15));
+        assert_eq!(names.account_number("Nomura"), Some(5));
         assert_eq!((names.issue_number("大和証券"), names.issue_number("0")), (None, None));
         assert_eq!((names.issue_name(0), names.issue_name(16)), (Some("JGB-350"), None));
         assert_eq!((names.account_name(63), names.account_name(0)), (Some("大和証券"), None));
@@ -406,7 +407,7 @@ mod tests {
     fn each_wrong_line_is_told_with_its_place() {
         let long = format!("account 5 {}", "a".repeat(MOST_LETTERS + 1));
         for (line, column, told) in [
-            ("isue 0 JGB", 1, "there is no line \"isue\": write one of date YYYY-MM-DD, issue NUMBER"),
+            ("isue 0 JGB", 1, "there is no line \"isue\": write one of date YYYY-MM-DD, issue"),
             ("issue 0", 1, "issue takes a number and a name; here is 1 word"),
             ("account", 1, "account takes a number and a name; here are 0 words"),
             ("account 5 A B", 1, "account takes a number and a name; here are more than 2 words"),
@@ -418,12 +419,12 @@ mod tests {
             ("account A 5", 9, "\"A\" is no account: write a number from 0 to 63"),
             ("  account 5 5th", 13, "\"5th\" is no name: begin it with a letter"),
             ("account 5 -a", 11, "\"-a\" is no name: begin it with a letter"),
-            ("account 5 a!b", 11, "\"a!b\" is no name with '!': take letters, digits and - _ . & /"),
+            ("account 5 a!", 11, "\"a!\" is no name with '!': take letters, digits and - _ . & /"),
             ("account 5 a,b", 11, "\"a,b\" is no name with ','"),
-            (&long, 11, "\"aaaaaaaaaaaaaaaaaaaaaaaaaaaaaaaaa\" is too long for a name: take at most 32"),
+            (long.as_str(), 11, "\"aaaaaaaaaaaaaaaaaaaaaaaaaaaaaaaaa\" is too long for a name"),
             ("issue 1 roll", 9, "\"roll\" is a word of the text form: take another name"),
             ("account 1 pair-off", 11, "\"pair-off\" is a word of the text form"),
-            ("issue 0 Again", 7, "issue 0 has the name JGB-350 already: leave one of the two lines out"),
+            ("issue 0 Again", 7, "issue 0 has the name JGB-350 already: leave one of the two lines"),
             ("account 6 Nomura", 11, "Nomura is the name of account 5 already: write another name"),
             ("date 2027-01-01", 1, "day 0 has the date 2026-11-17 already: leave one of the two"),
         ] {
@@ -486,12 +487,14 @@ mod tests {
         assert_eq!(told(Kind::Account, "Nomra"), nomra);
         assert!(told(Kind::Issue, "Jgb-350").ends_with("the names file has JGB-350, Nomura"));
         assert_eq!(names.named(Kind::Account, "Nomura"), Ok(Some(5)));
-        assert_eq!([names.named(Kind::Account, "7"), names.named(Kind::Account, "-")], [Ok(None), Ok(None)]);
+        for number in ["7", "-", ""] {
+            assert_eq!(names.named(Kind::Account, number), Ok(None));
+        }
         assert_eq!(Names::default().named(Kind::Account, "Nomura"), Ok(None));
         let dated = Names::parse("date 2026-11-17\n").unwrap();
         let none = "there is no issue \"A\": the names file names no issue, write its number";
         assert_eq!(dated.named(Kind::Issue, "A").unwrap_err(), none);
-        let names = ["Nomura", "Daiwa", "Mizuho", "SMBC", "MUFG", "Barclays", "Citi", "Goldman", "UBS"];
+        let names = ["Nomura", "Daiwa", "Mizuho", "SMBC", "MUFG", "Citi", "Goldman", "UBS", "BNP"];
         let lines = (0..).zip(names).map(|(number, name)| format!("account {number} {name}\n"));
         let many = Names::parse(&lines.collect::<String>()).unwrap();
         for (word, nearest) in [("Nomra", "Nomura"), ("daiwa", "Daiwa"), ("Goldmann", "Goldman")] {

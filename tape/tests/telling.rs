@@ -683,16 +683,20 @@ fn json_has_names_beside_its_numbers() {
         text.lines().map(|line| parse(line).unwrap_or_else(|why| panic!("{line}: {why}"))).collect()
     };
     let added = ["issue_name", "account_name", "from_name", "to_name", "date"];
+    let path = Path::new(env!("CARGO_MANIFEST_DIR")).join("../docs/TAPE.md");
+    let documents = fs::read_to_string(path).expect("docs/TAPE.md");
+    let missing: Vec<&&str> =
+        added.iter().filter(|field| !documents.contains(&format!("`{field}`"))).collect();
+    assert!(missing.is_empty(), "docs/TAPE.md has not {missing:?}");
     for text in [DAYS, MARKED, CHANGED] {
         let plain = parsed(told(Form::Json, Only::default(), text));
         let with = parsed(told_of(&all_named(text), Form::Json, Only::default()));
         assert_eq!(plain.len(), with.len());
         for (mut one, other) in with.into_iter().zip(plain) {
             for (field, letter) in [("issue", 'I'), ("account", 'A'), ("from", 'A'), ("to", 'A')] {
-                let name = match one.get(field) {
-                    Some(Value::Number(number)) => Some(Value::Text(format!("{letter}{number:02}x"))),
-                    _ => None,
-                };
+                let name = one.contains_key(field).then(|| {
+                    Value::Text(format!("{letter}{:02}x", number(&one, field)))
+                });
                 assert_eq!(one.get(&format!("{field}_name")), name.as_ref(), "{one:?}");
             }
             let date = DATES[number(&one, "day") as usize].to_string();
