@@ -1,6 +1,6 @@
 //! `tape diff`: what differs between two tapes.
 
-use super::{day_of, standard_once, taken, Ended, Verb};
+use super::{day_by, names_of, standard_once, taken, Ended, Verb};
 use crate::diff::{diff, Form};
 use crate::input::Day;
 use crate::options::{Given, HEX, JSON, NAMES, WORDS};
@@ -36,7 +36,8 @@ fn act(given: &Given) -> Result<Ended, String> {
 
 /// The days of two files; what is wrong with either is told.
 fn both(given: &Given, files: [&OsString; 2]) -> Result<[Day; 2], String> {
-    match files.map(|file| day_of(given, slice::from_ref(file))) {
+    let names = names_of(given)?;
+    match files.map(|file| day_by(given, slice::from_ref(file), names.clone())) {
         [Ok(one), Ok(other)] => Ok([one, other]),
         days => {
             let errors: Vec<String> = days.into_iter().filter_map(Result::err).collect();
