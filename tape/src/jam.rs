@@ -2,6 +2,7 @@
 //! tape's book at its end and a text with settlement accounts and inventories.
 
 use crate::fault::{words_of, Fault, Faults, Word};
+use crate::json::{self, Name};
 use crate::measure::{Grouped, Lots};
 use crate::standing::{run, When};
 use crate::text::digits_of;
@@ -207,19 +208,17 @@ impl Tried {
 
     /// An object of JSON for each size, a line each.
     pub fn json(&self) -> String {
-        let Tried { day, phase, owed, rows, .. } = self;
-        let word = self.ended.map_or("null".to_string(), |word| word.to_string());
-        let object = |(size, tried): &(u32, Simulated)| {
-            let Simulated { deliveries, rounds, .. } = tried;
-            let issues = tried.owed.map(|lots| lots.to_string()).join(",");
-            format!(
-                "{{\"fact\":\"jam\",\"day\":{day},\"phase\":\"{phase}\",\"ended\":{word},\
-                 \"owed\":{owed},\"size\":{size},\"rounds\":{rounds},\"deliveries\":{deliveries},\
-                 \"stillOwed\":{},\"stillOwedByIssue\":[{issues}]}}\n",
-                tried.owed_in_all()
-            )
+        let Tried { day, phase, ended, owed, ref rows } = *self;
+        let line = |(size, tried): &(u32, Simulated)| {
+            json::fact("jam", |object| {
+                object.day(day).field("phase", Name(phase));
+                object.field("ended", ended).field("owed", owed).field("size", *size);
+                object.field("rounds", tried.rounds).field("deliveries", tried.deliveries);
+                object.field("stillOwed", tried.owed_in_all());
+                object.field("stillOwedByIssue", &tried.owed[..]);
+            })
         };
-        rows.iter().map(object).collect()
+        rows.iter().map(line).collect()
     }
 
     /// A page with a bar for each size: what was delivered, and what is still owed.

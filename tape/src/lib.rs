@@ -11,6 +11,7 @@ pub mod fault;
 pub mod input;
 mod interrupt;
 pub mod jam;
+pub mod json;
 pub mod ledger;
 pub mod look;
 pub mod markets;

@@ -4,6 +4,7 @@
 use crate::fault::{words_of, Fault, Faults, Word};
 use crate::input::Day;
 use crate::jam::{number, range};
+use crate::json::{self, Name};
 use crate::measure::{Grouped, Lots};
 use crate::standing::{run, When};
 use settlement_day::access::{self, Account, NOBODY, PARTICIPANTS};
@@ -120,27 +121,23 @@ impl Seen {
     pub fn json(&self) -> String {
         let Seen { question: Question { caller, issue, account, .. }, day, phase, word, .. } =
             *self;
-        let number = caller.number;
-        let head = format!(
-            "{{\"fact\":\"account\",\"day\":{day},\"phase\":\"{phase}\",\"word\":{word},\
-             \"caller\":{number},\"issue\":{issue},\"account\":{account}"
-        );
-        match &self.answer {
-            Err(refusal) => format!("{head},\"refusal\":{}}}\n", refusal.number()),
-            Ok((seen, entries)) => {
-                let object = |entry: &Entry| {
-                    let Entry { from, to, lots, day, .. } = *entry;
-                    format!("{{\"from\":{from},\"to\":{to},\"lots\":{lots},\"day\":{day}}}")
-                };
-                let entries: Vec<String> = entries.iter().map(object).collect();
-                format!(
-                    "{head},\"refusal\":0,\"net\":{},\"charge\":{},\"entries\":[{}]}}\n",
-                    seen.net,
-                    seen.charge,
-                    entries.join(",")
-                )
+        json::fact("account", |object| {
+            object.day(day).field("phase", Name(phase));
+            object.field("word", word).field("caller", caller.number);
+            object.issue(issue).account("account", account);
+            match &self.answer {
+                Err(refusal) => {
+                    object.field("refusal", refusal.number());
+                }
+                Ok((seen, entries)) => {
+                    object.field("refusal", 0_u32).field("net", seen.net);
+                    object.field("charge", seen.charge).objects("entries", entries, |one, entry| {
+                        one.account("from", entry.from).account("to", entry.to);
+                        one.field("lots", entry.lots).day(entry.day);
+                    });
+                }
             }
-        }
+        })
     }
 }
 

@@ -3,6 +3,7 @@
 
 use crate::bytes::split;
 use crate::input::Day;
+use crate::json;
 use crate::measure::{counted, Face, Grouped};
 use crate::progress::Meter;
 use crate::story::traded;
@@ -155,24 +156,25 @@ impl Told {
     /// An object of JSON for each row, a line each.
     pub fn json(&self) -> String {
         let Span { instructions, refused, end, day, settling } = self.span;
-        let (ended, full) = match end {
-            End::Tape => ("null".to_string(), "null".to_string()),
-            End::Refused(word, _) => (word.to_string(), "null".to_string()),
-            End::Full(word) => ("null".to_string(), word.to_string()),
+        let (ended, behind) = match end {
+            End::Tape => (None, None),
+            End::Refused(word, _) => (Some(word), None),
+            End::Full(word) => (None, Some(word)),
         };
-        let open = if settling { day.to_string() } else { "null".to_string() };
-        let object = |row: &Row| {
-            let Row { issue, account, statement } = row;
+        let line = |row: &Row| {
+            let Row { issue, account, statement } = *row;
             let Statement { due, delivered, failed, resolved, failed_over_due: (over, under) } =
                 statement;
-            format!(
-                "{{\"fact\":\"statement\",\"issue\":{issue},\"account\":{account},\"due\":{due},\
-                 \"delivered\":{delivered},\"failed\":{failed},\"resolved\":{resolved},\
-                 \"failedOverDue\":[{over},{under}],\"instructions\":{instructions},\
-                 \"refused\":{refused},\"ended\":{ended},\"behind\":{full},\"settling\":{open}}}\n"
-            )
+            json::fact("statement", |object| {
+                object.issue(issue).account("account", account);
+                object.field("due", due).field("delivered", delivered).field("failed", failed);
+                object.field("resolved", resolved).field("failedOverDue", &[over, under][..]);
+                object.field("instructions", instructions).field("refused", refused);
+                object.field("ended", ended).field("behind", behind);
+                object.field("settling", settling.then_some(day));
+            })
         };
-        self.rows.iter().map(object).collect()
+        self.rows.iter().map(line).collect()
     }
 
     /// A page with a row and a bar for each account: what it delivered of what was due.
@@ -333,8 +335,8 @@ are counted
     fn the_same_as_json_and_as_a_page() {
         let json = told(TWO_DAYS).json();
         let first =
-            "{\"fact\":\"statement\",\"issue\":0,\"account\":4,\"due\":100,\"delivered\":60,\
-                     \"failed\":40,\"resolved\":20,\"failedOverDue\":[40,100],\"instructions\":11,\
+            "{\"schema\":1,\"fact\":\"statement\",\"issue\":0,\"account\":4,\"due\":100,\
+                     \"delivered\":60,\"failed\":40,\"resolved\":20,\"failedOverDue\":[40,100],\"instructions\":11,\
                      \"refused\":1,\"ended\":null,\"behind\":null,\"settling\":1}";
         assert_eq!(json.lines().next(), Some(first));
         assert_eq!(json.lines().count(), 2);

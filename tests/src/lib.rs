@@ -1,4 +1,4 @@
-//! What the test programs share: random numbers, options, reports, steps and both engines.
+//! What the test programs share: random numbers, options, reports, steps and both engines; a reader of JSON.
 
 pub mod alike;
 pub mod books;
@@ -6,6 +6,7 @@ pub mod case;
 pub mod convert;
 pub mod desks;
 pub mod engines;
+pub mod json;
 pub mod options;
 pub mod programs;
 pub mod random_calls;

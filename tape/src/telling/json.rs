@@ -1,45 +1,27 @@
-//! The facts as JSON: one object a line, with `fact` and `day` first, then the instruction that the
-//! fact belongs to. docs/TAPE.md lists them.
+//! The facts as JSON: one object a line, with `fact` and `day` behind the version, then the instruction
+//! that the fact belongs to. docs/JSON.md lists them.
 
 use crate::dealt::Turn;
 use crate::facts::{Fact, Told};
 use crate::input::Stands;
+use crate::json::{Name, Object};
 use crate::ledger::Step;
-use crate::measure::write_number;
 use crate::units::Case;
 use settlement_day::{Instruction, Refusal};
 use std::io::{self, Write};
 
-/// Tells a fact of an instruction that stands there.
+/// Tells a fact of an instruction that stands there, without the column.
 pub fn tell(out: &mut impl Write, told: &Told, stands: Stands) -> io::Result<()> {
-    out.write_all(b"{\"fact\":\"")?;
-    out.write_all(name(told.fact).as_bytes())?;
-    out.write_all(b"\"")?;
-    field(out, "day", told.day.into())?;
-    if let Some(word) = told.word {
-        field(out, "word", word as u64)?;
-    }
-    if let Some(line) = stands.line {
-        field(out, "line", line as u64)?;
-    }
-    if let Some(file) = stands.file {
-        text(out, "file", &escaped(file))?;
-    }
-    fields(out, told.fact)?;
-    out.write_all(b"}\n")
+    tell_at(out, told, Stands { column: None, ..stands })
 }
 
-/// A text as JSON has it between quotes.
-pub fn escaped(text: &str) -> String {
-    let mut escaped = String::new();
-    for letter in text.chars() {
-        match letter {
-            '"' | '\\' => escaped.extend(['\\', letter]),
-            control if control < ' ' => escaped.push_str(&format!("\\u{:04x}", control as u32)),
-            other => escaped.push(other),
-        }
-    }
-    escaped
+/// Tells a fact of an instruction that stands there.
+pub fn tell_at(out: &mut impl Write, told: &Told, stands: Stands) -> io::Result<()> {
+    let mut object = Object::fact(out, name(told.fact));
+    object.day(told.day).optional("word", told.word).optional("line", stands.line);
+    object.optional("column", stands.column).optional("file", stands.file);
+    fields(&mut object, told.fact);
+    object.end()
 }
 
 /// The name of a fact.
@@ -71,238 +53,193 @@ fn name(fact: &Fact) -> &'static str {
     }
 }
 
-/// A field that is a number, without the cost of a format: a tape may have a million instructions.
-fn field(out: &mut impl Write, name: &str, value: u64) -> io::Result<()> {
-    out.write_all(b",\"")?;
-    out.write_all(name.as_bytes())?;
-    out.write_all(b"\":")?;
-    write_number(out, value)
-}
-
-/// A field that is a text without quotes, backslashes or line ends.
-fn text(out: &mut impl Write, name: &str, value: &str) -> io::Result<()> {
-    out.write_all(b",\"")?;
-    out.write_all(name.as_bytes())?;
-    out.write_all(b"\":\"")?;
-    out.write_all(value.as_bytes())?;
-    out.write_all(b"\"")
-}
-
-/// A field that is a list of numbers.
-fn list(out: &mut impl Write, name: &str, numbers: &[u32]) -> io::Result<()> {
-    let numbers: Vec<String> = numbers.iter().map(u32::to_string).collect();
-    write!(out, ",\"{name}\":[{}]", numbers.join(","))
-}
-
 /// Where units stand that were dealt in turn.
-fn dealt(out: &mut impl Write, turn: &Option<Turn>) -> io::Result<()> {
-    let Some(Turn { round, until, receiver, of }) = *turn else { return Ok(()) };
-    let fields = [("round", round), ("until", until), ("receiver", receiver), ("of", of)];
-    fields.iter().try_for_each(|(name, number)| field(out, name, (*number).into()))
-}
-
-/// Fields that are numbers.
-fn numbers(out: &mut impl Write, fields: &[(&str, u64)]) -> io::Result<()> {
-    fields.iter().try_for_each(|(name, value)| field(out, name, *value))
+fn dealt(object: &mut Object<'_, impl Write>, turn: &Option<Turn>) {
+    if let Some(Turn { round, until, receiver, of }) = *turn {
+        object.field("round", round).field("until", until);
+        object.field("receiver", receiver).field("of", of);
+    }
 }
 
 /// A refusal's number and what it says.
-fn refused(out: &mut impl Write, refusal: Refusal, why: &str) -> io::Result<()> {
-    field(out, "refusal", refusal.number().into())?;
-    text(out, "why", why)
+pub fn refused(object: &mut Object<'_, impl Write>, refusal: Refusal, why: &str) {
+    object.field("refusal", refusal.number()).field("why", why);
 }
 
-/// The fields of a fact after its day.
-fn fields(out: &mut impl Write, fact: &Fact) -> io::Result<()> {
+/// The fields of a fact after its instruction.
+fn fields(object: &mut Object<'_, impl Write>, fact: &Fact) {
     match fact {
-        Fact::Instruction { .. } | Fact::ReadingEnds { .. } => instruction(out, fact),
+        Fact::Instruction { .. } | Fact::ReadingEnds { .. } => instruction(object, fact),
         Fact::Day { day, turn } => {
             let new = *turn != 0 && *turn <= u32::from(*day);
-            text(out, "order", if new { "new" } else { "old" })?;
-            field(out, "turn", (*turn).into())
+            object.field("order", Name(if new { "new" } else { "old" })).field("turn", *turn);
         }
-        Fact::ChangeOver { turn } => field(out, "turn", (*turn).into()),
-        Fact::Units { .. } | Fact::Rounds { .. } | Fact::Owes { .. } => order(out, fact),
-        Fact::Tie { .. } | Fact::SmallAfterFull { .. } => decided(out, fact),
-        Fact::Handed { .. } | Fact::Waits { .. } | Fact::Partly { .. } => handover(out, fact),
-        Fact::Charge { .. } | Fact::Charged { .. } | Fact::End { .. } => charge(out, fact),
-        Fact::Marked { issue } => field(out, "issue", (*issue).into()),
-        _ => fail(out, fact),
+        Fact::ChangeOver { turn } => {
+            object.field("turn", *turn);
+        }
+        Fact::Units { .. } | Fact::Rounds { .. } | Fact::Owes { .. } => order(object, fact),
+        Fact::Tie { .. } | Fact::SmallAfterFull { .. } => decided(object, fact),
+        Fact::Handed { .. } | Fact::Waits { .. } | Fact::Partly { .. } => handover(object, fact),
+        Fact::Charge { .. } | Fact::Charged { .. } | Fact::End { .. } => charge(object, fact),
+        Fact::Marked { issue } => {
+            object.issue(*issue);
+        }
+        _ => fail(object, fact),
     }
 }
 
 /// An instruction with its numbers and its refusal, or where reading ends.
-fn instruction(out: &mut impl Write, fact: &Fact) -> io::Result<()> {
+fn instruction(object: &mut Object<'_, impl Write>, fact: &Fact) {
     match fact {
         Fact::Instruction { instruction, refusal } => {
-            text(out, "call", instruction.name())?;
-            arguments(out, instruction)?;
+            object.field("call", Name(instruction.name()));
+            arguments(object, instruction);
             match refusal {
-                Some((refusal, why)) => refused(out, *refusal, why),
-                None => field(out, "refusal", 0),
+                Some((refusal, why)) => refused(object, *refusal, why),
+                None => {
+                    object.field("refusal", 0_u32);
+                }
             }
         }
-        Fact::ReadingEnds { refusal, why } => refused(out, *refusal, why),
-        _ => Ok(()),
+        Fact::ReadingEnds { refusal, why } => refused(object, *refusal, why),
+        _ => {}
     }
 }
 
 /// The units in their order, and what is owed.
-fn order(out: &mut impl Write, fact: &Fact) -> io::Result<()> {
-    let wide = u64::from;
+fn order(object: &mut Object<'_, impl Write>, fact: &Fact) {
     match fact {
         Fact::Units { issue, first, last, account, lots, due } => {
-            units(out, [*issue, *first, *last, *account, *lots])?;
-            field(out, "due", wide(*due))
+            units(object, [*issue, *first, *last, *account, *lots]);
+            object.field("due", *due);
         }
         Fact::Rounds { issue, rounds } => {
-            field(out, "issue", wide(*issue))?;
-            numbers(out, &[("first", wide(rounds.first)), ("last", wide(rounds.last))])?;
-            numbers(out, &[("round", wide(rounds.round)), ("until", wide(rounds.until))])?;
-            list(out, "accounts", &rounds.accounts)
+            object.issue(*issue).field("first", rounds.first).field("last", rounds.last);
+            object.field("round", rounds.round).field("until", rounds.until);
+            object.field("accounts", &rounds.accounts);
         }
         Fact::Owes { issue, account, lots } => {
-            numbers(out, &[("issue", wide(*issue)), ("account", wide(*account)), ("lots", *lots)])
+            object.issue(*issue).account("account", *account).field("lots", *lots);
         }
-        _ => Ok(()),
+        _ => {}
     }
 }
 
 /// Which case of the rule decided between close neighbours.
-fn decided(out: &mut impl Write, fact: &Fact) -> io::Result<()> {
-    let wide = u64::from;
+fn decided(object: &mut Object<'_, impl Write>, fact: &Fact) {
     match fact {
         Fact::Tie { issue, case, lots, accounts } => {
-            field(out, "issue", wide(*issue))?;
-            text(out, "case", case.name())?;
-            text(out, "of", if *case == Case::BothFull { "nets" } else { "small units" })?;
-            field(out, "lots", wide(*lots))?;
-            list(out, "accounts", accounts)
+            let of = if *case == Case::BothFull { "nets" } else { "small units" };
+            object.issue(*issue).field("case", Name(case.name())).field("of", Name(of));
+            object.field("lots", *lots).field("accounts", accounts);
         }
         Fact::SmallAfterFull { issue, unit, account, next, follower } => {
-            field(out, "issue", wide(*issue))?;
-            text(out, "case", Case::FullAndSmall.name())?;
-            numbers(out, &[("unit", wide(*unit)), ("account", wide(*account))])?;
-            numbers(out, &[("next", wide(*next)), ("follower", wide(*follower))])
+            object.issue(*issue).field("case", Name(Case::FullAndSmall.name()));
+            object.field("unit", *unit).account("account", *account);
+            object.field("next", *next).field("follower", *follower);
         }
-        _ => Ok(()),
+        _ => {}
     }
 }
 
 /// Units handed over, whole and in part, and stock that waits.
-fn handover(out: &mut impl Write, fact: &Fact) -> io::Result<()> {
-    let wide = u64::from;
+fn handover(object: &mut Object<'_, impl Write>, fact: &Fact) {
     match fact {
         Fact::Handed { issue, first, last, account, lots, turn } => {
-            units(out, [*issue, *first, *last, *account, *lots])?;
-            dealt(out, turn)
+            units(object, [*issue, *first, *last, *account, *lots]);
+            dealt(object, turn);
         }
         Fact::Waits { issue, stock, unit, account, lots, turn } => {
-            numbers(out, &[("issue", wide(*issue)), ("stock", *stock), ("unit", wide(*unit))])?;
-            numbers(out, &[("account", wide(*account)), ("lots", wide(*lots))])?;
-            dealt(out, turn)
+            object.issue(*issue).field("stock", *stock).field("unit", *unit);
+            object.account("account", *account).field("lots", *lots);
+            dealt(object, turn);
         }
         Fact::Partly { issue, unit, account, lots, lacks } => {
-            numbers(out, &[("issue", wide(*issue)), ("unit", wide(*unit))])?;
-            numbers(out, &[("account", wide(*account)), ("lots", wide(*lots))])?;
-            field(out, "lacks", wide(*lacks))
+            object.issue(*issue).field("unit", *unit).account("account", *account);
+            object.field("lots", *lots).field("lacks", *lacks);
         }
-        _ => Ok(()),
+        _ => {}
     }
 }
 
 /// Fails as they arise, are met and stand in the ledger.
-fn fail(out: &mut impl Write, fact: &Fact) -> io::Result<()> {
-    let wide = u64::from;
+fn fail(object: &mut Object<'_, impl Write>, fact: &Fact) {
     match fact {
         Fact::Fails { issue, from, to, lots, first, last, units } => {
-            owed(out, [*issue, *from, *to, *lots])?;
-            numbers(out, &[("first", wide(*first)), ("last", wide(*last)), ("units", wide(*units))])
+            owed(object, [*issue, *from, *to, *lots]);
+            object.field("first", *first).field("last", *last).field("units", *units);
         }
-        Fact::Resolved { issue, from, to, lots } => owed(out, [*issue, *from, *to, *lots]),
+        Fact::Resolved { issue, from, to, lots } => owed(object, [*issue, *from, *to, *lots]),
         Fact::Left { issue, from, to, lots, since }
         | Fact::Entry { issue, from, to, lots, since } => {
-            owed(out, [*issue, *from, *to, *lots])?;
-            field(out, "since", (*since).into())
+            owed(object, [*issue, *from, *to, *lots]);
+            object.field("since", *since);
         }
         Fact::Paired { issue, account, steps, cancelled } => {
-            numbers(out, &[("issue", wide(*issue)), ("account", wide(*account))])?;
-            numbers(out, &[("steps", *steps as u64), ("cancelled", *cancelled)])
+            object.issue(*issue).account("account", *account);
+            object.field("steps", *steps).field("cancelled", *cancelled);
         }
         Fact::Met { issue, account, step: Step { from, from_since, to, to_since, lots } } => {
-            numbers(out, &[("issue", wide(*issue)), ("account", wide(*account))])?;
-            numbers(out, &[("from", wide(*from)), ("fromSince", (*from_since).into())])?;
-            numbers(out, &[("to", wide(*to)), ("toSince", (*to_since).into())])?;
-            field(out, "lots", wide(*lots))
+            object.issue(*issue).account("account", *account);
+            object.account("from", *from).field("fromSince", *from_since);
+            object.account("to", *to).field("toSince", *to_since).field("lots", *lots);
         }
-        _ => Ok(()),
+        _ => {}
     }
 }
 
 /// Charges, and the book at the end.
-fn charge(out: &mut impl Write, fact: &Fact) -> io::Result<()> {
-    let wide = u64::from;
+fn charge(object: &mut Object<'_, impl Write>, fact: &Fact) {
     match fact {
         Fact::Charge { terms, from, to, lots, value, yen } => {
-            owed(out, [terms.issue, *from, *to, *lots])?;
-            numbers(out, &[("price", wide(terms.price)), ("accrued", wide(terms.accrued))])?;
-            field(out, "value", *value)?;
-            numbers(out, &[("days", wide(terms.days)), ("rate", wide(terms.rate)), ("yen", *yen)])
+            owed(object, [terms.issue, *from, *to, *lots]);
+            object.field("price", terms.price).field("accrued", terms.accrued);
+            object.field("value", *value).field("days", terms.days).field("rate", terms.rate);
+            object.field("yen", *yen);
         }
         Fact::Charged { account, yen } => {
-            field(out, "account", wide(*account))?;
-            write!(out, ",\"yen\":{yen}")
+            object.account("account", *account).field("yen", *yen);
         }
         Fact::End { phase, entries, charged } => {
-            text(out, "phase", phase)?;
-            numbers(out, &[("entries", *entries as u64), ("charged", *charged as u64)])
+            object.field("phase", Name(*phase)).field("entries", *entries);
+            object.field("charged", *charged);
         }
-        _ => Ok(()),
+        _ => {}
     }
 }
 
 /// Units of an issue from the first to the last, alike.
-fn units(out: &mut impl Write, numbers: [u32; 5]) -> io::Result<()> {
-    let names = ["issue", "first", "last", "account", "lots"];
-    names.iter().zip(numbers).try_for_each(|(name, value)| field(out, name, value.into()))
+fn units(object: &mut Object<'_, impl Write>, numbers: [u32; 5]) {
+    let [issue, first, last, account, lots] = numbers;
+    object.issue(issue).field("first", first).field("last", last);
+    object.account("account", account).field("lots", lots);
 }
 
 /// Lots that one account owes or hands to another.
-fn owed(out: &mut impl Write, numbers: [u32; 4]) -> io::Result<()> {
-    let names = ["issue", "from", "to", "lots"];
-    names.iter().zip(numbers).try_for_each(|(name, value)| field(out, name, value.into()))
+fn owed(object: &mut Object<'_, impl Write>, [issue, from, to, lots]: [u32; 4]) {
+    object.issue(issue).account("from", from).account("to", to).field("lots", lots);
 }
 
 /// The numbers of an instruction.
-fn arguments(out: &mut impl Write, instruction: &Instruction) -> io::Result<()> {
-    let wide = u64::from;
+pub fn arguments(object: &mut Object<'_, impl Write>, instruction: &Instruction) {
     match *instruction {
-        Instruction::Trade { issue, from, to, lots } => owed(out, [issue, from, to, lots]),
+        Instruction::Trade { issue, from, to, lots } => owed(object, [issue, from, to, lots]),
         Instruction::Deliver { issue, account, lots }
-        | Instruction::Resolve { issue, account, lots } => numbers(
-            out,
-            &[("issue", wide(issue)), ("account", wide(account)), ("lots", wide(lots))],
-        ),
+        | Instruction::Resolve { issue, account, lots } => {
+            object.issue(issue).account("account", account).field("lots", lots);
+        }
         Instruction::PairOff { issue, account } => {
-            numbers(out, &[("issue", wide(issue)), ("account", wide(account))])
+            object.issue(issue).account("account", account);
         }
         Instruction::Mark { issue, mark } => {
-            numbers(out, &[("issue", wide(issue)), ("mark", wide(mark))])
+            object.issue(issue).field("mark", mark);
         }
         Instruction::Roll { days, rate } => {
-            numbers(out, &[("days", wide(days)), ("rate", wide(rate))])
+            object.field("days", days).field("rate", rate);
         }
-        Instruction::Turn { day } => field(out, "turn", wide(day)),
-        Instruction::Close | Instruction::Cutoff => Ok(()),
-    }
-}
-
-#[cfg(test)]
-mod tests {
-    use super::escaped;
-
-    #[test]
-    fn a_name_between_quotes() {
-        assert_eq!(escaped("a \"b\" \\ \n円.txt"), "a \\\"b\\\" \\\\ \\u000a円.txt");
+        Instruction::Turn { day } => {
+            object.field("turn", day);
+        }
+        Instruction::Close | Instruction::Cutoff => {}
     }
 }

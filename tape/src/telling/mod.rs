@@ -10,7 +10,6 @@ use crate::story;
 use page::Page;
 use std::io::{self, Write};
 
-pub use json::escaped;
 pub use text::failed_units;
 
 /// The form in which facts are told.
