@@ -1,4 +1,5 @@
-//! What the test programs share: random numbers, options, reports, steps and both engines; a reader of JSON.
+//! What the test programs share: random numbers, options, reports, steps and both engines; a reader of JSON
+//! and its schema.
 
 pub mod alike;
 pub mod books;
@@ -15,7 +16,9 @@ pub mod random_tapes;
 pub mod report;
 pub mod requests;
 pub mod rng;
+pub mod schema;
 pub mod scripts;
+pub mod shown;
 pub mod shrink;
 pub mod situations;
 pub mod steps;
