@@ -1,6 +1,6 @@
 #!/usr/bin/env bash
 # Installs what is built under a prefix: header, archive, shared library, pkg-config file, programs, man
-# pages, completions and the Rust crate. What was installed there before is removed first; a file that
+# pages, completions, the schema of JSON and the Rust crate. What was installed there before is removed first; a file that
 # stands there and was not installed by this is left, and then nothing is installed. What was installed
 # is listed in PREFIX/share/settlement-day/installed, for uninstall.sh.
 # Usage: install.sh DESTDIR PREFIX ARCHIVE SHARED 'PROGRAM..' 'COMPLETED..'
@@ -41,6 +41,7 @@ libdir=\${prefix}/lib
 includedir=\${prefix}/include
 archive=\${libdir}/$(basename "$archive")
 crate=\${prefix}/share/settlement-day/crate
+schema=\${prefix}/share/settlement-day/settlement-day.schema.json
 
 Name: settlement-day
 Description: The settlement-day book of a bond clearing house
@@ -72,6 +73,9 @@ for name in "${completed[@]}"; do
         completion "$program" fish "share/fish/vendor_completions.d/$name.fish"
     done
 done
+
+# The schema of what the programs print as JSON.
+put 644 docs/settlement-day.schema.json share/settlement-day/settlement-day.schema.json
 
 # The crate: its manifest stands alone, without the workspace.
 rust=$(sed -n 's/^rust-version = "\(.*\)"$/\1/p' Cargo.toml)

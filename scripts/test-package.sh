@@ -131,6 +131,10 @@ if command -v man >/dev/null; then
 fi
 same 'versions that were not put into a man page' '' "$(grep -l '@VERSION@' -r "$prefix/share" || true)"
 
+# The schema of JSON, where pkg-config tells it is.
+same 'the schema of JSON' "$(cat docs/settlement-day.schema.json)" \
+    "$(cat "$(pkg-config --variable=schema settlement-day)")"
+
 # Completions in bash: after each verb of the tool its options, by the sources of the verbs.
 completed() { # WORDS OF THE COMMAND.., the last of them to be completed: what is offered
     bash -c 'source "$0"; COMP_WORDS=("$@"); COMP_CWORD=$(($# - 1)); _'"$1"'; printf "%s\n" "${COMPREPLY[@]}"' \

@@ -62,5 +62,6 @@ step 'callers beside the second engine' build/release/callers
 step 'the program beside the second engine' build/release/tapes
 step 'the program where input or output fails' build/release/failures
 step 'the desk'\''s console where writing fails' build/release/daybook_faults
+step 'what is printed as JSON beside its schema' build/release/schema
 
 printf '%s\n' "$verdict"

@@ -305,7 +305,7 @@ impl<'a, F: Files> Console<'a, F> {
             self.ended = Ended::Refused;
         }
         if self.manner.json {
-            return writeln!(self.answers, "{}", json::object(answer, line));
+            return self.answers.write_all(json::line(answer, line).as_bytes());
         }
         if !self.manner.terminal {
             return writeln!(self.answers, "{}", sentences::one_line(answer));

@@ -150,7 +150,8 @@ impl History {
                     word += instructed(&mut story, instruction, quotes, word)?;
                 }
                 Call::Commit(ticket) => lift(&mut story, ticket, |line, object| {
-                    writeln!(out.borrow_mut(), "{}", if as_json { object } else { line })
+                    let told = if as_json { object } else { line };
+                    out.borrow_mut().write_all(told.as_bytes())
                 })?,
             }
         }
@@ -200,8 +201,8 @@ fn has_lifts(book: &Book) -> bool {
     (0..ISSUES as u32).any(|issue| book.lifts(issue).next().is_some())
 }
 
-/// A lift, which is on no tape: `say` is given its line and its object. Then the unit that it handed, if it
-/// did, and the stock that waits.
+/// A lift, which is on no tape: `say` is given its line and the line of its object. Then the unit that it
+/// handed, if it did, and the stock that waits.
 fn lift(
     story: &mut Story,
     ticket: &Ticket,
@@ -214,12 +215,12 @@ fn lift(
     let face = Face(lots.into());
     let line = format!(
         "  lift: unit {unit} of issue {issue}, {face} for account {account}, becomes unit {place}, \
-         before all that are not handed"
+         before all that are not handed\n"
     );
-    let object = format!(
-        "{{\"fact\":\"lift\",\"day\":{day},\"issue\":{issue},\"unit\":{unit},\"account\":{account},\
-         \"lots\":{lots},\"place\":{place}}}"
-    );
+    let object = ::tape::json::fact("lift", |object| {
+        object.day(day).issue(issue).field("unit", unit).account("account", account);
+        object.field("lots", lots).field("place", place);
+    });
     say(line, object)?;
     story.word = None;
     // Units dealt in turn are told by their rounds; behind a lift these are no longer their places.

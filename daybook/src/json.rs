@@ -1,204 +1,214 @@
-//! Answers as JSON: one object a line, with the line's number and `answer` first. docs/DESK.md lists them.
+//! Answers as JSON: one object a line, with the line's number and `answer` behind the version. docs/JSON.md
+//! lists them.
 
 use crate::answer::{Answer, Done, State};
 use crate::call::{Call, Record, FAILED, RESOLVED};
 use crate::orders::Like;
-use settlement_day::{Entry, Instruction, Status, Ticket};
-use std::fmt::Write;
+use settlement_day::calls::Unit;
+use settlement_day::{Entry, Instruction, Ticket};
+use std::io::Write;
 use tape::fault::Fault;
-use tape::telling::escaped;
+use tape::json::{self, Name, Object};
+use tape::status::tell_status;
 
-/// An answer to the line of a number.
-pub fn object(answer: &Answer, line: usize) -> String {
-    let (name, rest) = fields(answer);
-    format!("{{\"line\":{line},\"answer\":\"{name}\"{rest}}}")
+/// The line of an answer to the line of a number.
+pub fn line(answer: &Answer, number: usize) -> String {
+    json::line(|object| {
+        object.field("line", number).field("answer", Name(name(answer)));
+        fields(object, answer);
+    })
 }
 
-/// The name of an answer, and its fields with a comma before each.
-fn fields(answer: &Answer) -> (&'static str, String) {
+/// The name of an answer.
+fn name(answer: &Answer) -> &'static str {
     match answer {
-        Answer::Done(found) => ("done", done(found)),
-        Answer::Refused { said, refusal, why } => {
-            let said = text("said", said);
-            (
-                "refused",
-                format!("{said}{}{}", number("refusal", refusal.number()), text("why", why)),
-            )
-        }
-        Answer::NotDone { said, why } => ("not done", text("said", said) + &text("why", why)),
-        Answer::Wrong(faults) => ("wrong", list("faults", faults.iter().map(fault))),
-        Answer::Nothing(why) => ("nothing", text("why", why)),
-        Answer::Ticket(found) => ("ticket", ticket(found)),
-        Answer::Unit { issue, unit, found } => {
-            let rest = match found {
-                Some(found) => number("account", found.account) + &number("lots", found.lots),
-                None => ",\"account\":null,\"lots\":null".to_string(),
-            };
-            ("unit", place(*issue, *unit) + &rest)
-        }
-        Answer::Why { issue, unit, found, status } => {
-            let whose = number("account", found.account) + &number("lots", found.lots);
-            ("why", place(*issue, *unit) + &whose + &told(Some(*status)))
-        }
-        Answer::Order { issue, units } => {
-            ("order", number("issue", *issue) + &list("units", units.iter().map(like)))
-        }
-        Answer::Ledger(entries) => ("ledger", list("entries", entries.iter().map(entry))),
-        Answer::Charges(charges) => {
-            let one =
-                |&(account, yen): &(u32, i64)| format!("{{\"account\":{account},\"yen\":{yen}}}");
-            ("charges", list("charges", charges.iter().map(one)))
-        }
-        Answer::Status(state) => ("status", status(state)),
-        Answer::Help => ("help", text("help", crate::line::HELP)),
+        Answer::Done(_) => "done",
+        Answer::Refused { .. } => "refused",
+        Answer::NotDone { .. } => "not done",
+        Answer::Wrong(_) => "wrong",
+        Answer::Nothing(_) => "nothing",
+        Answer::Ticket(_) => "ticket",
+        Answer::Unit { .. } => "unit",
+        Answer::Why { .. } => "why",
+        Answer::Order { .. } => "order",
+        Answer::Ledger(_) => "ledger",
+        Answer::Charges(_) => "charges",
+        Answer::Status(_) => "status",
+        Answer::Help => "help",
     }
 }
 
-/// A field that is a number.
-fn number(name: &str, value: impl std::fmt::Display) -> String {
-    format!(",\"{name}\":{value}")
+/// The fields of an answer behind its name.
+fn fields(object: &mut Object<'_, impl Write>, answer: &Answer) {
+    match answer {
+        Answer::Done(found) => done(object, found),
+        Answer::Refused { said, refusal, why } => {
+            object.field("said", said.as_str()).field("refusal", refusal.number());
+            object.field("why", why.as_str());
+        }
+        Answer::NotDone { said, why } => {
+            object.field("said", said.as_str()).field("why", why.as_str());
+        }
+        Answer::Wrong(faults) => {
+            object.objects("faults", faults, fault);
+        }
+        Answer::Nothing(why) => {
+            object.field("why", why.as_str());
+        }
+        Answer::Help => {
+            object.field("help", crate::line::HELP);
+        }
+        Answer::Status(state) => status(object, state),
+        Answer::Ledger(entries) => {
+            object.objects("entries", entries, entry);
+        }
+        Answer::Charges(charges) => {
+            object.objects("charges", charges, |one, &(account, yen)| {
+                one.account("account", account).field("yen", yen);
+            });
+        }
+        Answer::Ticket(_) | Answer::Unit { .. } | Answer::Why { .. } | Answer::Order { .. } => {
+            of_units(object, answer);
+        }
+    }
 }
 
-/// A field that is a text.
-fn text(name: &str, value: &str) -> String {
-    format!(",\"{name}\":\"{}\"", escaped(value))
+/// The fields of an answer about units.
+fn of_units(object: &mut Object<'_, impl Write>, answer: &Answer) {
+    match answer {
+        Answer::Ticket(found) => ticket(object, found),
+        Answer::Unit { issue, unit, found: Some(found) } => {
+            object.issue(*issue).field("unit", *unit);
+            whose(object, found);
+        }
+        Answer::Unit { issue, unit, found: None } => {
+            object.issue(*issue).field("unit", *unit);
+            object.field("account", None::<u32>).field("lots", None::<u32>);
+        }
+        Answer::Why { issue, unit, found, status } => {
+            object.issue(*issue).field("unit", *unit);
+            whose(object, found);
+            tell_status(object, status, found.lots);
+        }
+        Answer::Order { issue, units } => {
+            object.issue(*issue).objects("units", units, like);
+        }
+        _ => {}
+    }
 }
 
-/// A field that is a list.
-fn list(name: &str, items: impl Iterator<Item = String>) -> String {
-    format!(",\"{name}\":[{}]", items.collect::<Vec<String>>().join(","))
-}
-
-/// Issue and unit.
-fn place(issue: u32, unit: u32) -> String {
-    number("issue", issue) + &number("unit", unit)
+/// Whose a unit is, and its lots.
+fn whose(object: &mut Object<'_, impl Write>, unit: &Unit) {
+    object.account("account", unit.account).field("lots", unit.lots);
 }
 
 /// What a call did.
-fn done(done: &Done) -> String {
-    let mut fields = text("call", done.call.name()) + &text("said", &done.call.line());
-    let _ = match &done.call {
+fn done(object: &mut Object<'_, impl Write>, done: &Done) {
+    object.field("call", Name(done.call.name())).field("said", done.call.line().as_str());
+    match &done.call {
         Call::Tape { instruction: Instruction::PairOff { .. }, .. } => {
-            write!(fields, ",\"steps\":{},\"cancelled\":{}", done.count, done.cancelled)
+            object.field("steps", done.count).field("cancelled", done.cancelled);
         }
-        _ => write!(fields, "{}", list("records", done.records.iter().map(record))),
-    };
-    fields.push_str(&number("day", done.day));
-    fields.push_str(&text("phase", done.phase));
-    if let Some(note) = &done.note {
-        fields.push_str(&text("note", note));
+        _ => {
+            object.objects("records", &done.records, record);
+        }
     }
-    fields
+    object.day(done.day).field("phase", Name(done.phase));
+    object.optional("note", done.note.as_deref());
 }
 
 /// A record that a call wrote.
-fn record(record: &Record) -> String {
+fn record(object: &mut Object<'_, impl Write>, record: &Record) {
     let Record { kind, issue, from, to, lots } = *record;
-    let (name, from) = match kind {
-        FAILED => ("fails", number("from", from)),
-        RESOLVED => ("resolved", number("from", from)),
-        _ => ("handed", String::new()),
+    let name = match kind {
+        FAILED => "fails",
+        RESOLVED => "resolved",
+        _ => "handed",
     };
-    format!("{{\"record\":\"{name}\",\"issue\":{issue}{from},\"to\":{to},\"lots\":{lots}}}")
+    object.field("record", Name(name)).issue(issue);
+    if matches!(kind, FAILED | RESOLVED) {
+        object.account("from", from);
+    }
+    object.account("to", to).field("lots", lots);
 }
 
 /// Something wrong with a line.
-fn fault(fault: &Fault) -> String {
-    format!("{{\"column\":{}{}}}", fault.column, text("what", &fault.what))
+fn fault(object: &mut Object<'_, impl Write>, fault: &Fault) {
+    object.field("column", fault.column).field("what", fault.what.as_str());
 }
 
 /// A ticket's numbers.
-fn ticket(ticket: &Ticket) -> String {
-    let names = ["issue", "unit", "account", "lots", "day", "count"];
-    names.iter().zip(ticket.numbers()).map(|(name, value)| number(name, value)).collect()
-}
-
-/// What is told of a unit.
-fn told(status: Option<Status>) -> String {
-    match status {
-        None => String::new(),
-        Some(Status::Handed) => text("status", "handed"),
-        Some(Status::Waiting { lots }) => text("status", "waiting") + &number("wants", lots),
-        Some(Status::PartlyFailed { lots }) => {
-            text("status", "partly failed") + &number("lacks", lots)
-        }
-        Some(Status::WhollyFailed) => text("status", "wholly failed"),
-    }
+fn ticket(object: &mut Object<'_, impl Write>, ticket: &Ticket) {
+    let Ticket { issue, unit, account, lots, day, count } = *ticket;
+    object.issue(issue).field("unit", unit).account("account", account).field("lots", lots);
+    object.day(day).field("count", count);
 }
 
 /// Like units.
-fn like(like: &Like) -> String {
-    let Like { first, last, unit, status } = *like;
-    let (account, lots, status) = (unit.account, unit.lots, told(status));
-    format!("{{\"first\":{first},\"last\":{last},\"account\":{account},\"lots\":{lots}{status}}}")
+fn like(object: &mut Object<'_, impl Write>, like: &Like) {
+    object.field("first", like.first).field("last", like.last);
+    whose(object, &like.unit);
+    if let Some(status) = &like.status {
+        tell_status(object, status, like.unit.lots);
+    }
 }
 
 /// An entry of the ledger.
-fn entry(entry: &Entry) -> String {
+fn entry(object: &mut Object<'_, impl Write>, entry: &Entry) {
     let Entry { issue, from, to, lots, day } = *entry;
-    format!("{{\"issue\":{issue},\"from\":{from},\"to\":{to},\"lots\":{lots},\"since\":{day}}}")
+    object.issue(issue).account("from", from).account("to", to);
+    object.field("lots", lots).field("since", day);
 }
 
 /// The book and its folder.
-fn status(state: &State) -> String {
-    let State { day, phase, turn, entries, charged, number: at, records, .. } = *state;
+fn status(object: &mut Object<'_, impl Write>, state: &State) {
+    object.day(state.day).field("phase", Name(state.phase)).field("turn", state.turn);
     let lifts = state.lifts.iter().flat_map(|(issue, lifts)| {
-        lifts.iter().map(move |lift| {
-            format!("{{\"issue\":{issue},\"old\":{},\"new\":{}}}", lift.old, lift.new)
-        })
+        lifts.iter().map(move |lift| (*issue, *lift))
     });
-    number("day", day)
-        + &text("phase", phase)
-        + &number("turn", turn)
-        + &list("marked", state.marked.iter().map(u32::to_string))
-        + &list("lifts", lifts)
-        + &number("entries", entries)
-        + &number("charged", charged)
-        + &number("snapshot", at)
-        + &number("records", records)
+    object.field("marked", &state.marked).objects("lifts", lifts, |one, (issue, lift)| {
+        one.issue(issue).field("old", lift.old).field("new", lift.new);
+    });
+    object.field("entries", state.entries).field("charged", state.charged);
+    object.field("snapshot", state.number).field("records", state.records);
 }
 
 #[cfg(test)]
 mod tests {
     use super::*;
-    use settlement_day::calls::Unit;
-    use settlement_day::Refusal;
+    use settlement_day::{Refusal, Status};
 
     #[test]
     fn answers_are_objects() {
         let fault = Fault { line: 7, column: 3, what: "say \"x\"".to_string() };
+        let unit = Unit { account: 2, lots: 3 };
+        let why = |status| Answer::Why { issue: 0, unit: 1, found: unit, status };
+        let refused = Answer::Refused {
+            said: "close".to_string(),
+            refusal: Refusal::Phase,
+            why: "no".to_string(),
+        };
         for (answer, told) in [
-            (
-                Answer::Wrong(vec![fault]),
-                r#"{"line":7,"answer":"wrong","faults":[{"column":3,"what":"say \"x\""}]}"#,
-            ),
+            (Answer::Wrong(vec![fault]), r#""wrong","faults":[{"column":3,"what":"say \"x\""}]"#),
             (
                 Answer::Unit { issue: 0, unit: 9, found: None },
-                r#"{"line":7,"answer":"unit","issue":0,"unit":9,"account":null,"lots":null}"#,
+                r#""unit","issue":0,"unit":9,"account":null,"lots":null"#,
             ),
             (
-                Answer::Why {
-                    issue: 0,
-                    unit: 1,
-                    found: Unit { account: 2, lots: 3 },
-                    status: Status::Waiting { lots: 4 },
-                },
-                r#"{"line":7,"answer":"why","issue":0,"unit":1,"account":2,"lots":3,"status":"waiting","wants":4}"#,
+                why(Status::Waiting { lots: 4 }),
+                r#""why","issue":0,"unit":1,"account":2,"lots":3,"status":"waiting","wants":4"#,
             ),
             (
-                Answer::Refused {
-                    said: "close".to_string(),
-                    refusal: Refusal::Phase,
-                    why: "no".to_string(),
-                },
-                r#"{"line":7,"answer":"refused","said":"close","refusal":3,"why":"no"}"#,
+                why(Status::WhollyFailed),
+                r#""why","issue":0,"unit":1,"account":2,"lots":3,"status":"wholly failed","lacks":3"#,
             ),
+            (refused, r#""refused","said":"close","refusal":3,"why":"no""#),
             (
                 Answer::Charges(vec![(1, -5), (2, 5)]),
-                r#"{"line":7,"answer":"charges","charges":[{"account":1,"yen":-5},{"account":2,"yen":5}]}"#,
+                r#""charges","charges":[{"account":1,"yen":-5},{"account":2,"yen":5}]"#,
             ),
         ] {
-            assert_eq!(object(&answer, 7), told);
+            assert_eq!(line(&answer, 7), format!("{{\"schema\":1,\"line\":7,\"answer\":{told}}}\n"));
         }
     }
 }

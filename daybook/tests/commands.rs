@@ -110,14 +110,17 @@ fn a_program_is_told_in_objects() {
     let lines: Vec<&str> = answers.lines().collect();
     assert_eq!(
         lines[0],
-        "{\"line\":1,\"answer\":\"done\",\"call\":\"trade\",\"said\":\"trade 0 1 2 3\",\
+        "{\"schema\":1,\"line\":1,\"answer\":\"done\",\"call\":\"trade\",\"said\":\"trade 0 1 2 3\",\
          \"records\":[],\"day\":0,\"phase\":\"Taking\"}"
     );
-    assert!(lines[1].starts_with("{\"line\":4,\"answer\":\"done\",\"call\":\"close\""));
+    let begins = |at: usize, begins: &str| {
+        assert!(lines[at].starts_with(&format!("{{\"schema\":1,{begins}")), "{}", lines[at]);
+    };
+    begins(1, "\"line\":4,\"answer\":\"done\",\"call\":\"close\"");
     let fails = "\"records\":[{\"record\":\"fails\",\"issue\":0,\"from\":1,\"to\":2,\"lots\":3}]";
     assert!(lines[2].contains(fails), "{}", lines[2]);
-    assert!(lines[3].starts_with("{\"line\":6,\"answer\":\"wrong\",\"faults\":[{\"column\":1"));
-    assert!(lines[4].starts_with("{\"line\":7,\"answer\":\"nothing\",\"why\":\"there is no ticket"));
+    begins(3, "\"line\":6,\"answer\":\"wrong\",\"faults\":[{\"column\":1");
+    begins(4, "\"line\":7,\"answer\":\"nothing\",\"why\":\"there is no ticket");
     assert_eq!(lines.len(), 5);
 }
 

@@ -3,13 +3,14 @@
 
 use crate::dealt::Dealt;
 use crate::input::Day;
+use crate::json;
 use crate::measure::{counted, Face};
 use crate::standing::{run, Stood, When};
-use crate::status::{json_of, phrase, Asked};
-use crate::telling::{date_field, failed_units, name_field};
+use crate::status::{phrase, tell_unit, Asked, FACT, NOT_SETTLED};
+use crate::telling::failed_units;
 use crate::units::{runs, FULL};
 use settlement_day::calls::{self, Unit};
-use settlement_day::{Book, Entry, Phase, Status};
+use settlement_day::{Book, Entry, Phase, Refusal, Status};
 
 /// Whose units are asked of, in which issue, and when.
 #[derive(Clone, Copy, Debug, PartialEq, Eq)]
@@ -77,7 +78,7 @@ impl Told<'_> {
         let (moment, day) = (self.stood.moment(self.day), known.day(self.stood.book.day));
         let head = format!("{moment}, day {day}, {}", self.stood.phase());
         if self.refused() {
-            return format!("{head}: refused by 3: trades are taken, no unit is settled yet\n");
+            return format!("{head}: refused by {}: {NOT_SETTLED}\n", Refusal::Phase.number());
         }
         let due: u64 = self.units.iter().map(|one| u64::from(one.unit.lots)).sum();
         let (due, units) = (Face(due), counted(self.units.len(), "unit"));
@@ -100,37 +101,31 @@ impl Told<'_> {
 
     /// The same as objects of JSON, a line each.
     pub fn json(&self) -> String {
-        let (day, phase, word) = (self.stood.book.day, self.stood.phase(), self.stood.word);
-        let line = self.stood.line(self.day);
-        let line = line.map_or(String::new(), |line| format!(",\"line\":{line}"));
+        let at = self.stood.at(self.day);
         let known = &self.stood.known;
-        let date = date_field(known.day(day));
-        let at = format!("\"day\":{day}{date},\"phase\":\"{phase}\",\"word\":{word}{line}");
         let Question { issue, account, .. } = self.question;
-        let whose =
-            |field: &str, account: u32| name_field(field, known.names.account_name(account));
-        let issue = format!("{issue}{}", name_field("issue_name", known.names.issue_name(issue)));
         if self.refused() {
-            let account = format!("{account}{}", whose("account_name", account));
-            return format!(
-                "{{\"fact\":\"status\",{at},\"issue\":{issue},\"account\":{account},\"refusal\":3,\
-                 \"why\":\"trades are taken, no unit is settled yet\"}}\n"
-            );
+            return json::fact_by(known, FACT, |object| {
+                at.tell(object);
+                object.issue(issue).account("account", account);
+                object.field("refusal", Refusal::Phase.number()).field("why", NOT_SETTLED);
+            });
         }
-        let status = |one: &Asked| {
-            let unit = json_of(one, known);
-            format!("{{\"fact\":\"status\",{at},{unit}}}\n")
-        };
+        let units = self.units.iter().map(|one| {
+            json::fact_by(known, FACT, |object| {
+                at.tell(object);
+                tell_unit(object, one);
+            })
+        });
         let owed = self.owed.iter().map(|entry| {
             let Entry { from, to, lots, day: since, .. } = *entry;
-            let from = format!("{from}{}", whose("from_name", from.into()));
-            let to = format!("{to}{}", whose("to_name", to.into()));
-            format!(
-                "{{\"fact\":\"entry\",{at},\"issue\":{issue},\"from\":{from},\"to\":{to},\
-                 \"lots\":{lots},\"since\":{since}}}\n"
-            )
+            json::fact_by(known, "entry", |object| {
+                at.tell(object);
+                object.issue(issue).account("from", from).account("to", to);
+                object.field("lots", lots).field("since", since);
+            })
         });
-        self.units.iter().map(status).chain(owed).collect()
+        units.chain(owed).collect()
     }
 }
 
@@ -214,8 +209,8 @@ mod tests {
         let json =
             ask(&day, Question { issue: 0, account: 1, when: When::EndOf(0) }).unwrap().json();
         let lines: Vec<&str> = json.lines().collect();
-        let first = "{\"fact\":\"status\",\"day\":0,\"phase\":\"Cut\",\"word\":11,\"line\":8,\"issue\":0,\"unit\":0,\
-            \"refusal\":0,\"account\":1,\"lots\":100000,\"status\":\"handed\"}";
+        let first = "{\"schema\":1,\"fact\":\"status\",\"day\":0,\"phase\":\"Cut\",\"word\":11,\"line\":8,\
+            \"issue\":0,\"unit\":0,\"refusal\":0,\"account\":1,\"lots\":100000,\"status\":\"handed\"}";
         assert_eq!((lines.len(), lines[0]), (5, first));
         assert!(lines[4].ends_with("\"issue\":0,\"from\":9,\"to\":1,\"lots\":50000,\"since\":0}"));
     }

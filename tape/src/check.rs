@@ -1,23 +1,43 @@
-//! What the book will refuse of a tape, without running the program: one line for each refusal.
+//! What the book will refuse of a tape, without running the program: a line or an object for each refusal.
 
 use crate::bytes::split;
+use crate::facts::{Fact, Told};
 use crate::input::{Day, Stands};
+use crate::json;
 use crate::known::Known;
+use crate::measure::{counted, Grouped};
 use crate::progress::Meter;
+use crate::story::Sink;
 use crate::text::why_ended;
 use crate::why::why;
-use settlement_day::{calls, tape, Book, Refusal, OUTPUT_WORDS};
+use settlement_day::{calls, tape, Book, OUTPUT_WORDS};
 use std::io;
 
-/// How many instructions there are, and how many lines about refusals were told.
+/// How many instructions there are, and how many refusals were told.
 #[derive(Clone, Copy, Debug, Default, PartialEq, Eq)]
 pub struct Checked {
     pub instructions: usize,
     pub refused: usize,
 }
 
-/// Makes every call on a fresh book and tells each refusal, with the place in the file.
-pub fn check(day: &Day, tell: &mut dyn FnMut(&str) -> io::Result<()>) -> io::Result<Checked> {
+impl Checked {
+    /// For people.
+    pub fn text(&self) -> String {
+        let Checked { instructions, refused } = *self;
+        let refused = Grouped(refused as i128);
+        format!("{}, {refused} refused\n", counted(instructions, "instruction"))
+    }
+
+    /// The same as an object of JSON.
+    pub fn json(&self) -> String {
+        json::fact("checked", |object| {
+            object.field("instructions", self.instructions).field("refused", self.refused);
+        })
+    }
+}
+
+/// Makes every call on a fresh book and tells each refusal: an instruction, or that reading ends.
+pub fn check(day: &Day, tell: &mut Sink) -> io::Result<Checked> {
     let (words, stray) = split(&day.tape);
     let mut book = Book::fresh();
     let mut output = vec![0; OUTPUT_WORDS];
@@ -36,14 +56,16 @@ pub fn check(day: &Day, tell: &mut dyn FnMut(&str) -> io::Result<()>) -> io::Res
                     Err(refusal) => {
                         checked.refused += 1;
                         let why = why(&book, &instruction, &quotes, refusal, &known);
-                        tell(&format!("{}: {}: {why}", place(day, at), instruction.name()))?;
+                        let fact = Fact::Instruction { instruction, refusal: Some((refusal, why)) };
+                        tell(&Told { day: book.day, word: Some(at), fact: &fact, known: &known })?;
                     }
                 }
                 at += count;
             }
             Err(refusal) => {
                 checked.refused += 1;
-                tell(&reading_ends(day, at, refusal, &why_ended(&words[at..], refusal)))?;
+                let fact = Fact::ReadingEnds { refusal, why: why_ended(&words[at..], refusal) };
+                tell(&Told { day: book.day, word: Some(at), fact: &fact, known: &known })?;
                 break;
             }
         }
@@ -51,10 +73,18 @@ pub fn check(day: &Day, tell: &mut dyn FnMut(&str) -> io::Result<()>) -> io::Res
     Ok(checked)
 }
 
-/// What is said where reading ends at a word before the tape does, and why.
-pub(crate) fn reading_ends(day: &Day, word: usize, refusal: Refusal, why: &str) -> String {
-    let (place, number) = (place(day, word), refusal.number());
-    format!("{place}: reading ends here: refused by {number}: {why}")
+/// A refusal for people, in a line with the place in the file.
+pub fn line(day: &Day, told: &Told) -> String {
+    let place = place(day, told.word.unwrap_or_default());
+    match told.fact {
+        Fact::Instruction { instruction, refusal: Some((_, why)) } => {
+            format!("{place}: {}: {why}", instruction.name())
+        }
+        Fact::ReadingEnds { refusal, why } => {
+            format!("{place}: reading ends here: refused by {}: {why}", refusal.number())
+        }
+        _ => place,
+    }
 }
 
 /// The place of the instruction that begins at a word: file, line and column, or file and word.
@@ -81,8 +111,8 @@ mod tests {
     fn found(file: &str, bytes: &[u8]) -> Found {
         let day = Day::of(file, bytes.to_vec(), Taken::Apart).unwrap();
         let mut refusals = Vec::new();
-        let mut tell = |line: &str| {
-            refusals.push(line.to_string());
+        let mut tell = |told: &Told| {
+            refusals.push(line(&day, told));
             Ok(())
         };
         let Checked { instructions, refused } = check(&day, &mut tell).unwrap();
@@ -172,6 +202,14 @@ mod tests {
             format!("day.txt:7:1: {said}; full units are dealt in turn since day 1"),
         ];
         assert_eq!((found.refusals, found.instructions), (expected.to_vec(), 7));
+    }
+
+    #[test]
+    fn the_counts_in_words_and_as_json() {
+        let checked = Checked { instructions: 1_234, refused: 1 };
+        assert_eq!(checked.text(), "1,234 instructions, 1 refused\n");
+        let json = "{\"schema\":1,\"fact\":\"checked\",\"instructions\":1234,\"refused\":1}\n";
+        assert_eq!(checked.json(), json);
     }
 
     #[test]

@@ -1,6 +1,6 @@
 //! What a tape did, as CSV: the records that the book wrote, the ledger, the charges, statements.
 
-use crate::check::reading_ends;
+use crate::check;
 use crate::csv::{write_row, Value};
 use crate::facts::{Fact, Terms, Told};
 use crate::input::{Day, Stands};
@@ -135,9 +135,8 @@ impl<'a> Export<'a> {
     fn fact(&mut self, told: &Told) -> io::Result<()> {
         match (self.table, told.fact) {
             (_, Fact::Instruction { instruction, .. }) => self.call = instruction.name(),
-            (_, Fact::ReadingEnds { refusal, why }) => {
-                let what = reading_ends(self.day, told.word.unwrap_or_default(), *refusal, why);
-                self.cut = Some(Cut { what, unread: true });
+            (_, Fact::ReadingEnds { .. }) => {
+                self.cut = Some(Cut { what: check::line(self.day, told), unread: true });
             }
             (Table::Records, _) => return self.records(told),
             (Table::Ledger, Fact::Entry { .. }) => return self.entry(told.fact),

@@ -2,11 +2,11 @@
 //! tape's book at its end and a text with settlement accounts and inventories.
 
 use crate::fault::{words_of, Fault, Faults, Word};
+use crate::json::{self, Name};
 use crate::known::Dated;
 use crate::measure::{Grouped, Lots};
 use crate::names::{Kind, Names};
 use crate::standing::Stood;
-use crate::telling::date_field;
 use crate::text::digits_of;
 use settlement_day::simulation::{simulate, Desk, Simulated, MOST_SIZE, SETTLEMENT_ACCOUNTS};
 use settlement_day::{Refusal, ACCOUNTS, ISSUES};
@@ -215,20 +215,17 @@ impl Tried {
 
     /// An object of JSON for each size, a line each.
     pub fn json(&self) -> String {
-        let Tried { day: Dated { number: day, .. }, phase, owed, rows, .. } = self;
-        let date = date_field(self.day);
-        let word = self.ended.map_or("null".to_string(), |word| word.to_string());
-        let object = |(size, tried): &(u32, Simulated)| {
-            let Simulated { deliveries, rounds, .. } = tried;
-            let issues = tried.owed.map(|lots| lots.to_string()).join(",");
-            format!(
-                "{{\"fact\":\"jam\",\"day\":{day}{date},\"phase\":\"{phase}\",\"ended\":{word},\
-                 \"owed\":{owed},\"size\":{size},\"rounds\":{rounds},\"deliveries\":{deliveries},\
-                 \"stillOwed\":{},\"stillOwedByIssue\":[{issues}]}}\n",
-                tried.owed_in_all()
-            )
+        let Tried { day: Dated { number: day, date }, phase, ended, owed, ref rows, .. } = *self;
+        let line = |(size, tried): &(u32, Simulated)| {
+            json::fact("jam", |object| {
+                object.dated(day, date).field("phase", Name(phase));
+                object.field("ended", ended).field("owed", owed).field("size", *size);
+                object.field("rounds", tried.rounds).field("deliveries", tried.deliveries);
+                object.field("stillOwed", tried.owed_in_all());
+                object.field("stillOwedByIssue", &tried.owed[..]);
+            })
         };
-        rows.iter().map(object).collect()
+        rows.iter().map(line).collect()
     }
 
     /// A page with a bar for each size: what was delivered, and what is still owed.

@@ -15,6 +15,7 @@ pub mod import;
 pub mod input;
 mod interrupt;
 pub mod jam;
+pub mod json;
 pub mod known;
 pub mod ledger;
 pub mod look;

@@ -4,11 +4,11 @@
 use crate::fault::{words_of, Fault, Faults, Word};
 use crate::input::Day;
 use crate::jam::{number, range};
+use crate::json::{self, Name};
 use crate::known::Known;
 use crate::measure::{Grouped, Lots};
 use crate::names::Names;
 use crate::standing::{run, When};
-use crate::telling::{date_field, name_field};
 use settlement_day::access::{self, Account, NOBODY, PARTICIPANTS};
 use settlement_day::{Caller, Entry, Refusal, ACCOUNTS};
 
@@ -135,35 +135,23 @@ impl Seen {
     pub fn json(&self) -> String {
         let Seen { question: Question { caller, issue, account, .. }, day, phase, word, .. } =
             *self;
-        let (number, known) = (caller.number, &self.known);
-        let whose =
-            |field: &str, account: u32| name_field(field, known.names.account_name(account));
-        let date = date_field(known.day(day));
-        let issue = format!("{issue}{}", name_field("issue_name", known.names.issue_name(issue)));
-        let account = format!("{account}{}", whose("account_name", account));
-        let head = format!(
-            "{{\"fact\":\"account\",\"day\":{day}{date},\"phase\":\"{phase}\",\"word\":{word},\
-             \"caller\":{number},\"issue\":{issue},\"account\":{account}"
-        );
-        match &self.answer {
-            Err(refusal) => format!("{head},\"refusal\":{}}}\n", refusal.number()),
-            Ok((seen, entries)) => {
-                let object = |entry: &Entry| {
-                    let Entry { from, to, lots, day, .. } = *entry;
-                    let from = format!("{from}{}", whose("from_name", from.into()));
-                    let to = format!("{to}{}", whose("to_name", to.into()));
-                    let day = format!("{day}{}", date_field(known.day(day)));
-                    format!("{{\"from\":{from},\"to\":{to},\"lots\":{lots},\"day\":{day}}}")
-                };
-                let entries: Vec<String> = entries.iter().map(object).collect();
-                format!(
-                    "{head},\"refusal\":0,\"net\":{},\"charge\":{},\"entries\":[{}]}}\n",
-                    seen.net,
-                    seen.charge,
-                    entries.join(",")
-                )
+        json::fact_by(&self.known, "account", |object| {
+            object.day(day).field("phase", Name(phase));
+            object.field("word", word).field("caller", caller.number);
+            object.issue(issue).account("account", account);
+            match &self.answer {
+                Err(refusal) => {
+                    object.field("refusal", refusal.number());
+                }
+                Ok((seen, entries)) => {
+                    object.field("refusal", 0_u32).field("net", seen.net);
+                    object.field("charge", seen.charge).objects("entries", entries, |one, entry| {
+                        one.account("from", entry.from).account("to", entry.to);
+                        one.field("lots", entry.lots).day(entry.day);
+                    });
+                }
             }
-        }
+        })
     }
 }
 

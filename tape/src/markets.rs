@@ -1,5 +1,6 @@
 //! Every small market, each once, for testers: the markets, or how many of them have how many fail entries.
 
+use crate::json;
 use crate::measure::counted;
 use settlement_day::markets::{self, COUNTS};
 use settlement_day::Refusal;
@@ -60,9 +61,9 @@ pub fn refused(refusal: Refusal) -> String {
     )
 }
 
-/// Numbers with this between.
-fn joined<T: ToString>(numbers: &[T], between: &str) -> String {
-    numbers.iter().map(T::to_string).collect::<Vec<String>>().join(between)
+/// Numbers with a blank between.
+fn spaced<T: ToString>(numbers: &[T]) -> String {
+    numbers.iter().map(T::to_string).collect::<Vec<String>>().join(" ")
 }
 
 impl Size {
@@ -75,22 +76,18 @@ impl Size {
 impl Listed {
     /// A line for each market, behind their number.
     pub fn text(&self) -> String {
-        let line = |market: &Vec<i32>| joined(market, " ") + "\n";
+        let line = |market: &Vec<i32>| spaced(market) + "\n";
         let lines: String = self.markets.iter().map(line).collect();
         format!("{}: {}\n{lines}", self.size.text(), counted(self.markets.len(), "market"))
     }
 
     /// One object.
     pub fn json(&self) -> String {
-        let markets: Vec<String> =
-            self.markets.iter().map(|market| format!("[{}]", joined(market, ","))).collect();
-        format!(
-            "{{\"fact\":\"markets\",\"accounts\":{},\"most\":{},\"count\":{},\"markets\":[{}]}}\n",
-            self.size.accounts,
-            self.size.most,
-            markets.len(),
-            markets.join(",")
-        )
+        let Size { accounts, most } = self.size;
+        json::fact("markets", |object| {
+            object.field("accounts", accounts).field("most", most);
+            object.field("count", self.markets.len()).field("markets", &self.markets);
+        })
     }
 }
 
@@ -105,7 +102,7 @@ impl Counted {
         let mut told = format!(
             "{}, delivered [{}]: {} in which each account owes at least its lots\n",
             self.size.text(),
-            joined(&self.delivered, " "),
+            spaced(&self.delivered),
             counted(self.all(), "market")
         );
         for (entries, &count) in self.counts.iter().enumerate() {
@@ -121,15 +118,12 @@ impl Counted {
 
     /// One object.
     pub fn json(&self) -> String {
-        format!(
-            "{{\"fact\":\"marketFails\",\"accounts\":{},\"most\":{},\"delivered\":[{}],\"markets\":{},\
-             \"byEntries\":[{}]}}\n",
-            self.size.accounts,
-            self.size.most,
-            joined(&self.delivered, ","),
-            self.all(),
-            joined(&self.counts, ",")
-        )
+        let Size { accounts, most } = self.size;
+        json::fact("marketFails", |object| {
+            object.field("accounts", accounts).field("most", most);
+            object.field("delivered", &self.delivered);
+            object.field("markets", self.all()).field("byEntries", &self.counts[..]);
+        })
     }
 }
 
@@ -145,7 +139,7 @@ mod tests {
         assert_eq!(listed.text(), "2 accounts, nets of at most 1: 3 markets\n-1 1\n0 0\n1 -1\n");
         assert_eq!(
             listed.json(),
-            "{\"fact\":\"markets\",\"accounts\":2,\"most\":1,\"count\":3,\
+            "{\"schema\":1,\"fact\":\"markets\",\"accounts\":2,\"most\":1,\"count\":3,\
              \"markets\":[[-1,1],[0,0],[1,-1]]}\n"
         );
         assert_eq!(list(Size { accounts: 6, most: 1 }), Err(Refusal::Lots));
@@ -158,8 +152,8 @@ mod tests {
         assert!(counted.text().contains("\n0 fail entries: 1 market\n1 fail entry: 2 markets\n"));
         assert_eq!(
             counted.json(),
-            "{\"fact\":\"marketFails\",\"accounts\":2,\"most\":1,\"delivered\":[0,0],\"markets\":3,\
-             \"byEntries\":[1,2,0,0,0]}\n"
+            "{\"schema\":1,\"fact\":\"marketFails\",\"accounts\":2,\"most\":1,\"delivered\":[0,0],\
+             \"markets\":3,\"byEntries\":[1,2,0,0,0]}\n"
         );
         assert_eq!(count(TWO, vec![0]), Err(Refusal::Lots));
     }

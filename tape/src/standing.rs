@@ -2,11 +2,13 @@
 
 use crate::bytes::split;
 use crate::input::Day;
+use crate::json::{Name, Object};
 use crate::known::Known;
 use crate::measure::counted;
 use crate::progress::Meter;
 use crate::story::traded;
 use settlement_day::{calls, tape, Book, Instruction, Phase, OUTPUT_WORDS};
+use std::io::Write;
 
 /// The moment up to which a tape is run.
 #[derive(Clone, Copy, Debug, Default, PartialEq, Eq)]
@@ -59,6 +61,29 @@ impl Stood {
     /// The phase of the book.
     pub fn phase(&self) -> &'static str {
         self.book.phase.name().unwrap_or("no phase")
+    }
+
+    /// Where it stands, as JSON has it.
+    pub fn at(&self, day: &Day) -> At {
+        At { day: self.book.day, phase: self.phase(), word: self.word, line: self.line(day) }
+    }
+}
+
+/// Where a tape stood, as an object of JSON has it: the day and the phase of the book, the word, and its line
+/// where that stands in a text.
+#[derive(Clone, Copy, Debug, PartialEq, Eq)]
+pub struct At {
+    pub day: u16,
+    pub phase: &'static str,
+    pub word: usize,
+    pub line: Option<usize>,
+}
+
+impl At {
+    /// Its fields.
+    pub fn tell(&self, object: &mut Object<'_, impl Write>) {
+        object.day(self.day).field("phase", Name(self.phase));
+        object.field("word", self.word).optional("line", self.line);
     }
 }
 

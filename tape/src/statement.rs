@@ -3,11 +3,12 @@
 
 use crate::bytes::split;
 use crate::input::Day;
+use crate::json;
 use crate::known::Known;
 use crate::measure::{counted, Face, Grouped};
 use crate::progress::Meter;
 use crate::story::traded;
-use crate::telling::{escaped_html, name_field};
+use crate::telling::escaped_html;
 use settlement_day::statement::{statement, Statement, MOST_INSTRUCTIONS};
 use settlement_day::{calls, tape, Book, Instruction, Phase, Refusal, OUTPUT_WORDS};
 use std::collections::BTreeSet;
@@ -196,23 +197,20 @@ impl Told {
 
     /// An object of JSON for each row, a line each.
     pub fn json(&self) -> String {
-        let text = |number: Option<u64>| number.map_or("null".to_string(), |it| it.to_string());
-        let [instructions, refused, ended, full, open] = self.span().map(text);
-        let names = &self.known.names;
-        let object = |row: &Row| {
-            let Row { issue, account, statement } = row;
-            let name = name_field("issue_name", names.issue_name(*issue));
-            let whose = name_field("account_name", names.account_name(*account));
+        let [instructions, refused, ended, behind, settling] = self.span();
+        let line = |row: &Row| {
+            let Row { issue, account, statement } = *row;
             let Statement { due, delivered, failed, resolved, failed_over_due: (over, under) } =
                 statement;
-            format!(
-                "{{\"fact\":\"statement\",\"issue\":{issue}{name},\"account\":{account}{whose},\
-                 \"due\":{due},\"delivered\":{delivered},\"failed\":{failed},\"resolved\":{resolved},\
-                 \"failedOverDue\":[{over},{under}],\"instructions\":{instructions},\
-                 \"refused\":{refused},\"ended\":{ended},\"behind\":{full},\"settling\":{open}}}\n"
-            )
+            json::fact_by(&self.known, "statement", |object| {
+                object.issue(issue).account("account", account);
+                object.field("due", due).field("delivered", delivered).field("failed", failed);
+                object.field("resolved", resolved).field("failedOverDue", &[over, under][..]);
+                object.field("instructions", instructions).field("refused", refused);
+                object.field("ended", ended).field("behind", behind).field("settling", settling);
+            })
         };
-        self.rows.iter().map(object).collect()
+        self.rows.iter().map(line).collect()
     }
 
     /// A page with a row and a bar for each account: what it delivered of what was due.
@@ -377,8 +375,8 @@ are counted
     fn the_same_as_json_and_as_a_page() {
         let json = told(TWO_DAYS).json();
         let first =
-            "{\"fact\":\"statement\",\"issue\":0,\"account\":4,\"due\":100,\"delivered\":60,\
-                     \"failed\":40,\"resolved\":20,\"failedOverDue\":[40,100],\"instructions\":11,\
+            "{\"schema\":1,\"fact\":\"statement\",\"issue\":0,\"account\":4,\"due\":100,\
+                     \"delivered\":60,\"failed\":40,\"resolved\":20,\"failedOverDue\":[40,100],\"instructions\":11,\
                      \"refused\":1,\"ended\":null,\"behind\":null,\"settling\":1}";
         assert_eq!(json.lines().next(), Some(first));
         assert_eq!(json.lines().count(), 2);

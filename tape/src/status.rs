@@ -2,12 +2,18 @@
 
 use crate::dealt::{Dealt, Turn};
 use crate::input::Day;
+use crate::json::{self, Name, Object};
 use crate::known::Known;
 use crate::measure::{Face, Lots};
-use crate::standing::{run, When};
-use crate::telling::{date_field, name_field};
+use crate::standing::{run, At, When};
 use settlement_day::calls::{self, Unit};
 use settlement_day::{Book, Refusal, Status, ISSUES};
+use std::io::Write;
+
+/// The fact that the objects of a unit are.
+pub const FACT: &str = "status";
+/// Why the book does not tell while trades are taken.
+pub const NOT_SETTLED: &str = "trades are taken, no unit is settled yet";
 
 /// Which unit is asked of, and when.
 #[derive(Clone, Copy, Debug, Default, PartialEq, Eq)]
@@ -32,11 +38,8 @@ pub struct Asked {
 #[derive(Clone, Debug, PartialEq, Eq)]
 pub struct Told {
     question: Question,
-    day: u16,
-    phase: &'static str,
-    /// The word at which the tape stood, its line, and the moment in words.
-    word: usize,
-    line: Option<usize>,
+    at: At,
+    /// The moment in words.
     moment: String,
     known: Known,
     answer: Result<Asked, (Refusal, String)>,
@@ -57,10 +60,8 @@ pub fn ask(day: &Day, question: Question) -> Result<Told, String> {
         }
         Err(refusal) => Err((refusal, why_refused(book, question, refusal, &stood.known))),
     };
-    let (phase, word) = (stood.phase(), stood.word);
-    let (line, moment) = (stood.line(day), stood.moment(day));
-    let (day, known) = (book.day, stood.known);
-    Ok(Told { question, day, phase, word, line, moment, known, answer })
+    let (at, moment) = (stood.at(day), stood.moment(day));
+    Ok(Told { question, at, moment, known: stood.known, answer })
 }
 
 /// Why the book does not tell, with the numbers behind it.
@@ -68,7 +69,7 @@ fn why_refused(book: &Book, question: Question, refusal: Refusal, known: &Known)
     let Question { issue, unit, .. } = question;
     let named = known.issue(issue);
     match refusal {
-        Refusal::Phase => "trades are taken, no unit is settled yet".to_string(),
+        Refusal::Phase => NOT_SETTLED.to_string(),
         Refusal::Issue => format!("there is no issue {issue}, issues are 0 to {}", ISSUES - 1),
         Refusal::Unit => match (0..)
             .take_while(|&k| matches!(calls::unit(book, issue, k), Ok(Some(_))))
@@ -90,8 +91,8 @@ impl Told {
 
     /// A sentence for the telephone.
     pub fn sentence(&self) -> String {
-        let Told { day, phase, ref moment, ref known, .. } = *self;
-        let head = format!("{moment}, day {}, {phase}", known.day(day));
+        let At { day, phase, .. } = self.at;
+        let head = format!("{}, day {}, {phase}", self.moment, self.known.day(day));
         match &self.answer {
             Ok(Asked { issue, number, unit, turn, status }) => {
                 let turn = turn.map_or(String::new(), |turn| format!(" ({})", turn.words()));
@@ -107,21 +108,17 @@ impl Told {
 
     /// The same as an object of JSON.
     pub fn json(&self) -> String {
-        let Told { question: Question { issue, unit: k, .. }, day, phase, word, line, .. } = *self;
-        let line = line.map_or(String::new(), |line| format!(",\"line\":{line}"));
-        let date = date_field(self.known.day(day));
-        let head = format!(
-            "{{\"fact\":\"status\",\"day\":{day}{date},\"phase\":\"{phase}\",\"word\":{word}{line}"
-        );
-        match &self.answer {
-            Ok(asked) => format!("{head},{}}}\n", json_of(asked, &self.known)),
-            Err((refusal, why)) => {
-                let number = refusal.number();
-                let name = name_field("issue_name", self.known.names.issue_name(issue));
-                let of = format!("\"issue\":{issue}{name},\"unit\":{k}");
-                format!("{head},{of},\"refusal\":{number},\"why\":\"{why}\"}}\n")
+        let Question { issue, unit, .. } = self.question;
+        json::fact_by(&self.known, FACT, |object| {
+            self.at.tell(object);
+            match &self.answer {
+                Ok(asked) => tell_unit(object, asked),
+                Err((refusal, why)) => {
+                    object.issue(issue).field("unit", unit);
+                    object.field("refusal", refusal.number()).field("why", why.as_str());
+                }
             }
-        }
+        })
     }
 }
 
@@ -144,21 +141,26 @@ pub fn phrase(status: &Status, several: bool) -> String {
 }
 
 /// The fields of a unit and its status in JSON.
-pub fn json_of(asked: &Asked, known: &Known) -> String {
-    let Asked { issue, number, unit: Unit { account, lots }, turn, status } = asked;
-    let told = match status {
-        Status::Handed => "\"handed\"".to_string(),
-        Status::Waiting { lots } => format!("\"waiting\",\"wants\":{lots}"),
-        Status::PartlyFailed { lots } => format!("\"partly failed\",\"lacks\":{lots}"),
-        Status::WhollyFailed => format!("\"wholly failed\",\"lacks\":{lots}"),
+pub fn tell_unit(object: &mut Object<'_, impl Write>, asked: &Asked) {
+    let Asked { issue, number, unit, turn, status } = *asked;
+    object.issue(issue).field("unit", number).field("refusal", 0_u32);
+    object.account("account", unit.account).field("lots", unit.lots);
+    if let Some(Turn { round, receiver, of, .. }) = turn {
+        object.field("round", round).field("receiver", receiver).field("of", of);
+    }
+    tell_status(object, &status, unit.lots);
+}
+
+/// The fields of the status of a unit of so many lots.
+pub fn tell_status(object: &mut Object<'_, impl Write>, status: &Status, lots: u32) {
+    match *status {
+        Status::Handed => object.field("status", Name("handed")),
+        Status::Waiting { lots } => object.field("status", Name("waiting")).field("wants", lots),
+        Status::PartlyFailed { lots } => {
+            object.field("status", Name("partly failed")).field("lacks", lots)
+        }
+        Status::WhollyFailed => object.field("status", Name("wholly failed")).field("lacks", lots),
     };
-    let turn = turn.map_or(String::new(), |Turn { round, receiver, of, .. }| {
-        format!(",\"round\":{round},\"receiver\":{receiver},\"of\":{of}")
-    });
-    let whose = name_field("account_name", known.names.account_name(*account));
-    let unit = format!("\"account\":{account}{whose},\"lots\":{lots}{turn}");
-    let name = name_field("issue_name", known.names.issue_name(*issue));
-    format!("\"issue\":{issue}{name},\"unit\":{number},\"refusal\":0,{unit},\"status\":{told}")
 }
 
 #[cfg(test)]
@@ -207,7 +209,7 @@ mod tests {
     fn the_settled_day_as_json() {
         let head = |word, phase| {
             format!(
-                "{{\"fact\":\"status\",\"day\":0,\"phase\":\"{phase}\",\"word\":{word},\
+                "{{\"schema\":1,\"fact\":\"status\",\"day\":0,\"phase\":\"{phase}\",\"word\":{word},\
                 \"issue\":0,"
             )
         };

@@ -156,6 +156,28 @@ fn check_tells_refusals_with_status_1() {
 }
 
 #[test]
+fn check_tells_refusals_as_objects_too() {
+    let text = b"trade 0 1 2 3\nclose\n  trade 0 1 2 3\nword 50000001\n";
+    let (status, printed, said) = ended(&["check", "--json"], text);
+    assert_eq!((status, said.as_str()), (1, ""));
+    let expected = "\
+{\"schema\":1,\"fact\":\"instruction\",\"day\":0,\"word\":3,\"line\":3,\"column\":3,\"file\":\"standard input\",\
+\"call\":\"trade\",\"issue\":0,\"from\":1,\"to\":2,\"lots\":3,\"refusal\":3,\"why\":\"refused by 3: this is not the \
+call's phase; the book is in Settling, trade belongs to Taking\"}
+{\"schema\":1,\"fact\":\"reading-ends\",\"day\":0,\"word\":5,\"line\":4,\"column\":1,\"file\":\"standard input\",\
+\"refusal\":14,\"why\":\"a word's kind or its unused bits are wrong\"}
+{\"schema\":1,\"fact\":\"checked\",\"instructions\":3,\"refused\":2}
+";
+    assert_eq!(printed, expected);
+    let words = tape(&["write"], text).stdout;
+    let of_words = ended(&["check", "--json"], &words).1;
+    let without_place = |line: &str| !line.contains("\"line\":") && !line.contains("\"column\":");
+    assert!(of_words.lines().all(without_place) && of_words.lines().count() == 3, "{of_words}");
+    let good = "{\"schema\":1,\"fact\":\"checked\",\"instructions\":1,\"refused\":0}\n";
+    assert_eq!(ended(&["check", "--json"], b"close\n"), (0, good.into(), "".into()));
+}
+
+#[test]
 fn a_roll_without_accrued_amounts_is_told() {
     let said =
         "tape: standard input:1:1: this roll has no accrued amounts: they are taken as 0 for \
@@ -341,7 +363,9 @@ fn a_run_that_is_interrupted_leaves_the_old_file_and_no_other() {
 fn a_pipe_that_nobody_reads_ends_it_without_a_message() {
     let folder = folder("unread");
     let day = file(&folder, "day.tape", &[0, 0, 0, 0x60].repeat(200_000));
-    for words in [&["explain"][..], &["explain", "--json"], &["check"], &["read"]] {
+    for words in
+        [&["explain"][..], &["explain", "--json"], &["check"], &["check", "--json"], &["read"]]
+    {
         let words = words.iter().map(OsStr::new).chain([day.as_os_str()]);
         let mut child = begun(&words.collect::<Vec<_>>());
         drop(child.stdin.take());

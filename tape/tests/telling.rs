@@ -158,8 +158,8 @@ fn full_units_dealt_in_turn_have_round_and_receiver() {
     }
     let json = told(Form::Json, Only::default(), CHANGED);
     for part in [
-        "{\"fact\":\"day\",\"day\":0,\"order\":\"old\",\"turn\":0}\n",
-        "{\"fact\":\"day\",\"day\":1,\"order\":\"new\",\"turn\":1}\n",
+        "{\"schema\":1,\"fact\":\"day\",\"day\":0,\"order\":\"old\",\"turn\":0}\n",
+        "{\"schema\":1,\"fact\":\"day\",\"day\":1,\"order\":\"new\",\"turn\":1}\n",
         "\"call\":\"turn\",\"turn\":1,\"refusal\":0}\n",
         "\"first\":0,\"last\":3,\"round\":1,\"until\":2,\"accounts\":[1,2]}\n",
         "\"first\":4,\"last\":5,\"account\":1,\"lots\":100000,\"round\":3,\"until\":4,\"receiver\":1,\"of\":1}\n",
@@ -316,7 +316,7 @@ fn every_fact_of_json_is_in_the_documents() {
         let Value::Text(name) = &object["fact"] else { panic!("{object:?}") };
         let row = documents.lines().find(|line| line.starts_with(&format!("| `{name}` |")));
         let row = row.unwrap_or_else(|| panic!("docs/TAPE.md has no row of `{name}`"));
-        let of_all = ["fact", "day", "word", "line"];
+        let of_all = ["schema", "fact", "day", "word", "line"];
         for field in object.keys().filter(|field| !of_all.contains(&field.as_str())) {
             assert!(row.contains(&format!("`{field}`")), "docs/TAPE.md: `{name}` has `{field}`");
         }

@@ -3,6 +3,10 @@
 use crate::file::{Fault, Participant};
 use settlement_day::funds::{self, Amounts, MOST_AMOUNT, PARTICIPANTS};
 use settlement_day::Refusal;
+use tape::json;
+
+/// The fact that both objects of JSON are: the table, and the refusal.
+const FACT: &str = "funds";
 
 /// The participants of a default, the factor that their bases come from (none where bases are given),
 /// and the funds (none where only bases are asked for).
@@ -166,26 +170,19 @@ impl Table {
     /// The table as one object of JSON.
     pub fn json(&self) -> String {
         let (average, base, share) = self.sums();
-        let number =
-            |amount: Option<u64>| amount.map_or("null".into(), |amount| amount.to_string());
-        let row = |(at, row): (usize, &Row)| {
-            format!(
-                r#"{{"number":{at},"participant":{},"average":{},"base":{},"share":{}}}"#,
-                quoted(&row.name),
-                row.average,
-                row.base,
-                number(row.share)
-            )
-        };
-        let rows: Vec<String> = self.rows.iter().enumerate().map(row).collect();
-        let share = if self.funds.is_some() { share.to_string() } else { "null".into() };
-        format!(
-            "{{\"factor_tenths\":{},\"funds\":{},\"participants\":[{}],\
-             \"sum\":{{\"average\":{average},\"base\":{base},\"share\":{share}}}}}\n",
-            number(self.tenths),
-            number(self.funds),
-            rows.join(",")
-        )
+        json::fact(FACT, |object| {
+            object.field("refusal", 0_u32).field("factor_tenths", self.tenths);
+            object.field("funds", self.funds);
+            object.objects("participants", self.rows.iter().enumerate(), |one, (number, row)| {
+                one.field("number", number).field("participant", row.name.as_str());
+                one.field("average", row.average).field("base", row.base);
+                one.field("share", row.share);
+            });
+            object.object("sum", |sum| {
+                sum.field("average", average).field("base", base);
+                sum.field("share", self.funds.map(|_| share));
+            });
+        })
     }
 }
 
@@ -201,22 +198,8 @@ impl Refused {
 
     /// The refusal as one object of JSON.
     pub fn json(&self) -> String {
-        format!("{{\"refusal\":{},\"what\":{}}}\n", self.number, quoted(&self.what))
+        json::fact(FACT, |object| {
+            object.field("refusal", self.number).field("what", self.what.as_str());
+        })
     }
-}
-
-/// A text as a string of JSON.
-fn quoted(text: &str) -> String {
-    let mut string = String::from("\"");
-    for letter in text.chars() {
-        match letter {
-            '"' | '\\' => string.extend(['\\', letter]),
-            letter if u32::from(letter) < 32 => {
-                string.push_str(&format!("\\u{:04x}", u32::from(letter)));
-            }
-            letter => string.push(letter),
-        }
-    }
-    string.push('"');
-    string
 }

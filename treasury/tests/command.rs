@@ -59,7 +59,7 @@ fn json_is_one_object() {
     let (json, _, status) =
         treasury(&["--json", "--factor", "5", "--funds", "60"], "\"A\",20\nB,4\n");
     assert_eq!(status, 0);
-    let expected = "{\"factor_tenths\":50,\"funds\":60,\"participants\":[\
+    let expected = "{\"schema\":1,\"fact\":\"funds\",\"refusal\":0,\"factor_tenths\":50,\"funds\":60,\"participants\":[\
         {\"number\":0,\"participant\":\"\\\"A\\\"\",\"average\":20,\"base\":100,\"share\":50},\
         {\"number\":1,\"participant\":\"B\",\"average\":4,\"base\":50,\"share\":10}],\
         \"sum\":{\"average\":24,\"base\":150,\"share\":60}}\n";
@@ -75,7 +75,8 @@ fn refusals_are_told_with_what_to_do() {
         "{error}"
     );
     let (json, _, status) = treasury(&["--json", "--factor", "2.5", "--funds", "401"], FILE);
-    assert!(json.starts_with("{\"refusal\":25,") && status == 1, "{json}");
+    let begins = "{\"schema\":1,\"fact\":\"funds\",\"refusal\":25,\"what\":\"the funds of 401";
+    assert!(json.starts_with(begins) && status == 1, "{json}");
     let (_, error, status) = treasury(&["--factor", "1", "--funds", "1"], "A 1000001\n");
     assert!(
         error.contains("standard input:1:3: refused by 24: the average 1000001") && status == 1,

@@ -1,27 +1,30 @@
-//! The differences as JSON: one object a line, with `fact` first, then `day` where it is of one. What is of both
-//! tapes stands in `a` and `b`. docs/TAPE.md lists them.
+//! The differences as JSON: one object a line, `fact` "diff" and what it is `of`, then `day` where it is of
+//! one. What is of both tapes stands in `a` and `b`. docs/JSON.md lists them.
 
 use super::found::Difference;
 use super::order::Parting;
 use super::side::{Line, Refused};
 use super::sums::{Amount, Of};
 use crate::input::Day;
+use crate::json::{Name, Object};
 use crate::known::Known;
-use crate::telling::escaped;
-use crate::telling::json::{arguments, called, field, list, numbers, of_account, refused, text};
+use crate::telling::json::{arguments, refused};
 use settlement_day::Instruction;
 use std::io::{self, Write};
 
+/// The name of every difference.
+const FACT: &str = "diff";
 /// The two tapes as fields.
 const NAMES: [&str; 2] = ["a", "b"];
 
 /// Which tape is which.
 pub fn head(out: &mut impl Write, days: [&Day; 2]) -> io::Result<()> {
-    out.write_all(b"{\"fact\":\"tapes\"")?;
+    let mut object = Object::fact(out, FACT);
+    object.field("of", Name("tapes"));
     for (name, day) in NAMES.iter().zip(days) {
-        text(out, name, &escaped(&day.files().join(", ")))?;
+        object.field(name, day.files().join(", ").as_str());
     }
-    out.write_all(b"}\n")
+    object.end()
 }
 
 /// Tells a difference of a day, or of the book at the end.
@@ -32,28 +35,27 @@ pub fn tell(
     day: Option<u16>,
     found: &Difference,
 ) -> io::Result<()> {
-    write!(out, "{{\"fact\":\"{}\"", name(found))?;
-    day.map_or(Ok(()), |day| field(out, "day", day.into()))?;
+    let mut object = Object::fact(out, FACT).by(known);
+    object.field("of", Name(name(found))).optional("day", day);
     match found {
         Difference::Same { first, last } => {
-            numbers(out, &[("day", (*first).into()), ("last", (*last).into())])?;
+            object.field("day", *first).field("last", *last);
         }
         Difference::Alone { side, first, last, count, word } => {
-            numbers(out, &[("day", (*first).into()), ("last", (*last).into())])?;
-            text(out, "in", NAMES[*side])?;
-            place(out, days[*side], *word)?;
-            field(out, "count", *count as u64)?;
+            object.field("day", *first).field("last", *last).field("in", Name(NAMES[*side]));
+            place(&mut object, days[*side], *word);
+            object.field("count", *count);
         }
         Difference::Edited { only, moved, changed, .. } => {
-            numbers(out, &[("a", only[0] as u64), ("b", only[1] as u64)])?;
-            numbers(out, &[("moved", *moved as u64), ("changed", *changed as u64)])?;
+            object.field("a", only[0]).field("b", only[1]);
+            object.field("moved", *moved).field("changed", *changed);
         }
-        Difference::Sum { of, amounts } => sum(out, known, of, amounts)?,
-        Difference::Order { issue, parting } => order(out, known, *issue, parting)?,
+        Difference::Sum { of, amounts } => sum(&mut object, of, amounts),
+        Difference::Order { issue, parting } => order(&mut object, *issue, parting),
         Difference::BooksSame | Difference::Ledger => {}
-        found => instruction(out, days, known, found)?,
+        found => instruction(&mut object, days, found),
     }
-    out.write_all(b"}\n")
+    object.end()
 }
 
 /// The name of a difference.
@@ -94,160 +96,127 @@ fn name_of(of: &Of) -> &'static str {
 }
 
 /// Instructions and where they stand, and the book at the end.
-fn instruction(
-    out: &mut impl Write,
-    days: [&Day; 2],
-    known: &Known,
-    found: &Difference,
-) -> io::Result<()> {
+fn instruction<W: Write>(object: &mut Object<'_, W>, days: [&Day; 2], found: &Difference) {
     match found {
         Difference::Unordered { words } => {
-            both(out, |out, side| place(out, days[side], words[side]))
+            both(object, |one, side| place(one, days[side], words[side]));
         }
         Difference::Only { side, line, count } => {
-            text(out, "in", NAMES[*side])?;
-            place(out, days[*side], line.word)?;
-            field(out, "count", *count as u64)?;
-            call(out, known, &line.instruction)
+            object.field("in", Name(NAMES[*side]));
+            place(object, days[*side], line.word);
+            object.field("count", *count);
+            call(object, &line.instruction);
         }
         Difference::Moved { words, instruction, count } => {
-            field(out, "count", *count as u64)?;
-            call(out, known, instruction)?;
-            both(out, |out, side| place(out, days[side], words[side]))
+            object.field("count", *count);
+            call(object, instruction);
+            both(object, |one, side| place(one, days[side], words[side]));
         }
         Difference::Changed { lines, quoted } => {
-            text(out, "call", lines[0].instruction.name())?;
-            both(out, |out, side| {
-                place(out, days[side], lines[side].word)?;
-                arguments(out, &lines[side].instruction, known)
-            })?;
-            list(out, "quoted", quoted)
+            object.field("call", Name(lines[0].instruction.name()));
+            both(object, |one, side| {
+                place(one, days[side], lines[side].word);
+                arguments(one, &lines[side].instruction);
+            });
+            object.field("quoted", quoted);
         }
         Difference::Refused { lines, refused, count } => {
-            field(out, "count", *count as u64)?;
-            call(out, known, &lines[0].instruction)?;
-            both(out, |out, side| judged(out, days[side], &lines[side], refused[side]))
+            object.field("count", *count);
+            call(object, &lines[0].instruction);
+            both(object, |one, side| judged(one, days[side], &lines[side], refused[side]));
         }
-        Difference::End { books } => both(out, |out, side| {
+        Difference::End { books } => both(object, |one, side| {
             let (day, phase) = books[side];
-            field(out, "day", day.into())?;
-            text(out, "phase", phase)
+            one.field("day", day).field("phase", Name(phase));
         }),
-        Difference::ReadingEnds { ends } => both(out, |out, side| match ends[side] {
-            None => Ok(()),
-            Some(ends) => {
-                place(out, days[side], ends.word)?;
-                refused(out, ends.refusal, &ends.why)
+        Difference::ReadingEnds { ends } => both(object, |one, side| {
+            if let Some(ends) = ends[side] {
+                place(one, days[side], ends.word);
+                refused(one, ends.refusal, &ends.why);
             }
         }),
-        _ => Ok(()),
+        _ => {}
     }
 }
 
 /// A field of each tape that is an object: what `inside` writes of it.
-fn both(
-    out: &mut impl Write,
-    inside: impl Fn(&mut Vec<u8>, usize) -> io::Result<()>,
-) -> io::Result<()> {
+fn both<W: Write>(object: &mut Object<'_, W>, inside: impl Fn(&mut Object<'_, W>, usize)) {
     for (side, name) in NAMES.iter().enumerate() {
-        let mut fields = Vec::new();
-        inside(&mut fields, side)?;
-        // Each field has a comma before it.
-        let fields = fields.get(1..).unwrap_or_default();
-        write!(out, ",\"{name}\":{{")?;
-        out.write_all(fields)?;
-        out.write_all(b"}")?;
+        object.object(name, |one| inside(one, side));
     }
-    Ok(())
 }
 
 /// Where an instruction stands.
-fn place(out: &mut impl Write, day: &Day, word: usize) -> io::Result<()> {
-    field(out, "word", word as u64)?;
-    match day.stands(word).line {
-        Some(line) => field(out, "line", line as u64),
-        None => Ok(()),
-    }
+fn place(object: &mut Object<'_, impl Write>, day: &Day, word: usize) {
+    object.field("word", word).optional("line", day.stands(word).line);
 }
 
 /// The call of an instruction and its numbers.
-fn call(out: &mut impl Write, known: &Known, instruction: &Instruction) -> io::Result<()> {
-    text(out, "call", instruction.name())?;
-    arguments(out, instruction, known)
+fn call(object: &mut Object<'_, impl Write>, instruction: &Instruction) {
+    object.field("call", Name(instruction.name()));
+    arguments(object, instruction);
 }
 
 /// What became of an instruction in a tape.
-fn judged(
-    out: &mut impl Write,
-    day: &Day,
-    line: &Line,
-    found: Option<&Refused>,
-) -> io::Result<()> {
-    place(out, day, line.word)?;
+fn judged(object: &mut Object<'_, impl Write>, day: &Day, line: &Line, found: Option<&Refused>) {
+    place(object, day, line.word);
     match found {
-        None => field(out, "refusal", 0),
-        Some(Refused { refusal, why, .. }) => refused(out, *refusal, why),
+        None => {
+            object.field("refusal", 0_u32);
+        }
+        Some(Refused { refusal, why, .. }) => refused(object, *refusal, why),
     }
 }
 
 /// Where the orders of an issue's units part.
-fn order(
-    out: &mut impl Write,
-    known: &Known,
-    issue: u32,
-    parting: &Parting,
-) -> io::Result<()> {
-    called(out, known, "issue", issue)?;
-    field(out, "unit", parting.unit.into())?;
-    both(out, |out, side| {
+fn order<W: Write>(object: &mut Object<'_, W>, issue: u32, parting: &Parting) {
+    object.issue(issue).field("unit", parting.unit);
+    both(object, |one, side| {
         if let Some(unit) = parting.units[side] {
-            called(out, known, "account", unit.account)?;
-            field(out, "lots", unit.lots.into())?;
+            one.account("account", unit.account).field("lots", unit.lots);
         }
         let (accounts, units): (Vec<u32>, Vec<u32>) =
             parting.receivers[side].accounts.iter().copied().unzip();
-        list(out, "accounts", &accounts)?;
-        list(out, "units", &units)?;
-        field(out, "more", parting.receivers[side].more as u64)
-    })
+        one.field("accounts", accounts).field("units", units);
+        one.field("more", parting.receivers[side].more);
+    });
 }
 
 /// A sum that differs: what it is of, and its amounts.
-fn sum(out: &mut impl Write, known: &Known, of: &Of, amounts: &[Amount; 2]) -> io::Result<()> {
-    whose(out, known, of)?;
+fn sum<W: Write>(object: &mut Object<'_, W>, of: &Of, amounts: &[Amount; 2]) {
+    whose(object, of);
     if let Of::Handed { .. } = of {
-        return both(out, |out, side| {
+        return both(object, |one, side| {
             let Amount { units, number } = amounts[side];
-            numbers(out, &[("units", units), ("lots", number.unsigned_abs())])
+            one.field("units", units).field("lots", number.unsigned_abs());
         });
     }
     for (name, amount) in NAMES.iter().zip(amounts) {
-        write!(out, ",\"{name}\":{}", amount.number)?;
+        object.field(name, amount.number);
     }
-    Ok(())
 }
 
 /// What a sum is of.
-fn whose(out: &mut impl Write, known: &Known, of: &Of) -> io::Result<()> {
-    let between = |out: &mut _, issue, from, to| {
-        called(out, known, "issue", issue)?;
-        called(out, known, "from", from)?;
-        called(out, known, "to", to)
-    };
+fn whose(object: &mut Object<'_, impl Write>, of: &Of) {
     match *of {
         Of::Handed { issue, account }
         | Of::Paired { issue, account }
         | Of::Net { issue, account }
-        | Of::Delivered { issue, account } => of_account(out, known, issue, account),
+        | Of::Delivered { issue, account } => {
+            object.issue(issue).account("account", account);
+        }
         Of::Fails { issue, from, to } | Of::Resolved { issue, from, to } => {
-            between(out, issue, from, to)
+            object.issue(issue).account("from", from).account("to", to);
         }
         Of::Entry { issue, from, to, since } => {
-            between(out, issue, from, to)?;
-            field(out, "since", since.into())
+            object.issue(issue).account("from", from).account("to", to).field("since", since);
         }
-        Of::Charge { account } | Of::Charged { account } => called(out, known, "account", account),
-        Of::Marked { issue } => called(out, known, "issue", issue),
-        Of::ChangeOver => Ok(()),
+        Of::Charge { account } | Of::Charged { account } => {
+            object.account("account", account);
+        }
+        Of::Marked { issue } => {
+            object.issue(issue);
+        }
+        Of::ChangeOver => {}
     }
 }

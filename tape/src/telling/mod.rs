@@ -10,7 +10,6 @@ use crate::story;
 use page::Page;
 use std::io::{self, Write};
 
-pub use json::{date_field, escaped, name_field};
 pub(crate) use page::escaped as escaped_html;
 pub use text::failed_units;
 

@@ -20,6 +20,7 @@ use std::path::{Path, PathBuf};
 use std::process::{self, Command, ExitCode, Stdio};
 use tests::books::{random_book, Shape};
 use tests::convert::{library_book, library_instruction, library_ticket};
+use tests::json::{self, Value};
 use tests::options::Options;
 use tests::rng::Rng;
 use tests::scripts::{follow, random_script, Followed, Line};
@@ -589,15 +590,13 @@ fn look_at_story(history: &History) -> Result<(usize, usize), String> {
     let mut book = history.begins.clone();
     let (mut named, mut lifted) = (0, 0);
     for line in story.lines() {
-        let fact = line.split('"').nth(3).unwrap_or_default();
+        let object = json::read(line)?;
+        let fact = object.get("fact").and_then(Value::text).unwrap_or_default();
         if matches!(fact, "instruction" | "lift") {
             let call = calls.next().ok_or("the story has more calls than the journal")?;
             book = folder::replayed(book, std::slice::from_ref(call))?;
         }
-        let field = |name: &str| -> Option<u32> {
-            let rest = line.split_once(&format!("\"{name}\":"))?.1;
-            rest.split([',', '}']).next()?.parse().ok()
-        };
+        let field = |name: &str| -> Option<u32> { object.get(name)?.number()?.try_into().ok() };
         let (units, account) = match fact {
             "handed" => ([field("first"), field("last")], field("account")),
             "waits" | "partly" => ([field("unit"); 2], field("account")),
