@@ -1,7 +1,7 @@
 //! The facts of a tape told: as text for people, as JSON for programs, as one page of HTML.
 
 pub mod json;
-mod page;
+pub(crate) mod page;
 pub mod text;
 
 use crate::facts::{Fact, Told};
