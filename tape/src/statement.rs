@@ -6,7 +6,7 @@ use crate::input::Day;
 use crate::measure::{counted, Face, Grouped};
 use crate::progress::Meter;
 use crate::story::traded;
-use crate::telling::page::markup::{page_of, shares, Look, STATEMENT};
+use crate::telling::page::markup::{escaped, page_of, shares, Look, STATEMENT};
 use settlement_day::statement::{statement, Statement, MOST_INSTRUCTIONS};
 use settlement_day::{calls, tape, Book, Instruction, Phase, Refusal, OUTPUT_WORDS};
 use std::collections::BTreeSet;
@@ -208,7 +208,7 @@ impl Row {
             0 => "nothing due".to_string(),
             due => shares(due, &[(DELIVERED, delivered), (FAILED, failed)]),
         };
-        [&self.cells()[..], &[came]].concat()
+        self.cells().iter().map(|cell| escaped(cell)).chain([came]).collect()
     }
 }
 
