@@ -1,5 +1,5 @@
-// What is asked of a page of `tape explain --html` in a browser. The page is in an element of its own
-// here, with the facts of `tape explain --json` beside it; what is wrong is listed, a line each.
+// What is asked of a page of `tape explain --html`, `tape statement --html` or `tape jam --html` in a browser. The
+// page is in an element of its own here, with the facts of --json beside it; what is wrong is listed, a line each.
 
 const wrong = [];
 const facts = JSON.parse(document.getElementById('facts').textContent);
@@ -78,12 +78,14 @@ const readable = () => {
   return texts;
 };
 // A state shows without colour: each has a word of its own, and a border and pattern of its own.
+const kind = facts.length ? facts[0].fact : '';
+const wanted = { statement: 2, jam: 2 }[kind] || 4;
 const states = new Set();
 for (const sample of document.querySelectorAll('.legend li')) {
   const style = getComputedStyle(sample.querySelector('.bar i'));
   states.add([style.borderTopStyle, style.backgroundImage.replace(/rgb\([^)]*\)/g, ''), style.backgroundColor === getComputedStyle(document.body).backgroundColor].join());
 }
-if (states.size !== 4) wrong.push(`${states.size} of 4 states can be told apart without colour`);
+if (states.size !== wanted) wrong.push(`${states.size} of ${wanted} states can be told apart without colour`);
 
 // The numbers are those of the facts.
 const parts = document.querySelectorAll('section.day');
@@ -227,9 +229,27 @@ const told = () => {
     same('to deliver', account('delivers'), delivers.filter(row => row.slice(2).some(lots => lots)));
 };
 
+// The rows of statements and of unit sizes: numbers, and behind them a bar of the lots in each state.
+const table = (pick, drawn) => {
+  const found = rows(document, kind === 'jam' ? 'sizes' : 'statement');
+  found.forEach((cells, at) => {
+    const [all, states] = drawn(facts[at]);
+    for (const [state, lots] of Object.entries(states)) {
+      const part = cells.at(-1).querySelector(`.bar i.${state}`);
+      const width = part ? parseFloat(part.style.width) : 0;
+      if (Math.abs(width - (lots * 100) / (all || 1)) > 0.006) wrong.push(`a bar of row ${at}: ${state} is ${width} of a hundred`);
+    }
+  });
+  return same('rows', found.map(cells => cells.slice(0, -1).flatMap(cell => text(cell).split(' / ').map(number))), facts.map(pick));
+};
+const statements = () =>
+  table(f => [f.issue, f.account, f.due, f.delivered, f.failed, f.resolved, ...f.failedOverDue], f => [f.due, { handed: f.delivered, failed: f.failed }]);
+const sizes = () => table(f => [f.size, f.rounds, f.deliveries, f.stillOwed], f => [f.owed, { handed: f.owed - f.stillOwed, open: f.stillOwed }]);
+
 let compared = 0;
 try {
-  compared = text(document.querySelector('h1')).startsWith('Account') ? told() : numbers();
+  const of_account = text(document.querySelector('h1')).startsWith('Account');
+  compared = ({ statement: statements, jam: sizes }[kind] || (of_account ? told : numbers))();
 } catch (error) {
   wrong.push(`${error}`);
 }

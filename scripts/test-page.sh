@@ -1,7 +1,8 @@
 #!/usr/bin/env bash
-# Looks at the pages of `tape explain --html` in headless Chromium, 1,280 and 390 pixels wide and as on paper, in
-# the light and in the dark: no element stands over the edge, every text fits its box and can be read by its
-# computed contrast, the states of units can be told apart without colour, and the numbers are those of --json.
+# Looks at the pages of `tape explain --html`, `tape statement --html` and `tape jam --html` in headless Chromium,
+# 1,280 and 390 pixels wide and as on paper, in the light and in the dark: no element stands over the edge, every
+# text fits its box and can be read by its computed contrast, states can be told apart without colour, and the
+# numbers are those of --json.
 # Where there is no Chromium it is installed from Debian's packages if CI is set; where none can be had,
 # nothing is tested, the last line says `not run`, and the status is 3.
 # Usage: test-page.sh [TOOL]
@@ -80,8 +81,19 @@ look() { # NAME TAPE WORDS..: the page of these words; an account's is compared 
     "$tool" explain --html "$@" "$tape" >"$folder/page.html"
     case ${1:-} in --account) shift 2 ;; esac
     "$tool" explain --json "$@" "$tape" >"$folder/facts"
-    for width in 1280 390; do ask "$name" "$folder/page.html" "$folder/facts" "$width"; done
-    ask "$name, on paper" "$folder/page.html" "$folder/facts" "$paper" paper
+    everywhere "$name"
+}
+
+look_at() { # NAME VERB WORDS..: the page of a verb with one table, and its facts
+    "$tool" "$2" --html "${@:3}" >"$folder/page.html"
+    "$tool" "$2" --json "${@:3}" >"$folder/facts"
+    everywhere "$1"
+}
+
+everywhere() { # NAME: asks the page at each width, and as on paper
+    local width
+    for width in 1280 390; do ask "$1" "$folder/page.html" "$folder/facts" "$width"; done
+    ask "$1, on paper" "$folder/page.html" "$folder/facts" "$paper" paper
 }
 
 market >"$folder/market.txt"
@@ -95,6 +107,9 @@ done
 look 'two days by names' tapes/two-days.txt --names tapes/two-days.names
 look 'account Ginza by names' tapes/two-days.txt --account Ginza --names tapes/two-days.names
 look '16 issues and 63 receivers' "$folder/market.txt"
+look_at 'one statement' statement tapes/fails-statement.txt 0 4
+for name in fails-statement two-days; do look_at "statements of tapes/$name.txt" statement --all "tapes/$name.txt"; done
+look_at 'unit sizes' jam tapes/ring.txt tapes/ring.desk
 
 # A check that cannot fail is none: a page with a wrong number, one too wide and one that is pale are refused.
 refused() { # WHAT EDIT
@@ -114,4 +129,9 @@ refused 'an element that is too wide' 's/<h1>/<h1 style="width:500px">/'
 refused 'a text over its box' 's/display: flow-root;/display: block; height: 1em;/'
 refused 'a pale text' 's/--on-handed: #ffffff/--on-handed: #66aacc/'
 refused 'states by colour alone' 's/border-style: d[a-z]*;//; s/repeating-linear-gradient([^;]*;/var(--ink);/'
+"$tool" statement --all --html tapes/fails-statement.txt >"$folder/sound.html"
+"$tool" statement --all --json tapes/fails-statement.txt >"$folder/facts"
+refused 'a wrong number of a statement' 's/<td>130<\/td>/<td>131<\/td>/'
+refused 'a bar that is too long' 's/width:69.23%/width:70.23%/'
+refused 'states of a statement by colour alone' 's/border-style: d[a-z]*;//; s/repeating-linear-gradient([^;]*;/var(--ink);/'
 echo 'the pages in a browser: as they must be'

@@ -21,7 +21,7 @@ proofs() {
     scripts/proved.sh mark "$sources"
 }
 
-# The pages of `tape explain --html`, looked at in Chromium; 3 says that there is none, so that they were not looked at.
+# The pages of `tape`, looked at in Chromium; 3 says that there is none, so that they were not looked at.
 pages() {
     local status=0
     scripts/test-page.sh build/release/tape || status=$?

@@ -7,6 +7,7 @@ use crate::known::Dated;
 use crate::measure::{Grouped, Lots};
 use crate::names::{Kind, Names};
 use crate::standing::Stood;
+use crate::telling::page::markup::{page_of, shares, Look, UNIT_SIZES};
 use crate::text::digits_of;
 use settlement_day::simulation::{simulate, Desk, Simulated, MOST_SIZE, SETTLEMENT_ACCOUNTS};
 use settlement_day::{Refusal, ACCOUNTS, ISSUES};
@@ -230,58 +231,33 @@ impl Tried {
 
     /// A page with a bar for each size: what was delivered, and what is still owed.
     pub fn html(&self) -> String {
-        let rows: String = self.rows.iter().map(|row| self.bar(row)).collect();
-        format!("{HEAD}<p>{}.</p>\n<table>\n{HEADS}{rows}</table>\n</body>\n</html>\n", self.head())
+        let rows: Vec<Vec<String>> = self.rows.iter().map(|row| self.row(row)).collect();
+        let head = format!("{}.", self.head());
+        page_of(TITLE, &[LEAD, &head], &[DELIVERED, OWED], &UNIT_SIZES, &rows, false)
     }
 
     /// A size's row of the page.
-    fn bar(&self, (size, tried): &(u32, Simulated)) -> String {
+    fn row(&self, (size, tried): &(u32, Simulated)) -> Vec<String> {
         let left = tried.owed_in_all();
-        let came = self.owed.saturating_sub(left);
-        let percent = |part: u64| match self.owed {
-            0 => 0.0,
-            all => part as f64 * 100.0 / all as f64,
-        };
         let numbers = [u64::from(*size), tried.rounds, tried.deliveries, left];
-        let cells: String =
-            numbers.iter().map(|&number| format!("<td>{}</td>", Grouped(number.into()))).collect();
-        let came_text = if came == self.owed {
-            "all delivered".to_string()
-        } else {
-            format!("{:.1} percent delivered", percent(came))
+        let cells = numbers.map(|number| Grouped(number.into()).to_string());
+        let came = match self.owed {
+            0 => "nothing owed".to_string(),
+            all => shares(all, &[(DELIVERED, all.saturating_sub(left)), (OWED, left)]),
         };
-        format!(
-            "<tr>{cells}<td class=\"bar\"><span class=\"came\" style=\"width:{:.3}%\"></span>\
-             <b>{came_text}</b></td></tr>\n",
-            percent(came)
-        )
+        [&cells[..], &[came]].concat()
     }
 }
 
-const HEADS: &str = "<tr><th>unit size</th><th>rounds</th><th>deliveries</th>\
-                     <th>lots still owed</th><th>delivered</th></tr>\n";
-
-/// The head of the page, with its colours.
-const HEAD: &str = "<!DOCTYPE html>
-<html lang=\"en\">
-<head>
-<meta charset=\"utf-8\">
-<meta name=\"viewport\" content=\"width=device-width, initial-scale=1\">
-<title>Unit sizes on a simulated desk</title>
-<style>
-body { font: 15px sans-serif; margin: 2em; color: #222; }
-table { border-collapse: collapse; }
-th, td { padding: 4px 10px; border: 1px solid #bbb; text-align: right; }
-.bar { position: relative; min-width: 16em; text-align: left; background: #eee; }
-.came { position: absolute; left: 0; top: 0; bottom: 0; background: #9ecae1; }
-.bar b { position: relative; font-weight: normal; }
-</style>
-</head>
-<body>
-<h1>Unit sizes on a simulated desk</h1>
-<p>Each account delivers in turn what its settlement account holds, until a round goes by without a
-delivery, which is counted too. What is still owed then is jammed at that size.</p>
-";
+/// The title of the page, and what it has before its table.
+const TITLE: &str = "Unit sizes on a simulated desk";
+const LEAD: &str = "Each account delivers in turn what its settlement account holds, until a round goes by \
+    without a delivery, which is counted too. What is still owed then is jammed at that size.";
+/// How lots look that were delivered, and those that are still owed.
+const DELIVERED: Look =
+    Look { class: "handed", word: "delivered", meaning: "lots that were delivered in the rounds" };
+const OWED: Look =
+    Look { class: "open", word: "still owed", meaning: "lots that are jammed at that size" };
 
 #[cfg(test)]
 mod tests {
@@ -331,8 +307,16 @@ mod tests {
         );
         assert!(json.contains("\"stillOwedByIssue\":[50000,0,0,"), "{json}");
         let page = tried(&[100_000, 10_000]).html();
-        assert!(page.contains("width:50.000%"), "{page}");
-        assert!(page.contains("all delivered"), "{page}");
+        for part in [
+            "<table class=\"sizes\">",
+            "<td>50,000</td><td><b class=\"badge handed\">delivered</b> 50.0&nbsp;% <b class=\"badge open\">still \
+             owed</b> 50.0&nbsp;% <span class=\"bar\"",
+            "<td>0</td><td><b class=\"badge handed\">delivered</b> 100.0&nbsp;% <span class=\"bar\"",
+            "<i class=\"open\" style=\"left:50.00%;width:50.00%\"></i>",
+            "@media (prefers-color-scheme: dark)",
+        ] {
+            assert!(page.contains(part), "{part}\n{page}");
+        }
     }
 
     #[test]

@@ -8,7 +8,7 @@ use crate::known::Known;
 use crate::measure::{counted, Face, Grouped};
 use crate::progress::Meter;
 use crate::story::traded;
-use crate::telling::escaped_html;
+use crate::telling::page::markup::{escaped, page_of, shares, Look, STATEMENT};
 use settlement_day::statement::{statement, Statement, MOST_INSTRUCTIONS};
 use settlement_day::{calls, tape, Book, Instruction, Phase, Refusal, OUTPUT_WORDS};
 use std::collections::BTreeSet;
@@ -215,13 +215,10 @@ impl Told {
 
     /// A page with a row and a bar for each account: what it delivered of what was due.
     pub fn html(&self) -> String {
-        let heads: String = HEADS.iter().map(|head| format!("<th>{head}</th>")).collect();
-        let rows: String = self.rows.iter().map(|row| row.html(&self.known)).collect();
-        let head = self.head();
-        format!(
-            "{HEAD}<p>{head}.</p>\n<table>\n<tr>{heads}<th>delivered of due</th></tr>\n{rows}</table>\n\
-             </body>\n</html>\n"
-        )
+        let rows: Vec<Vec<String>> = self.rows.iter().map(|row| row.html(&self.known)).collect();
+        let (head, named) = (format!("{}.", self.head()), !self.known.names.is_empty());
+        let (lead, looks) = ([LEAD, &head], [DELIVERED, FAILED]);
+        page_of("Fails statement", &lead, &looks, &STATEMENT, &rows, named)
     }
 }
 
@@ -243,22 +240,13 @@ impl Row {
     }
 
     /// The row of a page.
-    fn html(&self, known: &Known) -> String {
-        let cell = |cell: &String| format!("<td>{}</td>", escaped_html(cell));
-        let cells: String = self.cells(known).iter().map(cell).collect();
-        let Statement { due, delivered, .. } = self.statement;
-        let percent = match due {
-            0 => 0.0,
-            due => delivered as f64 * 100.0 / due as f64,
-        };
-        let said = match due {
+    fn html(&self, known: &Known) -> Vec<String> {
+        let Statement { due, delivered, failed, .. } = self.statement;
+        let came = match due {
             0 => "nothing due".to_string(),
-            _ => format!("{percent:.1} percent"),
+            due => shares(due, &[(DELIVERED, delivered), (FAILED, failed)]),
         };
-        format!(
-            "<tr>{cells}<td class=\"bar\"><span class=\"came\" style=\"width:{percent:.3}%\"></span>\
-             <b>{said}</b></td></tr>\n"
-        )
+        self.cells(known).iter().map(|cell| escaped(cell)).chain([came]).collect()
     }
 }
 
@@ -304,27 +292,14 @@ fn run(words: &[u32], stray: bool, known: &mut Known) -> (Span, BTreeSet<(u32, u
 const HEADS: [&str; 7] =
     ["issue", "account", "due", "delivered", "failed", "resolved", "failed over due"];
 
-/// The head of the page, with its colours.
-const HEAD: &str = "<!DOCTYPE html>
-<html lang=\"en\">
-<head>
-<meta charset=\"utf-8\">
-<meta name=\"viewport\" content=\"width=device-width, initial-scale=1\">
-<title>Fails statement</title>
-<style>
-body { font: 15px sans-serif; margin: 2em; color: #222; }
-table { border-collapse: collapse; }
-th, td { padding: 4px 10px; border: 1px solid #bbb; text-align: right; }
-.bar { position: relative; min-width: 16em; text-align: left; background: #e8b4ae; }
-.came { position: absolute; left: 0; top: 0; bottom: 0; background: #8cc63f; }
-.bar b { position: relative; font-weight: normal; }
-</style>
-</head>
-<body>
-<h1>Fails statement</h1>
-<p>Lots that an account was due to deliver at closes, those that it delivered by the cutoffs, those that
-it failed, and those that it resolved since. Due is delivered and failed together.</p>
-";
+/// What the page has before its table.
+const LEAD: &str = "Lots that an account was due to deliver at closes, those that it delivered by the \
+    cutoffs, those that it failed, and those that it resolved since. Due is delivered and failed together.";
+/// How lots look that came by the cutoff, and those that did not.
+const DELIVERED: Look =
+    Look { class: "handed", word: "delivered", meaning: "lots that came by the cutoff" };
+const FAILED: Look =
+    Look { class: "failed", word: "failed", meaning: "lots that had not come at the cutoff" };
 
 #[cfg(test)]
 mod tests {
@@ -381,7 +356,16 @@ are counted
         assert_eq!(json.lines().next(), Some(first));
         assert_eq!(json.lines().count(), 2);
         let page = told(TWO_DAYS).html();
-        assert!(page.contains("width:60.000%") && page.contains("60.0 percent"), "{page}");
+        for part in [
+            "<table class=\"statement\">",
+            "<td>40 / 100</td><td><b class=\"badge handed\">delivered</b> 60.0&nbsp;% <b class=\"badge failed\">\
+             failed</b> 40.0&nbsp;% <span class=\"bar\" aria-hidden=\"true\"><i class=\"handed\" \
+             style=\"left:0.00%;width:60.00%\"></i><i class=\"failed\" style=\"left:60.00%;width:40.00%\"></i>",
+            "<p>lots over 11 instructions, 1 refused; day 1 is still settling: of it only resolves are counted.</p>",
+            "@media (prefers-color-scheme: dark)",
+        ] {
+            assert!(page.contains(part), "{part}\n{page}");
+        }
     }
 
     #[test]

@@ -1,7 +1,7 @@
 //! The facts of a tape told: as text for people, as JSON for programs, as one page of HTML.
 
 pub mod json;
-mod page;
+pub(crate) mod page;
 pub mod text;
 
 use crate::facts::{Fact, Told};
@@ -10,7 +10,6 @@ use crate::story;
 use page::Page;
 use std::io::{self, Write};
 
-pub(crate) use page::escaped as escaped_html;
 pub use text::failed_units;
 
 /// The form in which facts are told.

@@ -1,5 +1,5 @@
-//! The pieces that a page is written with: tables that become cards on a phone, sections, the state of a
-//! unit as a word and as a part of a bar.
+//! The pieces that every page is written with: its style, tables that become cards on a phone, sections, a state as
+//! a word and as a part of a bar.
 
 use super::parts::State;
 use crate::measure::Grouped;
@@ -96,16 +96,89 @@ pub const DELIVERS: Kind = Kind {
     numbers: &[0, 1, 2, 3, 5, 6, 7, 8],
     named: &[0, 1],
 };
-/// All kinds of tables.
-const KINDS: [&Kind; 10] =
-    [&DAYS, &ORDER, &HANDED, &FAILS, &LATER, &CHARGES, &LEDGER, &CHARGED, &RECEIVES, &DELIVERS];
+/// The kinds of tables that the page of a tape has.
+pub const KINDS: &[&Kind] =
+    &[&DAYS, &ORDER, &HANDED, &FAILS, &LATER, &CHARGES, &LEDGER, &CHARGED, &RECEIVES, &DELIVERS];
+pub const STATEMENT: Kind = Kind {
+    class: "statement",
+    heads: &[
+        "Issue",
+        "Account",
+        "Due",
+        "Delivered",
+        "Failed",
+        "Resolved",
+        "Failed over due",
+        "Delivered of due",
+    ],
+    numbers: &[0, 1, 2, 3, 4, 5, 6],
+    named: &[0, 1],
+};
+pub const UNIT_SIZES: Kind = Kind {
+    class: "sizes",
+    heads: &["Unit size", "Rounds", "Deliveries", "Lots still owed", "Delivered of owed"],
+    numbers: &[0, 1, 2, 3],
+    named: &[],
+};
 
-/// The style of the page: colours, patterns and layout, and the heads that stand before each cell on a
+/// How a state looks: its class in the style, the word for it, and what it means.
+#[derive(Clone, Copy, Debug, PartialEq, Eq)]
+pub struct Look {
+    pub class: &'static str,
+    pub word: &'static str,
+    pub meaning: &'static str,
+}
+
+impl From<State> for Look {
+    fn from(state: State) -> Look {
+        Look { class: state.class(), word: state.word(), meaning: state.meaning() }
+    }
+}
+
+/// A page of a title: its style, with tables of these kinds, with names or without, and what stands in it.
+pub fn framed<W: Write>(
+    out: &mut W,
+    title: &str,
+    kinds: &[&Kind],
+    named: bool,
+    inside: impl FnOnce(&mut W) -> io::Result<()>,
+) -> io::Result<()> {
+    writeln!(out, "<!DOCTYPE html>\n<html lang=\"en\">\n<head>\n<meta charset=\"utf-8\">")?;
+    writeln!(out, "<meta name=\"viewport\" content=\"width=device-width, initial-scale=1\">")?;
+    writeln!(out, "<title>{title}</title>\n<style>")?;
+    style(out, kinds, named)?;
+    writeln!(out, "</style>\n</head>\n<body>")?;
+    inside(out)?;
+    writeln!(out, "</body>\n</html>")
+}
+
+/// A page of its own with one table: its title, sentences about it, how states look, and the rows.
+pub fn page_of(
+    title: &str,
+    sentences: &[&str],
+    looks: &[Look],
+    kind: &Kind,
+    rows: &[Vec<String>],
+    named: bool,
+) -> String {
+    let mut page = Vec::new();
+    // A write to memory does not fail.
+    let _ = framed(&mut page, title, &[kind], named, |out| {
+        writeln!(out, "<header>\n<h1>{title}</h1>")?;
+        sentences.iter().try_for_each(|one| writeln!(out, "<p>{}</p>", escaped(one)))?;
+        writeln!(out, "</header>")?;
+        legend(out, looks, "A bar shows how much of all is in which state.")?;
+        table(out, kind, rows)
+    });
+    String::from_utf8_lossy(&page).to_string()
+}
+
+/// The style of a page: colours, patterns and layout, and the heads that stand before each cell on a
 /// narrow screen; of a page with names, that these stand to the left and are broken where they are long.
-pub fn style(out: &mut impl Write, named: bool) -> io::Result<()> {
+fn style(out: &mut impl Write, kinds: &[&Kind], named: bool) -> io::Result<()> {
     out.write_all(include_bytes!("page.css"))?;
     writeln!(out, "@media print, (min-width: 701px) {{")?;
-    for Kind { class, numbers, .. } in KINDS {
+    for Kind { class, numbers, .. } in kinds {
         for column in *numbers {
             let at = column + 1;
             writeln!(out, ".{class} tr > :nth-child({at}) {{ text-align: right; }}")?;
@@ -114,23 +187,23 @@ pub fn style(out: &mut impl Write, named: bool) -> io::Result<()> {
     }
     writeln!(out, "}}")?;
     writeln!(out, "@media screen and (max-width: 700px) {{")?;
-    for Kind { class, heads, .. } in KINDS {
+    for Kind { class, heads, .. } in kinds {
         for (at, head) in (1..).zip(*heads) {
             writeln!(out, ".{class} tr > td:nth-child({at})::before {{ content: \"{head}\"; }}")?;
         }
     }
     writeln!(out, "}}")?;
     if named {
-        style_of_names(out)?;
+        style_of_names(out, kinds)?;
     }
     Ok(())
 }
 
 /// What the style of a page with names has more.
-fn style_of_names(out: &mut impl Write) -> io::Result<()> {
+fn style_of_names(out: &mut impl Write, kinds: &[&Kind]) -> io::Result<()> {
     writeln!(out, "td, li {{ overflow-wrap: anywhere; }}")?;
     writeln!(out, "@media print, (min-width: 701px) {{")?;
-    for Kind { class, named, .. } in KINDS {
+    for Kind { class, named, .. } in kinds {
         for column in *named {
             let at = column + 1;
             writeln!(out, ".{class} tr > :nth-child({at}) {{ text-align: left; }}")?;
@@ -191,17 +264,45 @@ pub fn cell_of(sentences: &[String]) -> String {
     }
 }
 
+/// What each state looks like, with a sample of it, and how to read a bar.
+pub fn legend(out: &mut impl Write, looks: &[Look], bars: &str) -> io::Result<()> {
+    section_of(out, "legend", "How to read it", |out| {
+        writeln!(out, "<ul class=\"legend\">")?;
+        for look in looks {
+            let (sample, meaning) = (bar(4, &[(*look, 1, 2)]), look.meaning);
+            writeln!(out, "<li>{}{sample}<span>{meaning}</span></li>", badge(*look))?;
+        }
+        writeln!(out, "</ul>\n<p>{bars}</p>")
+    })
+}
+
 /// A state as a word on its colour.
-pub fn badge(state: State) -> String {
-    format!("<b class=\"badge {}\">{}</b>", state.class(), state.word())
+pub fn badge(look: impl Into<Look>) -> String {
+    let Look { class, word, .. } = look.into();
+    format!("<b class=\"badge {class}\">{word}</b>")
+}
+
+/// Lots in their states: each state as a word with its part of all, and a bar of them.
+pub fn shares(all: u64, parts: &[(Look, u64)]) -> String {
+    let (mut words, mut drawn, mut from) = (String::new(), Vec::new(), 0);
+    for &(look, lots) in parts.iter().filter(|(_, lots)| *lots > 0) {
+        words.push_str(&format!("{} {:.1}&nbsp;% ", badge(look), percent(lots, all)));
+        drawn.push((look, from, lots));
+        from += lots;
+    }
+    words + &bar(all, &drawn)
+}
+
+/// Lots of all in percent.
+fn percent(lots: u64, all: u64) -> f64 {
+    lots as f64 * 100.0 / all.max(1) as f64
 }
 
 /// A bar of so many lots, with parts in their states: each from so many lots on, so many long.
-pub fn bar(all: u64, parts: &[(State, u64, u64)]) -> String {
-    let percent = |lots: u64| lots as f64 * 100.0 / all.max(1) as f64;
-    let part = |(state, from, lots): &(State, u64, u64)| {
-        let (left, width) = (percent(*from), percent(*lots));
-        let class = state.class();
+pub fn bar<L: Copy + Into<Look>>(all: u64, parts: &[(L, u64, u64)]) -> String {
+    let part = |&(look, from, lots): &(L, u64, u64)| {
+        let (left, width) = (percent(from, all), percent(lots, all));
+        let Look { class, .. } = look.into();
         format!("<i class=\"{class}\" style=\"left:{left:.2}%;width:{width:.2}%\"></i>")
     };
     let parts: String = parts.iter().map(part).collect();

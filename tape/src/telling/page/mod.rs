@@ -3,7 +3,7 @@
 //! holds all that it needs and no script.
 
 mod account;
-mod markup;
+pub(crate) mod markup;
 mod noting;
 mod parts;
 mod writing;

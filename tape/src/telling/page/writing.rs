@@ -1,9 +1,10 @@
 //! A page written: head, index, legend, the days with their issues, and the book at the end.
 
 use super::markup::{
-    badge, bar, cell_of, escaped, face, list, name, number, range, section_of, style, table,
+    badge, bar, cell_of, escaped, face, framed, legend, list, name, number, range, section_of, table,
+    Look,
 };
-use super::markup::{CHARGED, CHARGES, DAYS, FAILS, HANDED, LATER, LEDGER, ORDER};
+use super::markup::{CHARGED, CHARGES, DAYS, FAILS, HANDED, KINDS, LATER, LEDGER, ORDER};
 use super::parts::{Charge, DayPart, Delivery, Handed, IssuePart, Later, Piece, Roll, State};
 use super::Page;
 use crate::known::Known;
@@ -13,25 +14,26 @@ use crate::telling::Only;
 use settlement_day::Entry;
 use std::io::{self, Write};
 
+/// How to read the bars of units.
+const BARS: &str = "A bar shows where in the issue's order units stand, and how many lots they are. \
+    Like units are one row.";
+
 impl Page {
     /// Writes the page.
     pub fn write(&self, out: &mut impl Write) -> io::Result<()> {
         let title = escaped(&self.title());
-        writeln!(out, "<!DOCTYPE html>\n<html lang=\"en\">\n<head>\n<meta charset=\"utf-8\">")?;
-        writeln!(out, "<meta name=\"viewport\" content=\"width=device-width, initial-scale=1\">")?;
-        writeln!(out, "<title>{title}</title>\n<style>")?;
-        style(out, !self.known.names.is_empty())?;
-        writeln!(out, "</style>\n</head>\n<body>\n<header>\n<h1>{title}</h1>")?;
-        self.lead(out)?;
-        writeln!(out, "</header>")?;
-        self.account(out)?;
-        self.index(out)?;
-        legend(out)?;
-        for (day, part) in &self.days {
-            self.day_section(out, *day, part)?;
-        }
-        self.closing(out)?;
-        writeln!(out, "</body>\n</html>")
+        framed(out, &title, KINDS, !self.known.names.is_empty(), |out| {
+            writeln!(out, "<header>\n<h1>{title}</h1>")?;
+            self.lead(out)?;
+            writeln!(out, "</header>")?;
+            self.account(out)?;
+            self.index(out)?;
+            legend(out, &State::ALL.map(Look::from), BARS)?;
+            for (day, part) in &self.days {
+                self.day_section(out, *day, part)?;
+            }
+            self.closing(out)
+        })
     }
 
     /// The title: of which account, issue and days.
@@ -242,23 +244,6 @@ fn index_row(day: u16, part: &DayPart, known: &Known) -> Vec<String> {
 /// A rate as people write it.
 fn percent_a_year(rate: u32) -> String {
     Rate(rate).to_string().replace(" percent", "&nbsp;%")
-}
-
-/// What each state looks like, with samples.
-fn legend(out: &mut impl Write) -> io::Result<()> {
-    section_of(out, "legend", "How to read it", |out| {
-        writeln!(out, "<ul class=\"legend\">")?;
-        for state in State::ALL {
-            let sample = bar(4, &[(state, 1, 2)]);
-            let meaning = state.meaning();
-            writeln!(out, "<li>{}{sample}<span>{meaning}</span></li>", badge(state))?;
-        }
-        writeln!(
-            out,
-            "</ul>\n<p>A bar shows where in the issue's order units stand, and how many "
-        )?;
-        writeln!(out, "lots they are. Like units are one row.</p>")
-    })
 }
 
 /// The course of a day: its order, trades, close and cutoff.
