@@ -357,7 +357,7 @@ mod tests {
     #[test]
     fn a_write_that_fails_is_told_at_the_end() {
         // An output with room for the version and a little more.
-        let mut room = [0; 20];
+        let mut room = [0_u8; 20];
         let mut out = &mut room[..];
         let mut object = Object::begin(&mut out);
         object.field("fact", Name("instruction")).field("day", 0_u32);

@@ -91,8 +91,8 @@ impl Told {
 
     /// A sentence for the telephone.
     pub fn sentence(&self) -> String {
-        let At { day, phase, .. } = self.at;
-        let head = format!("{}, day {}, {phase}", self.moment, self.known.day(day));
+        let (At { day, phase, .. }, known) = (self.at, &self.known);
+        let head = format!("{}, day {}, {phase}", self.moment, known.day(day));
         match &self.answer {
             Ok(Asked { issue, number, unit, turn, status }) => {
                 let turn = turn.map_or(String::new(), |turn| format!(" ({})", turn.words()));

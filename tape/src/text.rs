@@ -51,7 +51,8 @@ const fn account(name: &'static str) -> Field {
     Field { name, bits: 6, takes: (0, 63), kind: Some(Kind::Account) }
 }
 
-pub(crate) const ISSUE: Field = Field { name: "issue", bits: 4, takes: (0, 15), kind: Some(Kind::Issue) };
+pub(crate) const ISSUE: Field =
+    Field { name: "issue", bits: 4, takes: (0, 15), kind: Some(Kind::Issue) };
 pub(crate) const FROM: Field = account("from");
 pub(crate) const TO: Field = account("to");
 pub(crate) const ACCOUNT: Field = account("account");

@@ -140,7 +140,9 @@ fn paired<K: Ord>(
             Ordering::Greater => lists[1].extend(sides[1].next()),
             Ordering::Equal => {
                 pairs.push([one, other]);
-                sides.iter_mut().for_each(|side| drop(side.next()));
+                for side in &mut sides {
+                    side.next();
+                }
             }
         }
     }

@@ -12,8 +12,8 @@ pub(super) const VERB: Verb = Verb {
     name: "diff",
     usage: "\
 tape diff [--hex | --words] [--names FILE] [--json] A B
-        tells what differs between two tapes, day by day: the instructions, and what they changed; the
-        status is 0 where nothing differs and 1 where something does",
+        tells what differs between two tapes, day by day: the instructions, and what they changed;
+        the status is 0 where nothing differs and 1 where something does",
     options: &[HEX, WORDS, NAMES, JSON],
     act,
 };

@@ -66,9 +66,9 @@ With --hex the words are hexadecimal numbers in text; with --words the input is 
 too. With --names FILE names stand for issues and accounts, in and out, and days have dates: FILE is
 a text with lines `issue NUMBER NAME`, `account NUMBER NAME` and `date YYYY-MM-DD`, of day 0; --day
 takes a date then. docs/TAPE.md explains the text form and names.
-Status: 0 done; 1 the book refuses something (check, why, look, markets), the tapes differ (diff), or
-the tape was not read to its end (run, export) or its lines are not whole (run); 2 the words of the
-command, a file or a text are wrong.";
+Status: 0 done; 1 the book refuses something (check, why, look, markets), the tapes differ (diff),
+or the tape was not read to its end (run, export) or its lines are not whole (run); 2 the words of
+the command, a file or a text are wrong.";
 
 /// What is said where standard input would be read twice.
 const STANDARD_ONCE: &str = "standard input is one file: name `-` once";

@@ -17,8 +17,6 @@ use parts::{DayPart, Fail};
 use settlement_day::Entry;
 use std::collections::BTreeMap;
 
-pub use markup::escaped;
-
 /// The most rows of a page: units, deliveries, fails, charges and what else is shown, some megabytes.
 pub const MOST_ROWS: usize = 20_000;
 
