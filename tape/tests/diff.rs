@@ -13,6 +13,9 @@ use tape::text;
 /// The status, what was printed and what was said.
 type Ended = (i32, String, String);
 
+/// How an object begins, up to what it is of.
+const BEGINS: &str = "{\"schema\":1,\"fact\":\"diff\",\"of\":\"";
+
 /// A file of this content, which goes with this.
 struct File(PathBuf);
 
@@ -346,7 +349,7 @@ fn of_many_differences_the_first_are_listed() {
     has(&text, &["  28 more instructions only in A are not listed"]);
     // As JSON all are told.
     let (_, json) = told("many-json", &["--json"], &trades(1), "close\n");
-    assert_eq!(json.matches("\"fact\":\"only\"").count(), 41);
+    assert_eq!(json.matches("\"of\":\"only\"").count(), 41);
     let like = "deliver 0 1 1\n".repeat(9_000);
     let head = "trade 0 1 2 100000\nclose\n";
     let (_, text) = told("like-ones", &[], &format!("{head}{like}"), head);
@@ -449,6 +452,10 @@ fn every_fact_of_json_is_in_the_documents() {
     };
     let rising: Vec<usize> = (0..900).collect();
     let falling: Vec<usize> = (0..900).rev().collect();
+    let paired = |pair_offs: &str| {
+        let fails = "trade 0 1 2 9\ntrade 1 1 2 9\nclose\ncutoff\n";
+        format!("{fails}{roll}trade 0 2 3 9\ntrade 1 2 3 9\nclose\ncutoff\n{pair_offs}")
+    };
     for (a, b) in [
         (format!("{day}pair-off 3 2\nmark 5 1\nturn 7\n"), format!("{day}resolve 3 1 12\nturn 8\n{roll}close\n")),
         (
@@ -459,16 +466,17 @@ fn every_fact_of_json_is_in_the_documents() {
         ("trade 0 1 2 5\ntrade 0 3 4 5\nclose\n".into(), "trade 0 3 4 5\ntrade 0 1 2 5\nclose\n".into()),
         ("close\nword 0\n".into(), "close\n".into()),
         (many(&rising), many(&falling)),
+        (paired("pair-off 0 2\npair-off 1 2\n"), paired("pair-off 1 2\npair-off 0 2\n")),
     ] {
         let (status, json) = told("facts", &["--json"], &a, &b);
         assert_eq!(status, 1);
         for line in json.lines() {
-            let name = line.strip_prefix("{\"fact\":\"").and_then(|rest| rest.split('"').next());
+            let name = line.strip_prefix(BEGINS).and_then(|rest| rest.split('"').next());
             let name = name.unwrap_or_else(|| panic!("{line}"));
             let row = section.lines().find(|row| row.starts_with(&format!("| `{name}` |")));
             let row = row.unwrap_or_else(|| panic!("docs/TAPE.md has no row of `{name}`"));
-            for field in line.split('"').skip(3).filter(|part| part.chars().all(char::is_alphabetic)) {
-                let of_all = ["day", "word", "line", "call", "a", "b", "count"];
+            for field in line.split('"').filter(|part| part.chars().all(char::is_alphabetic)) {
+                let of_all = ["schema", "fact", "of", "day", "word", "line", "call", "a", "b", "count"];
                 let quoted = format!("\"{field}\":");
                 if line.contains(&quoted) && !of_all.contains(&field) && !of_call(field) {
                     assert!(row.contains(&format!("`{field}`")), "`{name}` has `{field}`: {row}");
@@ -480,11 +488,11 @@ fn every_fact_of_json_is_in_the_documents() {
     }
     names.sort();
     names.dedup();
-    let expected = "alone books-same change-over changed charge charged day delivered end entry fails handed marked \
-        moved net only order paired reading-ends refused resolved same unordered";
+    let expected = "alone books-same change-over changed charge charged day delivered end entry fails handed ledger \
+        marked moved net only order paired reading-ends refused resolved same unordered";
     let found: Vec<&str> = names.iter().map(String::as_str).collect();
     assert_eq!(found, expected.split_whitespace().collect::<Vec<_>>(), "{facts} facts");
-    assert!(section.contains("| `tapes` |") && section.contains("| `ledger` |"));
+    assert!(section.contains("| `tapes` |"));
 }
 
 /// Is it a number of an instruction?
@@ -499,27 +507,73 @@ fn objects_have_what_is_of_both_tapes_in_a_and_b() {
     let (status, json, _) = ended(&words, b"trade 0 1 2 4\nclose\ndeliver 0 1 5\ncutoff\n");
     assert_eq!(status, 1);
     let escaped = file.0.display().to_string().replace('"', "\\\"");
-    let tapes = format!("{{\"fact\":\"tapes\",\"a\":\"{escaped}\",\"b\":\"standard input\"}}");
+    let tapes = format!("tapes\",\"a\":\"{escaped}\",\"b\":\"standard input\"}}");
+    let objects = [
+        tapes.as_str(),
+        "day\",\"day\":0,\"a\":0,\"b\":0,\"moved\":0,\"changed\":1}",
+        "changed\",\"day\":0,\"call\":\"trade\",\"a\":{\"word\":0,\"line\":1,\"issue\":0,\"from\":1,\"to\":2,\
+         \"lots\":5},\"b\":{\"word\":0,\"line\":1,\"issue\":0,\"from\":1,\"to\":2,\"lots\":4},\"quoted\":[]}",
+        "refused\",\"day\":0,\"count\":1,\"call\":\"deliver\",\"issue\":0,\"account\":1,\"lots\":5,\
+         \"a\":{\"word\":3,\"line\":3,\"refusal\":0},\"b\":{\"word\":3,\"line\":3,\"refusal\":9,\"why\":\"refused \
+         by 9: the account does not owe that many lots; account 1 still owes 4 lots of issue 0 today\"}}",
+        "order\",\"day\":0,\"issue\":0,\"unit\":0,\"a\":{\"account\":2,\"lots\":5,\"accounts\":[2],\"units\":[1],\
+         \"more\":0},\"b\":{\"account\":2,\"lots\":4,\"accounts\":[2],\"units\":[1],\"more\":0}}",
+        "handed\",\"day\":0,\"issue\":0,\"account\":2,\"a\":{\"units\":1,\"lots\":5},\"b\":{\"units\":0,\"lots\":0}}",
+        "fails\",\"day\":0,\"issue\":0,\"from\":1,\"to\":2,\"a\":0,\"b\":4}",
+        "end\",\"a\":{\"day\":0,\"phase\":\"Cut\"},\"b\":{\"day\":0,\"phase\":\"Cut\"}}",
+        "net\",\"issue\":0,\"account\":1,\"a\":-5,\"b\":-4}",
+    ];
+    for object in objects {
+        has(&json, &[&format!("{BEGINS}{object}")]);
+    }
+}
+
+#[test]
+fn names_stand_in_sentences_and_beside_the_numbers_of_objects() {
+    let names = File::new("names", b"date 2026-11-17\nissue 0 JGB-350\naccount 1 Aoba\naccount 2 Bizen\n");
+    let file = File::new("named", b"trade JGB-350 Aoba Bizen 5\nclose\ncutoff\n");
+    let words = [OsStr::new("--names"), names.0.as_os_str(), file.0.as_os_str(), OsStr::new("-")];
+    let corrected = b"trade 0 1 2 4\ndeliver 0 Aoba 1\nclose\ndeliver 0 1 1\ncutoff\n";
+    let (status, text, said) = ended(&words, corrected);
+    assert_eq!((status, said.as_str()), (1, ""));
     has(
-        &json,
+        &text,
         &[
-            tapes.as_str(),
-            "{\"fact\":\"day\",\"day\":0,\"a\":0,\"b\":0,\"moved\":0,\"changed\":1}",
-            "{\"fact\":\"changed\",\"day\":0,\"call\":\"trade\",\"a\":{\"word\":0,\"line\":1,\"issue\":0,\"from\":1,\
-             \"to\":2,\"lots\":5},\"b\":{\"word\":0,\"line\":1,\"issue\":0,\"from\":1,\"to\":2,\"lots\":4},\
-             \"quoted\":[]}",
-            "{\"fact\":\"refused\",\"day\":0,\"count\":1,\"call\":\"deliver\",\"issue\":0,\"account\":1,\"lots\":5,\
-             \"a\":{\"word\":3,\"line\":3,\"refusal\":0},\"b\":{\"word\":3,\"line\":3,\"refusal\":9,\"why\":\"refused \
-             by 9: the account does not owe that many lots; account 1 still owes 4 lots of issue 0 today\"}}",
-            "{\"fact\":\"order\",\"day\":0,\"issue\":0,\"unit\":0,\"a\":{\"account\":2,\"lots\":5,\"accounts\":[2],\
-             \"units\":[1],\"more\":0},\"b\":{\"account\":2,\"lots\":4,\"accounts\":[2],\"units\":[1],\"more\":0}}",
-            "{\"fact\":\"handed\",\"day\":0,\"issue\":0,\"account\":2,\"a\":{\"units\":1,\"lots\":5},\"b\":{\"units\":0,\
-             \"lots\":0}}",
-            "{\"fact\":\"fails\",\"day\":0,\"issue\":0,\"from\":1,\"to\":2,\"a\":0,\"b\":4}",
-            "{\"fact\":\"end\",\"a\":{\"day\":0,\"phase\":\"Cut\"},\"b\":{\"day\":0,\"phase\":\"Cut\"}}",
-            "{\"fact\":\"net\",\"issue\":0,\"account\":1,\"a\":-5,\"b\":-4}",
+            "Day 0, instructions: 2 only in B, 1 changed",
+            "  changed, word 0, line 1: trade: account Aoba sells account Bizen 5 lots (250,000 yen face) of issue \
+             JGB-350; in B 4 lots (200,000 yen face)",
+            "  issue JGB-350: account Aoba fails account Bizen: 5 lots in A, 3 lots in B",
+            "At the end: day 0, Cut",
+            "  issue JGB-350: account Aoba owes account Bizen since day 0: 5 lots in A, 3 lots in B",
         ],
     );
+    let (status, json, _) = ended(&[&[OsStr::new("--json")][..], &words].concat(), corrected);
+    assert_eq!(status, 1);
+    let issue = "\"issue\":0,\"issue_name\":\"JGB-350\"";
+    let account = "\"account\":1,\"account_name\":\"Aoba\"";
+    let from_to = "\"from\":1,\"from_name\":\"Aoba\",\"to\":2,\"to_name\":\"Bizen\"";
+    let unit = |lots: u32| {
+        let whose = "\"account\":2,\"account_name\":\"Bizen\"";
+        format!("{{{whose},\"lots\":{lots},\"accounts\":[2],\"units\":[1],\"more\":0}}")
+    };
+    let trade = |lots: u32| format!("{{\"word\":0,\"line\":1,{issue},{from_to},\"lots\":{lots}}}");
+    for object in [
+        format!(
+            "only\",\"day\":0,\"in\":\"b\",\"word\":2,\"line\":2,\"count\":1,\"call\":\"deliver\",{issue},{account},\
+             \"lots\":1}}"
+        ),
+        format!("changed\",\"day\":0,\"call\":\"trade\",\"a\":{},\"b\":{},\"quoted\":[]}}", trade(5), trade(4)),
+        format!("order\",\"day\":0,{issue},\"unit\":0,\"a\":{},\"b\":{}}}", unit(5), unit(4)),
+        format!("fails\",\"day\":0,{issue},{from_to},\"a\":5,\"b\":3}}"),
+        "end\",\"a\":{\"day\":0,\"phase\":\"Cut\"},\"b\":{\"day\":0,\"phase\":\"Cut\"}}".to_string(),
+        format!("net\",{issue},{account},\"a\":-5,\"b\":-4}}"),
+        format!("delivered\",{issue},{account},\"a\":0,\"b\":1}}"),
+        format!("entry\",{issue},{from_to},\"since\":0,\"a\":5,\"b\":3}}"),
+    ] {
+        has(&json, &[&format!("{BEGINS}{object}")]);
+    }
+    // The days of two tapes may have different dates: none is told.
+    assert!(!text.contains("2026-11-17") && !json.contains("\"date\""), "{text}{json}");
 }
 
 #[test]

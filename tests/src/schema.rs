@@ -533,7 +533,8 @@ mod tests {
             refused([fields, &[("more".to_string(), Value::Number(1))]].concat());
             for (at, (name, _)) in fields.iter().enumerate() {
                 let mut changed = fields.to_vec();
-                changed[at].1 = Value::Object(Vec::new());
+                // No field is true or false.
+                changed[at].1 = Value::Bool(true);
                 refused(changed);
                 if ["schema", "fact", "answer"].contains(&name.as_str()) {
                     refused([&fields[..at], &fields[at + 1..]].concat());

@@ -1,7 +1,9 @@
-//! The commands that print objects: on every sample tape and some others, on sessions of the console, and on
-//! files of participants.
+//! The commands that print objects: on every sample tape and some others, on pairs of tapes, on sessions of the
+//! console, and on files of participants.
 
+use crate::pairs;
 use crate::place::Place;
+use settlement_day::{ACCOUNTS, ISSUES};
 use std::fs;
 use tape::text::to_tape;
 
@@ -26,10 +28,17 @@ const ON_A_TAPE: [&str; 13] = [
 /// Commands that print no objects, for those that follow.
 const BEFORE: [&str; 3] = ["daybook new desk", "daybook new day", "daybook new full"];
 
+/// The option with names for all that a tape can have, and the date of day 0.
+const NAMED: &str = "--names all.names";
+const DAY_0: &str = "date 2026-11-17\n";
+
 /// The other commands.
-const ONCE: [&str; 32] = [
+const ONCE: [&str; 35] = [
     "tape explain --json tapes/p5-to-p9.txt tapes/ring.txt",
     "tape explain --json --issue 2 --account 30 --day 1 tapes/two-days.txt",
+    "tape explain --json --names tapes/two-days.names tapes/two-days.txt",
+    "tape check --json --names tapes/two-days.names tapes/two-days.txt",
+    "tape why --json --names tapes/two-days.names --account Ginza --issue JGB-350 tapes/two-days.txt",
     "tape statement --json --all long.txt",
     "tape why --json --at 9 tapes/p5-to-p9.txt 0 3",
     "tape why --json --at 12 tapes/p5-to-p9.txt 0 0",
@@ -117,7 +126,8 @@ pub fn run(place: &Place, look: &mut dyn FnMut(&str, &str)) -> Result<usize, Str
     let tapes = tapes(place)?;
     let on_tapes =
         tapes.iter().flat_map(|tape| ON_A_TAPE.map(|command| command.replace("DAY", tape)));
-    let commands: Vec<String> = on_tapes.chain(ONCE.map(String::from)).collect();
+    let once = ONCE.iter().chain(&pairs::COMMANDS).map(|command| command.to_string());
+    let commands: Vec<String> = on_tapes.chain(once).collect();
     for command in &commands {
         look(command, &place.run(command)?);
     }
@@ -126,6 +136,11 @@ pub fn run(place: &Place, look: &mut dyn FnMut(&str, &str)) -> Result<usize, Str
 
 /// Puts the files there that the commands name.
 fn put_files(place: &Place) -> Result<(), String> {
+    pairs::put(place)?;
+    let issues = (0..ISSUES).map(|number| format!("issue {number} Issue-{number}\n"));
+    let accounts = (0..ACCOUNTS).map(|number| format!("account {number} Account-{number}\n"));
+    let names: Vec<String> = issues.chain(accounts).collect();
+    place.put("all.names", [DAY_0, &names.concat()].concat())?;
     place.put("other.txt", "# no instruction\n")?;
     place.put("all.desk", "settles 0-63 0\nholds 0 0 50,000\n")?;
     place.put("owners.txt", "owns 0 5\nowns 1 2-3\n")?;
@@ -141,7 +156,7 @@ fn put_files(place: &Place) -> Result<(), String> {
     place.put("long.txt", long)
 }
 
-/// The tapes: the samples and one more, in their text form and as words.
+/// The tapes as the commands name them: the samples and one more, in their text form, and as words with names.
 fn tapes(place: &Place) -> Result<Vec<String>, String> {
     place.put("closed-twice.txt", CLOSED_TWICE)?;
     let mut texts = vec![("closed-twice.txt".to_string(), CLOSED_TWICE.to_string())];
@@ -160,7 +175,7 @@ fn tapes(place: &Place) -> Result<Vec<String>, String> {
         let words = name.replace('/', "-").replace(".txt", ".tape");
         let tape = to_tape(&text).map_err(|faults| format!("{name}: {faults:?}"))?;
         place.put(&words, tape)?;
-        tapes.extend([name, words]);
+        tapes.extend([name, format!("{NAMED} {words}")]);
     }
     Ok(tapes)
 }

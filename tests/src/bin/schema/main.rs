@@ -5,6 +5,7 @@
 //! are what its commands print. `--programs DIR` names the folder of the programs.
 
 mod commands;
+mod pairs;
 mod place;
 
 use place::Place;
@@ -19,8 +20,6 @@ const PROGRAMS: &str = "build/release";
 /// The schema, and the page for those who read the objects.
 const SCHEMA: &str = "docs/settlement-day.schema.json";
 const DOCUMENT: &str = "docs/JSON.md";
-/// The fields of the schema that no command prints yet: names and dates beside numbers.
-const NOT_PRINTED_YET: [&str; 5] = ["issue_name", "account_name", "from_name", "to_name", "date"];
 /// The most faults that are told.
 const MOST_TOLD: usize = 12;
 
@@ -52,7 +51,7 @@ fn run(options: &Options) -> Result<String, String> {
         }
     })?;
     let parts = schema.parts();
-    let never = parts.difference(&met).filter(|part| !is_not_printed_yet(part));
+    let never = parts.difference(&met);
     wrong.extend(never.map(|part| format!("{SCHEMA}: nothing that is printed meets {part}")));
     let examples = shown(&read(DOCUMENT)?);
     wrong.extend(compare(&Place::make("document", programs)?, &examples)?);
@@ -71,12 +70,6 @@ fn run(options: &Options) -> Result<String, String> {
 /// The text of a file of the repository.
 fn read(file: &str) -> Result<String, String> {
     fs::read_to_string(file).map_err(|error| format!("{file}: {error}"))
-}
-
-/// Is this part a field that no command prints yet?
-fn is_not_printed_yet(part: &str) -> bool {
-    let field = part.rsplit_once("/properties/").map(|(_, field)| field);
-    field.is_some_and(|field| NOT_PRINTED_YET.contains(&field))
 }
 
 /// Runs the commands that the document shows, one after the other: the lines below each are printed, in their
