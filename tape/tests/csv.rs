@@ -344,6 +344,42 @@ fn of_several_days_the_file_is_written_in_quotes_where_it_needs_them() {
 }
 
 #[test]
+fn names_stand_in_the_files_and_in_the_tables() {
+    let files = [
+        ("desk.names", "date 2026-11-17\nissue 0 JGB-350\naccount 1 Aoba\naccount 2 Bizen\n"),
+        ("t.csv", "issue,from,to,lots\nJGB-350,Aoba,2,7\n0,3,Bizen,5\n"),
+        ("d.csv", "issue,account,lots\nJGB-350,Aoba,4\n"),
+        ("wrong.csv", "issue,from,to,lots\nJGB,Aobo,2,7\n"),
+        ("day.txt", "trade JGB-350 Aoba Bizen 7\ntrade 0 3 2 5\nclose\ncutoff\n"),
+    ];
+    let folder = folder("named", &files);
+    let import = ["import", "--names", "desk.names", "--trades"];
+    let of = |words: &[&str]| tool(&folder, &[&import[..], words].concat());
+    let lines = "trade 0 1 2 7\ntrade 0 3 2 5\nclose\ndeliver 0 1 4\n";
+    let made = format!("# made by `tape import`: trades of t.csv, deliveries of d.csv\n{lines}");
+    assert_eq!(of(&["t.csv", "--deliveries", "d.csv"]), (0, made, "".into()));
+    let told = "tape: wrong.csv:2:1: there is no issue \"JGB\": the names file has JGB-350\n\
+        tape: wrong.csv:2:5: there is no account \"Aobo\": the names file has Aoba, Bizen\n";
+    assert_eq!(of(&["wrong.csv"]), (2, "".into(), told.into()));
+    let (status, _, said) = tool(&folder, &["import", "--trades", "t.csv"]);
+    assert!(status == 2 && said.contains("t.csv:2:1: issue \"JGB-350\" is not a number"), "{said}");
+    for (table, rows) in [
+        ("--ledger", ["JGB-350,Aoba,Bizen,7,0", "JGB-350,3,Bizen,5,0"]),
+        (
+            "--records",
+            ["0,,4,5,cutoff,fails,JGB-350,Aoba,Bizen,7,0,0,1,,,", "0,,4,5,cutoff,fails,JGB-350,3,Bizen,5,0,0,1,,,"],
+        ),
+        ("--statements", ["JGB-350,Aoba,7,0,7,0,4,0,,,", "JGB-350,3,5,0,5,0,4,0,,,"]),
+    ] {
+        let words = ["export", table, "--names", "desk.names", "day.txt"];
+        let (status, written, said) = tool(&folder, &words);
+        assert_eq!((status, said.as_str()), (0, ""), "{table}");
+        assert_eq!(written.lines().skip(1).collect::<Vec<_>>(), rows, "{table}");
+    }
+    fs::remove_dir_all(folder).unwrap();
+}
+
+#[test]
 fn one_table_is_asked_for() {
     let one = |words: &[&str]| tool(&samples(), &[&["export"][..], words].concat());
     for (words, told) in [
