@@ -163,9 +163,8 @@ fn entry(object: &mut Object<'_, impl Write>, entry: &Entry) {
 /// The book and its folder.
 fn status(object: &mut Object<'_, impl Write>, state: &State) {
     object.day(state.day).field("phase", Name(state.phase)).field("turn", state.turn);
-    let lifts = state.lifts.iter().flat_map(|(issue, lifts)| {
-        lifts.iter().map(move |lift| (*issue, *lift))
-    });
+    let lifts =
+        state.lifts.iter().flat_map(|(issue, lifts)| lifts.iter().map(move |lift| (*issue, *lift)));
     object.field("marked", &state.marked).objects("lifts", lifts, |one, (issue, lift)| {
         one.issue(issue).field("old", lift.old).field("new", lift.new);
     });
@@ -208,7 +207,10 @@ mod tests {
                 r#""charges","charges":[{"account":1,"yen":-5},{"account":2,"yen":5}]"#,
             ),
         ] {
-            assert_eq!(line(&answer, 7), format!("{{\"schema\":1,\"line\":7,\"answer\":{told}}}\n"));
+            assert_eq!(
+                line(&answer, 7),
+                format!("{{\"schema\":1,\"line\":7,\"answer\":{told}}}\n")
+            );
         }
     }
 }

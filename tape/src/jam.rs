@@ -251,7 +251,8 @@ impl Tried {
 
 /// The title of the page, and what it has before its table.
 const TITLE: &str = "Unit sizes on a simulated desk";
-const LEAD: &str = "Each account delivers in turn what its settlement account holds, until a round goes by \
+const LEAD: &str =
+    "Each account delivers in turn what its settlement account holds, until a round goes by \
     without a delivery, which is counted too. What is still owed then is jammed at that size.";
 /// How lots look that were delivered, and those that are still owed.
 const DELIVERED: Look =

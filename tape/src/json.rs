@@ -319,7 +319,8 @@ mod tests {
             object.optional("left", None::<&str>).optional("out", Some("x"));
             object.field("lists", vec![vec![-1, 1], vec![]]).field("two", &[4_u64, 5][..]);
         });
-        let expected = "{\"schema\":1,\"fact\":\"units\",\"call\":\"x\",\"issue\":3,\"to\":63,\"day\":9,\
+        let expected =
+            "{\"schema\":1,\"fact\":\"units\",\"call\":\"x\",\"issue\":3,\"to\":63,\"day\":9,\
             \"most\":18446744073709551615,\"least\":-9223372036854775808,\"net\":-5,\
             \"sum\":18446744073709551616,\"none\":null,\"some\":7,\"out\":\"x\",\
             \"lists\":[[-1,1],[]],\"two\":[4,5]}\n";
@@ -337,10 +338,7 @@ mod tests {
             });
         });
         let items = "[{\"item\":1,\"none\":[]},{\"item\":2,\"none\":[]}]";
-        assert_eq!(
-            told,
-            format!("{{\"schema\":1,\"items\":{items},\"sum\":{{\"items\":2}}}}\n")
-        );
+        assert_eq!(told, format!("{{\"schema\":1,\"items\":{items},\"sum\":{{\"items\":2}}}}\n"));
     }
 
     #[test]

@@ -145,10 +145,14 @@ impl Seen {
                 }
                 Ok((seen, entries)) => {
                     object.field("refusal", 0_u32).field("net", seen.net);
-                    object.field("charge", seen.charge).objects("entries", entries, |one, entry| {
-                        one.account("from", entry.from).account("to", entry.to);
-                        one.field("lots", entry.lots).day(entry.day);
-                    });
+                    object.field("charge", seen.charge).objects(
+                        "entries",
+                        entries,
+                        |one, entry| {
+                            one.account("from", entry.from).account("to", entry.to);
+                            one.field("lots", entry.lots).day(entry.day);
+                        },
+                    );
                 }
             }
         })

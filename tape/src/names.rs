@@ -424,7 +424,11 @@ mod tests {
             (long.as_str(), 11, "\"aaaaaaaaaaaaaaaaaaaaaaaaaaaaaaaaa\" is too long for a name"),
             ("issue 1 roll", 9, "\"roll\" is a word of the text form: take another name"),
             ("account 1 pair-off", 11, "\"pair-off\" is a word of the text form"),
-            ("issue 0 Again", 7, "issue 0 has the name JGB-350 already: leave one of the two lines"),
+            (
+                "issue 0 Again",
+                7,
+                "issue 0 has the name JGB-350 already: leave one of the two lines",
+            ),
             ("account 6 Nomura", 11, "Nomura is the name of account 5 already: write another name"),
             ("date 2027-01-01", 1, "day 0 has the date 2026-11-17 already: leave one of the two"),
         ] {
@@ -439,8 +443,19 @@ mod tests {
     #[test]
     fn a_date_that_the_calendar_lacks_is_told() {
         for date in [
-            "2026-02-29", "2100-02-29", "2026-13-01", "2026-00-01", "2026-11-31", "2026-11-00",
-            "26-11-17", "2026-11-7", "2026/11/17", "2026-11-17-1", "2026-11-1x", "+026-11-17", "x",
+            "2026-02-29",
+            "2100-02-29",
+            "2026-13-01",
+            "2026-00-01",
+            "2026-11-31",
+            "2026-11-00",
+            "26-11-17",
+            "2026-11-7",
+            "2026/11/17",
+            "2026-11-17-1",
+            "2026-11-1x",
+            "+026-11-17",
+            "x",
         ] {
             let faults = Names::parse(&format!("date {date}\n")).unwrap_err();
             let told = format!("{date:?} is no date: write it as YYYY-MM-DD, a day that the");

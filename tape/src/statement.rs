@@ -380,13 +380,15 @@ are counted
         let all = Told::all(&named).unwrap();
         let text = all.text();
         let lines: Vec<&str> = text.lines().skip(1).collect();
-        let heads = "  issue  account            due      delivered         failed       resolved  \
+        let heads =
+            "  issue  account            due      delivered         failed       resolved  \
                      failed over due";
         assert_eq!(lines[0], heads);
         assert!(lines[1].starts_with("JGB-350      A&B            100             60 "), "{text}");
         assert!(lines[2].starts_with("JGB-350        5             50              0 "), "{text}");
         let json = all.json();
-        let first = "\"issue\":0,\"issue_name\":\"JGB-350\",\"account\":4,\"account_name\":\"A&B\",";
+        let first =
+            "\"issue\":0,\"issue_name\":\"JGB-350\",\"account\":4,\"account_name\":\"A&B\",";
         assert!(json.lines().next().is_some_and(|line| line.contains(first)), "{json}");
         assert!(json.contains("\"issue_name\":\"JGB-350\",\"account\":5,\"due\":50,"), "{json}");
         assert!(all.html().contains("<tr><td>JGB-350</td><td>A&amp;B</td><td>100</td>"));

@@ -522,7 +522,8 @@ fn a_device_is_written_as_it_is() {
 }
 
 /// A names file, and two days by its names.
-const NAMES: &str = "date 2026-11-17 # a Tuesday\nissue 0 JGB-350\naccount 1 Aoba\naccount 2 Bizen\n";
+const NAMES: &str =
+    "date 2026-11-17 # a Tuesday\nissue 0 JGB-350\naccount 1 Aoba\naccount 2 Bizen\n";
 const NAMED: &str = "trade JGB-350 Aoba Bizen 150,000\nclose\ndeliver JGB-350 Aoba 100,000\n\
     deliver JGB-350 Aoba 50,001\ncutoff\nroll 3 300 100,000 accrued 0\ntrade JGB-350 Bizen Aoba 7\nclose\n";
 
@@ -604,7 +605,8 @@ fn every_verb_tells_by_names_and_dates() {
     }
     let json = desk.told("explain --json --names desk.names day.txt");
     let day = "\"fact\":\"day\",\"day\":1,\"date\":\"2026-11-20\",\"order\":\"old\",\"turn\":0}\n";
-    let fails = "\"issue\":0,\"issue_name\":\"JGB-350\",\"from\":1,\"from_name\":\"Aoba\",\"to\":2,\
+    let fails =
+        "\"issue\":0,\"issue_name\":\"JGB-350\",\"from\":1,\"from_name\":\"Aoba\",\"to\":2,\
         \"to_name\":\"Bizen\",\"lots\":50000,\"first\":1,";
     assert!(json.contains(day) && json.contains(fails), "{json}");
     let page = desk.told("explain --html --names desk.names day.txt");
@@ -674,7 +676,10 @@ fn wrong_names_are_told_with_what_to_do() {
         assert!(said.contains(told), "{words}: {said}");
     };
     for (words, told) in [
-        ("--account Aobo", "--account: there is no account \"Aobo\": the names file has Aoba, Bizen"),
+        (
+            "--account Aobo",
+            "--account: there is no account \"Aobo\": the names file has Aoba, Bizen",
+        ),
         ("--issue Aoba", "--issue: there is no issue \"Aoba\": the names file has JGB-350"),
         ("--issue 16", "--issue needs a number from 0 to 15, not \"16\""),
         ("--day 2026-11-18", "--day 2026-11-18: no day of the tape has the date 2026-11-18: it is"),
@@ -685,7 +690,10 @@ fn wrong_names_are_told_with_what_to_do() {
     ] {
         wrong(&format!("explain --names desk.names day.txt {words}"), told);
     }
-    wrong("explain --issue JGB-350 day.txt", "--issue needs a number from 0 to 15, not \"JGB-350\"");
+    wrong(
+        "explain --issue JGB-350 day.txt",
+        "--issue needs a number from 0 to 15, not \"JGB-350\"",
+    );
     wrong("explain --day 2026-11-17 --names plain.names", "--day 2026-11-17: day 0 has no date");
     wrong("why --names desk.names day.txt JGB 0", "ISSUE: there is no issue \"JGB\"");
     wrong("why --day 2026-11-17 day.txt 0 0", "issue \"JGB-350\" is not a number");

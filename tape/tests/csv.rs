@@ -367,7 +367,10 @@ fn names_stand_in_the_files_and_in_the_tables() {
         ("--ledger", ["JGB-350,Aoba,Bizen,7,0", "JGB-350,3,Bizen,5,0"]),
         (
             "--records",
-            ["0,,4,5,cutoff,fails,JGB-350,Aoba,Bizen,7,0,0,1,,,", "0,,4,5,cutoff,fails,JGB-350,3,Bizen,5,0,0,1,,,"],
+            [
+                "0,,4,5,cutoff,fails,JGB-350,Aoba,Bizen,7,0,0,1,,,",
+                "0,,4,5,cutoff,fails,JGB-350,3,Bizen,5,0,0,1,,,",
+            ],
         ),
         ("--statements", ["JGB-350,Aoba,7,0,7,0,4,0,,,", "JGB-350,3,5,0,5,0,4,0,,,"]),
     ] {

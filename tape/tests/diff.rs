@@ -100,7 +100,8 @@ fn a_corrected_day_is_told_as_stored() {
     let names = ["tapes/p5-to-p9.txt", "tapes/p5-to-p9-corrected.txt"];
     let mut tool = Command::new(env!("CARGO_BIN_EXE_tape"));
     let output = tool.arg("diff").args(names).current_dir(&root).output().expect("the tool runs");
-    let stored = fs::read_to_string(root.join("tapes/p5-to-p9-corrected.diff")).expect("the stored");
+    let stored =
+        fs::read_to_string(root.join("tapes/p5-to-p9-corrected.diff")).expect("the stored");
     assert_eq!(String::from_utf8_lossy(&output.stdout), stored);
     assert_eq!(output.status.code(), Some(1));
     let documents = fs::read_to_string(root.join("docs/TAPE.md")).expect("docs/TAPE.md");
@@ -169,7 +170,8 @@ Day 0, instructions: 1 moved
   day 0: the books end the same
 ";
     assert_eq!(told("moved", &[], a, b), (1, moved.to_string()));
-    let (block, rest) = ("trade 1 8 9 1\ntrade 1 8 9 2\ntrade 1 8 9 3\n", "trade 2 8 9 4\n".repeat(5));
+    let (block, rest) =
+        ("trade 1 8 9 1\ntrade 1 8 9 2\ntrade 1 8 9 3\n", "trade 2 8 9 4\n".repeat(5));
     let (_, text) = told("block", &[], &format!("{block}{rest}"), &format!("{rest}{block}"));
     has(&text, &["Day 0, instructions: 3 moved", "  day 0: the books end the same"]);
     has(
@@ -270,7 +272,9 @@ fn where_reading_ends_is_told() {
     assert_eq!(told("both-end", &[], a, a), (0, "Day 0: the same instructions\n".into()));
     let (status, text) = told("rest", &[], a, &a.replace("50000001", "50000002"));
     assert_eq!(status, 1);
-    assert!(text.starts_with("Day 0: the same instructions\nAt the end: day 0, Settling\n  reading"));
+    assert!(
+        text.starts_with("Day 0: the same instructions\nAt the end: day 0, Settling\n  reading")
+    );
     let (status, text) = told("cut", &[], "close\nbyte 00\n", "close\n");
     assert!(status == 1 && text.contains("in A at word 1, line 2, refused by 13: "), "{text}");
 }
@@ -311,7 +315,8 @@ fn other_terms_of_a_roll_are_told() {
         "  changed, word 2, line 3: roll: 1 day at 3.00 percent a year; in B roll: 2 days at 3.00 percent a year"
     );
     let prices = "1 300 100000 100000 5 5 5 5 5 5 5 5 5 5 5 5 5 5 accrued 0";
-    let others = "1 300 100000 100001 5 5 5 5 5 5 5 5 5 5 5 5 5 5 accrued 0 0 0 0 0 0 0 0 0 0 0 0 0 0 0 7";
+    let others =
+        "1 300 100000 100001 5 5 5 5 5 5 5 5 5 5 5 5 5 5 accrued 0 0 0 0 0 0 0 0 0 0 0 0 0 0 0 7";
     assert_eq!(
         changed(prices, others),
         "  changed, word 2, line 3: roll: 1 day at 3.00 percent a year; the quotes of issues 1 and 15 differ"
@@ -342,7 +347,9 @@ fn resolves_pair_offs_and_marks_are_sums() {
 
 #[test]
 fn of_many_differences_the_first_are_listed() {
-    let trades = |lots: u32| -> String { (0..40).map(|at| format!("trade 0 1 2 {}\n", lots + at)).collect() };
+    let trades = |lots: u32| -> String {
+        (0..40).map(|at| format!("trade 0 1 2 {}\n", lots + at)).collect()
+    };
     let (_, text) = told("many", &[], &trades(1), "close\n");
     assert_eq!(text.matches("  only in A, ").count(), 12, "{text}");
     has(&text, &["Day 0, instructions: 40 only in A, 1 only in B"]);
@@ -371,7 +378,8 @@ fn time_is_by_the_length_of_the_tapes() {
     let equal = trades(300_000, 1);
     let more = [&turn[..], &equal, &turn].concat();
     for (one, other) in [(&equal, &equal), (&equal, &more), (&equal, &trades(300_000, 100_000))] {
-        let days = [one, other].map(|tape| Day::of("x", tape.clone(), Taken::Words).expect("words"));
+        let days =
+            [one, other].map(|tape| Day::of("x", tape.clone(), Taken::Words).expect("words"));
         let mut told = Vec::new();
         let differs = diff([&days[0], &days[1]], Form::Text, &mut told).expect("it is written");
         assert_eq!(differs, one != other);
@@ -457,13 +465,22 @@ fn every_fact_of_json_is_in_the_documents() {
         format!("{fails}{roll}trade 0 2 3 9\ntrade 1 2 3 9\nclose\ncutoff\n{pair_offs}")
     };
     for (a, b) in [
-        (format!("{day}pair-off 3 2\nmark 5 1\nturn 7\n"), format!("{day}resolve 3 1 12\nturn 8\n{roll}close\n")),
+        (
+            format!("{day}pair-off 3 2\nmark 5 1\nturn 7\n"),
+            format!("{day}resolve 3 1 12\nturn 8\n{roll}close\n"),
+        ),
         (
             "trade 0 1 2 150000\nclose\ndeliver 0 1 9\ncutoff\n".to_string() + roll,
             "trade 0 1 2 9\nclose\ndeliver 0 1 10\ndeliver 0 1 9\ncutoff\n".to_string() + roll,
         ),
-        ("trade 0 1 2 9\nclose\ndeliver 0 1 10\n".into(), "trade 0 1 2 10\nclose\ndeliver 0 1 10\n".into()),
-        ("trade 0 1 2 5\ntrade 0 3 4 5\nclose\n".into(), "trade 0 3 4 5\ntrade 0 1 2 5\nclose\n".into()),
+        (
+            "trade 0 1 2 9\nclose\ndeliver 0 1 10\n".into(),
+            "trade 0 1 2 10\nclose\ndeliver 0 1 10\n".into(),
+        ),
+        (
+            "trade 0 1 2 5\ntrade 0 3 4 5\nclose\n".into(),
+            "trade 0 3 4 5\ntrade 0 1 2 5\nclose\n".into(),
+        ),
         ("close\nword 0\n".into(), "close\n".into()),
         (many(&rising), many(&falling)),
         (paired("pair-off 0 2\npair-off 1 2\n"), paired("pair-off 1 2\npair-off 0 2\n")),
@@ -476,7 +493,8 @@ fn every_fact_of_json_is_in_the_documents() {
             let row = section.lines().find(|row| row.starts_with(&format!("| `{name}` |")));
             let row = row.unwrap_or_else(|| panic!("docs/TAPE.md has no row of `{name}`"));
             for field in line.split('"').filter(|part| part.chars().all(char::is_alphabetic)) {
-                let of_all = ["schema", "fact", "of", "day", "word", "line", "call", "a", "b", "count"];
+                let of_all =
+                    ["schema", "fact", "of", "day", "word", "line", "call", "a", "b", "count"];
                 let quoted = format!("\"{field}\":");
                 if line.contains(&quoted) && !of_all.contains(&field) && !of_call(field) {
                     assert!(row.contains(&format!("`{field}`")), "`{name}` has `{field}`: {row}");
@@ -497,7 +515,8 @@ fn every_fact_of_json_is_in_the_documents() {
 
 /// Is it a number of an instruction?
 fn of_call(field: &str) -> bool {
-    ["issue", "from", "to", "account", "lots", "days", "rate", "mark", "turn", "refusal", "why"].contains(&field)
+    ["issue", "from", "to", "account", "lots", "days", "rate", "mark", "turn", "refusal", "why"]
+        .contains(&field)
 }
 
 #[test]
@@ -530,7 +549,8 @@ fn objects_have_what_is_of_both_tapes_in_a_and_b() {
 
 #[test]
 fn names_stand_in_sentences_and_beside_the_numbers_of_objects() {
-    let names = File::new("names", b"date 2026-11-17\nissue 0 JGB-350\naccount 1 Aoba\naccount 2 Bizen\n");
+    let names =
+        File::new("names", b"date 2026-11-17\nissue 0 JGB-350\naccount 1 Aoba\naccount 2 Bizen\n");
     let file = File::new("named", b"trade JGB-350 Aoba Bizen 5\nclose\ncutoff\n");
     let words = [OsStr::new("--names"), names.0.as_os_str(), file.0.as_os_str(), OsStr::new("-")];
     let corrected = b"trade 0 1 2 4\ndeliver 0 Aoba 1\nclose\ndeliver 0 1 1\ncutoff\n";
@@ -597,6 +617,7 @@ fn wrong_words_and_files_are_told_with_status_2() {
     // What is wrong with both is told.
     let (status, _, said) = ended(&[file, dash], b"buy\n");
     assert_eq!(status, 2);
-    let places: Vec<bool> = ["wrong:2:1: ", "standard input:1:1: "].map(|at| said.contains(at)).to_vec();
+    let places: Vec<bool> =
+        ["wrong:2:1: ", "standard input:1:1: "].map(|at| said.contains(at)).to_vec();
     assert_eq!(places, [true, true], "{said}");
 }

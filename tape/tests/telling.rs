@@ -694,9 +694,9 @@ fn json_has_names_beside_its_numbers() {
         assert_eq!(plain.len(), with.len());
         for (mut one, other) in with.into_iter().zip(plain) {
             for (field, letter) in [("issue", 'I'), ("account", 'A'), ("from", 'A'), ("to", 'A')] {
-                let name = one.contains_key(field).then(|| {
-                    Value::Text(format!("{letter}{:02}x", number(&one, field)))
-                });
+                let name = one
+                    .contains_key(field)
+                    .then(|| Value::Text(format!("{letter}{:02}x", number(&one, field))));
                 assert_eq!(one.get(&format!("{field}_name")), name.as_ref(), "{one:?}");
             }
             let date = DATES[number(&one, "day") as usize].to_string();
@@ -725,7 +725,8 @@ fn where_some_are_named_the_others_are_numbers_and_a_page_escapes() {
         assert!(text.contains(line), "{line}\n{text}");
     }
     let json = told_of(&day, Form::Json, Only::default());
-    let deliver = "\"call\":\"deliver\",\"issue\":0,\"account\":4,\"account_name\":\"A&B\",\"lots\":200000,";
+    let deliver =
+        "\"call\":\"deliver\",\"issue\":0,\"account\":4,\"account_name\":\"A&B\",\"lots\":200000,";
     assert!(json.contains(deliver) && !json.contains("\"date\""), "{json}");
     for account in [None, Some(4), Some(2)] {
         let page = told_of(&day, Form::Html, Only { account, ..Only::default() });

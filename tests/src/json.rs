@@ -213,7 +213,9 @@ impl Reader<'_> {
             match letter {
                 '"' => return Ok(found),
                 '\\' => found.push(self.escaped()?),
-                control if control < ' ' => return Err("a text has a control character".to_string()),
+                control if control < ' ' => {
+                    return Err("a text has a control character".to_string())
+                }
                 other => found.push(other),
             }
         }
@@ -231,7 +233,8 @@ impl Reader<'_> {
             Some(b'r') => '\r',
             Some(b't') => '\t',
             Some(b'u') => {
-                let digits = self.text.get(self.at..self.at + 4).ok_or("four digits are missing")?;
+                let digits =
+                    self.text.get(self.at..self.at + 4).ok_or("four digits are missing")?;
                 let number = u32::from_str_radix(digits, 16).map_err(|error| error.to_string())?;
                 self.at += 4;
                 char::from_u32(number).ok_or("half of a pair stands alone")?
@@ -250,7 +253,8 @@ mod tests {
         let text =
             " {\"a\" : [1, -2,0], \"b\":{}, \"c\":\"x\\\"\\\\\\n\\u00e9円\", \"d\":[null,true,false], \"e\":[]} ";
         let value = read(text).unwrap();
-        let told = "{\"a\":[1,-2,0],\"b\":{},\"c\":\"x\\\"\\\\\\né円\",\"d\":[null,true,false],\"e\":[]}";
+        let told =
+            "{\"a\":[1,-2,0],\"b\":{},\"c\":\"x\\\"\\\\\\né円\",\"d\":[null,true,false],\"e\":[]}";
         assert_eq!(value.to_string(), told);
         assert_eq!(value.get("c").and_then(Value::text), Some("x\"\\\né円"));
         let list = value.get("a").and_then(Value::items).unwrap();

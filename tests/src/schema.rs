@@ -221,7 +221,8 @@ impl Schema {
         for (name, schema) in schemas.fields().unwrap_or_default() {
             let Some(value) = here.value.get(name) else { continue };
             let place = format!("{}/properties/{name}", here.place);
-            let field = format!("{}{}{name}", here.field, if here.field.is_empty() { "" } else { "." });
+            let field =
+                format!("{}{}{name}", here.field, if here.field.is_empty() { "" } else { "." });
             match self.look(Here { schema, place: &place, value, field: &field }) {
                 Ok(parts) => {
                     met.extend(parts);
@@ -328,8 +329,12 @@ fn plain(here: Here, keyword: &str, wanted: &Value) -> Result<(), Fault> {
         }
         "minimum" if number.is_some_and(|number| number < limit) => format!("is below {limit}"),
         "maximum" if number.is_some_and(|number| number > limit) => format!("is above {limit}"),
-        "minItems" if length.is_some_and(|length| length < limit) => format!("has less than {limit}"),
-        "maxItems" if length.is_some_and(|length| length > limit) => format!("has more than {limit}"),
+        "minItems" if length.is_some_and(|length| length < limit) => {
+            format!("has less than {limit}")
+        }
+        "maxItems" if length.is_some_and(|length| length > limit) => {
+            format!("has more than {limit}")
+        }
         "format" if value.text().is_some_and(|text| !is_date(text)) => "is no date".to_string(),
         "required" => return required(here, wanted),
         "additionalProperties" => return closed(here),

@@ -63,11 +63,7 @@ impl Common {
 /// For each number of edits, from 0 on, the furthest place of the first list that they reach on each diagonal:
 /// at place `at` of a row of so many edits, as many of the first list are left out as `at`, and the others are
 /// put in from the second. It ends with the row that reaches the end of both lists, or that of the most edits.
-fn rows(
-    lengths: [usize; 2],
-    most: usize,
-    same: impl Fn(usize, usize) -> bool,
-) -> Vec<Vec<usize>> {
+fn rows(lengths: [usize; 2], most: usize, same: impl Fn(usize, usize) -> bool) -> Vec<Vec<usize>> {
     let [one, other] = lengths;
     let slide = |x: usize, y: usize| {
         let left = one.saturating_sub(x).min(other.saturating_sub(y));
@@ -175,7 +171,8 @@ mod tests {
     /// Is it a common subsequence, its stretches apart and in order? Answers its length.
     fn is_common(one: &[usize], other: &[usize], found: &Common) -> usize {
         let mut ends = [0, 0];
-        for (at, Stretch { places: [a, b], length }) in found.stretches.iter().copied().enumerate() {
+        for (at, Stretch { places: [a, b], length }) in found.stretches.iter().copied().enumerate()
+        {
             assert!(length > 0 && a >= ends[0] && b >= ends[1], "{found:?}");
             assert!(at == 0 || [a, b] != ends, "stretches that follow are one: {found:?}");
             assert_eq!(one[a..a + length], other[b..b + length], "{found:?}");

@@ -50,7 +50,9 @@ impl<'a> Part<'a> {
 
     /// The words of a roll's quotes; none of another instruction.
     pub fn quotes(&self, at: usize) -> &'a [u8] {
-        let Line { word, instruction: Instruction::Roll { .. } } = self.line(at) else { return &[] };
+        let Line { word, instruction: Instruction::Roll { .. } } = self.line(at) else {
+            return &[];
+        };
         self.tape.get(4 * (word + 1)..4 * (word + 1 + QUOTES)).unwrap_or_default()
     }
 
@@ -81,15 +83,16 @@ impl Edits {
         let gaps = gaps(&found.stretches, lengths);
         let mut left = [0, 1].map(|side| gaps.iter().flat_map(|gap| gap[side].clone()).collect());
         let cut = found.cut;
-        let is_behind = |pair: &[usize; 2]| {
-            cut.is_some_and(|cut| pair[0] >= cut[0] && pair[1] >= cut[1])
-        };
+        let is_behind =
+            |pair: &[usize; 2]| cut.is_some_and(|cut| pair[0] >= cut[0] && pair[1] >= cut[1]);
         let pairs = paired(&mut left, |side, at| parts[side].key(at));
         let (alike, moved) = pairs.into_iter().partition(is_behind);
         let mut edits = Edits { stretches: found.stretches, moved, cut, alike, ..Edits::default() };
         for gap in gaps {
             let mut inside = [0, 1].map(|side| within(&left[side], &gap[side]).to_vec());
-            edits.changed.extend(paired(&mut inside, |side, at| head(&parts[side].instruction(at))));
+            edits
+                .changed
+                .extend(paired(&mut inside, |side, at| head(&parts[side].instruction(at))));
             edits.only.iter_mut().zip(inside).for_each(|(only, inside)| only.extend(inside));
         }
         edits
@@ -123,10 +126,7 @@ fn within<'a>(places: &'a [usize], range: &Range<usize>) -> &'a [usize] {
 
 /// Pairs the places that have the same key, the first with the first; those without a partner stay in the lists,
 /// rising as before.
-fn paired<K: Ord>(
-    lists: &mut [Vec<usize>; 2],
-    key: impl Fn(usize, usize) -> K,
-) -> Vec<[usize; 2]> {
+fn paired<K: Ord>(lists: &mut [Vec<usize>; 2], key: impl Fn(usize, usize) -> K) -> Vec<[usize; 2]> {
     let mut sides = [0, 1].map(|side| {
         let mut list = mem::take(&mut lists[side]);
         // It keeps the order of those that have the same key.

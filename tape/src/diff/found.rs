@@ -65,7 +65,8 @@ pub fn edited(
         tell(&Difference::Unordered { words: words(cut) })?;
     }
     for (side, part) in parts.iter().enumerate() {
-        let follows = |one: &usize, next: &usize| one + 1 == *next && part.is_same(*one, part, *next);
+        let follows =
+            |one: &usize, next: &usize| one + 1 == *next && part.is_same(*one, part, *next);
         for like in edits.only[side].chunk_by(follows) {
             let (line, count) = (part.line(like[0]), like.len());
             tell(&Difference::Only { side, line, count })?;

@@ -104,7 +104,8 @@ impl Sums {
     /// The sums that differ, in both.
     pub fn differing(&self, other: &Sums) -> Vec<(Of, [Amount; 2])> {
         let of: BTreeSet<&Of> = self.0.keys().chain(other.0.keys()).collect();
-        let in_both = |of: &Of| [self, other].map(|sums| sums.0.get(of).copied().unwrap_or_default());
+        let in_both =
+            |of: &Of| [self, other].map(|sums| sums.0.get(of).copied().unwrap_or_default());
         let all = of.into_iter().map(|of| (*of, in_both(of)));
         all.filter(|(_, [one, two])| one != two).collect()
     }
@@ -130,9 +131,8 @@ mod tests {
 
     #[test]
     fn sums_are_the_same_whatever_the_sequence() {
-        let fails = |from, lots| {
-            Fact::Fails { issue: 0, from, to: 2, lots, first: 0, last: 0, units: 1 }
-        };
+        let fails =
+            |from, lots| Fact::Fails { issue: 0, from, to: 2, lots, first: 0, last: 0, units: 1 };
         let sums = |facts: &[Fact]| {
             let mut sums = Sums::default();
             facts.iter().for_each(|fact| sums.note(fact));

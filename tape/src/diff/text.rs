@@ -117,7 +117,7 @@ pub fn tell(
         }
         Difference::Order { issue: number, parting } => {
             format!("  {}", order(known, *number, parting))
-        },
+        }
         Difference::Sum { of, amounts } => format!("  {}", sum(known, of, *amounts)),
         Difference::ReadingEnds { ends } => format!("  {}", reading_ends(days, *ends)),
         Difference::Ledger => {

@@ -319,12 +319,7 @@ fn charge(out: &mut impl Write, fact: &Fact, known: &Known) -> io::Result<()> {
 }
 
 /// A fail entry of the ledger.
-fn entry(
-    out: &mut impl Write,
-    numbers: &[u32; 4],
-    since: u16,
-    known: &Known,
-) -> io::Result<()> {
+fn entry(out: &mut impl Write, numbers: &[u32; 4], since: u16, known: &Known) -> io::Result<()> {
     let [issue, from, to, lots] = *numbers;
     let (issue, lots, since) = (known.issue(issue), Face(lots.into()), known.day(since));
     let (from, to) = (known.account(from), known.account(to));

@@ -1,8 +1,8 @@
 //! A page written: head, index, legend, the days with their issues, and the book at the end.
 
 use super::markup::{
-    badge, bar, cell_of, escaped, face, framed, legend, list, name, number, range, section_of, table,
-    Look,
+    badge, bar, cell_of, escaped, face, framed, legend, list, name, number, range, section_of,
+    table, Look,
 };
 use super::markup::{CHARGED, CHARGES, DAYS, FAILS, HANDED, KINDS, LATER, LEDGER, ORDER};
 use super::parts::{Charge, DayPart, Delivery, Handed, IssuePart, Later, Piece, Roll, State};
@@ -15,7 +15,8 @@ use settlement_day::Entry;
 use std::io::{self, Write};
 
 /// How to read the bars of units.
-const BARS: &str = "A bar shows where in the issue's order units stand, and how many lots they are. \
+const BARS: &str =
+    "A bar shows where in the issue's order units stand, and how many lots they are. \
     Like units are one row.";
 
 impl Page {
@@ -182,9 +183,8 @@ impl Page {
             let ledger = self.end.ledger.iter().map(|entry| entry_row(entry, known));
             table(out, &LEDGER, &ledger.collect::<Vec<_>>())?;
             writeln!(out, "<h3>Charges</h3>")?;
-            let row = |(account, yen): &(u32, i64)| {
-                vec![name(known.account(*account)), number(*yen)]
-            };
+            let row =
+                |(account, yen): &(u32, i64)| vec![name(known.account(*account)), number(*yen)];
             table(out, &CHARGED, &self.end.charged.iter().map(row).collect::<Vec<_>>())
         })
     }

@@ -81,7 +81,9 @@ fn compare(place: &Place, examples: &[Shown]) -> Result<Vec<String>, String> {
         let mut printed = printed.lines();
         for line in lines {
             if !printed.any(|one| one == line) {
-                wrong.push(format!("{DOCUMENT}: {command} does not print, in this order\n    {line}"));
+                wrong.push(format!(
+                    "{DOCUMENT}: {command} does not print, in this order\n    {line}"
+                ));
                 break;
             }
         }
