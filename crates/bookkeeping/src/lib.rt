@@ -1,4 +1,5 @@
 // The scan of ledger and charges for soundness: one pass over each column. Any content is scanned, no sum wraps.
+use balancing::zeros8;
 use book::taking;
 use rules::Phase;
 use rules::State;
@@ -10,19 +11,7 @@ ghost use Rattle.rules.specs.Ledger.{entry};
 ghost use Rattle.rules.specs.Book.{all, isZero, entries, entrySound, LedgerLengths};
 ghost use Rattle.balancing.specs.Scan.{deliveredSound, entriesSound, unusedZero, ledgerSound, chargesSound};
 
-// Are all 0? At three widths.
-fn zeros8(xs: &[u8]) -> bool
-    ensures { λ r. ⌜ r ≡ all isZero (now (xs .entry)) ⌝ }
-{
-    let mut good = true;
-    let mut i: usize = 0;
-    while i < xs.len() {
-        good = good & (xs[i] == 0);
-        i += 1;
-    }
-    good
-}
-
+// Are all 0? At the two widths that `balancing::zeros8` has not.
 fn zeros16(xs: &[u16]) -> bool
     ensures { λ r. ⌜ r ≡ all isZero (now (xs .entry)) ⌝ }
 {
