@@ -11,7 +11,8 @@ use lib.Seq.{drop-cons}
 use lib.IntN.{ℤ, pos, negsuc, natAbs}
 use borrow.Author.Tests.{lt-ltb}
 use Rattle.rules.specs.Measures.{dueOf, owedOf}
-use Rattle.rules.specs.Book.{all, row, headOr0, entries, isEven, lotsEven, cellsEven, entryEven}
+use Rattle.rules.specs.Book.{all, row, headOr0, entries, isZero, isEven, lotsEven, cellsEven, entryEven}
+use Rattle.laws.proofs.Sound.{zero-at}
 use Rattle.laws.proofs.Ledger.{noEntry, length-entries, entry-at}
 use Rattle.laws.proofs.Scans.{and-true, and-turn, all-more, all-end, restOfIssues}
 use Rattle.balancing.specs.EvenScan.{rowEven, allCells, allLots}
@@ -72,6 +73,17 @@ pub lots-entries : (marks : List ℕ) (n : ℕ) (is fs ts xs ds : List ℕ) (r :
     r ≡ all (entryEven marks) (entries n is fs ts xs ds)
 unfolding allLots
 lots-entries marks n is fs ts xs ds r e = e ∙ same-lots marks n is [] [] xs [] fs ts ds
+
+-- where no issue is marked every entry passes
+none-asked : (marks : List ℕ) (n : ℕ) (is fs ts xs ds : List ℕ) → all isZero marks ≡ true →
+    true ≡ all (entryEven marks) (entries n is fs ts xs ds)
+none-asked marks zero is fs ts xs ds h = refl
+none-asked marks (suc n) is fs ts xs ds h =
+    rw (zero-at marks (headOr0 is) h) (none-asked marks n (tail is) (tail fs) (tail ts) (tail xs) (tail ds) h)
+
+pub lots-unmarked : (marks : List ℕ) (n : ℕ) (is xs : List ℕ) → all isZero marks ≡ true → true ≡ allLots marks n is xs
+unfolding allLots
+lots-unmarked marks n is xs h = none-asked marks n is [] [] xs [] h
 
 -- what is left of the tests, from entry k on
 abbrev pub restOfLots : List ℕ → ℕ → List ℕ → List ℕ → ℕ → Bool

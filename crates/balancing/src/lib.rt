@@ -10,7 +10,7 @@ use rules::State;
 ghost use mathlib.Core.Path.{_≡_};
 ghost use Prim.Native.Nat.{_≤_, _<_};
 ghost use lib.ListN.{length};
-ghost use Rattle.rules.specs.Book.{CellLengths, isEven, cellsEven};
+ghost use Rattle.rules.specs.Book.{CellLengths, all, isZero, isEven, cellsEven};
 ghost use Rattle.balancing.specs.Scan.{rowSound, netsSound, RowLengths};
 ghost use lib.IntN.{natAbs};
 ghost use Rattle.balancing.specs.EvenScan.{rowEven, allCells, allLots};
@@ -103,11 +103,35 @@ pub fn cells_even<'a>(s: State, nets: &'a [i32], delivered: &'a [u32]) -> bool
     good
 }
 
-// Are the lots of each entry even, if its issue is marked?
+// Are all 0?
+pub fn zeros8(xs: &[u8]) -> bool
+    ensures { λ r. ⌜ r ≡ all isZero (now (xs .entry)) ⌝ }
+{
+    let mut good = true;
+    let mut i: usize = 0;
+    while i < xs.len() {
+        good = good & (xs[i] == 0);
+        i += 1;
+    }
+    good
+}
+
+// Is no issue marked?
+fn none_marked(s: State) -> bool
+    ensures { λ r. ⌜ r ≡ all isZero (s .marks) ⌝ }
+{
+    let marks = s.marks;
+    zeros8(&marks)
+}
+
+// Are the lots of each entry even, if its issue is marked? Where none is, no entry is looked at.
 pub fn entries_even<'a>(s: State, issues: &'a [u8], lots: &'a [u32]) -> bool
     requires { ⌜ (s .entries ≤ length (now issues)) × (s .entries ≤ length (now lots)) ⌝ }
     ensures { λ r. ⌜ r ≡ allLots (s .marks) (s .entries) (now (issues .entry)) (now (lots .entry)) ⌝ }
 {
+    if none_marked(s) {
+        return true;
+    }
     let n = s.entries;
     let mut good = true;
     let mut k: usize = 0;

@@ -1,4 +1,5 @@
 // The scan of ledger and charges for soundness: one pass over each column. Any content is scanned, no sum wraps.
+use balancing::zeros8;
 use book::taking;
 use rules::ACCOUNT_COUNT;
 use rules::MOST_ENTRIES;
@@ -8,23 +9,11 @@ ghost use mathlib.Core.Path.{_≡_};
 ghost use Prim.Native.Nat.{_≤_};
 ghost use lib.ListN.{length};
 ghost use Rattle.rules.specs.Measures.{dueOf, owedOf};
-ghost use Rattle.rules.specs.Ledger.{entry};
-ghost use Rattle.rules.specs.Book.{all, isZero, entries, entrySound, LedgerLengths};
+ghost use Rattle.rules.specs.Book.{all, isZero, entries, LedgerLengths};
 ghost use Rattle.balancing.specs.Scan.{deliveredSound, entriesSound, unusedZero, ledgerSound, chargesSound};
+ghost use Rattle.bookkeeping.specs.Columns.{issueSound, sidesSound, lotsSound, daysRise};
 
-// Are all 0? At three widths.
-fn zeros8(xs: &[u8]) -> bool
-    ensures { λ r. ⌜ r ≡ all isZero (now (xs .entry)) ⌝ }
-{
-    let mut good = true;
-    let mut i: usize = 0;
-    while i < xs.len() {
-        good = good & (xs[i] == 0);
-        i += 1;
-    }
-    good
-}
-
+// Are all 0? At the two widths that `balancing::zeros8` has not.
 fn zeros16(xs: &[u16]) -> bool
     ensures { λ r. ⌜ r ≡ all isZero (now (xs .entry)) ⌝ }
 {
@@ -59,14 +48,68 @@ pub fn delivered_sound(phase: Phase, delivered: &[u32]) -> bool
     true
 }
 
-// Has an entry numbers in range, from unlike to, lots 1..20,000,000?
-fn entry_sound(i: u8, f: u8, t: u8, x: u32) -> bool
-    ensures { λ r. ⌜ r ≡ entrySound (entry i f t x 0) ⌝ }
+// Is each number one of an issue?
+fn issues_sound(issues: &[u8]) -> bool
+    ensures { λ r. ⌜ r ≡ all issueSound (now (issues .entry)) ⌝ }
 {
-    (i <= 15) & (f <= 63) & (t <= 63) & (f != t) & (1 <= x) & (x <= 20_000_000)
+    let mut good = true;
+    let mut k: usize = 0;
+    while k < issues.len() {
+        good = good & (issues[k] <= 15);
+        k += 1;
+    }
+    good
 }
 
-// Are the entries right, do days never fall along them, nor lie above today?
+// Are both numbers those of accounts, from unlike to?
+fn sides_sound<'a>(froms: &'a [u8], tos: &'a [u8]) -> bool
+    requires { ⌜ length (now froms) ≡ length (now tos) ⌝ }
+    ensures { λ r. ⌜ r ≡ sidesSound (now (froms .entry)) (now (tos .entry)) ⌝ }
+{
+    let mut good = true;
+    let mut k: usize = 0;
+    while k < froms.len() {
+        let f = froms[k];
+        let t = tos[k];
+        good = good & ((f <= 63) & (t <= 63) & (f != t));
+        k += 1;
+    }
+    good
+}
+
+// Are the lots of each entry 1..20,000,000?
+fn lots_sound(lots: &[u32]) -> bool
+    ensures { λ r. ⌜ r ≡ all lotsSound (now (lots .entry)) ⌝ }
+{
+    let mut good = true;
+    let mut k: usize = 0;
+    while k < lots.len() {
+        let x = lots[k];
+        good = good & ((1 <= x) & (x <= 20_000_000));
+        k += 1;
+    }
+    good
+}
+
+// Do days never fall along the entries, nor lie above today?
+fn days_sound(today: u16, days: &[u16]) -> bool
+    ensures { λ r. ⌜ r ≡ daysRise 0 today (now (days .entry)) ⌝ }
+{
+    let n = days.len();
+    if n == 0 {
+        return true;
+    }
+    let mut good = true;
+    let mut k: usize = 1;
+    while k < n {
+        good = good & (days[k - 1] <= days[k]);
+        k += 1;
+    }
+    good & (days[n - 1] <= today)
+}
+
+// Are the entries right, do days never fall along them, nor lie above today? Each column is looked at by itself, every
+// place of it: so the compiler compares many at once.
 fn entries_sound<'a>(
     s: State,
     issues: &'a [u8],
@@ -80,16 +123,11 @@ fn entries_sound<'a>(
 {
     let today = s.day;
     let n = s.entries;
-    let mut good = true;
-    let mut last: u16 = 0;
-    let mut k: usize = 0;
-    while k < n {
-        let d = days[k];
-        good = good & entry_sound(issues[k], froms[k], tos[k], lots[k]) & (last <= d);
-        last = d;
-        k += 1;
-    }
-    good & (last <= today)
+    let i = issues_sound(&issues[..n]);
+    let a = sides_sound(&froms[..n], &tos[..n]);
+    let x = lots_sound(&lots[..n]);
+    let d = days_sound(today, &days[..n]);
+    i & a & x & d
 }
 
 // Are the unused entries zero?

@@ -1,45 +1,50 @@
--- The flag and the tests of the entries that are left, from the last day on, are those of all entries.
-use mathlib.Core.Path.{_≡_}
-use mathlib.Core.Bool.{_&&_}
-use Prim.Native.Nat.{_-_, _≤_}
-use native.Mathlib.Omega.{arith}
+-- The used part of each column is lent to the test of that column.
+use mathlib.Core.Path.{sym, _∙_}
 use denote.Ref.{now}
-use Rattle.rules.specs.Book.{entries}
-use Rattle.balancing.specs.Scan.{entriesSound}
-use Rattle.bookkeeping.proofs.LedgerLaws.{restOfLedger, ledger-more, ledger-end}
+use Rattle.bookkeeping.proofs.LedgerLaws.{columns-sound, used}
 use borrow.Author.Needs.{needs}
 use Rattle.bookkeeping.proofs.entries_sound.Statement.{statement}
 use Rattle.bookkeeping.proofs.entries_sound.Tie as tie
 
-abbrev Inv-loop : tie.InvT-loop
-Inv-loop issues froms tos lots days today n good₀ last₀ k₀ good last k =
-    (k ≤ n)
-    × (good && restOfLedger today last k (entries n issues froms tos lots days)
-    ≡ restOfLedger today 0 0 (entries n issues froms tos lots days))
+abbrev start : tie.After-shared-slice-known5 → tie.Start
+start c = c .before .before .before .before .before
 
-abbrev μ-loop : tie.MeasureT-loop
-μ-loop issues froms tos lots days today n good₀ last₀ k₀ good last k = n - k
+abbrev second : tie.After-issues-sound → tie.Start
+second c = start (c .before .before)
 
-loop-again : tie.Need-loop-again Inv-loop μ-loop
-loop-again c =
-    let s = c .before .before .before .before .before .before .before .before .before .before .before .before .before in
-    let l = c .before .before .before .before .before .before .before .loop in (
-      search needs,
-      ledger-more (s .args .s .day) (s .args .s .entries) (now (s .args .issues)) (now (s .args .froms)) (now (s .args .tos))
-          (now (s .args .lots)) (now (s .args .days)) (l .last) (l .k) (l .good) _ _ (omega arith) (c .entry-sound .ensures) (l .inv .1),
-    )
+abbrev third : tie.After-sides-sound → tie.Start
+third c = second (c .before .before .before)
 
-returns : tie.Need-returns Inv-loop μ-loop
-unfolding entriesSound
+abbrev fourth : tie.After-lots-sound → tie.Start
+fourth c = third (c .before .before)
+
+issues-part : tie.Need-slice-aggregate-issues-sound
+issues-part c = let p = start (c .before) .pre in used _ _ (p .0) (p .1 .issues)
+
+froms-part : tie.Need-slice-aggregate-sides-sound
+froms-part c = let p = second (c .before) .pre in used _ _ (p .0) (p .1 .froms)
+
+tos-part : tie.Need-slice-aggregate-sides-sound-2
+tos-part c = let p = second (c .before .before) .pre in used _ _ (p .0) (p .1 .tos)
+
+lots-part : tie.Need-slice-aggregate-lots-sound
+lots-part c = let p = third (c .before) .pre in used _ _ (p .0) (p .1 .lots)
+
+days-part : tie.Need-slice-aggregate-days-sound
+days-part c = let p = fourth (c .before) .pre in used _ _ (p .0) (p .1 .days)
+
+returns : tie.Need-returns
 returns c =
-    let s = c .before .before .before .before .before .before .before in
-    let l = c .before .loop in
-    ledger-end (s .args .s .day) (s .args .s .entries) (now (s .args .issues)) (now (s .args .froms)) (now (s .args .tos))
-    (now (s .args .lots)) (now (s .args .days)) (l .last) (l .k) (l .good) _ (omega arith) (l .inv .1)
+    let x = c .before .before in
+    let a = x .before .before in
+    let i = a .before .before .before in
+    let s = second i in
+    let g = s .args in
+    columns-sound (g .s .day) (g .s .entries) (now (g .issues)) (now (g .froms)) (now (g .tos)) (now (g .lots)) (now (g .days))
+    _ _ _ _ (s .pre .0) (s .pre .1) (i .issues-sound .ensures) (a .sides-sound .ensures) (x .lots-sound .ensures) (c .days-sound .ensures)
 
 pub entries-sound-spec : {M : Type 1} → statement M
 entries-sound-spec =
     tie.close
-    (tie.spec Inv-loop μ-loop (λ c. search needs) (λ c. search needs) (λ c. search needs) (λ c. search needs)
-    (λ c. search needs) (λ c. search needs) (λ c. search needs) (λ c. search needs) (λ c κs. search needs)
-    (λ c. search needs) (λ c. search needs) loop-again returns)
+    (tie.spec issues-part (λ c κs. search needs) froms-part tos-part (λ c κs. sym (froms-part (c .before)) ∙ tos-part c)
+    lots-part (λ c κs. search needs) days-part (λ c κs. search needs) returns)

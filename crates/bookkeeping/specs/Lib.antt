@@ -1,0 +1,2 @@
+-- Entries in the columns that a scan goes through.
+pub mod Columns
