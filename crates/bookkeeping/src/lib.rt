@@ -3,6 +3,7 @@ use balancing::zeros8;
 use book::taking;
 use rules::ACCOUNT_COUNT;
 use rules::MOST_ENTRIES;
+use rules::MOST_LOTS;
 use rules::Phase;
 use rules::State;
 ghost use mathlib.Core.Path.{_≡_};
@@ -12,6 +13,11 @@ ghost use Rattle.rules.specs.Measures.{dueOf, owedOf};
 ghost use Rattle.rules.specs.Book.{all, isZero, entries, LedgerLengths};
 ghost use Rattle.balancing.specs.Scan.{deliveredSound, entriesSound, unusedZero, ledgerSound, chargesSound};
 ghost use Rattle.bookkeeping.specs.Columns.{issueSound, sidesSound, lotsSound, daysRise};
+
+// the last issue and the last account, as the ledger's columns have them
+const LAST_ISSUE: u8 = 15;
+
+const LAST_ACCOUNT: u8 = 63;
 
 // Are all 0? At the two widths that `balancing::zeros8` has not.
 fn zeros16(xs: &[u16]) -> bool
@@ -55,7 +61,7 @@ fn issues_sound(issues: &[u8]) -> bool
     let mut good = true;
     let mut k: usize = 0;
     while k < issues.len() {
-        good = good & (issues[k] <= 15);
+        good = good & (issues[k] <= LAST_ISSUE);
         k += 1;
     }
     good
@@ -71,7 +77,7 @@ fn sides_sound<'a>(froms: &'a [u8], tos: &'a [u8]) -> bool
     while k < froms.len() {
         let f = froms[k];
         let t = tos[k];
-        good = good & ((f <= 63) & (t <= 63) & (f != t));
+        good = good & ((f <= LAST_ACCOUNT) & (t <= LAST_ACCOUNT) & (f != t));
         k += 1;
     }
     good
@@ -85,7 +91,7 @@ fn lots_sound(lots: &[u32]) -> bool
     let mut k: usize = 0;
     while k < lots.len() {
         let x = lots[k];
-        good = good & ((1 <= x) & (x <= 20_000_000));
+        good = good & ((1 <= x) & (x <= MOST_LOTS));
         k += 1;
     }
     good
