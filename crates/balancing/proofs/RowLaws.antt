@@ -1,115 +1,116 @@
--- The scan of nets and delivered lots: row by row, then issue by issue.
+-- The scan of nets and delivered lots: bounds, the balance of each issue, what is delivered.
 use mathlib.Core.Path.{_≡_, refl, ap, sym, _∙_}
 use mathlib.Core.Bool.{Bool, true, false, _&&_}
-use mathlib.Core.List.{List, [], _∷_, map}
-use Prim.Native.Nat.{ℕ, zero, suc, _+_, _-_, _*_, _≤_, _<_}
+use mathlib.Core.List.{List, map}
+use Prim.Native.Nat.{ℕ, suc, _+_, _-_, _*_, _≤_, _<_, _^_}
 use native.Mathlib.Numerals.{add-one}
 use native.Mathlib.Omega.{arith}
-use lib.Dec.{leb, eqb}
-use lib.ListN.{length, take, drop, getD, drop-of-length-le}
-use lib.Seq.{drop-cons, drop-drop}
-use lib.IntN.{ℤ, pos}
+use lib.Dec.{leb, ltb, eqb}
+use lib.ListN.{length, drop, getD, drop-of-length-le}
+use lib.Seq.{drop-cons}
+use lib.IntN.{ℤ, pos, negsuc, natAbs, _+ℤ_}
+use mir.Syntax.{w32}
+use mir.Val.{SFits, toZ}
+use borrow.Author.Tests.{ltb-false, leb-true, eqb-true, eqb-false, eq-eqb, ne-eqb}
 use Rattle.rules.specs.Measures.{mostLots, sum, dueOf, owedOf}
-use Rattle.rules.specs.Book.{tabulate, all, row, balanced, withinSize, withinOwed}
-use Rattle.laws.proofs.Scans.{and-false, and-true, and-assoc, and-swap, and-turn}
-use Rattle.balancing.specs.Scan.{rowSound, netsSound}
+use Rattle.rules.specs.Book.{all, row, balanced, withinSize, withinOwed}
+use Rattle.laws.proofs.Basics.{byTest, either, all-at, each-take, each-drop}
+use Rattle.laws.proofs.Sound.{all-each, each-all}
+use Rattle.laws.proofs.Cells.{length-row}
+use Rattle.laws.proofs.Scans.{and-true, and-assoc, sum-more, sum-none, restOfIssues}
+use Rattle.book.proofs.Signs.{sum-fits, sum-parts}
+use Rattle.balancing.specs.Scan.{allBalanced, netsSound, RowWithin}
 
--- An issue's row
+-- What is delivered, place by place
 
--- what is left of the two tests of each net, from i on
-abbrev pub restOfRow : List ℤ → List ℕ → ℕ → Bool
-restOfRow ns ds i = all (withinSize mostLots) (drop i ns) && withinOwed (drop i ns) (drop i ds)
+module _ (ns : List ℤ) (ds : List ℕ) (k : ℕ) (g whole : Bool) where
+  pub owed-more : (o : ℕ) → k < length ns → k < length ds → o ≡ owedOf (getD ns k (pos 0)) →
+      g && withinOwed (drop k ns) (drop k ds) ≡ whole →
+      (g && leb (getD ds k 0) o) && withinOwed (drop (k + 1) ns) (drop (k + 1) ds) ≡ whole
+  owed-more o h j eo e =
+      rw (eo, add-one)
+      (and-assoc g (leb (getD ds k 0) (owedOf (getD ns k (pos 0)))) (withinOwed (drop (suc k) ns) (drop (suc k) ds))
+      ∙ ap (λ t. g && t) (sym (rw (drop-cons ns k (pos 0) h, drop-cons ds k 0 j))) ∙ e)
 
-module _ (ns : List ℤ) (ds : List ℕ) (i : ℕ) (g : Bool) where
-  pub row-more : (o : ℕ) (w whole : Bool) → i < length ns → i < length ds → o ≡ owedOf (getD ns i (pos 0)) →
-      w ≡ withinSize mostLots (getD ns i (pos 0)) → g && restOfRow ns ds i ≡ whole →
-      ((g && w) && leb (getD ds i 0) o) && restOfRow ns ds (i + 1) ≡ whole
-  row-more o w whole h k eo ew e =
-      rw (eo, ew, add-one)
-      (and-turn g (withinSize mostLots (getD ns i (pos 0))) (all (withinSize mostLots) (drop (suc i) ns))
-      (leb (getD ds i 0) (owedOf (getD ns i (pos 0)))) (withinOwed (drop (suc i) ns) (drop (suc i) ds))
-      ∙ ap (λ t. g && t) (sym (rw (drop-cons ns i (pos 0) h, drop-cons ds i 0 k))) ∙ e)
+  pub owed-end : length ns ≤ k → g && withinOwed (drop k ns) (drop k ds) ≡ whole → g ≡ whole
+  owed-end h e =
+      sym (and-true g) ∙ ap (λ l. g && withinOwed l (drop k ds)) (sym (drop-of-length-le ns h)) ∙ e
 
-  pub row-end : (dues oweds : ℕ) → length ns ≤ i → dues ≡ sum (map dueOf ns) → oweds ≡ sum (map owedOf ns) →
-      g && restOfRow ns ds i ≡ all (withinSize mostLots) ns && withinOwed ns ds →
-      g && eqb dues oweds ≡ rowSound ns ds
-  unfolding rowSound
-  row-end dues oweds h ed eo e =
-      let f : g ≡ all (withinSize mostLots) ns && withinOwed ns ds =
-      sym (and-true g) ∙ ap (λ l. g && (all (withinSize mostLots) l && withinOwed l (drop i ds))) (sym (drop-of-length-le ns h)) ∙ e in
-      rw (f, ed, eo) (and-swap (all (withinSize mostLots) ns) (balanced ns) (withinOwed ns ds))
+-- The signed sum of an issue's nets
+
+-- no sum is larger than both parts together
+abs-sum : (m n : ℤ) → natAbs (m +ℤ n) ≤ natAbs m + natAbs n
+abs-sum (pos a) (pos b) = omega arith
+abs-sum (pos a) (negsuc b) = either (λ z. natAbs z ≤ a + suc b) (ltb a (suc b)) (omega arith) (omega arith)
+abs-sum (negsuc a) (pos b) = either (λ z. natAbs z ≤ suc a + b) (ltb b (suc a)) (omega arith) (omega arith)
+abs-sum (negsuc a) (negsuc b) = omega arith
+
+-- the sum of the nets before a, with those from a on, is in balance as all are
+pub record Summed (ns : List ℤ) (a : ℕ) (z : ℤ) : Type 0 where
+  pub most : a ≤ 64
+  pub size : natAbs z ≤ mostLots * a
+  pub parts : dueOf z + sum (map dueOf (drop a ns)) + sum (map owedOf ns) ≡ owedOf z + sum (map owedOf (drop a ns)) + sum (map dueOf ns)
+
+pub sum-start : (ns : List ℤ) → Summed ns 0 (pos 0)
+sum-start ns = record { most = omega arith; size = omega arith; parts = omega arith }
+
+module _ (ns : List ℤ) (w : RowWithin ns) (a : ℕ) (z : ℤ) (s : Summed ns a z) (h : a < 64) where
+  net-small : natAbs (getD ns a (pos 0)) ≤ mostLots
+  net-small = leb-true _ mostLots (all-at (withinSize mostLots) ns (pos 0) a (w .size) (omega (arith, w .accounts)))
+
+  pub next-fits : SFits w32 (z +ℤ getD ns a (pos 0))
+  next-fits = sum-fits w32 z (getD ns a (pos 0)) (omega (arith, s .size, net-small))
+
+  pub sum-next : Summed ns (a + 1) (z +ℤ getD ns a (pos 0))
+  sum-next =
+      let n = getD ns a (pos 0) in
+      let l : a < length ns = omega (arith, w .accounts) in
+      record {
+        most = omega arith;
+        size = omega (arith, s .size, net-small, abs-sum z n);
+        parts = omega (arith, s .parts, sum-parts z n, sum-more dueOf ns a (pos 0) l, sum-more owedOf ns a (pos 0) l);
+      }
+
+-- the bits of a sum are 0 exactly if the sums of dues and oweds are equal
+zero-sum : (b d o : ℕ) → dueOf (toZ w32 b) + o ≡ owedOf (toZ w32 b) + d → eqb b 0 ≡ eqb d o
+zero-sum b d o e =
+    byTest (ltb b 2147483648)
+    (λ t.
+    let q : b + o ≡ 0 + d = rw t at e in
+    byTest (eqb d o)
+    (λ u. eq-eqb b 0 (omega (arith, eqb-true d o u)) ∙ sym u)
+    (λ u. ne-eqb b 0 (λ z. eqb-false d o u (omega arith)) ∙ sym u))
+    (λ t.
+    let q : 0 + o ≡ suc (4294967296 - suc b) + d = rw t at e in
+    let l = ltb-false b 2147483648 t in
+    ne-eqb b 0 (λ z. omega arith) ∙ sym (ne-eqb d o (λ z. omega arith)))
+
+pub sum-end : (ns : List ℤ) → RowWithin ns → (a b : ℕ) → Summed ns a (toZ w32 b) → 64 ≤ a → eqb b 0 ≡ balanced ns
+sum-end ns w a b s h =
+    let l : length ns ≤ a = omega (arith, w .accounts) in
+    zero-sum b (sum (map dueOf ns)) (sum (map owedOf ns)) (omega (arith, s .parts, sum-none dueOf ns a l, sum-none owedOf ns a l))
 
 -- The issues
 
--- what is left of the tests of all issues, from issue i on
-abbrev pub restOfNets : List ℤ → List ℕ → ℕ → Bool
-restOfNets ns ds i =
-    all (withinSize mostLots) (drop (i * 64) ns)
-    && (all (λ j. balanced (row j ns)) (tabulate (λ j. j) i (16 - i)) && withinOwed (drop (i * 64) ns) (drop (i * 64) ds))
+pub row-within : (ns : List ℤ) (i : ℕ) → length ns ≡ 1024 → all (withinSize mostLots) ns ≡ true → i < 16 → RowWithin (row i ns)
+row-within ns i n h k =
+    let P : ℤ → Type 0 = λ m. withinSize mostLots m ≡ true in
+    record {
+      accounts = length-row ns i n k;
+      size = each-all (withinSize mostLots) (row i ns) (each-take P 64 (drop (i * 64) ns) (each-drop P (i * 64) ns (all-each (withinSize mostLots) ns h)));
+    }
 
-all-split {ℓ} : {A : Type ℓ} (p : A → Bool) (n : ℕ) (l : List A) → all p l ≡ all p (take n l) && all p (drop n l)
-all-split p zero l = refl
-all-split p (suc n) [] = refl
-all-split p (suc n) (x ∷ xs) =
-    ap (λ t. p x && t) (all-split p n xs) ∙ sym (and-assoc (p x) (all p (take n xs)) (all p (drop n xs)))
+pub balance-start : (ns : List ℤ) → restOfIssues (λ i. balanced (row i ns)) 0 ≡ allBalanced ns
+unfolding allBalanced
+balance-start ns = refl
 
-within-none : (ns : List ℤ) → withinOwed ns [] ≡ true
-within-none [] = refl
-within-none (n ∷ ns) = refl
+-- All of them
 
-within-split : (n : ℕ) (ns : List ℤ) (ds : List ℕ) →
-    withinOwed ns ds ≡ withinOwed (take n ns) (take n ds) && withinOwed (drop n ns) (drop n ds)
-within-split zero ns ds = refl
-within-split (suc n) [] ds = refl
-within-split (suc n) (x ∷ ns) [] = sym (within-none (drop n ns))
-within-split (suc n) (x ∷ ns) (d ∷ ds) =
-    ap (λ t. leb d (owedOf x) && t) (within-split n ns ds)
-    ∙ sym (and-assoc (leb d (owedOf x)) (withinOwed (take n ns) (take n ds)) (withinOwed (drop n ns) (drop n ds)))
-
-and-issue : (g w a b c o d : Bool) →
-    (g && (w && (b && o))) && (a && (c && d)) ≡ g && ((w && a) && ((b && c) && (o && d)))
-and-issue false w a b c o d = refl
-and-issue true false a b c o d = refl
-and-issue true true a false c o d = sym (and-false a)
-and-issue true true a true c true d = refl
-and-issue true true a true c false d = sym (ap (λ t. a && t) (and-false c) ∙ and-false a)
-
-next-row : (i : ℕ) → i * 64 + 64 ≡ (i + 1) * 64
-next-row i = omega arith
-
-pub issue-more : (ns : List ℤ) (ds : List ℕ) (i : ℕ) (g r whole : Bool) → i < 16 → r ≡ rowSound (row i ns) (row i ds) →
-    g && restOfNets ns ds i ≡ whole → (g && r) && restOfNets ns ds (i + 1) ≡ whole
-unfolding rowSound
-issue-more ns ds i g r whole h er e =
-    let w = all (withinSize mostLots) in
-    let k : 16 - i ≡ suc (16 - (i + 1)) = omega arith in
-    let dn : drop 64 (drop (i * 64) ns) ≡ drop ((i + 1) * 64) ns = drop-drop 64 (i * 64) ns ∙ ap (λ m. drop m ns) (next-row i) in
-    let dd : drop 64 (drop (i * 64) ds) ≡ drop ((i + 1) * 64) ds = drop-drop 64 (i * 64) ds ∙ ap (λ m. drop m ds) (next-row i) in
-    let fa : w (drop (i * 64) ns) ≡ w (row i ns) && w (drop ((i + 1) * 64) ns) =
-    all-split (withinSize mostLots) 64 (drop (i * 64) ns) ∙ ap (λ l. w (row i ns) && w l) dn in
-    let fo : withinOwed (drop (i * 64) ns) (drop (i * 64) ds)
-    ≡ withinOwed (row i ns) (row i ds) && withinOwed (drop ((i + 1) * 64) ns) (drop ((i + 1) * 64) ds) =
-    within-split 64 (drop (i * 64) ns) (drop (i * 64) ds)
-    ∙ ap (λ l. withinOwed (row i ns) (row i ds) && withinOwed l (drop 64 (drop (i * 64) ds))) dn
-    ∙ ap (λ l. withinOwed (row i ns) (row i ds) && withinOwed (drop ((i + 1) * 64) ns) l) dd in
-    let fb : tabulate (λ j. j) i (16 - i) ≡ i ∷ tabulate (λ j. j) (i + 1) (16 - (i + 1)) =
-    ap (λ m. tabulate (λ j. j) i m) k ∙ ap (λ j. i ∷ tabulate (λ v. v) j (16 - (i + 1))) (sym (add-one i)) in
-    let f : restOfNets ns ds i
-    ≡ (w (row i ns) && w (drop ((i + 1) * 64) ns))
-    && ((balanced (row i ns) && all (λ j. balanced (row j ns)) (tabulate (λ j. j) (i + 1) (16 - (i + 1))))
-    && (withinOwed (row i ns) (row i ds) && withinOwed (drop ((i + 1) * 64) ns) (drop ((i + 1) * 64) ds))) =
-    rw (fa, fo, fb) in
-    rw er (and-issue g (w (row i ns)) (w (drop ((i + 1) * 64) ns)) (balanced (row i ns)) _ (withinOwed (row i ns) (row i ds)) _
-    ∙ ap (λ t. g && t) (sym f) ∙ e)
-
-pub nets-start : (ns : List ℤ) (ds : List ℕ) → restOfNets ns ds 0 ≡ netsSound ns ds
+pub nets-out : (ns : List ℤ) (ds : List ℕ) → all (withinSize mostLots) ns ≡ false → false ≡ netsSound ns ds
 unfolding netsSound
-nets-start ns ds = refl
+nets-out ns ds e = rw e refl
 
-pub nets-end : (ns : List ℤ) (ds : List ℕ) (i : ℕ) (g whole : Bool) → length ns ≡ 1024 → length ds ≡ 1024 → i ≡ 16 →
-    g && restOfNets ns ds i ≡ whole → g ≡ whole
-nets-end ns ds i g whole en ed ei e =
-    let hn : length ns ≤ 1024 = omega arith in
-    sym (and-true g)
-    ∙ ap (λ t. g && t) (sym (rw ei (rw (drop-of-length-le ns hn) refl)))
-    ∙ e
+pub nets-in : (ns : List ℤ) (ds : List ℕ) (b o : Bool) → all (withinSize mostLots) ns ≡ true → b ≡ allBalanced ns → o ≡ withinOwed ns ds →
+    b && o ≡ netsSound ns ds
+unfolding netsSound allBalanced
+nets-in ns ds b o e eb eo = rw (eb, eo, e) refl

@@ -11,11 +11,11 @@ use Rattle.rules.specs.declared.Entry.{Entry}
 use Rattle.rules.specs.Measures.{issueCount, mostLots, mostEntries, mostCharge}
 use Rattle.rules.specs.Book.{isTaking, tabulate, all, row, entries, balanced, withinSize, withinOwed, isZero, entrySound, daysSound}
 
--- an issue's row: each net in bounds, in balance, no more delivered than owed
-unfoldable pub rowSound : List ℤ → List ℕ → Bool
-rowSound ns ds = all (withinSize mostLots) ns && (balanced ns && withinOwed ns ds)
+-- each issue's nets are in balance
+unfoldable pub allBalanced : List ℤ → Bool
+allBalanced ns = all (λ i. balanced (row i ns)) (tabulate (λ i. i) 0 issueCount)
 
--- the same of all issues
+-- and each net is in bounds, and no more delivered than owed
 unfoldable pub netsSound : List ℤ → List ℕ → Bool
 netsSound ns ds =
     all (withinSize mostLots) ns
@@ -47,3 +47,8 @@ chargesSound today cs = balanced cs && all (withinSize (mostCharge * today)) cs
 pub record RowLengths (ns : List ℤ) (ds : List ℕ) : Type 0 where
   pub nets : length ns ≡ 64
   pub delivered : length ds ≡ 64
+
+-- a row of nets, each in bounds
+pub record RowWithin (ns : List ℤ) : Type 0 where
+  pub accounts : length ns ≡ 64
+  pub size : all (withinSize mostLots) ns ≡ true

@@ -8,48 +8,88 @@ use rules::ACCOUNT_COUNT;
 use rules::ISSUE_COUNT;
 use rules::State;
 ghost use mathlib.Core.Path.{_≡_};
+ghost use mathlib.Core.Bool.{true};
 ghost use Prim.Native.Nat.{_≤_, _<_};
 ghost use lib.ListN.{length};
-ghost use Rattle.rules.specs.Book.{CellLengths, all, isZero, isEven, cellsEven};
-ghost use Rattle.balancing.specs.Scan.{rowSound, netsSound, RowLengths};
+ghost use Rattle.rules.specs.Measures.{mostLots};
+ghost use Rattle.rules.specs.Book.{CellLengths, all, isZero, balanced, withinSize, withinOwed, isEven, cellsEven};
+ghost use Rattle.balancing.specs.Scan.{allBalanced, netsSound, RowLengths, RowWithin};
 ghost use lib.IntN.{natAbs};
 ghost use Rattle.balancing.specs.EvenScan.{rowEven, allCells, allLots};
 
-// Is each net of an issue in bounds, are they in balance, and is no more delivered than owed?
-fn row_sound<'a>(net: &'a [i32], delivered: &'a [u32]) -> bool
-    requires { ⌜ RowLengths (now net) (now delivered) ⌝ }
-    ensures { λ r. ⌜ r ≡ rowSound (now (net .entry)) (now (delivered .entry)) ⌝ }
+// Does each net lie in −20,000,000..20,000,000?
+fn nets_within(nets: &[i32]) -> bool
+    ensures { λ r. ⌜ r ≡ all (withinSize mostLots) (now (nets .entry)) ⌝ }
 {
     let mut good = true;
-    let mut dues: u64 = 0;
-    let mut oweds: u64 = 0;
-    let mut i: usize = 0;
-    while i < ACCOUNT_COUNT {
-        let n = net[i];
-        let d = due(n);
-        let o = owed(n);
-        dues += d as u64;
-        oweds += o as u64;
-        good = good & within(n) & (delivered[i] <= o);
-        i += 1;
+    let mut k: usize = 0;
+    while k < nets.len() {
+        let n = nets[k];
+        good = good & within(n);
+        k += 1;
     }
-    good & (dues == oweds)
+    good
+}
+
+// Is no more delivered than owed?
+fn delivered_within<'a>(nets: &'a [i32], delivered: &'a [u32]) -> bool
+    requires { ⌜ length (now nets) ≡ length (now delivered) ⌝ }
+    ensures { λ r. ⌜ r ≡ withinOwed (now (nets .entry)) (now (delivered .entry)) ⌝ }
+{
+    let mut good = true;
+    let mut k: usize = 0;
+    while k < nets.len() {
+        let n = nets[k];
+        let o = owed(n);
+        good = good & (delivered[k] <= o);
+        k += 1;
+    }
+    good
+}
+
+// Do an issue's nets sum to 0? They are in bounds, so no sum of them wraps.
+fn row_balanced(net: &[i32]) -> bool
+    requires { ⌜ RowWithin (now net) ⌝ }
+    ensures { λ r. ⌜ r ≡ balanced (now (net .entry)) ⌝ }
+{
+    let mut sum: i32 = 0;
+    let mut a: usize = 0;
+    while a < ACCOUNT_COUNT {
+        let n = net[a];
+        sum += n;
+        a += 1;
+    }
+    sum == 0
 }
 
 // The same of each issue.
-pub fn nets_sound<'a>(nets: &'a [i32], delivered: &'a [u32]) -> bool
-    requires { ⌜ CellLengths (now nets) (now delivered) ⌝ }
-    ensures { λ r. ⌜ r ≡ netsSound (now (nets .entry)) (now (delivered .entry)) ⌝ }
+fn rows_balanced(nets: &[i32]) -> bool
+    requires { ⌜ (length (now nets) ≡ 1024) × (all (withinSize mostLots) (now nets) ≡ true) ⌝ }
+    ensures { λ r. ⌜ r ≡ allBalanced (now (nets .entry)) ⌝ }
 {
     let mut good = true;
     let mut i: usize = 0;
     while i < ISSUE_COUNT {
         let s = i * ACCOUNT_COUNT;
         let e = s + ACCOUNT_COUNT;
-        good = good & row_sound(&nets[s..e], &delivered[s..e]);
+        good = good & row_balanced(&nets[s..e]);
         i += 1;
     }
     good
+}
+
+// Is each net in bounds, are the nets of each issue in balance, and is no more delivered than owed? Every place of a
+// column is looked at: so the compiler compares many at once.
+pub fn nets_sound<'a>(nets: &'a [i32], delivered: &'a [u32]) -> bool
+    requires { ⌜ CellLengths (now nets) (now delivered) ⌝ }
+    ensures { λ r. ⌜ r ≡ netsSound (now (nets .entry)) (now (delivered .entry)) ⌝ }
+{
+    if !nets_within(nets) {
+        return false;
+    }
+    let balance = rows_balanced(nets);
+    let owing = delivered_within(nets, delivered);
+    balance & owing
 }
 
 // Is a net even?
