@@ -446,25 +446,17 @@ fn tapes_differ_just_where_their_words_do() {
     assert!(same > 50, "{same} are the same");
 }
 
-#[test]
-fn every_fact_of_json_is_in_the_documents() {
-    let path = Path::new(env!("CARGO_MANIFEST_DIR")).join("../docs/TAPE.md");
-    let documents = fs::read_to_string(path).expect("docs/TAPE.md");
-    let section = documents.split("\n## tape diff\n").nth(1).expect("the section");
-    let section = section.split("\n## ").next().unwrap_or_default();
+/// Pairs of tapes that have every difference.
+fn differing() -> Vec<(String, String)> {
     let roll = "roll 1 300 100000 accrued 0\n";
     let day = format!("trade 3 1 2 30\nclose\ncutoff\n{roll}trade 3 2 4 20\nclose\ncutoff\n");
-    let (mut names, mut facts) = (Vec::new(), 0);
-    let many = |order: &[usize]| -> String {
-        order.iter().map(|at| format!("trade 0 1 2 {}\n", at + 1)).collect()
-    };
-    let rising: Vec<usize> = (0..900).collect();
-    let falling: Vec<usize> = (0..900).rev().collect();
+    let trades: Vec<String> = (1..=900).map(|lots| format!("trade 0 1 2 {lots}\n")).collect();
+    let falling: Vec<String> = trades.iter().rev().cloned().collect();
     let paired = |pair_offs: &str| {
         let fails = "trade 0 1 2 9\ntrade 1 1 2 9\nclose\ncutoff\n";
         format!("{fails}{roll}trade 0 2 3 9\ntrade 1 2 3 9\nclose\ncutoff\n{pair_offs}")
     };
-    for (a, b) in [
+    vec![
         (
             format!("{day}pair-off 3 2\nmark 5 1\nturn 7\n"),
             format!("{day}resolve 3 1 12\nturn 8\n{roll}close\n"),
@@ -482,9 +474,19 @@ fn every_fact_of_json_is_in_the_documents() {
             "trade 0 3 4 5\ntrade 0 1 2 5\nclose\n".into(),
         ),
         ("close\nword 0\n".into(), "close\n".into()),
-        (many(&rising), many(&falling)),
+        (trades.concat(), falling.concat()),
         (paired("pair-off 0 2\npair-off 1 2\n"), paired("pair-off 1 2\npair-off 0 2\n")),
-    ] {
+    ]
+}
+
+#[test]
+fn every_fact_of_json_is_in_the_documents() {
+    let path = Path::new(env!("CARGO_MANIFEST_DIR")).join("../docs/TAPE.md");
+    let documents = fs::read_to_string(path).expect("docs/TAPE.md");
+    let section = documents.split("\n## tape diff\n").nth(1).expect("the section");
+    let section = section.split("\n## ").next().unwrap_or_default();
+    let (mut names, mut facts) = (Vec::new(), 0);
+    for (a, b) in differing() {
         let (status, json) = told("facts", &["--json"], &a, &b);
         assert_eq!(status, 1);
         for line in json.lines() {
@@ -547,15 +549,23 @@ fn objects_have_what_is_of_both_tapes_in_a_and_b() {
     }
 }
 
+/// What is told of two tapes by the names of a file, with these options. The names have a date too, and the days of
+/// two tapes may have different ones: none is told.
+fn told_by_names(name: &str, options: &[&str]) -> String {
+    let names = "date 2026-11-17\nissue 0 JGB-350\naccount 1 Aoba\naccount 2 Bizen\n";
+    let names = File::new(&format!("{name}-names"), names.as_bytes());
+    let file = names.0.to_str().expect("a name");
+    let options = [options, &["--names", file]].concat();
+    let a = "trade JGB-350 Aoba Bizen 5\nclose\ncutoff\n";
+    let b = "trade 0 1 2 4\ndeliver 0 Aoba 1\nclose\ndeliver 0 1 1\ncutoff\n";
+    let (status, told) = told(name, &options, a, b);
+    assert!(status == 1 && !told.contains("2026-11-17"), "{told}");
+    told
+}
+
 #[test]
-fn names_stand_in_sentences_and_beside_the_numbers_of_objects() {
-    let names =
-        File::new("names", b"date 2026-11-17\nissue 0 JGB-350\naccount 1 Aoba\naccount 2 Bizen\n");
-    let file = File::new("named", b"trade JGB-350 Aoba Bizen 5\nclose\ncutoff\n");
-    let words = [OsStr::new("--names"), names.0.as_os_str(), file.0.as_os_str(), OsStr::new("-")];
-    let corrected = b"trade 0 1 2 4\ndeliver 0 Aoba 1\nclose\ndeliver 0 1 1\ncutoff\n";
-    let (status, text, said) = ended(&words, corrected);
-    assert_eq!((status, said.as_str()), (1, ""));
+fn names_stand_in_the_place_of_numbers() {
+    let text = told_by_names("named", &[]);
     has(
         &text,
         &[
@@ -567,8 +577,11 @@ fn names_stand_in_sentences_and_beside_the_numbers_of_objects() {
             "  issue JGB-350: account Aoba owes account Bizen since day 0: 5 lots in A, 3 lots in B",
         ],
     );
-    let (status, json, _) = ended(&[&[OsStr::new("--json")][..], &words].concat(), corrected);
-    assert_eq!(status, 1);
+}
+
+#[test]
+fn names_stand_beside_the_numbers_of_objects() {
+    let json = told_by_names("named-json", &["--json"]);
     let issue = "\"issue\":0,\"issue_name\":\"JGB-350\"";
     let account = "\"account\":1,\"account_name\":\"Aoba\"";
     let from_to = "\"from\":1,\"from_name\":\"Aoba\",\"to\":2,\"to_name\":\"Bizen\"";
@@ -592,8 +605,6 @@ fn names_stand_in_sentences_and_beside_the_numbers_of_objects() {
     ] {
         has(&json, &[&format!("{BEGINS}{object}")]);
     }
-    // The days of two tapes may have different dates: none is told.
-    assert!(!text.contains("2026-11-17") && !json.contains("\"date\""), "{text}{json}");
 }
 
 #[test]
