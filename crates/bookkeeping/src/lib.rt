@@ -1,5 +1,6 @@
 // The scan of ledger and charges for soundness: one pass over each column. Any content is scanned, no sum wraps.
 use balancing::zeros8;
+use balancing::zeros32;
 use book::taking;
 use rules::Phase;
 use rules::State;
@@ -11,20 +12,8 @@ ghost use Rattle.rules.specs.Book.{all, isZero, entries, LedgerLengths};
 ghost use Rattle.balancing.specs.Scan.{deliveredSound, entriesSound, unusedZero, ledgerSound, chargesSound};
 ghost use Rattle.bookkeeping.specs.Columns.{issueSound, sidesSound, lotsSound, daysRise};
 
-// Are all 0? At the two widths that `balancing::zeros8` has not.
+// Are all 0? At the width that `balancing` has not.
 fn zeros16(xs: &[u16]) -> bool
-    ensures { λ r. ⌜ r ≡ all isZero (now (xs .entry)) ⌝ }
-{
-    let mut good = true;
-    let mut i: usize = 0;
-    while i < xs.len() {
-        good = good & (xs[i] == 0);
-        i += 1;
-    }
-    good
-}
-
-fn zeros32(xs: &[u32]) -> bool
     ensures { λ r. ⌜ r ≡ all isZero (now (xs .entry)) ⌝ }
 {
     let mut good = true;
