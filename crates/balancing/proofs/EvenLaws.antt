@@ -10,8 +10,9 @@ use lib.ListN.{length, drop, getD, drop-of-length-le}
 use lib.Seq.{drop-cons}
 use lib.IntN.{ℤ, pos, negsuc, natAbs}
 use borrow.Author.Tests.{lt-ltb}
-use Rattle.rules.specs.Measures.{dueOf, owedOf}
-use Rattle.rules.specs.Book.{all, row, headOr0, entries, isZero, isEven, lotsEven, cellsEven, entryEven}
+use Rattle.rules.specs.Measures.{issueCount, dueOf, owedOf}
+use Rattle.rules.specs.Book.{tabulate, all, row, headOr0, entries, isZero, isEven, lotsEven, cellsEven, entryEven}
+use Rattle.laws.proofs.Basics.{all-of}
 use Rattle.laws.proofs.Sound.{zero-at}
 use Rattle.laws.proofs.Ledger.{noEntry, length-entries, entry-at}
 use Rattle.laws.proofs.Scans.{and-true, and-turn, all-more, all-end, restOfIssues}
@@ -59,6 +60,12 @@ cells-marked marks ns ds i r h e = e ∙ sym (rw (lt-ltb 0 (getD marks i 0) (ome
 pub cells-start : (marks : List ℕ) (ns : List ℤ) (ds : List ℕ) → restOfIssues (cellsEven marks ns ds) 0 ≡ allCells marks ns ds
 unfolding allCells
 cells-start marks ns ds = refl
+
+-- where no issue is marked
+pub cells-none : (marks : List ℕ) (ns : List ℤ) (ds : List ℕ) → all isZero marks ≡ true → true ≡ allCells marks ns ds
+unfolding allCells
+cells-none marks ns ds h =
+    sym (all-of (cellsEven marks ns ds) (tabulate (λ i. i) 0 issueCount) 0 (λ i l. sym (cells-unmarked marks ns ds _ (zero-at marks _ h))))
 
 -- Entries
 

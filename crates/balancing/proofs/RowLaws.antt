@@ -1,13 +1,13 @@
 -- The scan of nets and delivered lots: bounds, the balance of each issue, what is delivered.
 use mathlib.Core.Path.{_≡_, refl, ap, sym, _∙_}
 use mathlib.Core.Bool.{Bool, true, false, _&&_}
-use mathlib.Core.List.{List, map}
-use Prim.Native.Nat.{ℕ, suc, _+_, _-_, _*_, _≤_, _<_, _^_}
+use mathlib.Core.List.{List, [], _∷_, map}
+use Prim.Native.Nat.{ℕ, zero, suc, _+_, _-_, _*_, _≤_, _<_}
 use native.Mathlib.Numerals.{add-one}
 use native.Mathlib.Omega.{arith}
 use lib.Dec.{leb, ltb, eqb}
-use lib.ListN.{length, drop, getD, drop-of-length-le}
-use lib.Seq.{drop-cons}
+use lib.ListN.{length, take, drop, getD, drop-of-length-le}
+use lib.Seq.{drop-cons, drop-drop}
 use lib.IntN.{ℤ, pos, negsuc, natAbs, _+ℤ_}
 use mir.Syntax.{w32}
 use mir.Val.{SFits, toZ}
@@ -35,6 +35,32 @@ module _ (ns : List ℤ) (ds : List ℕ) (k : ℕ) (g whole : Bool) where
   pub owed-end : length ns ≤ k → g && withinOwed (drop k ns) (drop k ds) ≡ whole → g ≡ whole
   owed-end h e =
       sym (and-true g) ∙ ap (λ l. g && withinOwed l (drop k ds)) (sym (drop-of-length-le ns h)) ∙ e
+
+-- and issue by issue
+
+within-none : (ns : List ℤ) → withinOwed ns [] ≡ true
+within-none [] = refl
+within-none (n ∷ ns) = refl
+
+within-split : (n : ℕ) (ns : List ℤ) (ds : List ℕ) →
+    withinOwed ns ds ≡ withinOwed (take n ns) (take n ds) && withinOwed (drop n ns) (drop n ds)
+within-split zero ns ds = refl
+within-split (suc n) [] ds = refl
+within-split (suc n) (x ∷ ns) [] = sym (within-none (drop n ns))
+within-split (suc n) (x ∷ ns) (d ∷ ds) =
+    ap (λ t. leb d (owedOf x) && t) (within-split n ns ds)
+    ∙ sym (and-assoc (leb d (owedOf x)) (withinOwed (take n ns) (take n ds)) (withinOwed (drop n ns) (drop n ds)))
+
+next-row {ℓ} : {A : Type ℓ} (i : ℕ) (xs : List A) → drop 64 (drop (i * 64) xs) ≡ drop ((i + 1) * 64) xs
+next-row i xs = let e : i * 64 + 64 ≡ (i + 1) * 64 = omega arith in drop-drop 64 (i * 64) xs ∙ ap (λ m. drop m xs) e
+
+pub owed-row : (ns : List ℤ) (ds : List ℕ) (i : ℕ) (g r whole : Bool) → r ≡ withinOwed (row i ns) (row i ds) →
+    g && withinOwed (drop (i * 64) ns) (drop (i * 64) ds) ≡ whole →
+    (g && r) && withinOwed (drop ((i + 1) * 64) ns) (drop ((i + 1) * 64) ds) ≡ whole
+owed-row ns ds i g r whole er e =
+    rw (er, ← next-row i ns, ← next-row i ds)
+    (and-assoc g (withinOwed (row i ns) (row i ds)) _
+    ∙ ap (λ t. g && t) (sym (within-split 64 (drop (i * 64) ns) (drop (i * 64) ds))) ∙ e)
 
 -- The signed sum of an issue's nets
 

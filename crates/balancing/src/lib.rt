@@ -1,21 +1,46 @@
 // The scan of nets and delivered lots for soundness: in bounds, in balance, no more delivered than owed, and even where
 // an issue is marked, entries' lots too.
 use book::due;
-use book::even_in;
 use book::owed;
 use book::within;
 use rules::ACCOUNT_COUNT;
 use rules::ISSUE_COUNT;
+use rules::LAST_ISSUE;
 use rules::State;
 ghost use mathlib.Core.Path.{_≡_};
 ghost use mathlib.Core.Bool.{true};
 ghost use Prim.Native.Nat.{_≤_, _<_};
 ghost use lib.ListN.{length};
 ghost use Rattle.rules.specs.Measures.{mostLots};
-ghost use Rattle.rules.specs.Book.{CellLengths, all, isZero, balanced, withinSize, withinOwed, isEven, cellsEven};
+ghost use Rattle.rules.specs.Book.{CellLengths, all, isZero, balanced, withinSize, withinOwed, isEven, lotsEven, cellsEven};
 ghost use Rattle.balancing.specs.Scan.{allBalanced, netsSound, RowLengths, RowWithin};
 ghost use lib.IntN.{natAbs};
 ghost use Rattle.balancing.specs.EvenScan.{rowEven, allCells, allLots};
+
+// Are all 0? At two widths.
+pub fn zeros8(xs: &[u8]) -> bool
+    ensures { λ r. ⌜ r ≡ all isZero (now (xs .entry)) ⌝ }
+{
+    let mut good = true;
+    let mut i: usize = 0;
+    while i < xs.len() {
+        good = good & (xs[i] == 0);
+        i += 1;
+    }
+    good
+}
+
+pub fn zeros32(xs: &[u32]) -> bool
+    ensures { λ r. ⌜ r ≡ all isZero (now (xs .entry)) ⌝ }
+{
+    let mut good = true;
+    let mut i: usize = 0;
+    while i < xs.len() {
+        good = good & (xs[i] == 0);
+        i += 1;
+    }
+    good
+}
 
 // Does each net lie in −20,000,000..20,000,000?
 fn nets_within(nets: &[i32]) -> bool
@@ -31,18 +56,37 @@ fn nets_within(nets: &[i32]) -> bool
     good
 }
 
-// Is no more delivered than owed?
-fn delivered_within<'a>(nets: &'a [i32], delivered: &'a [u32]) -> bool
-    requires { ⌜ length (now nets) ≡ length (now delivered) ⌝ }
+// Is no more delivered of an issue than owed? Where nothing is delivered the nets are not looked at.
+fn row_owed<'a>(net: &'a [i32], delivered: &'a [u32]) -> bool
+    requires { ⌜ RowLengths (now net) (now delivered) ⌝ }
+    ensures { λ r. ⌜ r ≡ withinOwed (now (net .entry)) (now (delivered .entry)) ⌝ }
+{
+    if zeros32(delivered) {
+        return true;
+    }
+    let mut good = true;
+    let mut a: usize = 0;
+    while a < ACCOUNT_COUNT {
+        let n = net[a];
+        let o = owed(n);
+        good = good & (delivered[a] <= o);
+        a += 1;
+    }
+    good
+}
+
+// The same of each issue.
+fn rows_owed<'a>(nets: &'a [i32], delivered: &'a [u32]) -> bool
+    requires { ⌜ CellLengths (now nets) (now delivered) ⌝ }
     ensures { λ r. ⌜ r ≡ withinOwed (now (nets .entry)) (now (delivered .entry)) ⌝ }
 {
     let mut good = true;
-    let mut k: usize = 0;
-    while k < nets.len() {
-        let n = nets[k];
-        let o = owed(n);
-        good = good & (delivered[k] <= o);
-        k += 1;
+    let mut i: usize = 0;
+    while i < ISSUE_COUNT {
+        let s = i * ACCOUNT_COUNT;
+        let e = s + ACCOUNT_COUNT;
+        good = good & row_owed(&nets[s..e], &delivered[s..e]);
+        i += 1;
     }
     good
 }
@@ -88,8 +132,16 @@ pub fn nets_sound<'a>(nets: &'a [i32], delivered: &'a [u32]) -> bool
         return false;
     }
     let balance = rows_balanced(nets);
-    let owing = delivered_within(nets, delivered);
+    let owing = rows_owed(nets, delivered);
     balance & owing
+}
+
+// Is no issue marked?
+fn none_marked(s: State) -> bool
+    ensures { λ r. ⌜ r ≡ all isZero (s .marks) ⌝ }
+{
+    let marks = s.marks;
+    zeros8(&marks)
 }
 
 // Is a net even?
@@ -129,11 +181,14 @@ fn issue_even<'a>(s: State, nets: &'a [i32], delivered: &'a [u32], i: usize) -> 
     row_even(&nets[b..e], &delivered[b..e])
 }
 
-// The same of each issue.
+// The same of each issue. Where none is marked there is nothing to look at.
 pub fn cells_even<'a>(s: State, nets: &'a [i32], delivered: &'a [u32]) -> bool
     requires { ⌜ CellLengths (now nets) (now delivered) ⌝ }
     ensures { λ r. ⌜ r ≡ allCells (s .marks) (now (nets .entry)) (now (delivered .entry)) ⌝ }
 {
+    if none_marked(s) {
+        return true;
+    }
     let mut good = true;
     let mut i: usize = 0;
     while i < ISSUE_COUNT {
@@ -143,28 +198,35 @@ pub fn cells_even<'a>(s: State, nets: &'a [i32], delivered: &'a [u32]) -> bool
     good
 }
 
-// Are all 0?
-pub fn zeros8(xs: &[u8]) -> bool
-    ensures { λ r. ⌜ r ≡ all isZero (now (xs .entry)) ⌝ }
+// Are lots in this issue even, if it is marked? There is no mark of an issue above 15.
+fn even_by(marks: &[u8], i: u8, x: u32) -> bool
+    requires { ⌜ length (now marks) ≡ 16 ⌝ }
+    ensures { λ r. ⌜ r ≡ lotsEven (now (marks .entry)) i x ⌝ }
+{
+    if LAST_ISSUE < i {
+        return true;
+    }
+    if marks[i as usize] == 0 {
+        return true;
+    }
+    x % 2 == 0
+}
+
+// Are the lots of each of n entries even, if its issue is marked? The marks are lent: each entry reads one of them.
+fn lots_even<'a>(n: usize, marks: &'a [u8], issues: &'a [u8], lots: &'a [u32]) -> bool
+    requires { ⌜ (length (now marks) ≡ 16) × (n ≤ length (now issues)) × (n ≤ length (now lots)) ⌝ }
+    ensures { λ r. ⌜ r ≡ allLots (now (marks .entry)) n (now (issues .entry)) (now (lots .entry)) ⌝ }
 {
     let mut good = true;
-    let mut i: usize = 0;
-    while i < xs.len() {
-        good = good & (xs[i] == 0);
-        i += 1;
+    let mut k: usize = 0;
+    while k < n {
+        good = good & even_by(marks, issues[k], lots[k]);
+        k += 1;
     }
     good
 }
 
-// Is no issue marked?
-fn none_marked(s: State) -> bool
-    ensures { λ r. ⌜ r ≡ all isZero (s .marks) ⌝ }
-{
-    let marks = s.marks;
-    zeros8(&marks)
-}
-
-// Are the lots of each entry even, if its issue is marked? Where none is, no entry is looked at.
+// The same of all entries. Where no issue is marked there is nothing to look at.
 pub fn entries_even<'a>(s: State, issues: &'a [u8], lots: &'a [u32]) -> bool
     requires { ⌜ (s .entries ≤ length (now issues)) × (s .entries ≤ length (now lots)) ⌝ }
     ensures { λ r. ⌜ r ≡ allLots (s .marks) (s .entries) (now (issues .entry)) (now (lots .entry)) ⌝ }
@@ -172,13 +234,6 @@ pub fn entries_even<'a>(s: State, issues: &'a [u8], lots: &'a [u32]) -> bool
     if none_marked(s) {
         return true;
     }
-    let n = s.entries;
-    let mut good = true;
-    let mut k: usize = 0;
-    while k < n {
-        let i = issues[k];
-        good = good & even_in(s, i as u32, lots[k]);
-        k += 1;
-    }
-    good
+    let marks = s.marks;
+    lots_even(s.entries, &marks, issues, lots)
 }

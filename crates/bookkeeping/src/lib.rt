@@ -1,5 +1,6 @@
 // The scan of ledger and charges for soundness: one pass over each column. Any content is scanned, no sum wraps.
 use balancing::zeros8;
+use balancing::zeros32;
 use book::taking;
 use rules::ACCOUNT_COUNT;
 use rules::MOST_ENTRIES;
@@ -19,20 +20,8 @@ const LAST_ISSUE: u8 = 15;
 
 const LAST_ACCOUNT: u8 = 63;
 
-// Are all 0? At the two widths that `balancing::zeros8` has not.
+// Are all 0? At the width that `balancing` has not.
 fn zeros16(xs: &[u16]) -> bool
-    ensures { λ r. ⌜ r ≡ all isZero (now (xs .entry)) ⌝ }
-{
-    let mut good = true;
-    let mut i: usize = 0;
-    while i < xs.len() {
-        good = good & (xs[i] == 0);
-        i += 1;
-    }
-    good
-}
-
-fn zeros32(xs: &[u32]) -> bool
     ensures { λ r. ⌜ r ≡ all isZero (now (xs .entry)) ⌝ }
 {
     let mut good = true;

@@ -1,10 +1,10 @@
 // The nine calls of a tape on a host's book: any numbers, any columns.
-use answers::Turn;
 use crate::DayState;
 use crate::DayTurned;
 use crate::number_of;
 use crate::sound_at;
 use crate::state_in;
+use answers::Turn;
 use desk::fields::instruction_of;
 use desk::fields::is_kind;
 use rules::Instruction;

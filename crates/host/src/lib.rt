@@ -150,7 +150,9 @@ pub fn sound_at<'a>(
     }
     let cells = (nets.len() == CELL_COUNT) & (delivered.len() == CELL_COUNT);
     let flat = (lifts.len() == LIFT_CELLS) & (charges.len() == ACCOUNT_COUNT);
-    let accounts = (issues.len() == MOST_ENTRIES) & (froms.len() == MOST_ENTRIES) & (tos.len() == MOST_ENTRIES);
+    let accounts = (issues.len() == MOST_ENTRIES)
+        & (froms.len() == MOST_ENTRIES)
+        & (tos.len() == MOST_ENTRIES);
     if !(cells & flat & accounts & (lots.len() == MOST_ENTRIES) & (days.len() == MOST_ENTRIES)) {
         return false;
     }

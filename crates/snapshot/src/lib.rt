@@ -113,7 +113,9 @@ pub extern "C" fn day_open<'a>(
 {
     let cells = (nets.len() == CELL_COUNT) & (delivered.len() == CELL_COUNT);
     let flat = (lifts.len() == LIFT_CELLS) & (charges.len() == ACCOUNT_COUNT);
-    let accounts = (issues.len() == MOST_ENTRIES) & (froms.len() == MOST_ENTRIES) & (tos.len() == MOST_ENTRIES);
+    let accounts = (issues.len() == MOST_ENTRIES)
+        & (froms.len() == MOST_ENTRIES)
+        & (tos.len() == MOST_ENTRIES);
     if !(cells & flat & accounts & (lots.len() == MOST_ENTRIES) & (days.len() == MOST_ENTRIES)) {
         let none = numbers_of(book::state_of(0, Phase::Taking, 0, 0, [0; ISSUE_COUNT]));
         return DayOpened {

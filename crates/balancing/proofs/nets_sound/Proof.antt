@@ -21,7 +21,7 @@ returns-2 c =
     let e = c .before .before in
     let a = e .before .before .before .args in
     nets-in (now (a .nets)) (now (a .delivered)) _ _ (sym (e .before .nets-within .ensures) ∙ not-false _ (e .if1 .left))
-    (c .before .rows-balanced .ensures) (c .delivered-within .ensures)
+    (c .before .rows-balanced .ensures) (c .rows-owed .ensures)
 
 pub nets-sound-spec : {M : Type 1} → statement M
 nets-sound-spec =

@@ -8,8 +8,8 @@ use lib.ListN.{length, drop}
 use Rattle.rules.specs.Book.{all, isZero}
 use Rattle.laws.proofs.Scans.{all-more, all-end}
 use borrow.Author.Needs.{needs}
-use Rattle.bookkeeping.proofs.zeros32.Statement.{statement}
-use Rattle.bookkeeping.proofs.zeros32.Tie as tie
+use Rattle.balancing.proofs.zeros32.Statement.{statement}
+use Rattle.balancing.proofs.zeros32.Tie as tie
 
 abbrev Inv-loop : tie.InvT-loop
 Inv-loop xs good₀ i₀ good i = (i ≤ length xs) × (good && all isZero (drop i xs) ≡ all isZero xs)
