@@ -5,7 +5,6 @@ use book::owed;
 use book::within;
 use rules::ACCOUNT_COUNT;
 use rules::ISSUE_COUNT;
-use rules::LAST_ISSUE;
 use rules::State;
 ghost use mathlib.Core.Path.{_≡_};
 ghost use mathlib.Core.Bool.{true};
@@ -16,6 +15,9 @@ ghost use Rattle.rules.specs.Book.{CellLengths, all, isZero, balanced, withinSi
 ghost use Rattle.balancing.specs.Scan.{allBalanced, netsSound, RowLengths, RowWithin};
 ghost use lib.IntN.{natAbs};
 ghost use Rattle.balancing.specs.EvenScan.{rowEven, allCells, allLots};
+
+// the last issue, as the ledger's column has it
+pub const LAST_ISSUE: u8 = 15;
 
 // Are all 0? At two widths.
 pub fn zeros8(xs: &[u8]) -> bool

@@ -1,4 +1,5 @@
 // The scan of ledger and charges for soundness: one pass over each column. Any content is scanned, no sum wraps.
+use balancing::LAST_ISSUE;
 use balancing::zeros8;
 use balancing::zeros32;
 use book::taking;
@@ -15,9 +16,7 @@ ghost use Rattle.rules.specs.Book.{all, isZero, entries, LedgerLengths};
 ghost use Rattle.balancing.specs.Scan.{deliveredSound, entriesSound, unusedZero, ledgerSound, chargesSound};
 ghost use Rattle.bookkeeping.specs.Columns.{issueSound, sidesSound, lotsSound, daysRise};
 
-// the last issue and the last account, as the ledger's columns have them
-const LAST_ISSUE: u8 = 15;
-
+// the last account, as the ledger's columns have it
 const LAST_ACCOUNT: u8 = 63;
 
 // Are all 0? At the width that `balancing` has not.
