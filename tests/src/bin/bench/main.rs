@@ -1,9 +1,10 @@
 //! `bench`: run times of the library and the program beside the second engine, as Markdown.
 //!
-//! Parts: calls, lifts, orders, growth, simulation, programs and counts; `--part NAME` runs one of them.
-//! Counts are instructions of the machine, by callgrind, which do not depend on what else it does; they are
-//! made only where they are asked for.
-//! `--part one --one 'MARKET LIFTS ORDER CALL'` makes one of the calls of both orders, to be counted.
+//! Parts: calls, lifts, orders, growth, simulation, programs, counts and scan; `--part NAME` runs one of them.
+//! Counts, and scan among them, are instructions of the machine, by callgrind, which do not depend on what
+//! else it does; they are made only where they are asked for.
+//! `--part one --one 'MARKET LIFTS ORDER CALL'` makes one of the calls of both orders, to be counted,
+//! and `--part one-scan --one BOOK` one of the scans.
 //! `--cases N` is the number of rounds of which the middle one is shown. `--program PATH` and `--reference PATH` name the
 //! programs.
 
@@ -12,6 +13,7 @@ mod growth;
 mod lifts;
 mod orders;
 mod programs;
+mod scan;
 mod simulation;
 mod tapes;
 mod timing;
@@ -66,10 +68,16 @@ fn run(options: Options) -> Result<(), String> {
             Ok(())
         }
         "programs" => programs::run(&options),
-        "counts" => programs::counts(&options).and_then(|()| orders::counts()),
+        "counts" => {
+            programs::counts(&options)?;
+            orders::counts()?;
+            scan::counts()
+        }
+        "scan" => scan::counts(),
         "one" => orders::one(options.own_or("--one", "")),
+        "one-scan" => scan::one(options.own_or("--one", "")),
         other => {
-            let parts = "calls, lifts, orders, growth, simulation, programs and counts";
+            let parts = "calls, lifts, orders, growth, simulation, programs, counts and scan";
             Err(format!("there is no part {other:?}: there are {parts}"))
         }
     }
