@@ -147,7 +147,7 @@ for verb in $verbs; do
     same "the options of $verb that are completed" "$(printf '%s\n' "$named" -o --force | LC_ALL=C sort -u)" \
         "$(completed tape "$verb" -)"
 done
-same 'a verb that is completed' explain "$(completed tape exp)"
+same 'a verb that is completed' explain "$(completed tape expl)"
 same 'a name, which bash completes itself' '' "$(completed tape check da)"
 same 'a value, which is no option' '' "$(completed tape explain --day -)"
 same 'the options of treasury' $'--factor\n--funds\n--help\n--json\n--version' "$(completed treasury -)"
