@@ -111,7 +111,7 @@ pub const STATEMENT: Kind = Kind {
         "Failed over due",
         "Delivered of due",
     ],
-    numbers: &[0, 1, 2, 3, 4, 5, 6],
+    numbers: &[0, 1, 2, 3, 4, 5],
     named: &[0, 1],
 };
 pub const UNIT_SIZES: Kind = Kind {
