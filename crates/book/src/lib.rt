@@ -157,7 +157,13 @@ pub fn cut(p: Phase) -> bool
 }
 
 // The state of these numbers. It is written by the setters below and nowhere else field by field.
-pub fn state_of(day: u16, phase: Phase, entries: usize, turn: u32, marks: [u8; ISSUE_COUNT]) -> State
+pub fn state_of(
+    day: u16,
+    phase: Phase,
+    entries: usize,
+    turn: u32,
+    marks: [u8; ISSUE_COUNT],
+) -> State
     ensures { λ r. ⌜ r ≡ stateOf day phase entries turn marks ⌝ }
 {
     State {

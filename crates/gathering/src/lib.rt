@@ -1,7 +1,7 @@
 // Runs after a delivered total: those that wait, and of them each account's full lots at the place of
 // its first full run, however many lifts have parted them.
-use rules::ACCOUNTS;
 use rules::ACCOUNT_COUNT;
+use rules::ACCOUNTS;
 use rules::UNIT_LOTS;
 use runs::UNIT_WORD;
 ghost use mathlib.Core.Path.{_≡_};

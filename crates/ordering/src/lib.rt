@@ -1,6 +1,6 @@
 // The units of an issue in the order without lifts: the full ones are ranked by due, the small ones behind them.
-use rules::ACCOUNTS;
 use rules::ACCOUNT_COUNT;
+use rules::ACCOUNTS;
 use rules::UNIT_LOTS;
 use sorting::rank;
 ghost use mathlib.Core.Path.{_≡_};

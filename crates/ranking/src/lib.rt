@@ -1,7 +1,7 @@
 // The units of every issue in the order of document 001, at any size of units, as runs: a receiver's full units are
 // one word, lots * 64 + account, and its small unit another.
-use rules::ACCOUNTS;
 use rules::ACCOUNT_COUNT;
+use rules::ACCOUNTS;
 use rules::ISSUE_COUNT;
 use runs::RANK_COUNT;
 ghost use mathlib.Core.Path.{_≡_};

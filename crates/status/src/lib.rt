@@ -2,8 +2,8 @@
 // failed and wholly failed. The units are those of the order as lifted, in Settling and in Cut. It goes by
 // lots alone, and those are the same, place by place, whether full units are dealt in turn or not.
 use handover::NextUnit;
-use rules::ACCOUNTS;
 use rules::ACCOUNT_COUNT;
+use rules::ACCOUNTS;
 use rules::LAST_ISSUE;
 use rules::Phase;
 use rules::UNIT_LOTS;

@@ -1,8 +1,8 @@
 // The cutoff where full units are dealt in turn: the stretches of what waits, made from the front, one run
 // after the other. Units are never listed: of whole rounds each account's are taken together.
 use inturn::seat;
-use rules::ACCOUNTS;
 use rules::ACCOUNT_COUNT;
+use rules::ACCOUNTS;
 use rules::LIFT_WORDS;
 use runs::RANK_COUNT;
 use runs::UNIT_WORD;
