@@ -1,5 +1,7 @@
 // Who may call, who may look (document 02, F-10): the rights of a caller, the refusal of one that has not the
 // right, and reading an account.
+#![tactic(auto)]
+
 ghost use Rattle.std.specs.Prelude.{◌≡◌, cond, false, []};
 ghost use Rattle.rules.specs.Questions.{first_no};
 ghost use Rattle.rules.specs.Calls.{turn_asks};

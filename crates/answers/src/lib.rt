@@ -1,4 +1,6 @@
 // What a call in place answers, and the answer to one that is refused or changes the state alone.
+#![tactic(auto)]
+
 ghost use Rattle.std.specs.Prelude.{◌≡◌};
 ghost use Rattle.answers.specs.Turns.{turn_of, refused_turn};
 
@@ -6,7 +8,7 @@ use rules::State;
 
 // What an instruction answers: the refusal's number (0: done), the count of records (for pair-off,
 // steps), pair-off's lots cancelled, and the state after it.
-#[derive(Drop)]
+#[derive(Clone, Copy, Drop)]
 pub struct Turn {
     pub refusal: u32,
     pub count: usize,

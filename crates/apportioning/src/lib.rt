@@ -1,1 +1,2 @@
 // Why base contributions and shares are right: theorems, no code.
+#![tactic(auto)]

@@ -1,5 +1,7 @@
 // The scan of nets and delivered lots for soundness: in bounds, in balance, no more delivered than owed, and even where
 // an issue is marked, entries' lots too.
+#![tactic(auto)]
+
 ghost use Rattle.std.specs.Prelude.{◌≡◌, true, ◌≤◌, ◌<◌, length, nat_abs};
 ghost use Rattle.rules.specs.Measures.{most_lots};
 ghost use Rattle.rules.specs.Book.{CellLengths, all, is_zero, balanced, within_size, within_owed, is_even, lots_even, cells_even};

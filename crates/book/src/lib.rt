@@ -1,5 +1,6 @@
 // The book's leaves: signed nets as lots due and lots owed, an issue's rows, the phases, and a book of
 // its state and columns.
+#![tactic(auto)]
 
 ghost use Rattle.std.specs.Prelude.{◌≡◌, map, ◌<◌, length};
 ghost use Rattle.rules.specs.Measures.{most_lots, last_day, sum, due_of, owed_of};

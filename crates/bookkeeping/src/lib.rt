@@ -1,4 +1,6 @@
 // The scan of ledger and charges for soundness: one pass over each column. Any content is scanned, no sum wraps.
+#![tactic(auto)]
+
 ghost use Rattle.std.specs.Prelude.{◌≡◌, ◌≤◌, length};
 ghost use Rattle.rules.specs.Measures.{due_of, owed_of};
 ghost use Rattle.rules.specs.Book.{all, is_zero, entries, LedgerLengths};

@@ -1,5 +1,7 @@
 // The calls and the questions on a host's book with their caller, by value: any numbers, any columns. A caller that has the
 // right is answered as without one; another is refused by 27, or by what is asked before it.
+#![tactic(auto)]
+
 ghost use Rattle.std.specs.Prelude.{◌≡◌, []};
 ghost use Rattle.rules.specs.Questions.{first_no};
 ghost use Rattle.rules.specs.Access.{seen_answer};
@@ -23,7 +25,7 @@ use told::Told;
 // What is seen of an account: the refusal's number (0: done); 1 where there is an entry, else 0; the account's net in the
 // issue, its charge, and the entry, 0 throughout where there is none.
 #[repr(C)]
-#[derive(Drop)]
+#[derive(Clone, Copy, Drop)]
 pub struct DaySeen {
     pub refusal: u32,
     pub some: u32,

@@ -1,4 +1,6 @@
 // Each entry of the ledger charged, in place.
+#![tactic(auto)]
+
 ghost use Rattle.std.specs.Prelude.{◌≡◌, pos, ◌+ℤ◌, ◌-ℤ◌};
 ghost use Rattle.charging.specs.Charging.{Room, Payable, paid, can_charge, was_charged};
 

@@ -1,4 +1,6 @@
 // The checksum of words: their weighted sum.
+#![tactic(auto)]
+
 ghost use Rattle.std.specs.Prelude.{◌≡◌, ◌≤◌, length};
 ghost use Rattle.checksums.specs.Sums.{weighted, most_words};
 

@@ -1,4 +1,6 @@
 // What a commit does in place: the lifted unit handed on where stock covers it, and one lift more in the column.
+#![tactic(auto)]
+
 ghost use Rattle.std.specs.Prelude.{◌≡◌};
 ghost use Rattle.rules.specs.Lifts.{lift_of};
 ghost use Rattle.rules.specs.Calls.{with_lift};

@@ -1,4 +1,6 @@
 // What an instruction adds to an account's fails statement in an issue, from numbers at hand.
+#![tactic(auto)]
+
 ghost use Rattle.std.specs.Prelude.{◌≡◌, ◌≤◌};
 ghost use Rattle.rules.specs.Measures.{owed_of};
 ghost use Rattle.counting.specs.Counting.{CanAdd, Grown, cut_in, resolved_in, added_in};

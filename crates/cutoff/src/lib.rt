@@ -1,4 +1,6 @@
 // Cutoff: its questions, and all issues one after the other.
+#![tactic(auto)]
+
 ghost use Rattle.std.specs.Prelude.{◌≤◌};
 ghost use Rattle.rules.specs.Calls.{Cutoff};
 ghost use Rattle.book.specs.Cells.{SoundCells};

@@ -1,5 +1,7 @@
 // The cutoff of one issue: the stock goes to the next unit (record 10), then the shortfalls are laid
 // against what the units lack, each overlap an entry of the ledger and a record (12).
+#![tactic(auto)]
+
 ghost use Rattle.std.specs.Prelude.{◌≡◌, true, false, ◌∷◌, [], ◌+◌, ◌<◌, length};
 ghost use Rattle.rules.specs.Ledger.{entry};
 ghost use Rattle.rules.specs.Book.{row, order_in, CellLengths};
@@ -48,7 +50,7 @@ fn enter(
 }
 
 // An issue at its cutoff: how many words its units take, the cursor in front of its fails, and its stock.
-#[derive(Drop)]
+#[derive(Clone, Copy, Drop)]
 pub struct Ready {
     pub n: usize,
     pub cursor: Cursor,
@@ -206,7 +208,7 @@ fn settled(nets: &[i32], delivered: &[u32], i: usize) -> bool
 }
 
 // How many entries the ledger has, and how many records were written.
-#[derive(Drop)]
+#[derive(Clone, Copy, Drop)]
 pub struct Counts {
     pub entries: usize,
     pub records: usize,

@@ -2,6 +2,8 @@
 // its first word, its name, the refusal number (0 if done), the count of records (for pair-off, steps);
 // then `F` issue from to lots day for each ledger entry, and `C` account yen for each charge not 0. Where
 // the tape cannot be read to its end, or a write fails, a message says so and nothing more is written.
+#![tactic(auto)]
+
 ghost use Rattle.std.specs.Prelude.{◌≡◌, true, false, ◌+◌, length};
 ghost use Rattle.rules.specs.Text.{closing_text};
 ghost use Rattle.playing.specs.Playing.{most_reads, Buffers, Played};
@@ -60,7 +62,7 @@ fn close(text: &mut [u8], e: End) -> Sent
 }
 
 // A day: how its run ended, and what was written behind the run's lines.
-#[derive(Drop)]
+#[derive(Clone, Copy, Drop)]
 struct Outcome {
     run: End,
     closing: Sent,

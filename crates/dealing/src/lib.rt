@@ -1,4 +1,6 @@
 // An issue's units where full ones are dealt in turn and then lifted.
+#![tactic(auto)]
+
 ghost use Rattle.std.specs.Prelude.{◌≡◌, map, ◌≤◌, length, take, drop, true};
 ghost use Rattle.rules.specs.Book.{order_in};
 ghost use Rattle.runs.specs.Runs.{part_of, runs_in, found_of, CanRankNets, CanOrder};
@@ -43,7 +45,7 @@ fn full_runs(runs: &[u32], n: usize) -> usize
 }
 
 // An issue's runs in the order without lifts: n words, the first `full` of them of full units.
-#[derive(Drop)]
+#[derive(Clone, Copy, Drop)]
 pub struct Ranks {
     pub n: usize,
     pub full: usize,
@@ -73,7 +75,7 @@ fn copy(words: &[u32], n: usize, out: &mut [u32])
 
 // An issue ranked, and so many words of the same runs as lifted in the order of old: place by place the
 // units dealt in turn have the same lots.
-#[derive(Drop)]
+#[derive(Clone, Copy, Drop)]
 pub struct Ready {
     pub ranks: Ranks,
     pub lifted: usize,

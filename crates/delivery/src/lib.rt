@@ -1,5 +1,7 @@
 // deliver: an account's delivered lots rise, and the next units are handed over whole, in the order of the
 // day.
+#![tactic(auto)]
+
 ghost use Rattle.std.specs.Prelude.{◌≡◌};
 ghost use Rattle.rules.specs.Questions.{first_no};
 ghost use Rattle.rules.specs.Calls.{deliver_asks, Deliver};

@@ -28,6 +28,8 @@
 //   7 roll      days, rate (the sixteen prices and sixteen accrued amounts stand beside it)
 //   13 mark     issue, mark (0 takes it away, any other number sets it; the tape has 0 and 1 only)
 //   14 turn     day, the first on which full units are dealt in turn (the tape has 0 to 65,535 only)
+#![tactic(auto)]
+
 pub mod fields;
 pub mod reading;
 

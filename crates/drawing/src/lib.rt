@@ -1,4 +1,6 @@
 // Is a list each report number just once? Numbers are marked as they come, 65,536 at a time.
+#![tactic(auto)]
+
 ghost use Rattle.std.specs.Prelude.{◌≡◌, ◌+◌, ◌^◌, ◌<◌, ltb, eqb, length};
 ghost use Rattle.rules.specs.Book.{all};
 ghost use Rattle.reports.specs.Trust.{draw_right};

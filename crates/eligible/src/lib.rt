@@ -1,4 +1,6 @@
 // The lots that each report of a trust account can take.
+#![tactic(auto)]
+
 ghost use Rattle.std.specs.Prelude.{◌≡◌};
 ghost use Rattle.reports.specs.Reports.{net_receiver, size_of};
 ghost use Rattle.eligible.specs.Steps.{unfaced, Few, OneOf, Sizable, Sized, counted_for};

@@ -1,4 +1,6 @@
 // One entry met in a lent slice of entry structs.
+#![tactic(auto)]
+
 ghost use Rattle.std.specs.Prelude.{◌≡◌, ◌-◌, min};
 ghost use Rattle.entries.specs.Meet.{with_lots, Met};
 

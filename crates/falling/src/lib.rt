@@ -1,4 +1,6 @@
 // Entries that fall where they stand: the first of an account that is not at 0, two that fall together, one appended.
+#![tactic(auto)]
+
 ghost use Rattle.std.specs.Prelude.{◌≡◌, ◌++◌, ◌<◌, min};
 ghost use Rattle.rules.specs.Ledger.{appended};
 ghost use Rattle.ledger.specs.Columns.{held, before, kept};

@@ -1,5 +1,7 @@
 // Runs after a delivered total: those that wait, and of them each account's full lots at the place of
 // its first full run, however many lifts have parted them.
+#![tactic(auto)]
+
 ghost use Rattle.std.specs.Prelude.{◌≡◌, map, get_or};
 ghost use Rattle.runs.specs.Runs.{part_of, Held};
 ghost use Rattle.gathering.specs.Gathering.{laid, fulls_of, SumsAre, HandsOn, CanGather, CanSum, CanSpread};
@@ -8,7 +10,7 @@ use rules::{ACCOUNT_COUNT, ACCOUNTS, UNIT_LOTS};
 use runs::UNIT_WORD;
 
 // Where a delivered total ends: the first run that waits, and the stock.
-#[derive(Drop)]
+#[derive(Clone, Copy, Drop)]
 pub struct Waiting {
     pub run: usize,
     pub stock: u32,

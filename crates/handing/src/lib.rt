@@ -1,4 +1,6 @@
 // Units handed over: which of them more lots cover, and a record each.
+#![tactic(auto)]
+
 ghost use Rattle.std.specs.Prelude.{◌≡◌, drop};
 ghost use Rattle.rules.specs.Records.{words, over};
 ghost use Rattle.runs.specs.Runs.{units_in};
@@ -24,7 +26,7 @@ pub fn hand(runs: &[u32], n: usize, i: u32, c: u32, count: usize, out: &mut [u32
 }
 
 // Units that more lots cover: the first of them, and how many they are.
-#[derive(Drop)]
+#[derive(Clone, Copy, Drop)]
 pub struct NextUnits {
     pub first: u32,
     pub number: usize,

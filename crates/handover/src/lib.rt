@@ -1,4 +1,6 @@
 // Along an issue's units: the unit behind a place, how many there are, and what a delivered total covers.
+#![tactic(auto)]
+
 ghost use Rattle.std.specs.Prelude.{◌≡◌, ◌≤◌, length};
 ghost use Rattle.runs.specs.Runs.{units_in, Held};
 ghost use Rattle.handover.specs.Walking.{SeatIs, NextIs, HandedIs};
@@ -7,14 +9,14 @@ use rules::{ACCOUNTS, UNIT_LOTS};
 use runs::MOST_SMALL;
 
 // A place in front of a unit: behind so many units of the runs from `run` on.
-#[derive(Drop)]
+#[derive(Clone, Copy, Drop)]
 pub struct Seat {
     pub run: usize,
     pub passed: u32,
 }
 
 // The next unit: account, lots, and the place behind it; or none is left.
-#[derive(Drop)]
+#[derive(Clone, Copy, Drop)]
 pub enum NextUnit {
     Unit(u32, u32, Seat),
     Nothing,
@@ -70,7 +72,7 @@ pub fn number(runs: &[u32], n: usize) -> u32
 }
 
 // How many units a delivered total covers, and the stock: what is then left of it.
-#[derive(Drop)]
+#[derive(Clone, Copy, Drop)]
 pub struct Handed {
     pub count: u32,
     pub stock: u32,

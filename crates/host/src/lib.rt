@@ -63,6 +63,8 @@
 // uint32_t day_commit(const uint32_t ticket[6], struct day_state, <the nine columns, lifts to be written>,
 //     uint32_t *out, size_t, size_t *count);
 //   The lift of a ticket; count is that of the records written, 0 on a refusal.
+#![tactic(auto)]
+
 pub mod calls;
 pub mod lifts;
 pub mod questions;
@@ -75,7 +77,7 @@ use rules::{ACCOUNT_COUNT, CELL_COUNT, ISSUE_COUNT, LIFT_CELLS, MOST_ENTRIES, Ph
 
 // A host's state: any numbers.
 #[repr(C)]
-#[derive(Drop)]
+#[derive(Clone, Copy, Drop)]
 pub struct DayState {
     pub day: u16,
     pub phase: u32,
@@ -87,7 +89,7 @@ pub struct DayState {
 // What a call of a host gives: the refusal's number (0: done), the count of records (for pair-off, steps),
 // pair-off's lots cancelled, and the state after it.
 #[repr(C)]
-#[derive(Drop)]
+#[derive(Clone, Copy, Drop)]
 pub struct DayTurned {
     pub refusal: u32,
     pub count: usize,

@@ -1,11 +1,13 @@
 // The tape's words out of the bytes of standard input, through a lent buffer. A read of 0 bytes is the end
 // of the tape, and nothing else is.
+#![tactic(auto)]
+
 ghost use Rattle.std.specs.Prelude.{◌≡◌, ◌+◌, ◌-◌, ◌*◌, ◌≤◌, ◌<◌, ◌^◌, length, get_or, take, drop};
 ghost use Rattle.rules.specs.Bytes.{word_of};
 ghost use Rattle.input.specs.Fed.{Decoded, Few, Took, Received, Refilled, Fed};
 
 // Where the bytes in the buffer end, whether the input has ended, and whether the read failed.
-#[derive(Drop)]
+#[derive(Clone, Copy, Drop)]
 pub struct Fill {
     pub end: usize,
     pub done: bool,
@@ -91,7 +93,7 @@ fn refill(buffer: &mut [u8], start: usize, end: usize) -> Fill
 
 // The words in the buffer: how many, where their bytes end, and whether the input has ended or could not
 // be read.
-#[derive(Drop)]
+#[derive(Clone, Copy, Drop)]
 pub struct Words {
     pub count: usize,
     pub end: usize,

@@ -1,4 +1,6 @@
 // The unit question of a sound book, in either order.
+#![tactic(auto)]
+
 ghost use Rattle.std.specs.Prelude.{◌≡◌, false, drop};
 ghost use Rattle.rules.specs.Book.{order_in};
 ghost use Rattle.runs.specs.Runs.{found_of, CanOrder};

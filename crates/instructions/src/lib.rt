@@ -1,5 +1,7 @@
 // The instruction that some words begin with, answered in place on the columns of a sound book, a roll's quotes
 // taken from its words: number, count and book are those of the run.
+#![tactic(auto)]
+
 ghost use Rattle.std.specs.Prelude.{◌≡◌, length};
 ghost use Rattle.book.specs.States.{columns, ready};
 ghost use Rattle.instructions.specs.Answering.{Begins, rolls_of, Quoted, AnsweredIn};

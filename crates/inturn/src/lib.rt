@@ -1,6 +1,8 @@
 // Full units dealt in turn, out of the runs of the order without lifts: m runs of full units, which never
 // rise, and small units behind them. Round by round the units are never listed: a place in them is a
 // round, how many runs take part in it, and how many units of it are passed.
+#![tactic(auto)]
+
 ghost use Rattle.std.specs.Prelude.{◌≡◌, map, ◌+◌, ◌≤◌, length, take, drop};
 ghost use Rattle.runs.specs.Runs.{part_of};
 ghost use Rattle.inturn.specs.InTurn.{Falling, Narrowed, CanDeal, dealt_runs, dealt_from, Seated, SeatAt, CanStep, Stepped};
@@ -10,7 +12,7 @@ use runs::UNIT_WORD;
 
 // A place in front of a unit: in a round in which so many runs take part, behind so many of its units;
 // where none takes part, behind so many small units.
-#[derive(Drop)]
+#[derive(Clone, Copy, Drop)]
 pub struct Deal {
     pub round: u32,
     pub wide: usize,
@@ -18,7 +20,7 @@ pub struct Deal {
 }
 
 // A unit as a word, and the place behind it.
-#[derive(Drop)]
+#[derive(Clone, Copy, Drop)]
 pub struct Dealt {
     pub word: u32,
     pub next: Deal,

@@ -1,4 +1,6 @@
 // What a delivery of a simulated desk hands over joins the inventories, run by run.
+#![tactic(auto)]
+
 ghost use Rattle.std.specs.Prelude.{◌≡◌, ◌+◌, ◌-◌, ◌<◌};
 ghost use Rattle.runs.specs.Runs.{runs_in};
 ghost use Rattle.joining.specs.Runs.{handed_of, joined_runs, CanJoin};

@@ -16,12 +16,14 @@
 //   commit) and numbers; else 1 where no word is left, 2 torn: it is not whole or wrong, and nothing stands behind it, 3
 //   damaged: it is wrong, and something stands behind it; with 0 for every number. The quotes of a roll are those that
 //   day_quotes gives of the words from the record's second on.
+#![tactic(auto)]
+
 pub mod noting;
 pub mod reading;
 
 // What reading answers: the reason, 0 where a record is read; its kind and numbers, 0 where none is.
 #[repr(C)]
-#[derive(Drop)]
+#[derive(Clone, Copy, Drop)]
 pub struct Journalled {
     pub reason: u32,
     pub kind: u32,

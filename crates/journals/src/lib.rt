@@ -1,1 +1,2 @@
 // The journal of calls: definitions, worked journals and theorems, no code.
+#![tactic(auto)]

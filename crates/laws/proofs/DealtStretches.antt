@@ -1,6 +1,6 @@
 -- Whole rounds among other units: an account at a time they have the same stretches, since every account that gets a
 -- full unit in them gets one in the first of them. So what waits at a cutoff need not be walked round by round.
-use mathlib.Core.Path.{◌≡◌, refl, sym, ap, ◌∙◌}
+use mathlib.Core.Path.{◌≡◌, refl, sym, ap, subst, ◌∙◌}
 use mathlib.Core.Bool.{true, false, cond, ◌&&◌, false≢true}
 use mathlib.Core.List.{List, [], ◌∷◌, ◌++◌, append-nil, append_assoc}
 use Prim.Native.Nat.{ℕ, zero, suc, ◌+◌, ◌-◌, ◌*◌, ◌/◌, ◌≤◌, ◌<◌, min}
@@ -83,6 +83,10 @@ module _ (size : ℕ) where
       let k = spent_gone s u.account ps.0.1 in
       rw e (gone_behind (spent s u.account) us (each_map (Gone s) (Gone (spent s u.account)) (λ v p. (p.0, k v.account ∙ p.1)) us ps.1) a ∙ k a)
 
+  -- a full unit in front takes what its account has left
+  front : (s : ℕ → ℕ) (b : ℕ) (us : List AccountLots) → behind s (account_lots b size ∷ us) ≡ behind (spent s b) us
+  front s b us = let full : leb size size ≡ true = le-leb size size (omega arith) in rw full refl
+
   -- who gets a unit in a round got one in each round before
   later : (r t : ℕ) → r ≤ t → (s : ℕ → ℕ) (vs : List AccountLots) → Every (Gone (behind s (round size r vs))) (round size t vs)
   later r t h s [] = tt
@@ -92,7 +96,12 @@ module _ (size : ℕ) where
       by_test (ltb r (v.lots / size))
       (λ e.
       by_test (ltb t (v.lots / size))
-      (λ f. simp (e, f, full) (((refl, behind_none (spent s b) (round size r vs) b (simp (eq-eqb b b refl))), later r t h (spent s b) vs)))
+      (λ f.
+      simp (e, f, full)
+      ((
+        (refl, behind_none (spent s b) (round size r vs) b (simp (eq-eqb b b refl))),
+        subst (λ g. Every (Gone g) (round size t vs)) (sym (front s b (round size r vs))) (later r t h (spent s b) vs),
+      )))
       (λ f. simp (e, f, full) (later r t h (spent s b) vs)))
       (λ e. simp (e, le-ltb t (v.lots / size) (omega (arith, ltb-false r (v.lots / size) e))) (later r t h s vs))
 

@@ -81,12 +81,16 @@ additive_full size a (u ∷ us) =
     let q = eqb-true u.account a e in
     let big = le-leb size (u.lots + full_lots size u.account vs) (omega (arith, leb-true size u.lots f)) in
     simp (f, e, big)
-    (rw q (omega (arith, full_lots_none size a (without_fulls size a vs) (none_without size a vs), additive_full size a us))))
+    (merged u.lots u.account vs q (additive_full size a us)))
     (λ e. simp (f, e, zero-add) (other vs u.account (eqb-false u.account a e) ∙ additive_full size a us)))
     (λ f. by_test (eqb u.account a)
     (λ e. simp (f, e, zero-add) (additive_full size a us))
     (λ e. simp (f, e, zero-add) (additive_full size a us)))
   where
+    merged : (x b : ℕ) (vs : List AccountLots) → b ≡ a → full_lots size a vs ≡ full_lots size a us →
+        (x + full_lots size b vs) + full_lots size a (without_fulls size b vs) ≡ x + full_lots size a us
+    merged x b vs q ih = rw (q, full_lots_none size a (without_fulls size a vs) (none_without size a vs), ih, add-zero)
+
     other : (vs : List AccountLots) (b : ℕ) → (b ≡ a → ⊥) → full_lots size a (without_fulls size b vs) ≡ full_lots size a vs
     other [] b ne = refl
     other (v ∷ vs) b ne =

@@ -1,4 +1,6 @@
 // For how many rounds more an issue can hand over what a round handed over.
+#![tactic(auto)]
+
 ghost use Rattle.runs.specs.Runs.{runs_in};
 ghost use Rattle.simulation.specs.Repeated.{AgainFor};
 ghost use Rattle.ranking.specs.Runs.{units_of_runs};

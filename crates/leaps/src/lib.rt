@@ -1,5 +1,7 @@
 // Rounds that do the same again are made as one step (document 02, F-7): how many of them there are, and the
 // delivered lots after them. So the time of a simulated desk depends neither on the size of units nor on inventories.
+#![tactic(auto)]
+
 ghost use Rattle.std.specs.Prelude.{◌≡◌, true, ◌*◌, ◌≤◌, length};
 ghost use Rattle.rules.specs.Fails.{undelivered};
 ghost use Rattle.runs.specs.Runs.{runs_in};

@@ -1,5 +1,7 @@
 // The ledger in five columns: issue, from, to, lots, day. The first `entries` places of each are its
 // entries; the others are 0.
+#![tactic(auto)]
+
 ghost use Rattle.std.specs.Prelude.{◌≡◌, ◌&&◌, [], ◌∷◌, ◌++◌, ◌+◌, ◌-◌, ◌≤◌, ◌<◌, min, eqb};
 ghost use Rattle.rules.specs.Ledger.{entry};
 ghost use Rattle.ledger.specs.Columns.{Stored, Unused, Cleared, whole, held, before, kept, changed};

@@ -1,4 +1,6 @@
 // Lifts among runs: the unit is taken out of its run, and put in where another run is split.
+#![tactic(auto)]
+
 ghost use Rattle.std.specs.Prelude.{◌≡◌, ◌+◌, ◌-◌, ◌*◌, ◌/◌, ◌%◌, ◌<◌, min};
 ghost use Rattle.lifted.specs.Lifting.{HasUnit, UnitAt, TakenOut, CanPut, PutIn, CanLift, LiftedIs, CanLiftAll, AllLifted};
 

@@ -1,5 +1,7 @@
 // Lifts: asking for an unhanded unit gives a ticket; committing it moves the unit before all unhanded
 // ones and hands on as far as stock covers. The units are those of the order of the day.
+#![tactic(auto)]
+
 ghost use Rattle.std.specs.Prelude.{◌≡◌, ◌≤◌, length};
 ghost use Rattle.rules.specs.Measures.{output_words};
 ghost use Rattle.rules.specs.Calls.{asked_answer};
@@ -37,7 +39,7 @@ pub fn ask_in<'a>(
 }
 
 // What a commit answers: the refusal's number (0: done) and the count of records.
-#[derive(Drop)]
+#[derive(Clone, Copy, Drop)]
 pub struct Committed {
     pub refusal: u32,
     pub count: usize,

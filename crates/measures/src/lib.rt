@@ -1,4 +1,6 @@
 // Value and charge of lots, and the questions 7 and 11 on the numbers that they take.
+#![tactic(auto)]
+
 ghost use Rattle.std.specs.Prelude.{◌≡◌, ◌&&◌, [], ◌∷◌, ◌/◌};
 ghost use Rattle.rules.specs.Measures.{between, most_lots};
 ghost use Rattle.rules.specs.Questions.{ask, first_no, quote_right, term_right};

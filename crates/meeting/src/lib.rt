@@ -1,10 +1,12 @@
 // One entry of the ledger met by an account's lots, and its record.
+#![tactic(auto)]
+
 ghost use Rattle.std.specs.Prelude.{◌≡◌, cond, ◌&&◌, ℕ, ◌+◌, ◌*◌, ◌≤◌, ◌<◌, min, eqb, length};
 ghost use Rattle.rules.specs.Ledger.{entry};
 ghost use Rattle.meeting.specs.Meeting.{Recorded, can_meet, was_met};
 
 // After one entry: the number of records, and the lots left.
-#[derive(Drop)]
+#[derive(Clone, Copy, Drop)]
 pub struct Met {
     pub records: usize,
     pub left: u32,

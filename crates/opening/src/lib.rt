@@ -1,4 +1,6 @@
 // Words judged as a snapshot, and the book of words in lent columns.
+#![tactic(auto)]
+
 ghost use Rattle.std.specs.Prelude.{◌≡◌, length};
 ghost use Rattle.rules.specs.Book.{sound, Lengths};
 ghost use Rattle.rules.specs.Questions.{first_no};
@@ -84,7 +86,7 @@ fn sound_words(words: &[u32], s: State) -> bool
 
 // What words are judged as: the number of the question answered 'no' (0: none), and the state, that of a fresh book where
 // one was.
-#[derive(Drop)]
+#[derive(Clone, Copy, Drop)]
 pub struct Judged {
     pub refusal: u32,
     pub state: State,

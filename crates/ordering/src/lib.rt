@@ -1,4 +1,6 @@
 // The units of an issue in the order without lifts: the full ones are ranked by due, the small ones behind them.
+#![tactic(auto)]
+
 ghost use Rattle.std.specs.Prelude.{◌≡◌, map, ◌≤◌, length};
 ghost use Rattle.rules.specs.Measures.{unit_lots};
 ghost use Rattle.rules.specs.Ranking.{OnlyOrder};

@@ -1,4 +1,6 @@
 // Pair-off: fails to an account set against fails from it, first against first, in one pass.
+#![tactic(auto)]
+
 ghost use Rattle.std.specs.Prelude.{◌≡◌, []};
 ghost use Rattle.rules.specs.Ledger.{pairing};
 ghost use Rattle.rules.specs.Questions.{first_no};
@@ -14,7 +16,7 @@ use rules::{LAST_ACCOUNT, LAST_ISSUE, MOST_ENTRIES, State};
 use stepping::make_steps;
 
 // What pair-off leaves: the steps made, the lots cancelled, the number of entries in the ledger.
-#[derive(Drop)]
+#[derive(Clone, Copy, Drop)]
 pub struct Steps {
     pub steps: usize,
     pub cancelled: u64,

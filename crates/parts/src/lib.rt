@@ -1,4 +1,6 @@
 // A run in parts: the words that one read gives, as far as they hold whole instructions, run on a book.
+#![tactic(auto)]
+
 ghost use Rattle.parts.specs.Parting.{Room, Parted};
 
 use input::Words;
@@ -8,7 +10,7 @@ use turns::run_on;
 // Where a run stands between two parts: the bytes from `start` to `end` are not used yet, the next word
 // has this index; how much of the text is printed, whether the run is over, whether the last read
 // failed, and the book.
-#[derive(Drop)]
+#[derive(Clone, Copy, Drop)]
 pub struct Place {
     pub start: usize,
     pub end: usize,

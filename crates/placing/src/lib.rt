@@ -1,5 +1,7 @@
 // The scan of lifts for soundness, where nets and delivered lots are sound: places are tested before
 // units are lifted by them, and again beside the units that are then handed.
+#![tactic(auto)]
+
 ghost use Rattle.std.specs.Prelude.{◌≡◌, false, ◌≤◌, ◌<◌, length, get_or, drop};
 ghost use Rattle.rules.specs.Handover.{covered};
 ghost use Rattle.rules.specs.Book.{order_in, lifts_at, places_in, places_sound, lifts_sound};

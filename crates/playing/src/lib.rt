@@ -1,4 +1,6 @@
 // Runs a tape of little-endian words from standard input, part by part, and writes a line for each instruction.
+#![tactic(auto)]
+
 ghost use Rattle.std.specs.Prelude.{◌≡◌, true, false, ◌+◌, ◌<◌, ◌^◌, length};
 ghost use Rattle.playing.specs.Playing.{Buffers, Standing, Stepped, Shown, Played};
 
@@ -21,7 +23,7 @@ fn step(p: Place, bytes: &mut [u8], words: &mut [u32], text: &mut [u8], out: &mu
 }
 
 // After a write: how many bytes were handed over since the start, and whether this write took its own.
-#[derive(Drop)]
+#[derive(Clone, Copy, Drop)]
 pub struct Sent {
     pub written: bool,
     pub count: u64,
@@ -57,7 +59,7 @@ pub fn show(s: Sent, text: &[u8]) -> Sent
 
 // How a run ended: whether it was over, whether its last read failed, how many reads it made, what was
 // written of its lines, and the book.
-#[derive(Drop)]
+#[derive(Clone, Copy, Drop)]
 pub struct End {
     pub over: bool,
     pub failed: bool,

@@ -1,5 +1,7 @@
 // The units of every issue in the order of document 001, at any size of units, as runs: a receiver's full units are
 // one word, lots * 64 + account, and its small unit another.
+#![tactic(auto)]
+
 ghost use Rattle.std.specs.Prelude.{◌≡◌, map, ◌≤◌, length};
 ghost use Rattle.runs.specs.Runs.{runs_in};
 ghost use Rattle.ranking.specs.Orders.{full_at, small_at, runs_at, CanOrder, CanRankAt, RankedAt, CanRankAll, Table};

@@ -1,4 +1,6 @@
 // Entries at 0 taken out of the ledger's columns: what stands between two of them moves up as a whole.
+#![tactic(auto)]
+
 ghost use Rattle.std.specs.Prelude.{◌≡◌, true};
 ghost use Rattle.ledger.specs.Columns.{without_zeros, before, kept, changed};
 ghost use Rattle.removing.specs.Moves.{can_look_for, none_at_zero, passed_zeros, found_zero, can_move, moved, CanMoveAll, MovedAll, Ends, removable};

@@ -1,4 +1,6 @@
 // The lines behind a run's: the ledger's entries, then the charges.
+#![tactic(auto)]
+
 pub mod text;
 
 ghost use Rattle.std.specs.Prelude.{[], ◌∷◌, ◌+◌, ◌*◌, ◌≤◌, length};

@@ -1,1 +1,2 @@
 // Tapes written and read again: theorems, no code.
+#![tactic(auto)]

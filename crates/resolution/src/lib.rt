@@ -1,4 +1,6 @@
 // Resolve: the ledger's fails met by an account's lots.
+#![tactic(auto)]
+
 ghost use Rattle.std.specs.Prelude.{◌≡◌, List, ℕ, ◌≤◌, length};
 ghost use Rattle.rules.specs.Measures.{output_words};
 ghost use Rattle.rules.specs.Book.{entries};
@@ -14,7 +16,7 @@ use meeting::meet_at;
 use rules::{LAST_ACCOUNT, LAST_ISSUE, MOST_LOTS, State};
 
 // What a resolve leaves: the number of entries in the ledger, and of records written.
-#[derive(Drop)]
+#[derive(Clone, Copy, Drop)]
 pub struct Counts {
     pub entries: usize,
     pub records: usize,

@@ -1,4 +1,6 @@
 // Words read back: numbers, columns and the state of a book.
+#![tactic(auto)]
+
 ghost use Rattle.std.specs.Prelude.{◌≡◌, map, ◌*◌, length};
 ghost use Rattle.rules.specs.Book.{all};
 ghost use Rattle.checksums.specs.Sums.{below};
@@ -156,7 +158,7 @@ pub fn take_ledger<'a>(
 }
 
 // A state, and whether its numbers fit.
-#[derive(Drop)]
+#[derive(Clone, Copy, Drop)]
 pub struct Started {
     pub good: bool,
     pub state: State,

@@ -1,4 +1,6 @@
 // roll: its questions, and its effect in place.
+#![tactic(auto)]
+
 ghost use Rattle.std.specs.Prelude.{◌≡◌, [], length, replicate, pos};
 ghost use Rattle.rules.specs.Questions.{first_no, quotes_right};
 ghost use Rattle.rules.specs.Calls.{roll_asks, Roll};

@@ -1,5 +1,7 @@
 // One full round of a simulated desk (document 02, F-7), by account and then issue. A delivery is handed over by
 // runs, never unit by unit.
+#![tactic(auto)]
+
 ghost use Rattle.std.specs.Prelude.{◌≡◌, min};
 ghost use Rattle.rounds.specs.Turns.{amount_in, CanAsk, CanDeliver, Delivered, CanTurn, Turned, CanRound, Rounded};
 

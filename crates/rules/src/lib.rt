@@ -3,6 +3,8 @@
 // bottom.
 
 // 16 issues, 0 to 15
+#![tactic(auto)]
+
 pub const ISSUE_COUNT: usize = 16;
 
 pub const LAST_ISSUE: u32 = 15;
@@ -47,21 +49,21 @@ pub const OUTPUT_WORDS: usize = 4096;
 pub const TAPE_WORDS: usize = 33;
 
 // A quantity of bonds, in lots of 50,000 yen face.
-#[derive(Drop)]
+#[derive(Clone, Copy, Drop)]
 pub struct Lots(pub u32);
 
 // Money, in yen.
-#[derive(Drop)]
+#[derive(Clone, Copy, Drop)]
 pub struct Yen(pub u64);
 
 // What value and charge answer: yen, or the number of the question answered 'no'.
-#[derive(Drop)]
+#[derive(Clone, Copy, Drop)]
 pub enum Amount {
     Yen(Yen),
     Refused(u32),
 }
 
-#[derive(Drop)]
+#[derive(Clone, Copy, Drop)]
 pub enum Phase {
     Taking,
     Settling,
@@ -71,7 +73,7 @@ pub enum Phase {
 // What of a book stands beside its columns: the day, the phase, the number of the ledger's entries, the
 // first day on which full units are dealt in turn (0 where none is named), and of each issue its mark: 0,
 // or another number where it is marked.
-#[derive(Drop)]
+#[derive(Clone, Copy, Drop)]
 pub struct State {
     pub day: u16,
     pub phase: Phase,
@@ -84,7 +86,7 @@ pub struct State {
 // i * 64 + a. Of issue i the words of lifts from i * 18 on are: the number of lifts, the count of the
 // day's accepted deliveries and lifts, and of each lift its old and its new place. The ledger's entries
 // are the first `entries` of five columns: issue, from, to, lots, day.
-#[derive(Drop)]
+#[derive(Clone, Copy, Drop)]
 pub struct Book {
     pub state: State,
     pub nets: [i32; CELL_COUNT],
@@ -100,7 +102,7 @@ pub struct Book {
 
 // A fail entry of the ledger, laid out as in C for a host that keeps its entries as structs.
 #[repr(C)]
-#[derive(Drop)]
+#[derive(Clone, Copy, Drop)]
 pub struct Entry {
     pub issue: u8,
     pub from: u8,
@@ -111,14 +113,14 @@ pub struct Entry {
 
 // What a unit's settlement priority goes by: of a full unit its account and that account's net, of a
 // small one its account and its own lots.
-#[derive(Drop)]
+#[derive(Clone, Copy, Drop)]
 pub enum Priority {
     Full(u32, u32),
     Small(u32, u32),
 }
 
 // What the unit question answers: account and lots, none, or the refusal's number.
-#[derive(Drop)]
+#[derive(Clone, Copy, Drop)]
 pub enum Found {
     Unit(u32, u32),
     Nothing,
@@ -127,7 +129,7 @@ pub enum Found {
 
 // A ticket for a lift: issue and unit number, and what stands there: account and lots of the unit, the
 // day, and the count of that day's accepted deliveries and lifts in the issue.
-#[derive(Drop)]
+#[derive(Clone, Copy, Drop)]
 pub struct Ticket {
     pub issue: u32,
     pub unit: u32,
@@ -138,7 +140,7 @@ pub struct Ticket {
 }
 
 // What asking for a lift answers: the ticket, or the refusal's number.
-#[derive(Drop)]
+#[derive(Clone, Copy, Drop)]
 pub enum Asked {
     Ticket(Ticket),
     Refused(u32),
@@ -148,7 +150,7 @@ pub enum Asked {
 // 16, any other number having no right; and of each account its owner, 0 to 15 a participant, any other
 // number none.
 #[repr(C)]
-#[derive(Drop)]
+#[derive(Clone, Copy, Drop)]
 pub struct Caller {
     pub number: u32,
     pub owners: [u8; ACCOUNT_COUNT],
@@ -156,7 +158,7 @@ pub struct Caller {
 
 // What reading an account answers: its net, its charge and the entry; net and charge where it has no such
 // entry; or the refusal's number.
-#[derive(Drop)]
+#[derive(Clone, Copy, Drop)]
 pub enum Seen {
     One(i32, i64, Entry),
     Nothing(i32, i64),
@@ -164,7 +166,7 @@ pub enum Seen {
 }
 
 // An instruction of the tape. Roll's sixteen prices and sixteen accrued amounts stand beside it.
-#[derive(Drop)]
+#[derive(Clone, Copy, Drop)]
 pub enum Instruction {
     // issue, from, to, lots
     Trade(u32, u32, u32, u32),
@@ -186,7 +188,7 @@ pub enum Instruction {
 
 // What a word of the tape is taken as: the head of an instruction, with the kind of the words that
 // follow it and the count of all its words; a word of that kind after a head; or a wrong word.
-#[derive(Drop)]
+#[derive(Clone, Copy, Drop)]
 pub enum Word {
     Head(Instruction, u32, usize),
     After(u32),
@@ -194,21 +196,21 @@ pub enum Word {
 }
 
 // What the tape reader answers: the instruction and its word count, or the refusal's number.
-#[derive(Drop)]
+#[derive(Clone, Copy, Drop)]
 pub enum Read {
     Instr(Instruction, usize),
     Refused(u32),
 }
 
 // What the tape writer answers: the refusal's number (0: done), the count of words written.
-#[derive(Drop)]
+#[derive(Clone, Copy, Drop)]
 pub struct Written {
     pub refusal: u32,
     pub count: usize,
 }
 
 // What a line of a run names: a call, or the tape where the reader refused.
-#[derive(Drop)]
+#[derive(Clone, Copy, Drop)]
 pub enum Name {
     Trade,
     Deliver,
@@ -224,7 +226,7 @@ pub enum Name {
 
 // A line of a run: the index of the instruction's first word, the name, the refusal's number
 // (0: done), the count of records (for pair-off, steps).
-#[derive(Drop)]
+#[derive(Clone, Copy, Drop)]
 pub struct Line {
     pub index: u64,
     pub name: Name,

@@ -1,4 +1,6 @@
 // An instruction of a run, answered in place on the columns of a sound book by the call that it is.
+#![tactic(auto)]
+
 ghost use Rattle.rules.specs.Calls.{HasRoom};
 ghost use Rattle.rules.specs.Run.{call_of};
 ghost use Rattle.book.specs.States.{sound_columns, columns};

@@ -2,6 +2,8 @@
 // measures of runs stand here: a run's word is its lots times the number of accounts, plus the account.
 
 // the most runs of an issue with its lifts, and without them
+#![tactic(auto)]
+
 pub const RUN_COUNT: usize = 144;
 
 pub const RANK_COUNT: usize = 128;

@@ -1,4 +1,6 @@
 // Entries of an issue and an account looked for along the ledger's columns, by blocks.
+#![tactic(auto)]
+
 ghost use Rattle.std.specs.Prelude.{◌≡◌, true, List, ℕ, ◌-◌, ◌≤◌, ◌<◌, leb, length};
 ghost use Rattle.rules.specs.Ledger.{is_from, lots_of};
 ghost use Rattle.rules.specs.Book.{entries as entries_of};

@@ -1,4 +1,6 @@
 // The units of an issue that more lots hand over, in the order of the day.
+#![tactic(auto)]
+
 ghost use Rattle.std.specs.Prelude.{true, false};
 ghost use Rattle.rules.specs.Book.{order_in};
 ghost use Rattle.serving.specs.Serving.{CanServe, Served};

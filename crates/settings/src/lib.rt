@@ -1,4 +1,6 @@
 // mark: its questions over nets and ledger, and its effect on the marks. turn: its question.
+#![tactic(auto)]
+
 ghost use Rattle.std.specs.Prelude.{◌≡◌, List, [], ℕ, ◌≤◌, ◌<◌, min, nat_abs, length, ◌&&◌, not, ltb};
 ghost use Rattle.rules.specs.Book.{all, is_zero, entries as entries_of, in_force};
 ghost use Rattle.rules.specs.Questions.{first_no, no_entry};

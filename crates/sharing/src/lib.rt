@@ -1,4 +1,6 @@
 // A fail's lots shared out in the drawn order: reports facing the failing account first, then the others.
+#![tactic(auto)]
+
 ghost use Rattle.std.specs.Prelude.{◌≡◌, ◌++◌, ◌≤◌, min, length, drop, replicate};
 ghost use Rattle.reports.specs.Allotting.{allotment};
 ghost use Rattle.sharing.specs.Steps.{in_group, Drawn, allot_group, shared_out};

@@ -1,5 +1,7 @@
 // Unit sizes on a simulated desk (document 02, F-7): netting accounts that share settlement accounts deliver in
 // turn, round after round, until one makes no delivery. Rounds that do the same again are made as one step.
+#![tactic(auto)]
+
 ghost use Rattle.std.specs.Prelude.{◌≡◌, map};
 ghost use Rattle.rules.specs.Measures.{sum, owed_of};
 ghost use Rattle.rules.specs.Fails.{undelivered};
@@ -19,7 +21,7 @@ const RANKS_OF_ALL: usize = 2048;
 pub mod asks;
 
 // What a round did: the deliveries made, and how many more rounds that deliver the same were made with it.
-#[derive(Drop)]
+#[derive(Clone, Copy, Drop)]
 pub struct Step {
     pub made: u32,
     pub leapt: u32,
@@ -57,7 +59,7 @@ fn round_and_leap(
 }
 
 // Deliveries and rounds made.
-#[derive(Drop)]
+#[derive(Clone, Copy, Drop)]
 pub struct Totals {
     pub deliveries: u64,
     pub rounds: u64,

@@ -1,4 +1,6 @@
 // A snapshot of the book for hosts in C and Rust: any numbers, any columns, any words.
+#![tactic(auto)]
+
 ghost use Rattle.std.specs.Prelude.{◌≡◌};
 ghost use Rattle.rules.specs.Book.{fresh};
 ghost use Rattle.book.specs.States.{columns};
@@ -13,7 +15,7 @@ use snapshots::WORDS;
 
 // What opening gives a host: the reason (0: opened), and the state, that of a fresh book where it was refused.
 #[repr(C)]
-#[derive(Drop)]
+#[derive(Clone, Copy, Drop)]
 pub struct DayOpened {
     pub reason: u32,
     pub state: DayState,

@@ -2,6 +2,8 @@
 // here.
 
 // the words of a snapshot
+#![tactic(auto)]
+
 pub const WORDS: usize = 6583;
 
 // where its columns begin: marks, nets, delivered lots, lifts, charges, entries but for their lots, lots of entries

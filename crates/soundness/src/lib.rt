@@ -1,2 +1,4 @@
 // Soundness of a book, scanned in its columns.
+#![tactic(auto)]
+
 pub mod scan;

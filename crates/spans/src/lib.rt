@@ -3,7 +3,9 @@
 
 // An account's record in an issue over a span of a tape: lots due to deliver at closes, lots delivered by
 // cutoffs, lots failed, lots resolved. Failed over due is the third over the first.
-#[derive(Drop)]
+#![tactic(auto)]
+
+#[derive(Clone, Copy, Drop)]
 pub struct Statement {
     pub due: u64,
     pub delivered: u64,

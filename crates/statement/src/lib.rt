@@ -1,5 +1,7 @@
 // Fails statement over a span of a tape, for hosts in C and Rust: an account's record in an issue, from the tape's
 // first 4,096 instructions, or fewer, run in place on a fresh book.
+#![tactic(auto)]
+
 ghost use Rattle.std.specs.Prelude.{◌≡◌};
 ghost use Rattle.book.specs.States.{columns, ready};
 ghost use Rattle.instructions.specs.Answering.{Begins};
@@ -18,7 +20,7 @@ use spans::Statement;
 const MOST_SPAN: usize = 4096;
 
 // After an instruction: the statement so far, and the state.
-#[derive(Drop)]
+#[derive(Clone, Copy, Drop)]
 struct Step {
     statement: Statement,
     state: State,

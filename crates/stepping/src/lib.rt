@@ -1,10 +1,12 @@
 // Pair-off's steps: first against first, in one pass.
+#![tactic(auto)]
+
 ghost use Rattle.stepping.specs.Steps.{can_pair, was_made};
 
 use falling::{append_between, fall_both, next_of};
 
 // What its steps leave: their number, the lots cancelled, the number of entries to be appended.
-#[derive(Drop)]
+#[derive(Clone, Copy, Drop)]
 pub struct Made {
     pub steps: usize,
     pub cancelled: u64,

@@ -1,5 +1,7 @@
 // The cutoff where full units are dealt in turn: the stretches of what waits, made from the front, one run
 // after the other. Units are never listed: of whole rounds each account's are taken together.
+#![tactic(auto)]
+
 ghost use Rattle.std.specs.Prelude.{◌≡◌};
 ghost use Rattle.runs.specs.Runs.{part_of};
 ghost use Rattle.stretching.specs.Adding.{CanAdd, Added, share_of, CanFeed, Fed};
@@ -115,7 +117,7 @@ fn feed_span(
 }
 
 // A span of places that is still to be fed, and how many units in it were lifted away.
-#[derive(Drop)]
+#[derive(Clone, Copy, Drop)]
 pub struct Pending {
     pub base: u32,
     pub len: u32,
@@ -123,7 +125,7 @@ pub struct Pending {
 }
 
 // How many stretches there are, and what is still to be fed.
-#[derive(Drop)]
+#[derive(Clone, Copy, Drop)]
 pub struct Passed {
     pub count: usize,
     pub pending: Pending,
@@ -262,7 +264,7 @@ fn feed_waiting(
 }
 
 // An issue at its cutoff: how many stretches wait, and the position in front of all fails.
-#[derive(Drop)]
+#[derive(Clone, Copy, Drop)]
 pub struct Begun {
     pub n: usize,
     pub position: Position,

@@ -1,4 +1,6 @@
 // The ticket of an unhanded unit, and whether it still holds.
+#![tactic(auto)]
+
 ghost use Rattle.std.specs.Prelude.{◌≡◌, true, ◌≤◌, length};
 ghost use Rattle.rules.specs.Book.{count_at, order_in};
 ghost use Rattle.rules.specs.Questions.{same_ticket};
@@ -11,7 +13,7 @@ use rules::{ACCOUNT_COUNT, Asked, Found, LIFT_WORDS, MOST_LIFTS, Ticket};
 
 // An issue's units, in the order of old, in a lent array: how many words they take. And how many units the
 // delivered total covers, and the stock, which are the same in both orders.
-#[derive(Drop)]
+#[derive(Clone, Copy, Drop)]
 pub struct Stand {
     pub n: usize,
     pub handed: u32,

@@ -2,7 +2,9 @@
 
 // What is told of a unit: handed; waiting, with so many lots; partly failed, with the lots lacking; wholly
 // failed; or the refusal's number.
-#[derive(Drop)]
+#![tactic(auto)]
+
+#[derive(Clone, Copy, Drop)]
 pub enum Told {
     Handed,
     Waiting(u32),

@@ -1,4 +1,6 @@
 // trade and close: of each its own questions, and trade's effect in place.
+#![tactic(auto)]
+
 ghost use Rattle.std.specs.Prelude.{◌≡◌, []};
 ghost use Rattle.rules.specs.Questions.{first_no};
 ghost use Rattle.rules.specs.Calls.{trade_asks, traded_nets, close_asks, Trade, Close};

@@ -1,4 +1,6 @@
 // Fails inside a trust account: each report's share of a fail, for a bank in C or Rust.
+#![tactic(auto)]
+
 ghost use Rattle.std.specs.Prelude.{◌≡◌};
 ghost use Rattle.rules.specs.Measures.{most_lots};
 ghost use Rattle.rules.specs.Book.{all, within_size};

@@ -1,5 +1,7 @@
 // The instructions of some words, each answered in place on the book's columns, and their lines. More words
 // may come behind them.
+#![tactic(auto)]
+
 ghost use Rattle.std.specs.Prelude.{◌≡◌, ◌+◌, ◌*◌, ◌≤◌, ◌<◌, ◌^◌, length, true};
 ghost use Rattle.rules.specs.Run.{name_of};
 ghost use Rattle.book.specs.States.{columns, ready};
@@ -12,14 +14,14 @@ use report::text;
 use rules::{Book, Instruction, Name, QUOTE_COUNT, Read, State, TAPE_WORDS};
 
 // After an instruction: where the text ends, and the state.
-#[derive(Drop)]
+#[derive(Clone, Copy, Drop)]
 pub struct Step {
     pub end: usize,
     pub state: State,
 }
 
 // After a part of a run: the words used, where the text ends, whether the run is over, the state.
-#[derive(Drop)]
+#[derive(Clone, Copy, Drop)]
 pub struct Part {
     pub used: usize,
     pub end: usize,
@@ -28,14 +30,14 @@ pub struct Part {
 }
 
 // What some words begin with: a trade, whole and right, or anything else.
-#[derive(Drop)]
+#[derive(Clone, Copy, Drop)]
 pub enum First {
     Trade(u32, u32, u32, u32),
     Other,
 }
 
 // Where a run stands: at which word, and where its text ends.
-#[derive(Drop)]
+#[derive(Clone, Copy, Drop)]
 pub struct Place {
     pub at: usize,
     pub end: usize,
@@ -277,7 +279,7 @@ pub fn run(
 }
 
 // Behind some words: how many were used, where their lines end, whether the run is over, and the book.
-#[derive(Drop)]
+#[derive(Clone, Copy, Drop)]
 pub struct Ran {
     pub used: usize,
     pub end: usize,

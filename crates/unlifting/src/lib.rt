@@ -1,9 +1,11 @@
 // Where units stood before all lifts.
+#![tactic(auto)]
+
 ghost use Rattle.std.specs.Prelude.{◌≡◌, ◌≤◌, min};
 ghost use Rattle.unlifting.specs.Unlifting.{BackIs, SpanIs, CanSpan};
 
 // Places from `base` on, so many of them.
-#[derive(Drop)]
+#[derive(Clone, Copy, Drop)]
 pub struct Span {
     pub base: u32,
     pub len: u32,

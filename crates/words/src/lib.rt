@@ -1,4 +1,6 @@
 // Words of records and of the tape: made of their fields, and taken apart.
+#![tactic(auto)]
+
 ghost use Rattle.std.specs.Prelude.{◌≡◌, ◌∷◌, ◌≤◌, ◌<◌, ◌^◌, length, drop};
 ghost use Rattle.rules.specs.Records.{kind_bits, issue_bits, from_bits, to_bits, lots_bits, days_bits, rate_bits, quote_bits, of_field, head_word, lots_word};
 ghost use Rattle.words.specs.Fits.{HeadFits, PartFits};
