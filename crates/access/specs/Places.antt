@@ -6,7 +6,7 @@ use Rattle.rules.specs.Measures.{cell_count, account_count, most_entries, last_i
 use Rattle.rules.specs.Book.{entries, net_at, LedgerLengths}
 use Rattle.rules.specs.Questions.{first_no, ask_issue, ask_account}
 use Rattle.rules.specs.Access.{may_read, with_right, LookAnswer, first_seen, look_answer, entries_at, charge_at}
-use Rattle.book.specs.States.{Lent, Column}
+use Rattle.book.specs.States.{Lent, Column, Shared, SharedColumn}
 
 -- an entry's three numbers: is it one of issue i with account a at either end?
 abbrev pub either_end : ℕ → ℕ → ℕ → ℕ → ℕ → Bool
@@ -22,11 +22,11 @@ pub record Placed (n : ℕ) (is fs ts : List ℕ) (i a k r : ℕ) : Type 0 where
   pub rest : (xs ds : List ℕ) → drop k (entries_at (entries n is fs ts xs ds) i a) ≡ entries_at (entries_from r n is fs ts xs ds) i a
   pub there : r < n → either_end (get_or is r 0) (get_or fs r 0) (get_or ts r 0) i a ≡ true
 
-abbrev pub can_place : ℕ → Lent ℕ → Lent ℕ → Lent ℕ → Type 0
+abbrev pub can_place : ℕ → Shared ℕ → Shared ℕ → Shared ℕ → Type 0
 can_place n issues froms tos =
     (n ≤ most_entries) × (length issues.now ≡ most_entries) × (length froms.now ≡ most_entries) × (length tos.now ≡ most_entries)
 
-abbrev pub placed : ℕ → Column ℕ → Column ℕ → Column ℕ → ℕ → ℕ → ℕ → ℕ → Type 0
+abbrev pub placed : ℕ → SharedColumn ℕ → SharedColumn ℕ → SharedColumn ℕ → ℕ → ℕ → ℕ → ℕ → Type 0
 placed n issues froms tos i a k r = Placed n issues.entry.now froms.entry.now tos.entry.now i a k r
 
 -- what is seen of an account, from its columns

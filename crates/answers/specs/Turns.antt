@@ -8,7 +8,7 @@ use Rattle.rules.specs.Measures.{lift_cells, output_words}
 use Rattle.rules.specs.Book.{sound, CellLengths, LedgerLengths, book_of}
 use Rattle.rules.specs.Calls.{Call, Answer, lends, called}
 use Rattle.rules.specs.Run.{call_of}
-use Rattle.book.specs.States.{Lent, Column, Columns}
+use Rattle.book.specs.States.{Lent, Column, SharedColumn, Columns, Shared}
 use Rattle.answers.specs.declared.Turn.{Turn}
 
 abbrev pub turn_of : ℕ → ℕ → ℕ → State → Turn
@@ -42,7 +42,7 @@ abbrev pub Gives : Book → Call → Turn → Book → List ℕ → List ℕ →
 Gives b c r b' out out' = TurnIs (beside c out (called b c)) r b' out'
 
 -- an instruction, with roll's quotes and an output beside it, made on the book of a state and its columns
-abbrev pub Answered : Instruction → Column ℕ → Column ℕ → State → Turn → Columns → Type 0
+abbrev pub Answered : Instruction → SharedColumn ℕ → Column ℕ → State → Turn → Columns → Type 0
 Answered x quotes out s r c =
     Gives (c.before s) (call_of x quotes.entry.now out.entry.now) r (c.after r.state) out.entry.now out.exit.now
 
@@ -82,7 +82,7 @@ abbrev pub on_nets : Column ℤ → Within
 on_nets nets =
     record { before = λ s. within_nets s nets.entry.now; after = λ s. within_nets s nets.exit.now }
 
-abbrev pub on_delivered : Column ℤ → Column ℕ → Column ℕ → Within
+abbrev pub on_delivered : SharedColumn ℤ → Column ℕ → Column ℕ → Within
 on_delivered nets delivered lifts =
     record {
       before = λ s. within_cells s nets.entry.now delivered.entry.now lifts.entry.now;
@@ -96,21 +96,21 @@ on_ledger issues froms tos lots days =
       after = λ s. within_ledger s issues.exit.now froms.exit.now tos.exit.now lots.exit.now days.exit.now;
     }
 
-abbrev pub on_fails : Column ℤ → Column ℕ → Column ℕ → Column ℕ → Column ℕ → Column ℕ → Column ℕ → Column ℕ → Within
+abbrev pub on_fails : SharedColumn ℤ → SharedColumn ℕ → SharedColumn ℕ → Column ℕ → Column ℕ → Column ℕ → Column ℕ → Column ℕ → Within
 on_fails nets delivered lifts issues froms tos lots days =
     record {
       before = λ s. but_charges s nets.entry.now delivered.entry.now lifts.entry.now issues.entry.now froms.entry.now tos.entry.now lots.entry.now days.entry.now;
       after = λ s. but_charges s nets.entry.now delivered.entry.now lifts.entry.now issues.exit.now froms.exit.now tos.exit.now lots.exit.now days.exit.now;
     }
 
-abbrev pub on_charges : Column ℤ → Column ℕ → Column ℕ → Column ℤ → Column ℕ → Column ℕ → Column ℕ → Column ℕ → Within
+abbrev pub on_charges : Column ℤ → Column ℕ → Column ℕ → Column ℤ → SharedColumn ℕ → SharedColumn ℕ → SharedColumn ℕ → SharedColumn ℕ → Within
 on_charges nets delivered lifts charges issues froms tos lots =
     record {
       before = λ s. but_days s nets.entry.now delivered.entry.now lifts.entry.now charges.entry.now issues.entry.now froms.entry.now tos.entry.now lots.entry.now;
       after = λ s. but_days s nets.exit.now delivered.exit.now lifts.exit.now charges.exit.now issues.entry.now froms.entry.now tos.entry.now lots.entry.now;
     }
 
-abbrev pub on_marks : Column ℤ → Column ℕ → Within
+abbrev pub on_marks : SharedColumn ℤ → SharedColumn ℕ → Within
 on_marks nets issues =
     record { before = λ s. within_use s nets.entry.now issues.entry.now; after = λ s. within_use s nets.entry.now issues.entry.now }
 
@@ -127,7 +127,7 @@ pub record SomeSound (within : Book → Book) : Type 0 where
 abbrev pub trade_ready : State → Lent ℤ → Type 0
 trade_ready s nets = (length nets.now ≡ 1024) × SomeSound (within_nets s nets.now)
 
-abbrev pub deliver_ready : State → Lent ℤ → Lent ℕ → Lent ℕ → Lent ℕ → Type 0
+abbrev pub deliver_ready : State → Shared ℤ → Lent ℕ → Lent ℕ → Lent ℕ → Type 0
 deliver_ready s nets delivered lifts out =
     CellLengths nets.now delivered.now × (length lifts.now ≡ lift_cells)
     × SomeSound (within_cells s nets.now delivered.now lifts.now)
@@ -138,7 +138,7 @@ ledger_ready s issues froms tos lots days =
     LedgerLengths issues.now froms.now tos.now lots.now days.now
     × SomeSound (within_ledger s issues.now froms.now tos.now lots.now days.now)
 
-abbrev pub cutoff_ready : State → Lent ℤ → Lent ℕ → Lent ℕ → Lent ℕ → Lent ℕ → Lent ℕ → Lent ℕ → Lent ℕ → Lent ℕ → Type 0
+abbrev pub cutoff_ready : State → Shared ℤ → Shared ℕ → Shared ℕ → Lent ℕ → Lent ℕ → Lent ℕ → Lent ℕ → Lent ℕ → Lent ℕ → Type 0
 cutoff_ready s nets delivered lifts issues froms tos lots days out =
     CellLengths nets.now delivered.now × (length lifts.now ≡ lift_cells) × LedgerLengths issues.now froms.now tos.now lots.now days.now
     × SomeSound (but_charges s nets.now delivered.now lifts.now issues.now froms.now tos.now lots.now days.now)
@@ -154,10 +154,10 @@ pub record RollLengths (nets : List ℤ) (delivered lifts : List ℕ) (charges :
   pub to : length tos ≡ 2048
   pub lot : length lots ≡ 2048
 
-abbrev pub roll_ready : State → Lent ℤ → Lent ℕ → Lent ℕ → Lent ℤ → Lent ℕ → Lent ℕ → Lent ℕ → Lent ℕ → Type 0
+abbrev pub roll_ready : State → Lent ℤ → Lent ℕ → Lent ℕ → Lent ℤ → Shared ℕ → Shared ℕ → Shared ℕ → Shared ℕ → Type 0
 roll_ready s nets delivered lifts charges issues froms tos lots =
     RollLengths nets.now delivered.now lifts.now charges.now issues.now froms.now tos.now lots.now
     × SomeSound (but_days s nets.now delivered.now lifts.now charges.now issues.now froms.now tos.now lots.now)
 
-abbrev pub mark_ready : State → Lent ℤ → Lent ℕ → Type 0
+abbrev pub mark_ready : State → Shared ℤ → Shared ℕ → Type 0
 mark_ready s nets issues = (length nets.now ≡ 1024) × (length issues.now ≡ 2048) × SomeSound (within_use s nets.now issues.now)

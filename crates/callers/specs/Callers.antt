@@ -9,7 +9,7 @@ use Rattle.rules.specs.Questions.{Question, ask, first_no}
 use Rattle.rules.specs.Calls.{Call, Commit, Answer, AskAnswer, UnitAnswer, answer, lent_to, output_asks, own_asks, effect, no_ticket, unit_refused}
 use Rattle.rules.specs.Access.{with_right, called_by, asked_by, unit_by, LookAnswer, seen, none_seen, look_refused, look}
 use Rattle.rules.specs.Run.{call_of}
-use Rattle.book.specs.States.{Column, Columns}
+use Rattle.book.specs.States.{Column, SharedColumn, Columns}
 use Rattle.answers.specs.Turns.{beside}
 use Rattle.told.specs.Status.{StatusAnswer, status_refused}
 use Rattle.desks.specs.Simulation.{Tried, refused}
@@ -31,7 +31,7 @@ day_made_by w phase b c =
 unfoldable pub day_called_by : Caller → ℕ → ℕ → Book → Call → Answer
 day_called_by w kind phase b c = cond (is_kind kind) (day_made_by w phase b c) (answer 14 b (lent_to c) (effect b c))
 
-abbrev pub DayCalledBy : Caller → ℕ → Instruction → Column ℕ → Column ℕ → DayState → DayTurned → Columns → Type 0
+abbrev pub DayCalledBy : Caller → ℕ → Instruction → SharedColumn ℕ → Column ℕ → DayState → DayTurned → Columns → Type 0
 DayCalledBy w kind x quotes out h r c =
     let call = call_of x quotes.entry.now out.entry.now in
     CallIs (beside call out.entry.now (day_called_by w kind h.phase (book_at h c) call)) h.phase r (c.after (state_in r.state)) out.exit.now

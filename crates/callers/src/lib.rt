@@ -6,7 +6,7 @@ ghost use Rattle.std.specs.Prelude.{◌≡◌, []};
 ghost use Rattle.rules.specs.Questions.{first_no};
 ghost use Rattle.rules.specs.Access.{seen_answer};
 ghost use Rattle.rules.specs.Run.{call_of};
-ghost use Rattle.book.specs.States.{columns};
+ghost use Rattle.book.specs.States.{columns, lifting_columns, shared_columns};
 ghost use Rattle.desks.specs.Simulation.{tried};
 ghost use Rattle.desk.specs.Fields.{instruction_of};
 ghost use Rattle.host.specs.States.{book_at};
@@ -49,7 +49,7 @@ fn no_right<'a>(
     days: &'a [u16],
     out: &'a [u32],
 ) -> u32
-    ensures { result ≡ first_no (asks_at state.phase (book_at state (columns nets delivered lifts charges issues froms tos lots days)) (call_of x [] out.now)) }
+    ensures { result ≡ first_no (asks_at state.phase (book_at state (shared_columns nets delivered lifts charges issues froms tos lots days)) (call_of x [] out.now)) }
 {
     let no = output_asks(x, out);
     if no != 0 {
@@ -88,7 +88,7 @@ fn unless_unsound<'a>(
     lots: &'a [u32],
     days: &'a [u16],
 ) -> u32
-    ensures { result ≡ unless_unsound no state.phase (book_at state (columns nets delivered lifts charges issues froms tos lots days)) }
+    ensures { result ≡ unless_unsound no state.phase (book_at state (shared_columns nets delivered lifts charges issues froms tos lots days)) }
 {
     let s = state_in(state);
     if sound_at(
@@ -168,7 +168,7 @@ pub extern "C" fn day_unit_as<'a>(
     k: u32,
     answer: &mut [u32; 3],
 ) -> u32
-    ensures { UnitIs (day_unit_by w state.phase (book_at state (columns nets delivered lifts charges issues froms tos lots days)) issue k) result answer.new }
+    ensures { UnitIs (day_unit_by w state.phase (book_at state (shared_columns nets delivered lifts charges issues froms tos lots days)) issue k) result answer.new }
 {
     if access::is_operator(w) {
         return day_unit(
@@ -210,7 +210,7 @@ pub extern "C" fn day_status_as<'a>(
     k: u32,
     answer: &mut [u32; 2],
 ) -> u32
-    ensures { StatusIs (day_status_by w state.phase (book_at state (columns nets delivered lifts charges issues froms tos lots days)) issue k) result answer.new }
+    ensures { StatusIs (day_status_by w state.phase (book_at state (shared_columns nets delivered lifts charges issues froms tos lots days)) issue k) result answer.new }
 {
     if access::is_operator(w) {
         return day_status(
@@ -253,7 +253,7 @@ pub extern "C" fn day_ask_as<'a>(
     unit: u32,
     ticket: &mut [u32; 6],
 ) -> u32
-    ensures { AskIs (day_asked_by w state.phase (book_at state (columns nets delivered lifts charges issues froms tos lots days)) issue unit) result ticket.new }
+    ensures { AskIs (day_asked_by w state.phase (book_at state (shared_columns nets delivered lifts charges issues froms tos lots days)) issue unit) result ticket.new }
 {
     if access::is_operator(w) {
         return day_ask(
@@ -296,7 +296,7 @@ pub extern "C" fn day_commit_as<'a>(
     out: &mut [u32],
     count: &mut usize,
 ) -> u32
-    ensures { DayCommittedBy w state.phase (book_at state (columns nets delivered lifts charges issues froms tos lots days)) ticket.now out lifts result count }
+    ensures { DayCommittedBy w state.phase (book_at state (lifting_columns nets delivered lifts charges issues froms tos lots days)) ticket.now out lifts result count }
 {
     if access::is_operator(w) {
         return day_commit(
@@ -356,7 +356,7 @@ pub extern "C" fn day_simulate_as<'a>(
     rounds: &mut u64,
     owed: &mut [u32; ISSUE_COUNT],
 ) -> u32
-    ensures { tried result deliveries.new rounds.new owed.new ≡ day_simulation_by w state.phase (book_at state (columns nets delivered lifts charges issues froms tos lots days)) settles.now inventories.now size }
+    ensures { tried result deliveries.new rounds.new owed.new ≡ day_simulation_by w state.phase (book_at state (shared_columns nets delivered lifts charges issues froms tos lots days)) settles.now inventories.now size }
 {
     if access::is_operator(w) {
         return day_simulate(
@@ -452,7 +452,7 @@ pub extern "C" fn day_look<'a>(
     account: u32,
     k: u32,
 ) -> DaySeen
-    ensures { result ≡ seen_in (day_look w state.phase (book_at state (columns nets delivered lifts charges issues froms tos lots days)) issue account k) }
+    ensures { result ≡ seen_in (day_look w state.phase (book_at state (shared_columns nets delivered lifts charges issues froms tos lots days)) issue account k) }
 {
     let s = state_in(state);
     if !sound_at(

@@ -4,7 +4,7 @@ use Rattle.rules.specs.Measures.{most_lots, most_price, most_entries, most_charg
 use Rattle.rules.specs.Ledger.{charged}
 use Rattle.rules.specs.Book.{entries}
 use Rattle.measures.specs.Range.{Termed}
-use Rattle.book.specs.States.{Lent, Column}
+use Rattle.book.specs.States.{Lent, Column, Shared, SharedColumn}
 
 -- yen added to a charge, or taken from it, leave a charge of 64 bits
 pub record Room (c : ℤ) (y : ℕ) : Type 0 where
@@ -44,10 +44,10 @@ pub record Charged (days rate : ℕ) (quotes : List ℕ) (n : ℕ) (is fs ts xs 
   pub charges : (ds : List ℕ) → after ≡ charged days rate quotes (entries n is fs ts xs ds) cs
 
 -- the same of lent columns
-abbrev pub can_charge : ℕ → ℕ → Lent ℕ → ℕ → Lent ℕ → Lent ℕ → Lent ℕ → Lent ℕ → Lent ℤ → Type 0
+abbrev pub can_charge : ℕ → ℕ → Shared ℕ → ℕ → Shared ℕ → Shared ℕ → Shared ℕ → Shared ℕ → Lent ℤ → Type 0
 can_charge days rate quotes n issues froms tos lots charges =
     Chargeable days rate quotes.now n issues.now froms.now tos.now lots.now charges.now
 
-abbrev pub was_charged : ℕ → ℕ → Column ℕ → ℕ → Column ℕ → Column ℕ → Column ℕ → Column ℕ → Column ℤ → Type 0
+abbrev pub was_charged : ℕ → ℕ → SharedColumn ℕ → ℕ → SharedColumn ℕ → SharedColumn ℕ → SharedColumn ℕ → SharedColumn ℕ → Column ℤ → Type 0
 was_charged days rate quotes n issues froms tos lots charges =
     Charged days rate quotes.entry.now n issues.entry.now froms.entry.now tos.entry.now lots.entry.now charges.entry.now charges.exit.now

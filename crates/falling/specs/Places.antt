@@ -4,7 +4,7 @@ use Rattle.rules.specs.declared.Entry.{Entry}
 use Rattle.rules.specs.Measures.{most_entries}
 use Rattle.rules.specs.Ledger.{is_to}
 use Rattle.rules.specs.Book.{is_zero, entries}
-use Rattle.ledger.specs.Columns.{Whole, Lent, Column}
+use Rattle.ledger.specs.Columns.{Whole, Lent, Column, Shared, SharedColumn}
 
 -- an entry that passes and is not at 0
 abbrev pub is_left : (Entry → Bool) → Entry → Bool
@@ -41,13 +41,13 @@ pub record BothFell (t f m : ℕ) (xs xs' : List ℕ) : Type 0 where
 
 -- The same by name
 
-abbrev pub can_seek : ℕ → ℕ → ℕ → ℕ → Lent → Lent → Lent → Type 0
+abbrev pub can_seek : ℕ → ℕ → ℕ → ℕ → Shared → Shared → Shared → Type 0
 can_seek n k i a issues accounts lots = CanSeek n k i a issues.now accounts.now lots.now
 
-abbrev pub next_of : ℕ → ℕ → ℕ → ℕ → Column → Column → Column → Type 0
+abbrev pub next_of : ℕ → ℕ → ℕ → ℕ → SharedColumn → SharedColumn → SharedColumn → Type 0
 next_of n i a r issues accounts lots = r ≡ next_in n issues.entry.now accounts.entry.now lots.entry.now i a
 
-abbrev pub can_fall : ℕ → ℕ → Lent → Lent → Lent → Lent → Lent → Type 0
+abbrev pub can_fall : ℕ → ℕ → Shared → Shared → Shared → Lent → Shared → Type 0
 can_fall t f issues froms tos lots days = CanFall t f issues.now froms.now tos.now lots.now days.now
 
 abbrev pub both_fell : ℕ → ℕ → ℕ → Column → Type 0

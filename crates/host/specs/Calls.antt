@@ -1,14 +1,14 @@
 -- The calls on a host's book, in plain numbers: of numbers and columns that can be a book's what the rules answer, any
 -- others are refused by 1 or 2.
 use Rattle.std.specs.Prelude.{◌≡◌, false, cond, List, [], ◌∷◌, ◌++◌, ℕ, leb}
-use Rattle.std.specs.Borrow.{Bor}
+use Rattle.std.specs.Borrow.{MutBor}
 use denote.Triple.Both.{Both}
 use Rattle.rules.specs.declared.Book.{Book}
 use Rattle.rules.specs.declared.Instruction.{Instruction}
 use Rattle.rules.specs.Questions.{ask, first_no}
 use Rattle.rules.specs.Calls.{Call, Answer, answer, lent_to, output_asks, effect, called}
 use Rattle.rules.specs.Run.{call_of}
-use Rattle.book.specs.States.{Column, Columns}
+use Rattle.book.specs.States.{Column, SharedColumn, Columns}
 use Rattle.answers.specs.declared.Turn.{Turn}
 use Rattle.answers.specs.Turns.{beside}
 use Rattle.desk.specs.Fields.{is_kind}
@@ -42,11 +42,11 @@ pub record CallIs (d : Answer) (phase : ℕ) (r : DayTurned) (after : Book) (wor
   pub out : words ≡ d.out
 
 -- an instruction of a kind, with roll's quotes and an output beside it, made on a host's book
-abbrev pub DayCalled : ℕ → Instruction → Column ℕ → Column ℕ → DayState → DayTurned → Columns → Type 0
+abbrev pub DayCalled : ℕ → Instruction → SharedColumn ℕ → Column ℕ → DayState → DayTurned → Columns → Type 0
 DayCalled kind x quotes out h r c =
     let call = call_of x quotes.entry.now out.entry.now in
     CallIs (beside call out.entry.now (day_called kind h.phase (book_at h c) call)) h.phase r (c.after (state_in r.state)) out.exit.now
 
 -- a lent number, before and after
 abbrev pub Place : Type 0
-Place = Both (Bor ℕ) (Bor ℕ)
+Place = Both (MutBor ℕ) (MutBor ℕ)

@@ -70,7 +70,7 @@ pub mod lifts;
 pub mod questions;
 
 ghost use Rattle.std.specs.Prelude.{◌≡◌};
-ghost use Rattle.book.specs.States.{columns};
+ghost use Rattle.book.specs.States.{shared_columns};
 ghost use Rattle.host.specs.States.{phase_of, number_of, state_in, sound_at};
 
 use rules::{ACCOUNT_COUNT, CELL_COUNT, ISSUE_COUNT, LIFT_CELLS, MOST_ENTRIES, Phase, State};
@@ -142,7 +142,7 @@ pub fn sound_at<'a>(
     lots: &'a [u32],
     days: &'a [u16],
 ) -> bool
-    ensures { result ≡ sound_at phase ((columns nets delivered lifts charges issues froms tos lots days).before s) }
+    ensures { result ≡ sound_at phase ((shared_columns nets delivered lifts charges issues froms tos lots days).before s) }
 {
     if 2 < phase {
         return false;

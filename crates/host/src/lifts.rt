@@ -1,7 +1,7 @@
 // The two calls of a lift on a host's book: any numbers, any columns.
 ghost use Rattle.std.specs.Prelude.{◌≡◌};
 ghost use Rattle.rules.specs.Calls.{asked_answer};
-ghost use Rattle.book.specs.States.{columns};
+ghost use Rattle.book.specs.States.{lifting_columns, shared_columns};
 ghost use Rattle.host.specs.States.{book_at};
 ghost use Rattle.host.specs.Lifts.{ticket_in, AskIs, day_asked, DayCommitted};
 
@@ -41,7 +41,7 @@ pub extern "C" fn day_ask<'a>(
     unit: u32,
     ticket: &mut [u32; 6],
 ) -> u32
-    ensures { AskIs (day_asked state.phase (book_at state (columns nets delivered lifts charges issues froms tos lots days)) issue unit) result ticket.new }
+    ensures { AskIs (day_asked state.phase (book_at state (shared_columns nets delivered lifts charges issues froms tos lots days)) issue unit) result ticket.new }
 {
     let s = state_in(state);
     if !sound_at(
@@ -96,7 +96,7 @@ pub extern "C" fn day_commit<'a>(
     out: &mut [u32],
     count: &mut usize,
 ) -> u32
-    ensures { DayCommitted state.phase (book_at state (columns nets delivered lifts charges issues froms tos lots days)) ticket.now out lifts result count }
+    ensures { DayCommitted state.phase (book_at state (lifting_columns nets delivered lifts charges issues froms tos lots days)) ticket.now out lifts result count }
 {
     *count = 0;
     if out.len() < OUTPUT_WORDS {

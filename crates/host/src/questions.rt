@@ -1,7 +1,7 @@
 // The questions on a host's book, which change nothing: any numbers, any columns.
 ghost use Rattle.std.specs.Prelude.{◌≡◌};
 ghost use Rattle.rules.specs.Calls.{found_answer};
-ghost use Rattle.book.specs.States.{columns};
+ghost use Rattle.book.specs.States.{shared_columns};
 ghost use Rattle.told.specs.Status.{told_answer};
 ghost use Rattle.desks.specs.Simulation.{tried};
 ghost use Rattle.host.specs.States.{book_at};
@@ -25,7 +25,7 @@ pub extern "C" fn day_sound<'a>(
     lots: &'a [u32],
     days: &'a [u16],
 ) -> u32
-    ensures { result ≡ sound_number state.phase (book_at state (columns nets delivered lifts charges issues froms tos lots days)) }
+    ensures { result ≡ sound_number state.phase (book_at state (shared_columns nets delivered lifts charges issues froms tos lots days)) }
 {
     let s = state_in(state);
     if sound_at(
@@ -83,7 +83,7 @@ pub extern "C" fn day_unit<'a>(
     k: u32,
     answer: &mut [u32; 3],
 ) -> u32
-    ensures { UnitIs (day_unit state.phase (book_at state (columns nets delivered lifts charges issues froms tos lots days)) issue k) result answer.new }
+    ensures { UnitIs (day_unit state.phase (book_at state (shared_columns nets delivered lifts charges issues froms tos lots days)) issue k) result answer.new }
 {
     let s = state_in(state);
     if !sound_at(
@@ -153,7 +153,7 @@ pub extern "C" fn day_status<'a>(
     k: u32,
     answer: &mut [u32; 2],
 ) -> u32
-    ensures { StatusIs (day_status state.phase (book_at state (columns nets delivered lifts charges issues froms tos lots days)) issue k) result answer.new }
+    ensures { StatusIs (day_status state.phase (book_at state (shared_columns nets delivered lifts charges issues froms tos lots days)) issue k) result answer.new }
 {
     let s = state_in(state);
     if !sound_at(
@@ -196,7 +196,7 @@ pub extern "C" fn day_simulate<'a>(
     rounds: &mut u64,
     owed: &mut [u32; ISSUE_COUNT],
 ) -> u32
-    ensures { tried result deliveries.new rounds.new owed.new ≡ day_simulation state.phase (book_at state (columns nets delivered lifts charges issues froms tos lots days)) settles.now inventories.now size }
+    ensures { tried result deliveries.new rounds.new owed.new ≡ day_simulation state.phase (book_at state (shared_columns nets delivered lifts charges issues froms tos lots days)) settles.now inventories.now size }
 {
     let s = state_in(state);
     let good = sound_at(

@@ -1,6 +1,6 @@
 -- Five columns that hold a list of entries, and stores into them.
 use Rattle.std.specs.Prelude.{◌≡◌, cond, List, [], ◌∷◌, ◌++◌, ℕ, ◌-◌, ◌≤◌, length, get_or, set, take, drop, replicate}
-use Rattle.std.specs.Borrow.{Bor}
+use Rattle.std.specs.Borrow.{Bor, MutBor}
 use denote.Triple.Both.{Both}
 use Rattle.rules.specs.declared.Entry.{Entry}
 use Rattle.rules.specs.Measures.{most_entries}
@@ -68,14 +68,25 @@ without_zeros (e ∷ es) = cond (is_zero e.lots) (without_zeros es) (e ∷ witho
 -- By name: columns as a contract has them, lent, and before and after
 
 abbrev pub Lent : Type 0
-Lent = Bor (List ℕ)
+Lent = MutBor (List ℕ)
 
 abbrev pub Column : Type 0
 Column = Both Lent Lent
 
+-- the same of columns that are only read
+abbrev pub Shared : Type 0
+Shared = Bor (List ℕ)
+
+abbrev pub SharedColumn : Type 0
+SharedColumn = Both Shared Shared
+
 -- whole columns, a ledger in its columns
 abbrev pub whole : Lent → Lent → Lent → Lent → Lent → Type 0
 whole issues froms tos lots days = Whole issues.now froms.now tos.now lots.now days.now
+
+-- the same of columns that are only read
+abbrev pub shared_whole : Shared → Shared → Shared → Shared → Shared → Type 0
+shared_whole issues froms tos lots days = Whole issues.now froms.now tos.now lots.now days.now
 
 abbrev pub held : ℕ → Lent → Lent → Lent → Lent → Lent → Type 0
 held n issues froms tos lots days = Held n issues.now froms.now tos.now lots.now days.now
@@ -83,6 +94,10 @@ held n issues froms tos lots days = Held n issues.now froms.now tos.now lots.now
 -- the ledger that the columns held, and what they hold
 abbrev pub before : ℕ → Column → Column → Column → Column → Column → List Entry
 before n issues froms tos lots days =
+    entries n issues.entry.now froms.entry.now tos.entry.now lots.entry.now days.entry.now
+
+abbrev pub shared_before : ℕ → SharedColumn → SharedColumn → SharedColumn → SharedColumn → SharedColumn → List Entry
+shared_before n issues froms tos lots days =
     entries n issues.entry.now froms.entry.now tos.entry.now lots.entry.now days.entry.now
 
 abbrev pub kept : List Entry → ℕ → Column → Column → Column → Column → Column → Type 0

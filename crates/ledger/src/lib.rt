@@ -4,7 +4,7 @@
 
 ghost use Rattle.std.specs.Prelude.{◌≡◌, ◌&&◌, [], ◌∷◌, ◌++◌, ◌+◌, ◌-◌, ◌≤◌, ◌<◌, min, eqb};
 ghost use Rattle.rules.specs.Ledger.{entry};
-ghost use Rattle.ledger.specs.Columns.{Stored, Unused, Cleared, whole, held, before, kept, changed};
+ghost use Rattle.ledger.specs.Columns.{Stored, Unused, Cleared, whole, held, before, kept, changed, shared_whole, shared_before};
 
 use rules::Entry;
 
@@ -119,8 +119,8 @@ pub fn append_all(
     xs: &[u32],
     ds: &[u16],
 )
-    requires { (entries + more ≤ 2048) × held entries issues froms tos lots days × whole is fs ts xs ds }
-    ensures { kept (before entries issues froms tos lots days ++ before more is fs ts xs ds) (entries + more) issues froms tos lots days }
+    requires { (entries + more ≤ 2048) × held entries issues froms tos lots days × shared_whole is fs ts xs ds }
+    ensures { kept (before entries issues froms tos lots days ++ shared_before more is fs ts xs ds) (entries + more) issues froms tos lots days }
 {
     let mut j = 0;
     while j < more {

@@ -1,7 +1,7 @@
 -- Places of a column moved up, and a ledger whose entries at 0 stand in a part of it.
 use Rattle.std.specs.Prelude.{◌≡◌, Bool, List, ◌++◌, ℕ, ◌+◌, ◌-◌, ◌≤◌, ◌<◌, length, get_or, take, drop}
 use Rattle.rules.specs.Book.{is_zero}
-use Rattle.ledger.specs.Columns.{EachColumn, EachPair, Held, Lent, Column}
+use Rattle.ledger.specs.Columns.{EachColumn, EachPair, Held, Lent, Column, Shared, SharedColumn}
 use Rattle.seeking.specs.Places.{NoneIn, Passed, Sought}
 
 -- whether the entry at place k is at 0, by the column of lots
@@ -47,16 +47,16 @@ pub record Removable (n s e : ℕ) (is fs ts xs ds : List ℕ) : Type 0 where
 
 -- The same by name
 
-abbrev pub can_look_for : ℕ → ℕ → Lent → Type 0
+abbrev pub can_look_for : ℕ → ℕ → Shared → Type 0
 can_look_for n s lots = CanLookFor n s lots.now
 
-abbrev pub none_at_zero : ℕ → ℕ → Column → Type 0
+abbrev pub none_at_zero : ℕ → ℕ → SharedColumn → Type 0
 none_at_zero s e lots = NoneIn (zero_at lots.entry.now) s e
 
-abbrev pub passed_zeros : ℕ → ℕ → ℕ → Column → Type 0
+abbrev pub passed_zeros : ℕ → ℕ → ℕ → SharedColumn → Type 0
 passed_zeros n s r lots = Passed (zero_at lots.entry.now) n s r
 
-abbrev pub found_zero : ℕ → ℕ → ℕ → Column → Type 0
+abbrev pub found_zero : ℕ → ℕ → ℕ → SharedColumn → Type 0
 found_zero n s r lots = Sought (zero_at lots.entry.now) n s r
 
 abbrev pub can_move : ℕ → ℕ → ℕ → Lent → Type 0

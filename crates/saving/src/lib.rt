@@ -4,7 +4,7 @@
 ghost use Rattle.std.specs.Prelude.{◌≡◌, [], ◌∷◌, map, ◌+◌, ◌*◌, ◌≤◌, length, drop};
 ghost use Rattle.std.proofs.lemmas.List.Edits.{sets};
 ghost use Rattle.rules.specs.Measures.{due_of, owed_of};
-ghost use Rattle.book.specs.States.{columns};
+ghost use Rattle.book.specs.States.{shared_columns};
 ghost use Rattle.snapshots.specs.Words.{phase_word, signed_word, low_word, high_word, long_words, entry_word, entry_words, Fields, joined};
 ghost use Rattle.snapshots.specs.Snapshot.{seal, snapshot_words};
 ghost use Rattle.saving.specs.Laying.{cell_columns, ledger_columns, CanPack, CanPut, CanPutLedger, CanSave, Saves};
@@ -221,7 +221,7 @@ pub fn save<'a>(
     out: &mut [u32],
 )
     requires { CanSave s nets.now delivered.now lifts.now charges.now issues.now froms.now tos.now lots.now days.now out.old }
-    ensures { Saves ((columns nets delivered lifts charges issues froms tos lots days).before s) out.new }
+    ensures { Saves ((shared_columns nets delivered lifts charges issues froms tos lots days).before s) out.new }
 {
     put_cells(s, nets, delivered, lifts, charges, out);
     put_ledger(issues, froms, tos, lots, days, out);

@@ -1,6 +1,6 @@
 -- Places along columns: those where a test finds nothing, and the first where it finds something.
 use Rattle.std.specs.Prelude.{◌≡◌, Bool, true, false, ◌&&◌, List, ℕ, ◌≤◌, ◌<◌, eqb, length, get_or}
-use Rattle.ledger.specs.Columns.{Lent, Column}
+use Rattle.ledger.specs.Columns.{Lent, Column, Shared, SharedColumn}
 
 -- whether the entry at place k is of issue i and account a, by columns of issues and accounts
 abbrev pub is_at : List ℕ → List ℕ → ℕ → ℕ → ℕ → Bool
@@ -29,14 +29,14 @@ pub record CanLook (n s : ℕ) (is cs : List ℕ) : Type 0 where
 
 -- The same by name
 
-abbrev pub can_look : ℕ → ℕ → Lent → Lent → Type 0
+abbrev pub can_look : ℕ → ℕ → Shared → Shared → Type 0
 can_look n s issues accounts = CanLook n s issues.now accounts.now
 
-abbrev pub none_of : ℕ → ℕ → ℕ → ℕ → Column → Column → Type 0
+abbrev pub none_of : ℕ → ℕ → ℕ → ℕ → SharedColumn → SharedColumn → Type 0
 none_of s e i a issues accounts = NoneIn (is_at issues.entry.now accounts.entry.now i a) s e
 
-abbrev pub passed_by : ℕ → ℕ → ℕ → ℕ → ℕ → Column → Column → Type 0
+abbrev pub passed_by : ℕ → ℕ → ℕ → ℕ → ℕ → SharedColumn → SharedColumn → Type 0
 passed_by n s r i a issues accounts = Passed (is_at issues.entry.now accounts.entry.now i a) n s r
 
-abbrev pub found_by : ℕ → ℕ → ℕ → ℕ → ℕ → Column → Column → Type 0
+abbrev pub found_by : ℕ → ℕ → ℕ → ℕ → ℕ → SharedColumn → SharedColumn → Type 0
 found_by n s r i a issues accounts = Sought (is_at issues.entry.now accounts.entry.now i a) n s r

@@ -3,7 +3,7 @@
 
 ghost use Rattle.std.specs.Prelude.{◌≡◌};
 ghost use Rattle.rules.specs.Book.{fresh};
-ghost use Rattle.book.specs.States.{columns};
+ghost use Rattle.book.specs.States.{columns, shared_columns};
 ghost use Rattle.host.specs.States.{state_in, numbers_of, book_at};
 ghost use Rattle.snapshot.specs.Host.{SaveIs, OpenIs};
 
@@ -52,7 +52,7 @@ pub extern "C" fn day_save<'a>(
     days: &'a [u16],
     out: &mut [u32],
 ) -> u32
-    ensures { SaveIs state.phase (book_at state (columns nets delivered lifts charges issues froms tos lots days)) out.old result out.new }
+    ensures { SaveIs state.phase (book_at state (shared_columns nets delivered lifts charges issues froms tos lots days)) out.old result out.new }
 {
     if out.len() < WORDS {
         return 1;

@@ -1,7 +1,7 @@
 // The scan of a book for soundness, column by column.
 ghost use Rattle.std.specs.Prelude.{◌≡◌};
 ghost use Rattle.rules.specs.Book.{sound as soundOf, Lengths};
-ghost use Rattle.book.specs.States.{columns};
+ghost use Rattle.book.specs.States.{shared_columns};
 
 use balancing::{cells_even, entries_even, nets_sound};
 use bookkeeping::{charges_sound, delivered_sound, ledger_sound};
@@ -22,7 +22,7 @@ pub fn sound_columns<'a>(
     days: &'a [u16],
 ) -> bool
     requires { Lengths nets.now delivered.now lifts.now charges.now issues.now froms.now tos.now lots.now days.now }
-    ensures { result ≡ soundOf ((columns nets delivered lifts charges issues froms tos lots days).before s) }
+    ensures { result ≡ soundOf ((shared_columns nets delivered lifts charges issues froms tos lots days).before s) }
 {
     let day = s.day;
     let phase = s.phase;

@@ -2,7 +2,7 @@
 use Rattle.std.specs.Prelude.{◌≡◌, true, List, ◌++◌, ℕ, ◌+◌, ◌≤◌, ◌<◌, length}
 use Rattle.rules.specs.Ledger.{Pairing, pairing}
 use Rattle.rules.specs.Book.{all, entries, entry_sound}
-use Rattle.ledger.specs.Columns.{Held, without_zeros, Lent, Column, before}
+use Rattle.ledger.specs.Columns.{Held, without_zeros, Lent, Column, before, Shared, SharedColumn}
 use Rattle.stepping.specs.declared.Made.{Made}
 
 -- a ledger whose entries are sound, in its columns, and an issue
@@ -25,12 +25,11 @@ pub record WasMade (p : Pairing) (n : ℕ) (r : Made) (is fs ts xs ds mi mf mt m
 abbrev pub pairable : ℕ → ℕ → Lent → Lent → Lent → Lent → Lent → Type 0
 pairable n i issues froms tos lots days = Pairable n i issues.now froms.now tos.now lots.now days.now
 
-abbrev pub can_pair : ℕ → ℕ → Lent → Lent → Lent → Lent → Lent → Lent → Lent → Lent → Lent → Lent → Type 0
+abbrev pub can_pair : ℕ → ℕ → Shared → Shared → Shared → Lent → Shared → Lent → Lent → Lent → Lent → Lent → Type 0
 can_pair n i issues froms tos lots days is fs ts xs ds =
     pairable n i issues froms tos lots days × Held 0 is.now fs.now ts.now xs.now ds.now
 
-abbrev pub was_made :
-    ℕ → ℕ → ℕ → ℕ → Made → Column → Column → Column → Column → Column → Column → Column → Column → Column → Column → Type 0
+abbrev pub was_made : ℕ → ℕ → ℕ → ℕ → Made → SharedColumn → SharedColumn → SharedColumn → Column → SharedColumn → Column → Column → Column → Column → Column → Type 0
 was_made n today i a r issues froms tos lots days is fs ts xs ds =
     WasMade (pairing today i a (before n issues froms tos lots days)) n r
     issues.exit.now froms.exit.now tos.exit.now lots.exit.now days.exit.now
