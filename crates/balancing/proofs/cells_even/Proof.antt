@@ -11,34 +11,34 @@ use Rattle.balancing.proofs.EvenLaws.{cells_none, cells_start}
 use Rattle.balancing.proofs.cells_even.Statement.{statement}
 use Rattle.balancing.proofs.cells_even.Tie as tie
 
-abbrev invariant-loop : tie.invariant-loop
+abbrev invariant-loop : tie.invariant-loop-i
 invariant-loop s nets delivered good₀ i₀ good i =
     (i ≤ 16) × (good && rest_of_issues (cells_even s.marks nets delivered) i ≡ all_cells s.marks nets delivered)
 
-abbrev decreases-loop : tie.decreases-loop
+abbrev decreases-loop : tie.decreases-loop-i
 decreases-loop s nets delivered good₀ i₀ good i = 16 - i
 
-returns : tie.Need-returns invariant-loop decreases-loop
+returns : tie.Need-returns-then-none_marked invariant-loop decreases-loop
 returns c =
     let a = c.before.before.before.args in
-    cells_none a.s.marks a.nets.now a.delivered.now (sym c.before.none-marked.ensures ∙ c.if1.true)
+    cells_none a.s.marks a.nets.now a.delivered.now (sym c.before.none_marked.ensures ∙ c.if-none_marked.true)
 
-loop-holds : tie.Need-loop-init invariant-loop decreases-loop
+loop-holds : tie.Need-loop-i-init invariant-loop decreases-loop
 loop-holds c = (search rules, cells_start _ _ _)
 
-loop-again : tie.Need-loop-preserved invariant-loop decreases-loop
+loop-again : tie.Need-loop-i-preserved invariant-loop decreases-loop
 loop-again c =
     let a = c.before.before.before.before.before.before.args in
-    let l = c.before.before.loop in
-    (search rules, issues_more (cells_even a.s.marks a.nets.now a.delivered.now) l.i l.good _ _ (omega arith) c.issue_even.ensures l.invariant.1)
+    let l = c.before.before.loop-i in
+    (search rules, issues_more (cells_even a.s.marks a.nets.now a.delivered.now) l.i l.good _ _ (omega arith) c.issue_even-good.ensures l.invariant.1)
 
-returns-2 : tie.Need-returns-2 invariant-loop decreases-loop
+returns-2 : tie.Need-returns invariant-loop decreases-loop
 returns-2 c =
-    let l = c.before.loop in
+    let l = c.before.loop-i in
     issues_end _ l.i l.good _ (omega arith) l.invariant.1
 
-pub cells-even-spec : {M : Type 1} → statement M
-cells-even-spec =
+pub cells_even_spec : {M : Type 1} → statement M
+cells_even_spec =
     tie.close
-    (tie.spec invariant-loop decreases-loop (λ c κs. search rules) returns loop-holds (λ c κs. search rules) (λ c. search rules)
-    (λ c. search rules) loop-again returns-2)
+    (tie.spec invariant-loop decreases-loop (λ c κs. search rules) returns loop-holds (λ c κs. search rules)
+    (λ c. search rules) (λ c. search rules) loop-again returns-2)

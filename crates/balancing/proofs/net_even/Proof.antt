@@ -12,7 +12,8 @@ returns : tie.Need-returns
 returns c =
     let s = c.before.before in
     let z = to_z-of_z w32 s.args.n s.ranges.n in
-    net_parts s.args.n c.before.due.result c.owed.result (c.before.due.ensures ∙ ap due_of z) (c.owed.ensures ∙ ap owed_of z)
+    net_parts s.args.n c.before.due-d.result c.owed-o.result (c.before.due-d.ensures ∙ ap due_of z) (c.owed-o.ensures ∙ ap owed_of z)
 
-pub net-even-spec : {M : Type 1} → statement M
-net-even-spec = tie.close (tie.spec (λ c κs. search rules) (λ c κs. search rules) returns)
+pub net_even_spec : {M : Type 1} → statement M
+net_even_spec = tie.close
+    (tie.spec (λ c κs. search rules) (λ c κs. search rules) returns)

@@ -13,31 +13,31 @@ use Rattle.balancing.proofs.RowLaws.{Summed, sum_start, next_fits, sum_next, sum
 use Rattle.balancing.proofs.row_balanced.Statement.{statement}
 use Rattle.balancing.proofs.row_balanced.Tie as tie
 
-abbrev invariant-loop : tie.invariant-loop
+abbrev invariant-loop : tie.invariant-loop-a
 invariant-loop net sum₀ a₀ sum a = Summed net a (to_z w32 sum)
 
-abbrev decreases-loop : tie.decreases-loop
+abbrev decreases-loop : tie.decreases-loop-a
 decreases-loop net sum₀ a₀ sum a = 64 - a
 
-loop-holds : tie.Need-loop-init invariant-loop decreases-loop
+loop-holds : tie.Need-loop-a-init invariant-loop decreases-loop
 loop-holds c = sum_start _
 
 -- what is added is the net
-same : (c : tie.After-n invariant-loop decreases-loop) → let l = c.before.before.loop in
+same : (c : tie.After-n-1 invariant-loop decreases-loop) → let l = c.before.before.loop-a in
     let n = get_or c.before.before.before.args.net.now l.a (pos 0) in
     back w32 n ≡ n
 same c = to_z-of_z w32 _ (search rules)
 
-add-sum : tie.Need-overflow-add-sum invariant-loop decreases-loop
+add-sum : tie.Need-overflow_add-sum invariant-loop decreases-loop
 add-sum c =
     let s = c.before.before.before in
-    let l = c.before.before.loop in
+    let l = c.before.before.loop-a in
     rw (same c) (next_fits s.args.net.now s.requires l.a (to_z w32 l.sum) l.invariant (omega arith))
 
-loop-again : tie.Need-loop-preserved invariant-loop decreases-loop
+loop-again : tie.Need-loop-a-preserved invariant-loop decreases-loop
 loop-again c =
     let s = c.before.before.before in
-    let l = c.before.before.loop in
+    let l = c.before.before.loop-a in
     let ns = s.args.net.now in
     let z = to_z w32 l.sum in
     rw (same c, to_z-of_z w32 (z +ℤ get_or ns l.a (pos 0)) (next_fits ns s.requires l.a z l.invariant (omega arith)))
@@ -46,11 +46,11 @@ loop-again c =
 returns : tie.Need-returns invariant-loop decreases-loop
 returns c =
     let s = c.before.before in
-    let l = c.before.loop in
+    let l = c.before.loop-a in
     sum_end s.args.net.now s.requires l.a l.sum l.invariant (omega arith)
 
-pub row-balanced-spec : {M : Type 1} → statement M
-row-balanced-spec =
+pub row_balanced_spec : {M : Type 1} → statement M
+row_balanced_spec =
     tie.close
-    (tie.spec invariant-loop decreases-loop loop-holds (λ c. search rules) (λ c. search rules) add-sum (λ c. search rules) (λ c. search rules)
-    loop-again returns)
+    (tie.spec invariant-loop decreases-loop loop-holds (λ c. search rules) (λ c. search rules) add-sum
+    (λ c. search rules) (λ c. search rules) loop-again returns)

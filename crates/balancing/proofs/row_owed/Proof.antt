@@ -15,34 +15,35 @@ use Rattle.balancing.proofs.RowLaws.{owed_more, owed_end}
 use Rattle.balancing.proofs.row_owed.Statement.{statement}
 use Rattle.balancing.proofs.row_owed.Tie as tie
 
-abbrev invariant-loop : tie.invariant-loop
+abbrev invariant-loop : tie.invariant-loop-a
 invariant-loop net delivered good₀ a₀ good a = (a ≤ 64) × (good && within_owed (drop a net) (drop a delivered) ≡ within_owed net delivered)
 
-abbrev decreases-loop : tie.decreases-loop
+abbrev decreases-loop : tie.decreases-loop-a
 decreases-loop net delivered good₀ a₀ good a = 64 - a
 
-returns : tie.Need-returns invariant-loop decreases-loop
+returns : tie.Need-returns-then-zeros32 invariant-loop decreases-loop
 returns c =
     let g = c.before.before.before.args in
-    sym (within_zeros g.net.now g.delivered.now (sym c.before.zeros32.ensures ∙ c.if1.true))
+    sym (within_zeros g.net.now g.delivered.now (sym c.before.zeros32.ensures ∙ c.if-zeros32.true))
 
-loop-again : tie.Need-loop-preserved invariant-loop decreases-loop
+loop-again : tie.Need-loop-a-preserved invariant-loop decreases-loop
 loop-again c =
     let s = c.before.before.before.before.before.before.before.before in
-    let l = c.before.before.before.before.loop in
+    let l = c.before.before.before.before.loop-a in
     let ns = s.args.net.now in
     let n = get_or ns l.a (pos 0) in
-    let o : c.before.owed.result ≡ owed_of n = c.before.owed.ensures ∙ ap owed_of (to_z-of_z w32 n (search rules)) in
+    let o : c.before.owed-o.result ≡ owed_of n = c.before.owed-o.ensures ∙ ap owed_of (to_z-of_z w32 n (search rules)) in
     (search rules, owed_more ns s.args.delivered.now l.a l.good _ _ (omega arith) (omega arith) o l.invariant.1)
 
-returns-2 : tie.Need-returns-2 invariant-loop decreases-loop
+returns-2 : tie.Need-returns invariant-loop decreases-loop
 returns-2 c =
     let s = c.before.before.before.before.before in
-    let l = c.before.loop in
+    let l = c.before.loop-a in
     owed_end s.args.net.now s.args.delivered.now l.a l.good _ (omega arith) l.invariant.1
 
-pub row-owed-spec : {M : Type 1} → statement M
-row-owed-spec =
+pub row_owed_spec : {M : Type 1} → statement M
+row_owed_spec =
     tie.close
-    (tie.spec invariant-loop decreases-loop (λ c κs. search rules) returns (λ c. search rules) (λ c. search rules) (λ c. search rules)
-    (λ c κs. search rules) (λ c. search rules) (λ c. search rules) (λ c. search rules) (λ c. search rules) loop-again returns-2)
+    (tie.spec invariant-loop decreases-loop (λ c κs. search rules) returns (λ c. search rules) (λ c. search rules)
+    (λ c. search rules) (λ c κs. search rules) (λ c. search rules) (λ c. search rules) (λ c. search rules)
+    (λ c. search rules) loop-again returns-2)

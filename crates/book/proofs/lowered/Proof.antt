@@ -19,7 +19,7 @@ lots c = to_z_pos w32 c.args.x (omega arith)
 fits : (c : tie.Start) → SFits w32 (c.args.n -ℤ pos c.args.x)
 fits c = sum_fits w32 c.args.n (neg_ℤ (pos c.args.x)) (omega (arith, abs_neg c.args.x))
 
-sub-result : tie.Need-overflow-sub-result
+sub-result : tie.Need-overflow_sub-result
 sub-result c = rw (same c, lots c) (fits c)
 
 returns : tie.Need-returns
@@ -27,5 +27,6 @@ returns c =
     let e = to_z-of_z w32 (c.args.n -ℤ pos c.args.x) (fits c) in
     rw (same c, lots c, e) (record { value = refl; parts = lowered_parts c.args.n c.args.x })
 
-pub lowered-spec : {M : Type 1} → statement M
-lowered-spec = tie.close (tie.spec (λ c. search rules) sub-result returns)
+pub lowered_spec : {M : Type 1} → statement M
+lowered_spec = tie.close
+    (tie.spec (λ c. search rules) sub-result returns)

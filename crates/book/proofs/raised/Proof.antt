@@ -19,7 +19,7 @@ lots c = to_z_pos w32 c.args.x (omega arith)
 fits : (c : tie.Start) → SFits w32 (c.args.n +ℤ pos c.args.x)
 fits c = sum_fits w32 c.args.n (pos c.args.x) (omega arith)
 
-add-result : tie.Need-overflow-add-result
+add-result : tie.Need-overflow_add-result
 add-result c = rw (same c, lots c) (fits c)
 
 returns : tie.Need-returns
@@ -27,5 +27,6 @@ returns c =
     let e = to_z-of_z w32 (c.args.n +ℤ pos c.args.x) (fits c) in
     rw (same c, lots c, e) (record { value = refl; parts = raised_parts c.args.n c.args.x })
 
-pub raised-spec : {M : Type 1} → statement M
-raised-spec = tie.close (tie.spec (λ c. search rules) add-result returns)
+pub raised_spec : {M : Type 1} → statement M
+raised_spec = tie.close
+    (tie.spec (λ c. search rules) add-result returns)

@@ -9,32 +9,32 @@ use Rattle.book.proofs.RowLaws.{sum_at_lem, sum_end}
 use Rattle.book.proofs.total.Statement.{statement}
 use Rattle.book.proofs.total.Tie as tie
 
-abbrev invariant-loop : tie.invariant-loop
+abbrev invariant-loop : tie.invariant-loop-i
 invariant-loop d t₀ i₀ t i = t + sum (drop i d) ≡ sum d
 
-abbrev decreases-loop : tie.decreases-loop
+abbrev decreases-loop : tie.decreases-loop-i
 decreases-loop d t₀ i₀ t i = length d - i
 
-add-t : tie.Need-overflow-add-t invariant-loop decreases-loop
+add-t : tie.Need-overflow_add-t invariant-loop decreases-loop
 add-t c =
     let d = c.before.before.before.args.d.now in
-    let l = c.before.before.loop in
+    let l = c.before.before.loop-i in
     omega (arith, l.invariant, sum_at_lem d l.i (omega arith), c.before.before.before.requires)
 
-loop-again : tie.Need-loop-preserved invariant-loop decreases-loop
+loop-again : tie.Need-loop-i-preserved invariant-loop decreases-loop
 loop-again c =
     let d = c.before.before.before.args.d.now in
-    let l = c.before.before.loop in
+    let l = c.before.before.loop-i in
     omega (arith, l.invariant, sum_at_lem d l.i (omega arith))
 
 returns : tie.Need-returns invariant-loop decreases-loop
 returns c =
     let d = c.before.before.args.d.now in
-    let l = c.before.loop in
+    let l = c.before.loop-i in
     omega (arith, l.invariant, sum_end d l.i (omega arith))
 
-pub total-spec : {M : Type 1} → statement M
-total-spec =
+pub total_spec : {M : Type 1} → statement M
+total_spec =
     tie.close
-    (tie.spec invariant-loop decreases-loop (λ c. search rules) (λ c. search rules) (λ c. search rules) add-t (λ c. search rules)
-    (λ c. search rules) loop-again returns)
+    (tie.spec invariant-loop decreases-loop (λ c. search rules) (λ c. search rules) (λ c. search rules) add-t
+    (λ c. search rules) (λ c. search rules) loop-again returns)

@@ -16,7 +16,7 @@ use borrow.Author.Rules.{rules}
 use Rattle.bookkeeping.proofs.charges_sound.Statement.{statement}
 use Rattle.bookkeeping.proofs.charges_sound.Tie as tie
 
-abbrev invariant-loop : tie.invariant-loop
+abbrev invariant-loop : tie.invariant-loop-i
 invariant-loop today charges most good₀ got-high₀ got-low₀ paid-high₀ paid-low₀ i₀ good got-high got-low paid-high paid-low i =
     (i ≤ 64)
     × (good && all (within_size (most_charge * today)) (drop i charges) ≡ all (within_size (most_charge * today)) charges)
@@ -25,17 +25,17 @@ invariant-loop today charges most good₀ got-high₀ got-low₀ paid-high₀ pa
     × ((got-high ≤ 4294967295 * i) × (got-low ≤ 4294967295 * i))
     × ((paid-high ≤ 4294967295 * i) × (paid-low ≤ 4294967295 * i))
 
-abbrev decreases-loop : tie.decreases-loop
+abbrev decreases-loop : tie.decreases-loop-i
 decreases-loop today charges most good₀ got-high₀ got-low₀ paid-high₀ paid-low₀ i₀ good got-high got-low paid-high paid-low i = 64 - i
 
-loop-again : tie.Need-loop-preserved invariant-loop decreases-loop
+loop-again : tie.Need-loop-i-preserved invariant-loop decreases-loop
 loop-again c =
     let s = c.before.before.before.before.before in
-    let l = c.before.before.before.before.loop in
+    let l = c.before.before.before.before.loop-i in
     let cs = s.args.charges.now in
     let z = to_z-of_z w64 (get_or cs l.i (pos 0)) (search rules) in
-    let got : c.before.credit.result ≡ due_of (get_or cs l.i (pos 0)) = c.before.credit.ensures ∙ ap due_of z in
-    let paid : c.debit.result ≡ owed_of (get_or cs l.i (pos 0)) = c.debit.ensures ∙ ap owed_of z in
+    let got : c.before.credit-got.result ≡ due_of (get_or cs l.i (pos 0)) = c.before.credit-got.ensures ∙ ap due_of z in
+    let paid : c.debit-paid.result ≡ owed_of (get_or cs l.i (pos 0)) = c.debit-paid.ensures ∙ ap owed_of z in
     let h : l.i < length cs = omega arith in (
       search rules,
       charge_more cs l.i (most_charge * s.args.today) _ _ l.good _ h got paid l.invariant.1,
@@ -48,18 +48,18 @@ loop-again c =
 returns : tie.Need-returns invariant-loop decreases-loop
 returns c =
     let s = c.before.before in
-    let l = c.before.loop in
+    let l = c.before.loop-i in
     let cs = s.args.charges.now in
     let h : length cs ≤ l.i = omega arith in
-    charges_end cs l.i s.args.today l.got-high l.got-low l.paid-high l.paid-low l.good h
+    charges_end cs l.i s.args.today l.got_high l.got_low l.paid_high l.paid_low l.good h
     (omega (arith, sum_none due_of cs l.i h, l.invariant.2))
     (omega (arith, sum_none owed_of cs l.i h, l.invariant.3))
     l.invariant.1
 
-pub charges-sound-spec : {M : Type 1} → statement M
-charges-sound-spec =
+pub charges_sound_spec : {M : Type 1} → statement M
+charges_sound_spec =
     tie.close
-    (tie.spec invariant-loop decreases-loop (λ c. search rules) (λ c. search rules) (λ c. search rules) (λ c. search rules)
-    (λ c κs. search rules) (λ c κs. search rules) (λ c. search rules) (λ c. search rules) (λ c. search rules)
-    (λ c. search rules) (λ c. search rules) (λ c. search rules) loop-again (λ c. search rules) (λ c. search rules)
-    returns)
+    (tie.spec invariant-loop decreases-loop (λ c. search rules) (λ c. search rules) (λ c. search rules)
+    (λ c. search rules) (λ c κs. search rules) (λ c κs. search rules) (λ c. search rules) (λ c. search rules)
+    (λ c. search rules) (λ c. search rules) (λ c. search rules) (λ c. search rules) loop-again (λ c. search rules)
+    (λ c. search rules) returns)

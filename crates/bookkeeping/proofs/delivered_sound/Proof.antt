@@ -4,13 +4,14 @@ use borrow.Author.Rules.{rules}
 use Rattle.bookkeeping.proofs.delivered_sound.Statement.{statement}
 use Rattle.bookkeeping.proofs.delivered_sound.Tie as tie
 
-returns : tie.Need-returns
+returns : tie.Need-returns-then-taking
 unfolding delivered_sound
 returns c = search rules
 
-returns-2 : tie.Need-returns-2
+returns-2 : tie.Need-returns
 unfolding delivered_sound
 returns-2 c = search rules
 
-pub delivered-sound-spec : {M : Type 1} → statement M
-delivered-sound-spec = tie.close (tie.spec (λ c κs. search rules) (λ c κs. search rules) returns returns-2)
+pub delivered_sound_spec : {M : Type 1} → statement M
+delivered_sound_spec = tie.close
+    (tie.spec (λ c κs. search rules) (λ c κs. search rules) returns returns-2)

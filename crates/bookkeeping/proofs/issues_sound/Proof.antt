@@ -11,25 +11,26 @@ use borrow.Author.Rules.{rules}
 use Rattle.bookkeeping.proofs.issues_sound.Statement.{statement}
 use Rattle.bookkeeping.proofs.issues_sound.Tie as tie
 
-abbrev invariant-loop : tie.invariant-loop
+abbrev invariant-loop : tie.invariant-loop-k
 invariant-loop issues good₀ k₀ good k = (k ≤ length issues) × (good && all issue_sound (drop k issues) ≡ all issue_sound issues)
 
-abbrev decreases-loop : tie.decreases-loop
+abbrev decreases-loop : tie.decreases-loop-k
 decreases-loop issues good₀ k₀ good k = length issues - k
 
-loop-again : tie.Need-loop-preserved invariant-loop decreases-loop
+loop-again : tie.Need-loop-k-preserved invariant-loop decreases-loop
 loop-again c =
     let s = c.before.before.before in
-    let l = c.before.before.loop in
+    let l = c.before.before.loop-k in
     (search rules, all_more issue_sound s.args.issues.now l.k 0 l.good _ (omega arith) l.invariant.1)
 
 returns : tie.Need-returns invariant-loop decreases-loop
 returns c =
     let s = c.before.before in
-    let l = c.before.loop in
+    let l = c.before.loop-k in
     all_end issue_sound s.args.issues.now l.k l.good _ (omega arith) l.invariant.1
 
-pub issues-sound-spec : {M : Type 1} → statement M
-issues-sound-spec =
+pub issues_sound_spec : {M : Type 1} → statement M
+issues_sound_spec =
     tie.close
-    (tie.spec invariant-loop decreases-loop (λ c. search rules) (λ c. search rules) (λ c. search rules) (λ c. search rules) loop-again returns)
+    (tie.spec invariant-loop decreases-loop (λ c. search rules) (λ c. search rules) (λ c. search rules)
+    (λ c. search rules) loop-again returns)

@@ -6,15 +6,16 @@ use borrow.Author.Rules.{rules}
 use Rattle.bookkeeping.proofs.ledger_sound.Statement.{statement}
 use Rattle.bookkeeping.proofs.ledger_sound.Tie as tie
 
-returns : tie.Need-returns
+returns : tie.Need-returns-then-n-gt-MOST_ENTRIES
 unfolding ledger_sound
-returns c = rw (lt-leb c.before.before.before.before.before.before.args.s.entries most_entries c.if1.true)
+returns c = rw (lt-leb c.before.before.before.before.before.before.args.s.entries most_entries c.if-n-gt-MOST_ENTRIES.true)
 
-returns-2 : tie.Need-returns-2
+returns-2 : tie.Need-returns
 unfolding ledger_sound
 returns-2 c =
-    rw (le-leb c.before.before.before.before.before.before.before.before.args.s.entries most_entries c.before.before.if1.false, c.before.entries_sound.ensures, c.unused-zero.ensures)
+    rw (le-leb c.before.before.before.before.before.before.before.before.args.s.entries most_entries c.before.before.if-n-gt-MOST_ENTRIES.false, c.before.entries_sound-used.ensures, c.unused_zero-unused.ensures)
 
-pub ledger-sound-spec : {M : Type 1} → statement M
-ledger-sound-spec =
-    tie.close (tie.spec returns (λ c κs. search rules) (λ c κs. search rules) returns-2)
+pub ledger_sound_spec : {M : Type 1} → statement M
+ledger_sound_spec =
+    tie.close
+    (tie.spec returns (λ c κs. search rules) (λ c κs. search rules) returns-2)

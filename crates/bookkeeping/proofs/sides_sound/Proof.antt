@@ -10,26 +10,26 @@ use borrow.Author.Rules.{rules}
 use Rattle.bookkeeping.proofs.sides_sound.Statement.{statement}
 use Rattle.bookkeeping.proofs.sides_sound.Tie as tie
 
-abbrev invariant-loop : tie.invariant-loop
+abbrev invariant-loop : tie.invariant-loop-k
 invariant-loop froms tos good₀ k₀ good k = (k ≤ length froms) × (good && sides_sound (drop k froms) (drop k tos) ≡ sides_sound froms tos)
 
-abbrev decreases-loop : tie.decreases-loop
+abbrev decreases-loop : tie.decreases-loop-k
 decreases-loop froms tos good₀ k₀ good k = length froms - k
 
-loop-again : tie.Need-loop-preserved invariant-loop decreases-loop
+loop-again : tie.Need-loop-k-preserved invariant-loop decreases-loop
 loop-again c =
     let s = c.before.before.before.before in
-    let l = c.before.before.before.loop in
+    let l = c.before.before.before.loop-k in
     (search rules, sides_more s.args.froms.now s.args.tos.now l.k l.good _ (omega arith) (omega arith) l.invariant.1)
 
 returns : tie.Need-returns invariant-loop decreases-loop
 returns c =
     let s = c.before.before in
-    let l = c.before.loop in
+    let l = c.before.loop-k in
     sides_end s.args.froms.now s.args.tos.now l.k l.good _ (omega arith) l.invariant.1
 
-pub sides-sound-spec : {M : Type 1} → statement M
-sides-sound-spec =
+pub sides_sound_spec : {M : Type 1} → statement M
+sides_sound_spec =
     tie.close
-    (tie.spec invariant-loop decreases-loop (λ c. search rules) (λ c. search rules) (λ c. search rules) (λ c. search rules)
-    (λ c. search rules) loop-again returns)
+    (tie.spec invariant-loop decreases-loop (λ c. search rules) (λ c. search rules) (λ c. search rules)
+    (λ c. search rules) (λ c. search rules) loop-again returns)

@@ -18,15 +18,15 @@ returns c =
     let n = s.args.entries in
     let zero : (l : List ℕ) (r : Bool) → length l ≡ 2048 → r ≡ all is_zero (take (length l - n) (drop n l)) → r ≡ all is_zero (drop n l) =
     λ l r e h. h ∙ ap (all is_zero) (rest_all n l s.requires.0 e) in
-    let e₁ = zero s.args.issues.now _ s.requires.1.issues c.before.before.before.before.before.before.before.before.zeros8.ensures in
-    let e₂ = zero s.args.froms.now _ s.requires.1.froms c.before.before.before.before.before.before.zeros82.ensures in
-    let e₃ = zero s.args.tos.now _ s.requires.1.tos c.before.before.before.before.zeros83.ensures in
-    let e₄ = zero s.args.lots.now _ s.requires.1.lots c.before.before.zeros32.ensures in
-    let e₅ = zero s.args.days.now _ s.requires.1.days c.zeros16.ensures in
+    let e₁ = zero s.args.issues.now _ s.requires.1.issues c.before.before.before.before.before.before.before.before.zeros8-i.ensures in
+    let e₂ = zero s.args.froms.now _ s.requires.1.froms c.before.before.before.before.before.before.zeros8-f.ensures in
+    let e₃ = zero s.args.tos.now _ s.requires.1.tos c.before.before.before.before.zeros8-t.ensures in
+    let e₄ = zero s.args.lots.now _ s.requires.1.lots c.before.before.zeros32-x.ensures in
+    let e₅ = zero s.args.days.now _ s.requires.1.days c.zeros16-d.ensures in
     rw (e₁, e₂, e₃, e₄, e₅)
 
-pub unused-zero-spec : {M : Type 1} → statement M
-unused-zero-spec =
+pub unused_zero_spec : {M : Type 1} → statement M
+unused_zero_spec =
     tie.close
     (tie.spec (λ c. search rules) (λ c. search rules) (λ c. search rules) (λ c κs. search rules) (λ c. search rules)
     (λ c. search rules) (λ c. search rules) (λ c κs. search rules) (λ c. search rules) (λ c. search rules)

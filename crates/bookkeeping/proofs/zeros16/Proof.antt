@@ -10,26 +10,26 @@ use borrow.Author.Rules.{rules}
 use Rattle.bookkeeping.proofs.zeros16.Statement.{statement}
 use Rattle.bookkeeping.proofs.zeros16.Tie as tie
 
-abbrev invariant-loop : tie.invariant-loop
+abbrev invariant-loop : tie.invariant-loop-i
 invariant-loop xs good₀ i₀ good i = (i ≤ length xs) × (good && all is_zero (drop i xs) ≡ all is_zero xs)
 
-abbrev decreases-loop : tie.decreases-loop
+abbrev decreases-loop : tie.decreases-loop-i
 decreases-loop xs good₀ i₀ good i = length xs - i
 
-loop-again : tie.Need-loop-preserved invariant-loop decreases-loop
+loop-again : tie.Need-loop-i-preserved invariant-loop decreases-loop
 loop-again c =
     let s = c.before.before.before in
-    let l = c.before.before.loop in
+    let l = c.before.before.loop-i in
     (search rules, all_more is_zero s.args.xs.now l.i 0 l.good _ (omega arith) l.invariant.1)
 
 returns : tie.Need-returns invariant-loop decreases-loop
 returns c =
     let s = c.before.before in
-    let l = c.before.loop in
+    let l = c.before.loop-i in
     all_end is_zero s.args.xs.now l.i l.good _ (omega arith) l.invariant.1
 
-pub zeros16-spec : {M : Type 1} → statement M
-zeros16-spec =
+pub zeros16_spec : {M : Type 1} → statement M
+zeros16_spec =
     tie.close
-    (tie.spec invariant-loop decreases-loop (λ c. search rules) (λ c. search rules) (λ c. search rules) (λ c. search rules)
-    (λ c. search rules) loop-again returns)
+    (tie.spec invariant-loop decreases-loop (λ c. search rules) (λ c. search rules) (λ c. search rules)
+    (λ c. search rules) (λ c. search rules) loop-again returns)

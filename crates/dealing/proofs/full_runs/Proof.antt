@@ -10,35 +10,35 @@ use Rattle.dealing.proofs.Fulls.{number_full, number_small, number_end}
 use Rattle.dealing.proofs.full_runs.Statement.{statement}
 use Rattle.dealing.proofs.full_runs.Tie as tie
 
-abbrev invariant-loop : tie.invariant-loop
+abbrev invariant-loop : tie.invariant-loop-m
 invariant-loop runs n m₀ m = (m ≤ n) × (m + full_number (drop m (runs_in runs n)) ≡ full_number (runs_in runs n))
 
-abbrev decreases-loop : tie.decreases-loop
+abbrev decreases-loop : tie.decreases-loop-m
 decreases-loop runs n m₀ m = n - m
 
-loop-holds : tie.Need-loop-init invariant-loop decreases-loop
+loop-holds : tie.Need-loop-m-init invariant-loop decreases-loop
 loop-holds c = (omega arith, omega arith)
 
-returns : tie.Need-returns invariant-loop decreases-loop
+returns : tie.Need-returns-then-runs-m-lt-UNIT_WORD invariant-loop decreases-loop
 returns c =
     let s = c.before.before.before.before in
-    let l = c.before.before.before.loop in
+    let l = c.before.before.before.loop-m in
     omega (arith, l.invariant.1, number_small s.args.runs.now s.args.n l.m s.requires (omega arith) (omega arith))
 
-loop-again : tie.Need-loop-preserved invariant-loop decreases-loop
+loop-again : tie.Need-loop-m-preserved invariant-loop decreases-loop
 loop-again c =
     let s = c.before.before.before.before in
-    let l = c.before.before.before.loop in
+    let l = c.before.before.before.loop-m in
     (omega arith, omega (arith, l.invariant.1, number_full s.args.runs.now s.args.n l.m s.requires (omega arith) (omega arith)))
 
-returns-2 : tie.Need-returns-2 invariant-loop decreases-loop
+returns-2 : tie.Need-returns invariant-loop decreases-loop
 returns-2 c =
     let s = c.before.before in
-    let l = c.before.loop in
+    let l = c.before.loop-m in
     omega (arith, l.invariant.1, number_end s.args.runs.now s.args.n l.m s.requires (omega arith))
 
-pub full-runs-spec : {M : Type 1} → statement M
-full-runs-spec =
+pub full_runs_spec : {M : Type 1} → statement M
+full_runs_spec =
     tie.close
-    (tie.spec invariant-loop decreases-loop loop-holds (λ c. search rules) (λ c. search rules) returns (λ c. search rules)
-    (λ c. search rules) loop-again returns-2)
+    (tie.spec invariant-loop decreases-loop loop-holds (λ c. search rules) (λ c. search rules) returns
+    (λ c. search rules) (λ c. search rules) loop-again returns-2)

@@ -6,10 +6,10 @@ use Rattle.dealing.proofs.Dealer.{copy_ranked}
 use Rattle.dealing.proofs.prepare.Statement.{statement}
 use Rattle.dealing.proofs.prepare.Tie as tie
 
-lift-all-requires : tie.Need-lift-all-requires
+lift-all-requires : tie.Need-lift_all-lifted-requires
 lift-all-requires c κs =
     let s = c.before.before.before.before.before.before.before.before.before.before.before.before.before.before in
-    let f = c.before.before.before.before.before.before.before.before.before.rank in
+    let f = c.before.before.before.before.before.before.before.before.rank-ranks in
     let k = c.before.before.before.before.copy in
     can_lift_all s.args.nets.now s.args.lifts.now s.args.i k.new.1.1.0 f.result.n s.requires.order
     (copy_ranked s.args.nets.now s.args.i f.new.1.1.0 k.new.1.1.0 f.result.n k.ensures f.ensures.order)
@@ -18,9 +18,9 @@ lift-all-requires c κs =
 returns : tie.Need-returns
 returns c =
     let s = c.before.before.before.before.before.before.before.before.before.before.before.before.before.before.before.before.before in
-    let f = c.before.before.before.before.before.before.before.before.before.before.before.before.rank in
+    let f = c.before.before.before.before.before.before.before.before.before.before.before.rank-ranks in
     let k = c.before.before.before.before.before.before.before.copy in
-    let g = c.before.before.lift-all in
+    let g = c.before.before.lift_all-lifted in
     record {
       ranks = f.ensures;
       lifted = prepared s.args.nets.now s.args.lifts.now s.args.i k.new.1.1.0 f.result.n s.requires.order
@@ -28,8 +28,9 @@ returns c =
           g.new.1.0 g.result (omega (arith, s.requires.wide, k.auto.1.1.0, g.auto.1.0)) g.ensures;
     }
 
-pub prepare-spec : {M : Type 1} → statement M
-prepare-spec =
+pub prepare_spec : {M : Type 1} → statement M
+prepare_spec =
     tie.close
-    (tie.spec (λ c κs. search rules) (λ c κs. search rules) (λ c. search rules) (λ c. search rules) (λ c. search rules) (λ c. search rules)
-    (λ c. search rules) (λ c. search rules) lift-all-requires (λ c. search rules) (λ c. search rules) returns)
+    (tie.spec (λ c κs. search rules) (λ c κs. search rules) (λ c. search rules) (λ c. search rules)
+    (λ c. search rules) (λ c. search rules) (λ c. search rules) (λ c. search rules) lift-all-requires
+    (λ c. search rules) (λ c. search rules) returns)

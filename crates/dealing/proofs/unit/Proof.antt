@@ -6,25 +6,25 @@ use Rattle.dealing.proofs.Dealer.{none_found, one_there, one_found}
 use Rattle.dealing.proofs.unit.Statement.{statement}
 use Rattle.dealing.proofs.unit.Tie as tie
 
-returns : tie.Need-returns
+returns : tie.Need-returns-then-number-k
 returns c =
     let s = c.before.before.before.before.before.before.before in
-    let f = c.before.before.before.before.rank in
+    let f = c.before.before.before.before.rank-p in
     none_found s.args.nets.now s.args.lifts.now s.args.i s.args.k s.requires f.new.1.1.0 f.result f.ensures
     (omega (arith, c.before.number.ensures))
 
-units-from-requires : tie.Need-units-from-requires
+units-from-requires : tie.Need-units_from-requires
 units-from-requires c κs =
     let s = c.before.before.before.before.before.before.before.before.before in
-    let f = c.before.before.before.before.before.before.rank in
+    let f = c.before.before.before.before.before.before.rank-p in
     one_there s.args.nets.now s.args.lifts.now s.args.i s.args.k s.requires f.new.1.1.0 f.result f.ensures _ refl
     (omega (arith, c.before.before.before.number.ensures))
 
-returns-2 : tie.Need-returns-2
+returns-2 : tie.Need-returns
 returns-2 c =
     let s = c.before.before.before.before.before.before.before.before.before.before.before in
-    let f = c.before.before.before.before.before.before.before.before.rank in
-    let u = c.before.units-from in
+    let f = c.before.before.before.before.before.before.before.before.rank-p in
+    let u = c.before.units_from in
     one_found s.args.nets.now s.args.lifts.now s.args.i s.args.k s.requires f.new.1.1.0 f.result f.ensures
     u.new.1.1.1.1.1.0 u.auto.1.1.1.1.1.0 (omega (arith, c.before.before.before.before.before.number.ensures)) u.ensures
 

@@ -17,7 +17,8 @@ returns c =
     dealt_out s.args.keys.now s.args.p s.args.lifts.now s.args.i s.args.k (length s.args.out.now)
     w.new.1.1.1.1.1.0 w.ensures
 
-pub units-from-spec : {M : Type 1} → statement M
-units-from-spec =
+pub units_from_spec : {M : Type 1} → statement M
+units_from_spec =
     tie.close
-    (tie.spec (λ c. search rules) (λ c. search rules) (λ c. search rules) (λ c. search rules) (λ c. search rules) (λ c. search rules) window-requires (λ c. search rules) returns)
+    (tie.spec (λ c. search rules) (λ c. search rules) (λ c. search rules) (λ c. search rules) (λ c. search rules)
+    (λ c. search rules) window-requires (λ c. search rules) returns)

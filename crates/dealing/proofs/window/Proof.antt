@@ -15,36 +15,36 @@ use Rattle.unlifting.proofs.Places.{span_part, window_next}
 use Rattle.dealing.proofs.window.Statement.{statement}
 use Rattle.dealing.proofs.window.Tie as tie
 
-abbrev invariant-loop : tie.invariant-loop
+abbrev invariant-loop : tie.invariant-loop-done
 invariant-loop runs n m words k out₀ done₀ out done =
     (length out ≡ length out₀) × (done ≤ length out₀) × (map part_of (take done out) ≡ take done (drop k (lifted_runs runs n m words)))
 
-abbrev decreases-loop : tie.decreases-loop
+abbrev decreases-loop : tie.decreases-loop-done
 decreases-loop runs n m words k out₀ done₀ out done = length out₀ - done
 
-loop-holds : tie.Need-loop-init invariant-loop decreases-loop
+loop-holds : tie.Need-loop-done-init invariant-loop decreases-loop
 loop-holds c = (refl, omega arith, refl)
 
-deal-out-requires : tie.Need-deal-out-requires invariant-loop decreases-loop
+deal-out-requires : tie.Need-deal_out-requires invariant-loop decreases-loop
 deal-out-requires c κs =
     let s = c.before.before.before.before.before.before.before.before in
-    let l = c.before.before.before.before.loop in
-    let g = c.before.before.before-lifts in
-    let x = c.before.least in
+    let l = c.before.before.before.before.loop-done in
+    let g = c.before.before.before_lifts-s in
+    let x = c.before.least-x in
     let ws = s.args.words.now in
     let us = dealt_runs s.args.runs.now s.args.n s.args.m in
     let p = span_part (places_in (get_or ws 0 0) (drop 2 ws)) us (s.args.k + l.done) g.result.base g.result.len x.result s.requires.places
     (omega (arith, x.ensures)) (omega (arith, x.ensures, g.ensures.one, l.invariant.0)) (omega (arith, x.ensures, s.requires.there, l.invariant.0)) g.ensures.places in
     (s.requires.ready, omega (arith, p.0, length-take (l.done + x.result - l.done) (drop l.done l.out)))
 
-loop-again : tie.Need-loop-preserved invariant-loop decreases-loop
+loop-again : tie.Need-loop-done-preserved invariant-loop decreases-loop
 unfolding lifted_runs
 loop-again c =
     let s = c.before.before.before.before.before.before.before.before.before.before.before in
-    let l = c.before.before.before.before.before.before.before.loop in
-    let g = c.before.before.before.before.before.before-lifts in
-    let x = c.before.before.before.before.least in
-    let f = c.before.before.deal-out in
+    let l = c.before.before.before.before.before.before.before.loop-done in
+    let g = c.before.before.before.before.before.before_lifts-s in
+    let x = c.before.before.before.before.least-x in
+    let f = c.before.before.deal_out in
     let ws = s.args.words.now in
     let us = dealt_runs s.args.runs.now s.args.n s.args.m in
     let ys = f.new.1.1.1.1.0 in
@@ -62,14 +62,15 @@ loop-again c =
 returns : tie.Need-returns invariant-loop decreases-loop
 returns c =
     let s = c.before.before.before.before.before in
-    let l = c.before.loop in
+    let l = c.before.loop-done in
     let us = lifted_runs s.args.runs.now s.args.n s.args.m s.args.words.now in
     let e : l.done ≡ length s.args.out.now = omega (arith, l.invariant.0) in
     ap (map part_of) (sym (take_all l.done l.out (omega (arith, l.invariant.0)))) ∙ l.invariant.2 ∙ ap (λ i. take i (drop s.args.k us)) e
 
-pub window-spec : {M : Type 1} → statement M
-window-spec =
+pub window_spec : {M : Type 1} → statement M
+window_spec =
     tie.close
-    (tie.spec invariant-loop decreases-loop loop-holds (λ c. search rules) (λ c. search rules) (λ c κs. search rules) (λ c. search rules)
-    (λ c. search rules) (λ c κs. search rules) (λ c. search rules) (λ c. search rules) (λ c. search rules) (λ c. search rules)
-    (λ c. search rules) (λ c. search rules) deal-out-requires (λ c. search rules) loop-again (λ c. search rules) returns)
+    (tie.spec invariant-loop decreases-loop loop-holds (λ c. search rules) (λ c. search rules)
+    (λ c κs. search rules) (λ c. search rules) (λ c. search rules) (λ c κs. search rules) (λ c. search rules)
+    (λ c. search rules) (λ c. search rules) (λ c. search rules) (λ c. search rules) (λ c. search rules)
+    deal-out-requires (λ c. search rules) loop-again (λ c. search rules) returns)

@@ -10,19 +10,20 @@ use Rattle.gathering.proofs.gather.Statement.{statement}
 use Rattle.gathering.proofs.gather.Tie as tie
 
 sums-requires : tie.Need-sums-requires
-sums-requires c κs = record { accounts = refl; none = zeros 64; ready = c.before.before.before.requires }
+sums-requires c κs = record { accounts = refl; none = zeros 64; ready = c.before.before.requires }
 
 spread-requires : tie.Need-spread-requires
 spread-requires c κs =
     let f = c.before.before.before.sums in
-    record { accounts = f.auto.1.0; small = λ a. omega (arith, f.ensures a, c.before.before.before.before.before.before.before.requires.small a) }
+    record { accounts = f.auto.1.0; small = λ a. omega (arith, f.ensures a, c.before.before.before.before.before.before.requires.small a) }
 
 returns : tie.Need-returns
 returns c =
     let f = c.before.before.before.before.before.before.before.sums in
-    let rs = c.before.before.before.before.before.before.before.before.before.before.before.args.runs.now in
+    let rs = c.before.before.before.before.before.before.before.before.before.before.args.runs.now in
     c.before.before.before.spread.ensures ∙ laid_same (left f.new.1.0) (fulls_of rs) (map part_of rs) f.ensures
 
-pub gather-spec : {M : Type 1} → statement M
-gather-spec =
-    tie.close (tie.spec (λ c. search rules) sums-requires (λ c. search rules) spread-requires (λ c. search rules) returns)
+pub gather_spec : {M : Type 1} → statement M
+gather_spec =
+    tie.close
+    (tie.spec (λ c. search rules) sums-requires (λ c. search rules) spread-requires (λ c. search rules) returns)

@@ -12,30 +12,30 @@ use Rattle.gathering.proofs.Gathers.{Seeking, seeking_starts, seeking_more, hand
 use Rattle.gathering.proofs.hand.Statement.{statement}
 use Rattle.gathering.proofs.hand.Tie as tie
 
-abbrev invariant-loop : tie.invariant-loop
+abbrev invariant-loop : tie.invariant-loop-j
 invariant-loop runs₀ n d left₀ j₀ runs left j =
     (j ≤ n) × (length runs ≡ length runs₀) × Seeking (runs_in runs₀ n) (drop j (runs_in runs n)) d left × Every Plain (drop j (runs_in runs n))
 
-abbrev decreases-loop : tie.decreases-loop
+abbrev decreases-loop : tie.decreases-loop-j
 decreases-loop runs₀ n d left₀ j₀ runs left j = n - j
 
-loop-holds : tie.Need-loop-init invariant-loop decreases-loop
+loop-holds : tie.Need-loop-j-init invariant-loop decreases-loop
 loop-holds c = (omega arith, refl, seeking_starts _ _, c.requires.plain)
 
-mul-runs : tie.Need-overflow-mul-runs invariant-loop decreases-loop
-mul-runs c = omega (arith, c.before.slice-known.given c.before.before.before.loop.j)
+mul-runs : tie.Need-overflow_mul-runs invariant-loop decreases-loop
+mul-runs c = omega (arith, c.before.slice_known-1.given c.before.before.before.loop-j.j)
 
-returns : tie.Need-returns invariant-loop decreases-loop
+returns : tie.Need-returns-then-left-held invariant-loop decreases-loop
 returns c =
     let s = c.before.before.before.before in
-    let l = c.before.before.before.loop in
+    let l = c.before.before.before.loop-j in
     hand_stops s.args.runs.now l.runs s.args.n l.j s.args.d l.left (omega (arith, s.requires.there)) l.invariant.2 l.invariant.3
     (omega arith) (omega arith) _ refl
 
-loop-again : tie.Need-loop-preserved invariant-loop decreases-loop
+loop-again : tie.Need-loop-j-preserved invariant-loop decreases-loop
 loop-again c =
     let s = c.before.before.before.before in
-    let l = c.before.before.before.loop in
+    let l = c.before.before.before.loop-j in
     let n = s.args.n in
     let e = runs_at_lem l.runs n l.j (omega (arith, s.requires.there)) (omega arith) in (
       omega arith,
@@ -46,15 +46,16 @@ loop-again c =
       rw add-one (rw e at l.invariant.3).1,
     )
 
-returns-2 : tie.Need-returns-2 invariant-loop decreases-loop
+returns-2 : tie.Need-returns invariant-loop decreases-loop
 returns-2 c =
     let s = c.before.before in
-    let l = c.before.loop in
+    let l = c.before.loop-j in
     hand_ends s.args.runs.now l.runs s.args.n l.j s.args.d l.left (omega (arith, s.requires.there)) l.invariant.2 l.invariant.3
     (omega arith)
 
-pub hand-spec : {M : Type 1} → statement M
-hand-spec =
+pub hand_spec : {M : Type 1} → statement M
+hand_spec =
     tie.close
-    (tie.spec invariant-loop decreases-loop loop-holds (λ c. search rules) (λ c. search rules) mul-runs (λ c. search rules) (λ c. search rules)
-    (λ c. search rules) (λ c. search rules) returns (λ c. search rules) (λ c. search rules) loop-again (λ c. search rules) returns-2)
+    (tie.spec invariant-loop decreases-loop loop-holds (λ c. search rules) (λ c. search rules) mul-runs
+    (λ c. search rules) (λ c. search rules) (λ c. search rules) (λ c. search rules) returns (λ c. search rules)
+    (λ c. search rules) loop-again (λ c. search rules) returns-2)

@@ -11,27 +11,27 @@ use Rattle.gathering.proofs.Gathers.{left, spread_small, spread_full, spent_smal
 use Rattle.gathering.proofs.spread.Statement.{statement}
 use Rattle.gathering.proofs.spread.Tie as tie
 
-abbrev invariant-loop : tie.invariant-loop
+abbrev invariant-loop : tie.invariant-loop-j
 invariant-loop runs₀ full₀ j₀ runs full j =
     (length runs ≡ length runs₀) × (j ≤ length runs₀) × (length full ≡ 64) × ((a : ℕ) → get_or full a 0 ≤ 20000000)
     × (laid (left full₀) (map part_of runs₀) ≡ map part_of (take j runs) ++ laid (left full) (map part_of (drop j runs)))
 
-abbrev decreases-loop : tie.decreases-loop
+abbrev decreases-loop : tie.decreases-loop-j
 decreases-loop runs₀ full₀ j₀ runs full j = length runs₀ - j
 
-loop-holds : tie.Need-loop-init invariant-loop decreases-loop
+loop-holds : tie.Need-loop-j-init invariant-loop decreases-loop
 loop-holds c = (refl, omega arith, c.requires.accounts, c.requires.small, refl)
 
-mul-runs : tie.Need-overflow-mul-runs invariant-loop decreases-loop
-mul-runs c = omega (arith, c.before.before.before.before.loop.invariant.3 (get_or c.before.before.before.before.loop.runs c.before.before.before.before.loop.j 0 % 64))
+mul-runs : tie.Need-overflow_mul-runs invariant-loop decreases-loop
+mul-runs c = omega (arith, c.before.before.before.before.loop-j.invariant.3 (get_or c.before.before.before.before.loop-j.runs c.before.before.before.before.loop-j.j 0 % 64))
 
-add-runs : tie.Need-overflow-add-runs invariant-loop decreases-loop
-add-runs c = omega (arith, c.before.before.before.before.loop.invariant.3 (get_or c.before.before.before.before.loop.runs c.before.before.before.before.loop.j 0 % 64))
+add-runs : tie.Need-overflow_add-runs invariant-loop decreases-loop
+add-runs c = omega (arith, c.before.before.before.before.loop-j.invariant.3 (get_or c.before.before.before.before.loop-j.runs c.before.before.before.before.loop-j.j 0 % 64))
 
-loop-again : tie.Need-loop-preserved invariant-loop decreases-loop
+loop-again : tie.Need-loop-j-preserved-then-key-ge-UNIT_WORD invariant-loop decreases-loop
 loop-again c =
     let s = c.before.before.before.before.before in
-    let l = c.before.before.before.before.loop in
+    let l = c.before.before.before.before.loop-j in
     let k = get_or l.runs l.j 0 in (
       simp length-set l.invariant.0,
       omega arith,
@@ -40,21 +40,21 @@ loop-again c =
       spread_full l.runs l.full l.j (omega arith) _ l.invariant.4 l.invariant.2 (omega arith) _ refl,
     )
 
-loop-again-2 : tie.Need-loop-preserved-2 invariant-loop decreases-loop
+loop-again-2 : tie.Need-loop-j-preserved invariant-loop decreases-loop
 loop-again-2 c =
-    let l = c.before.before.before.loop in
+    let l = c.before.before.before.loop-j in
     (l.invariant.0, omega arith, l.invariant.2, l.invariant.3, spread_small l.runs l.full l.j (omega arith) _ l.invariant.4 (omega arith))
 
 returns : tie.Need-returns invariant-loop decreases-loop
 returns c =
-    let l = c.before.loop in
+    let l = c.before.loop-j in
     let e : l.j ≡ length l.runs = omega arith in
     sym (l.invariant.4 ∙ spread_end l.runs l.full l.j e)
 
-pub spread-spec : {M : Type 1} → statement M
-spread-spec =
+pub spread_spec : {M : Type 1} → statement M
+spread_spec =
     tie.close
-    (tie.spec invariant-loop decreases-loop loop-holds (λ c. search rules) (λ c. search rules) (λ c. search rules) (λ c. search rules)
-    (λ c. search rules) (λ c. search rules) mul-runs add-runs (λ c. search rules) (λ c. search rules)
-    (λ c. search rules) (λ c. search rules) (λ c. search rules) loop-again (λ c. search rules) loop-again-2
-    (λ c. search rules) (λ c. search rules) returns)
+    (tie.spec invariant-loop decreases-loop loop-holds (λ c. search rules) (λ c. search rules) (λ c. search rules)
+    (λ c. search rules) (λ c. search rules) (λ c. search rules) mul-runs add-runs (λ c. search rules)
+    (λ c. search rules) (λ c. search rules) (λ c. search rules) (λ c. search rules) loop-again (λ c. search rules)
+    loop-again-2 (λ c. search rules) (λ c. search rules) returns)

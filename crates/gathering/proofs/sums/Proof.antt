@@ -15,37 +15,37 @@ use Rattle.gathering.proofs.Gathers.{plain_next, sum_fits, sums_next}
 use Rattle.gathering.proofs.sums.Statement.{statement}
 use Rattle.gathering.proofs.sums.Tie as tie
 
-abbrev invariant-loop : tie.invariant-loop
+abbrev invariant-loop : tie.invariant-loop-j
 invariant-loop runs full₀ j₀ full j =
     (j ≤ length runs) × (length full ≡ 64) × Every Plain (map part_of (drop j runs))
     × ((a : ℕ) → get_or full a 0 + full_lots unit_lots a (map part_of (drop j runs)) ≡ fulls_of runs a)
 
-abbrev decreases-loop : tie.decreases-loop
+abbrev decreases-loop : tie.decreases-loop-j
 decreases-loop runs full₀ j₀ full j = length runs - j
 
-loop-holds : tie.Need-loop-init invariant-loop decreases-loop
+loop-holds : tie.Need-loop-j-init invariant-loop decreases-loop
 loop-holds c = (omega arith, c.requires.accounts, c.requires.ready.plain, (λ a. omega (arith, c.requires.none a)))
 
-mul-full : tie.Need-overflow-mul-full invariant-loop decreases-loop
+mul-full : tie.Need-overflow_mul-full invariant-loop decreases-loop
 mul-full c =
     let s = c.before.before.before.before in
-    let l = c.before.before.before.loop in
+    let l = c.before.before.before.loop-j in
     let rs = s.args.runs.now in
     let k = get_or rs l.j 0 % 64 in
     omega (arith, sum_fits rs l.full l.j (omega arith) l.invariant.1 l.invariant.2 (fulls_of rs) l.invariant.3, s.requires.ready.small k)
 
-add-full : tie.Need-overflow-add-full invariant-loop decreases-loop
+add-full : tie.Need-overflow_add-full invariant-loop decreases-loop
 add-full c =
     let s = c.before.before.before.before in
-    let l = c.before.before.before.loop in
+    let l = c.before.before.before.loop-j in
     let rs = s.args.runs.now in
     let k = get_or rs l.j 0 % 64 in
     omega (arith, sum_fits rs l.full l.j (omega arith) l.invariant.1 l.invariant.2 (fulls_of rs) l.invariant.3, s.requires.ready.small k)
 
-loop-again : tie.Need-loop-preserved invariant-loop decreases-loop
+loop-again : tie.Need-loop-j-preserved invariant-loop decreases-loop
 loop-again c =
     let s = c.before.before.before.before in
-    let l = c.before.before.before.loop in
+    let l = c.before.before.before.loop-j in
     let rs = s.args.runs.now in (
       omega arith,
       simp length-set l.invariant.1,
@@ -56,13 +56,13 @@ loop-again c =
 returns : tie.Need-returns invariant-loop decreases-loop
 returns c =
     let rs = c.before.before.args.runs.now in
-    let l = c.before.loop in
+    let l = c.before.loop-j in
     let e : l.j ≡ length rs = omega arith in
     λ a. omega (arith, l.invariant.3 a, ap (λ ws. full_lots unit_lots a (map part_of ws)) (ap (λ j. drop j rs) e ∙ drop-length rs))
 
-pub sums-spec : {M : Type 1} → statement M
-sums-spec =
+pub sums_spec : {M : Type 1} → statement M
+sums_spec =
     tie.close
-    (tie.spec invariant-loop decreases-loop loop-holds (λ c. search rules) (λ c. search rules) (λ c. search rules) (λ c. search rules)
-    (λ c. search rules) mul-full add-full (λ c. search rules) (λ c. search rules) (λ c. search rules)
-    (λ c. search rules) loop-again (λ c. search rules) returns)
+    (tie.spec invariant-loop decreases-loop loop-holds (λ c. search rules) (λ c. search rules) (λ c. search rules)
+    (λ c. search rules) (λ c. search rules) mul-full add-full (λ c. search rules) (λ c. search rules)
+    (λ c. search rules) (λ c. search rules) loop-again (λ c. search rules) returns)

@@ -9,5 +9,6 @@ returns : tie.Need-returns
 unfolding units_from units_in
 returns c runs n = refl
 
-pub seek-spec : {M : Type 1} → statement M
-seek-spec = tie.close (tie.spec returns)
+pub seek_spec : {M : Type 1} → statement M
+seek_spec = tie.close
+    (tie.spec returns)

@@ -3,11 +3,12 @@ use borrow.Author.Rules.{rules}
 use Rattle.inquiry.proofs.unit_in.Statement.{statement}
 use Rattle.inquiry.proofs.unit_in.Tie as tie
 
-returns : tie.Need-returns
-returns c = rw c.before.if1.true c.unit.ensures
+returns : tie.Need-returns-then-dealt
+returns c = rw c.before.if-dealt.true c.unit.ensures
 
-returns-2 : tie.Need-returns-2
-returns-2 c = rw c.before.if1.false c.unit-of.ensures
+returns-2 : tie.Need-returns
+returns-2 c = rw c.before.if-dealt.false c.unit_of.ensures
 
-pub unit-in-spec : {M : Type 1} → statement M
-unit-in-spec = tie.close (tie.spec (λ c κs. search rules) returns (λ c κs. search rules) returns-2)
+pub unit_in_spec : {M : Type 1} → statement M
+unit_in_spec = tie.close
+    (tie.spec (λ c κs. search rules) returns (λ c κs. search rules) returns-2)

@@ -4,26 +4,26 @@ use Rattle.handover.proofs.Questions.{unit_list, unit_end, found_is}
 use Rattle.inquiry.proofs.unit_of.Statement.{statement}
 use Rattle.inquiry.proofs.unit_of.Tie as tie
 
-returns : tie.Need-returns
+returns : tie.Need-returns-in_default
 returns c =
     let a = c.before.before.before.before.before.before.before.before.before.args in
-    let p = c.before.before.before.before.before.before.prepare in
-    let s = c.before.before.before.before.seek in
-    let n = c.before.before.next-unit in
+    let p = c.before.before.before.before.before.before.prepare-n in
+    let s = c.before.before.before.before.seek-s in
+    let n = c.before.before.next_unit in
     found_is a.nets.now a.lifts.now a.i a.k p.new.1.1.1.0 p.result s.result p.ensures s.ensures _
-    (unit_end p.new.1.1.1.0 p.result s.result n.result n.ensures c.enum_told.given.1)
+    (unit_end p.new.1.1.1.0 p.result s.result n.result n.ensures c.enum_told-1.given.1)
 
-returns-2 : tie.Need-returns-2
+returns-2 : tie.Need-returns
 returns-2 c =
     let a = c.before.before.before.before.before.before.before.before.before.before.args in
-    let p = c.before.before.before.before.before.before.before.prepare in
-    let s = c.before.before.before.before.before.seek in
-    let n = c.before.before.before.next-unit in
+    let p = c.before.before.before.before.before.before.before.prepare-n in
+    let s = c.before.before.before.before.before.seek-s in
+    let n = c.before.before.before.next_unit in
     found_is a.nets.now a.lifts.now a.i a.k p.new.1.1.1.0 p.result s.result p.ensures s.ensures _
-    (unit_list p.new.1.1.1.0 p.result s.result n.result n.ensures _ _ _ c.before.a.given.1)
+    (unit_list p.new.1.1.1.0 p.result s.result n.result n.ensures _ _ _ c.before.a-1.given.1)
 
-pub unit-of-spec : {M : Type 1} → statement M
-unit-of-spec =
+pub unit_of_spec : {M : Type 1} → statement M
+unit_of_spec =
     tie.close
     (tie.spec (λ c. search rules) (λ c κs. search rules) (λ c κs. search rules) (λ c. search rules)
     (λ c κs. search rules) (λ c. search rules) (λ c. search rules) returns returns-2)

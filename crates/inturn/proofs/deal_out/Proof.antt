@@ -11,21 +11,21 @@ use Rattle.inturn.proofs.Dealing.{out_next, out_left, out_end}
 use Rattle.inturn.proofs.deal_out.Statement.{statement}
 use Rattle.inturn.proofs.deal_out.Tie as tie
 
-abbrev invariant-loop : tie.invariant-loop
+abbrev invariant-loop : tie.invariant-loop-j
 invariant-loop runs n m k out₀ d₀ j₀ out d j =
     (length out ≡ length out₀) × (j ≤ length out₀) × Seated runs m d
     × (map part_of (take j out) ++ dealt_from runs n m d ≡ drop k (dealt_runs runs n m))
 
-abbrev decreases-loop : tie.decreases-loop
+abbrev decreases-loop : tie.decreases-loop-j
 decreases-loop runs n m k out₀ d₀ j₀ out d j = length out₀ - j
 
-loop-holds : tie.Need-loop-init invariant-loop decreases-loop
-loop-holds c = (refl, omega arith, c.seat.ensures.1, sym c.seat.ensures.0)
+loop-holds : tie.Need-loop-j-init invariant-loop decreases-loop
+loop-holds c = (refl, omega arith, c.seat-d.ensures.1, sym c.seat-d.ensures.0)
 
-step-requires : tie.Need-step-requires invariant-loop decreases-loop
+step-requires : tie.Need-step-s-requires invariant-loop decreases-loop
 step-requires c κs =
     let s = c.before.before.before.before.before in
-    let l = c.before.loop in
+    let l = c.before.loop-j in
     let rs = s.args.runs.now in
     record {
       ready = s.requires.0;
@@ -34,11 +34,11 @@ step-requires c κs =
           (omega (arith, l.invariant.0)) l.invariant.3 (omega (arith, l.invariant.0, s.requires.1));
     }
 
-loop-again : tie.Need-loop-preserved invariant-loop decreases-loop
+loop-again : tie.Need-loop-j-preserved invariant-loop decreases-loop
 loop-again c =
     let s = c.before.before.before.before.before.before.before in
-    let l = c.before.before.before.loop in
-    let f = c.before.step in
+    let l = c.before.before.before.loop-j in
+    let f = c.before.step-s in
     let rs = s.args.runs.now in (
       simp length-set l.invariant.0,
       omega arith,
@@ -50,13 +50,13 @@ loop-again c =
 returns : tie.Need-returns invariant-loop decreases-loop
 returns c =
     let s = c.before.before.before.before.before in
-    let l = c.before.loop in
+    let l = c.before.loop-j in
     let rs = s.args.runs.now in
     let e : l.j ≡ length l.out = omega (arith, l.invariant.0) in
     rw l.invariant.0 at (out_end l.out l.j (dealt_from rs s.args.n s.args.m l.d) _ e l.invariant.3)
 
-pub deal-out-spec : {M : Type 1} → statement M
-deal-out-spec =
+pub deal_out_spec : {M : Type 1} → statement M
+deal_out_spec =
     tie.close
-    (tie.spec invariant-loop decreases-loop (λ c κs. search rules) loop-holds step-requires (λ c. search rules) (λ c. search rules)
-    (λ c. search rules) (λ c. search rules) loop-again (λ c. search rules) returns)
+    (tie.spec invariant-loop decreases-loop (λ c κs. search rules) loop-holds step-requires (λ c. search rules)
+    (λ c. search rules) (λ c. search rules) (λ c. search rules) loop-again (λ c. search rules) returns)

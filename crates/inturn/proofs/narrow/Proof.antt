@@ -10,19 +10,19 @@ use Rattle.inturn.proofs.Dealing.{narrow_less, narrow_all}
 use Rattle.inturn.proofs.narrow.Statement.{statement}
 use Rattle.inturn.proofs.narrow.Tie as tie
 
-abbrev invariant-loop : tie.invariant-loop
+abbrev invariant-loop : tie.invariant-loop-w
 invariant-loop runs n r w₀ w = (w ≤ n) × ((s : ℕ) → r ≤ s → round unit_lots s (runs_in runs n) ≡ round unit_lots s (runs_in runs w))
 
-abbrev decreases-loop : tie.decreases-loop
+abbrev decreases-loop : tie.decreases-loop-w
 decreases-loop runs n r w₀ w = w
 
-loop-holds : tie.Need-loop-init invariant-loop decreases-loop
+loop-holds : tie.Need-loop-w-init invariant-loop decreases-loop
 loop-holds c = (omega arith, (λ s l. refl))
 
-returns : tie.Need-returns invariant-loop decreases-loop
+returns : tie.Need-returns-then-r-runs invariant-loop decreases-loop
 returns c =
     let s = c.before.before.before.before in
-    let l = c.before.before.before.loop in
+    let l = c.before.before.before.loop-w in
     record {
       few = l.invariant.0;
       rest = l.invariant.1;
@@ -30,22 +30,22 @@ returns c =
       some = λ h. omega arith;
     }
 
-loop-again : tie.Need-loop-preserved invariant-loop decreases-loop
+loop-again : tie.Need-loop-w-preserved invariant-loop decreases-loop
 loop-again c =
     let s = c.before.before.before.before in
-    let l = c.before.before.before.loop in (
+    let l = c.before.before.before.loop-w in (
       omega arith,
       (λ t g. l.invariant.1 t g ∙ narrow_less s.args.runs.now l.w (l.w - 1) s.args.r (omega arith) (omega (arith, s.requires.there)) (omega arith) t g),
     )
 
-returns-2 : tie.Need-returns-2 invariant-loop decreases-loop
+returns-2 : tie.Need-returns invariant-loop decreases-loop
 returns-2 c =
-    let l = c.before.loop in
+    let l = c.before.loop-w in
     let z : l.w ≡ 0 = omega arith in
     record { few = l.invariant.0; rest = l.invariant.1; all = rw z refl; some = λ h. absurd (omega arith) }
 
-pub narrow-spec : {M : Type 1} → statement M
-narrow-spec =
+pub narrow_spec : {M : Type 1} → statement M
+narrow_spec =
     tie.close
-    (tie.spec invariant-loop decreases-loop loop-holds (λ c. search rules) (λ c. search rules) (λ c. search rules) returns
-    (λ c. search rules) (λ c. search rules) loop-again returns-2)
+    (tie.spec invariant-loop decreases-loop loop-holds (λ c. search rules) (λ c. search rules) (λ c. search rules)
+    returns (λ c. search rules) (λ c. search rules) loop-again returns-2)

@@ -13,18 +13,18 @@ use Rattle.inturn.proofs.Dealing.{falling_less, rest_of, seat_start, below_most,
 use Rattle.inturn.proofs.seat.Statement.{statement}
 use Rattle.inturn.proofs.seat.Tie as tie
 
-abbrev invariant-loop : tie.invariant-loop
+abbrev invariant-loop : tie.invariant-loop-w
 invariant-loop runs n m k left₀ r₀ w₀ left r w =
     (w ≤ m) × (0 < w → r < get_or runs (w - 1) 0 / 6400000) × (drop k (dealt_runs runs n m) ≡ rest_of runs n m r w left) × (left ≤ k)
     × (k ≡ length (rounds unit_lots 0 r (runs_in runs m)) + left) × Narrowed runs m r w × (r ≤ 200)
 
-abbrev decreases-loop : tie.decreases-loop
+abbrev decreases-loop : tie.decreases-loop-w
 decreases-loop runs n m k left₀ r₀ w₀ left r w = left + w
 
-loop-holds : tie.Need-loop-init invariant-loop decreases-loop
+loop-holds : tie.Need-loop-w-init invariant-loop decreases-loop
 loop-holds c =
     let s = c.before.before in
-    let f = c.narrow in (
+    let f = c.narrow-w in (
       f.ensures.few,
       f.ensures.some,
       seat_start s.args.runs.now s.args.n s.args.m s.requires s.args.k f.result f.ensures,
@@ -34,39 +34,39 @@ loop-holds c =
       omega arith,
     )
 
-cast-v : tie.Need-overflow-cast-v invariant-loop decreases-loop
-cast-v c = omega (arith, c.before.loop.invariant.0, c.before.before.before.before.requires.fulls, c.before.before.before.before.requires.few)
+cast-v : tie.Need-overflow_cast-v invariant-loop decreases-loop
+cast-v c = omega (arith, c.before.loop-w.invariant.0, c.before.before.before.before.requires.fulls, c.before.before.before.before.requires.few)
 
-sub-c-2 : tie.Need-overflow-sub-c-2 invariant-loop decreases-loop
-sub-c-2 c = omega (arith, c.before.before.loop.invariant.1 (omega arith))
+sub-c-2 : tie.Need-overflow_sub-c-in-loop-w invariant-loop decreases-loop
+sub-c-2 c = omega (arith, c.before.before.loop-w.invariant.1 (omega arith))
 
-mul-b : tie.Need-overflow-mul-b invariant-loop decreases-loop
+mul-b : tie.Need-overflow_mul-b invariant-loop decreases-loop
 mul-b c =
     let s = c.before.before.before.before.before in
-    let l = c.before.before.loop in
+    let l = c.before.before.loop-w in
     let o : 0 < l.w = omega arith in
     let q = get_or s.args.runs.now (l.w - 1) 0 / 6400000 in
     omega (arith, block_fits s.args.runs.now s.args.n s.args.m s.requires l.w l.invariant.0 o (q - l.r) (omega (arith, s.requires.small (l.w - 1) (omega (arith, l.invariant.0)))))
 
-add-t18 : tie.Need-overflow-add-t18 invariant-loop decreases-loop
+add-t18 : tie.Need-overflow_add-result invariant-loop decreases-loop
 add-t18 c =
     let s = c.before.before.before.before.before.before in
-    let l = c.before.before.before.loop in
+    let l = c.before.before.before.loop-w in
     let o : 0 < l.w = omega arith in
     let q = get_or s.args.runs.now (l.w - 1) 0 / 6400000 in
     omega (arith, (block_in s.args.runs.now s.args.n s.args.m s.requires l.w l.invariant.0 o (q - l.r) l.r l.left (omega (arith, l.invariant.1 o)) (omega arith)).0, s.requires.small (l.w - 1) (omega (arith, l.invariant.0)))
 
-cast-t20 : tie.Need-overflow-cast-t20 invariant-loop decreases-loop
+cast-t20 : tie.Need-overflow_cast-result invariant-loop decreases-loop
 cast-t20 c =
-    let l = c.before.before.before.loop in
+    let l = c.before.before.before.loop-w in
     let o : 0 < l.w = omega arith in
     omega (arith, mod-lt l.left o)
 
-returns : tie.Need-returns invariant-loop decreases-loop
+returns : tie.Need-returns-then-left-b invariant-loop decreases-loop
 unfolding dealt_from
 returns c =
     let s = c.before.before.before.before.before.before in
-    let l = c.before.before.before.loop in
+    let l = c.before.before.before.loop-w in
     let o : 0 < l.w = omega arith in
     let q = get_or s.args.runs.now (l.w - 1) 0 / 6400000 in
     let b = block_in s.args.runs.now s.args.n s.args.m s.requires l.w l.invariant.0 o (q - l.r) l.r l.left (omega (arith, l.invariant.1 o)) (omega arith) in (
@@ -76,29 +76,29 @@ returns c =
           (omega (arith, b.0, l.invariant.1 o)),
     )
 
-add_r : tie.Need-overflow-add-r invariant-loop decreases-loop
+add_r : tie.Need-overflow_add-r invariant-loop decreases-loop
 add_r c =
     let s = c.before.before.before.before.before.before in
-    let l = c.before.before.before.loop in
+    let l = c.before.before.before.loop-w in
     let o : 0 < l.w = omega arith in
     let q = get_or s.args.runs.now (l.w - 1) 0 / 6400000 in
     omega (arith, s.requires.small (l.w - 1) (omega (arith, l.invariant.0)), l.invariant.1 o)
 
-loop-less : tie.Need-loop-smaller invariant-loop decreases-loop
+loop-less : tie.Need-loop-w-smaller invariant-loop decreases-loop
 loop-less c =
     let s = c.before.before.before.before.before.before.before in
-    let l = c.before.before.before.before.loop in
+    let l = c.before.before.before.before.loop-w in
     let o : 0 < l.w = omega arith in
     let q = get_or s.args.runs.now (l.w - 1) 0 / 6400000 in
-    omega (arith, block_some s.args.runs.now s.args.n s.args.m s.requires l.w l.invariant.0 o (q - l.r) (omega (arith, l.invariant.1 o)), c.narrow2.ensures.few)
+    omega (arith, block_some s.args.runs.now s.args.n s.args.m s.requires l.w l.invariant.0 o (q - l.r) (omega (arith, l.invariant.1 o)), c.narrow-w-in-loop-w.ensures.few)
 
-loop-again : tie.Need-loop-preserved invariant-loop decreases-loop
+loop-again : tie.Need-loop-w-preserved invariant-loop decreases-loop
 loop-again c =
     let s = c.before.before.before.before.before.before.before in
-    let l = c.before.before.before.before.loop in
+    let l = c.before.before.before.before.loop-w in
     let o : 0 < l.w = omega arith in
     let q = get_or s.args.runs.now (l.w - 1) 0 / 6400000 in
-    let f = c.narrow2 in (
+    let f = c.narrow-w-in-loop-w in (
       omega (arith, f.ensures.few, l.invariant.0),
       f.ensures.some,
       l.invariant.2 ∙ block_over s.args.runs.now s.args.n s.args.m s.requires l.w l.invariant.0 o (q - l.r) l.r f.result l.left (omega (arith, l.invariant.1 o)) (omega (arith, l.invariant.1 o)) (omega arith) f.ensures,
@@ -108,24 +108,24 @@ loop-again c =
       omega (arith, l.invariant.1 o, s.requires.small (l.w - 1) (omega (arith, l.invariant.0))),
     )
 
-narrow-requires-2 : tie.Need-narrow-requires-2 invariant-loop decreases-loop
+narrow-requires-2 : tie.Need-narrow-w-requires-in-loop-w invariant-loop decreases-loop
 narrow-requires-2 c κs =
     let s = c.before.before.before.before.before.before in
-    let l = c.before.before.before.loop in
+    let l = c.before.before.before.loop-w in
     falling_less s.args.runs.now s.args.m l.w s.requires.falling l.invariant.0
 
-returns-2 : tie.Need-returns-2 invariant-loop decreases-loop
+returns-2 : tie.Need-returns invariant-loop decreases-loop
 unfolding dealt_from
 returns-2 c =
-    let l = c.before.loop in (
+    let l = c.before.loop-w in (
       l.invariant.2,
       record { few = l.invariant.0; within = λ h. absurd (omega arith); some = λ h. absurd (omega arith) },
       record { place = l.invariant.4; narrowed = l.invariant.5; most = l.invariant.6 },
     )
 
-pub seat-spec : {M : Type 1} → statement M
-seat-spec =
+pub seat_spec : {M : Type 1} → statement M
+seat_spec =
     tie.close
-    (tie.spec invariant-loop decreases-loop (λ c κs. search rules) loop-holds cast-v (λ c. search rules) (λ c. search rules)
-    (λ c. search rules) sub-c-2 mul-b (λ c. search rules) add-t18 (λ c. search rules) cast-t20 returns add_r
-    narrow-requires-2 loop-less loop-again (λ c. search rules) returns-2)
+    (tie.spec invariant-loop decreases-loop (λ c κs. search rules) loop-holds cast-v (λ c. search rules)
+    (λ c. search rules) (λ c. search rules) sub-c-2 mul-b (λ c. search rules) add-t18 (λ c. search rules) cast-t20
+    returns add_r narrow-requires-2 loop-less loop-again (λ c. search rules) returns-2)

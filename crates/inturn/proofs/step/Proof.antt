@@ -5,81 +5,81 @@ use Rattle.inturn.proofs.Dealing.{falling_less, small_there, step_to_small, step
 use Rattle.inturn.proofs.step.Statement.{statement}
 use Rattle.inturn.proofs.step.Tie as tie
 
-add-t14 : tie.Need-overflow-add-t14
+add-t14 : tie.Need-overflow_add-next
 add-t14 c =
     let s = c.before.before in
     omega (arith, small_there s.args.runs.now s.args.n s.args.m s.args.d s.requires (omega arith), s.requires.ready.few)
 
-add-t14-2 : tie.Need-overflow-add-t14-2
+add-t14-2 : tie.Need-overflow_add-result
 add-t14-2 c =
     let s = c.before.before in
     omega (arith, small_there s.args.runs.now s.args.n s.args.m s.args.d s.requires (omega arith), s.requires.ready.few)
 
-mul-t15 : tie.Need-overflow-mul-t15
+mul-t15 : tie.Need-offset_bounds-runs-m
 mul-t15 c =
     let s = c.before.before in
     omega (arith, small_there s.args.runs.now s.args.n s.args.m s.args.d s.requires (omega arith), s.requires.ready.few)
 
-shared-slice-read-t17 : tie.Need-shared-slice-read-t17
+shared-slice-read-t17 : tie.Need-bounds-runs-m
 shared-slice-read-t17 c =
     let s = c.before.before.before in
     omega (arith, small_there s.args.runs.now s.args.n s.args.m s.args.d s.requires (omega arith), s.requires.ready.held)
 
-returns : tie.Need-returns
+returns : tie.Need-returns-then-w-eq0
 returns c =
     let s = c.before.before.before in
     step_to_small s.args.runs.now s.args.n s.args.m s.args.d s.requires (omega arith)
 
-mul-word : tie.Need-overflow-mul-word
+mul-word : tie.Need-offset_bounds-runs-at
 mul-word c =
     let s = c.before.before in
     omega (arith, s.requires.seated.within (omega arith), s.requires.seated.few, s.requires.ready.fulls, s.requires.ready.few)
 
-shared-slice-read-word : tie.Need-shared-slice-read-word
+shared-slice-read-word : tie.Need-bounds-runs-at
 shared-slice-read-word c =
     let s = c.before.before.before in
     omega (arith, s.requires.seated.within (omega arith), s.requires.seated.few, s.requires.ready.fulls, s.requires.ready.held)
 
-add-word : tie.Need-overflow-add-word
+add-word : tie.Need-overflow_add-word
 add-word c = omega arith
 
-add-if2 : tie.Need-overflow-add-if2
+add-if2 : tie.Need-overflow_add-at
 add-if2 c =
     let s = c.before.before.before in
     omega (arith, s.requires.seated.within (omega arith), s.requires.seated.few, s.requires.ready.fulls, s.requires.ready.few)
 
-add-t22 : tie.Need-overflow-add-t22
+add-t22 : tie.Need-overflow_add-next-then-at-w
 add-t22 c =
     let s = c.before.before.before.before in
     omega (arith, s.requires.seated.within (omega arith), s.requires.seated.few, s.requires.ready.fulls, s.requires.ready.few)
 
-returns-2 : tie.Need-returns-2
+returns-2 : tie.Need-returns-then-at-w
 returns-2 c =
     let s = c.before.before.before.before in
     step_within s.args.runs.now s.args.n s.args.m s.args.d s.requires (omega arith)
 
-add-narrow : tie.Need-overflow-add-narrow
+add-narrow : tie.Need-overflow_add-r
 add-narrow c =
     let s = c.before.before.before.before in
     omega (arith, s.requires.seated.some (omega arith))
 
-narrow-requires : tie.Need-narrow-requires
+narrow-requires : tie.Need-narrow-v-requires
 narrow-requires c κs =
     let s = c.before.before.before.before in
     falling_less s.args.runs.now s.args.m s.args.d.wide s.requires.ready.falling s.requires.seated.few
 
-add-t21 : tie.Need-overflow-add-t21
+add-t21 : tie.Need-overflow_add-next-2
 add-t21 c =
     let s = c.before.before.before.before.before in
     omega (arith, s.requires.seated.some (omega arith))
 
-returns-3 : tie.Need-returns-3
+returns-3 : tie.Need-returns
 returns-3 c =
     let s = c.before.before.before.before.before in
-    step_over s.args.runs.now s.args.n s.args.m s.args.d s.requires c.narrow.result (omega arith) (omega arith) c.narrow.ensures
+    step_over s.args.runs.now s.args.n s.args.m s.args.d s.requires c.narrow-v.result (omega arith) (omega arith) c.narrow-v.ensures
 
 pub step_spec : {M : Type 1} → statement M
 step_spec =
     tie.close
-    (tie.spec add-t14 add-t14-2 mul-t15 shared-slice-read-t17 returns mul-word shared-slice-read-word add-word add-if2
-    add-t22 returns-2 add-narrow narrow-requires add-t21 returns-3)
+    (tie.spec add-t14 add-t14-2 mul-t15 shared-slice-read-t17 returns mul-word shared-slice-read-word add-word
+    add-if2 add-t22 returns-2 add-narrow narrow-requires add-t21 returns-3)

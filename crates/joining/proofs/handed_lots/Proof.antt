@@ -11,20 +11,21 @@ use Rattle.joining.specs.Runs.{handed_of}
 use Rattle.joining.proofs.handed_lots.Statement.{statement}
 use Rattle.joining.proofs.handed_lots.Tie as tie
 
-returns : tie.Need-returns
+returns : tie.Need-returns-then-lots-d
 unfolding handed_of
 returns c =
     let a = c.before.args in
     sym (cond_true (leb a.lots a.d) a.lots (a.d / a.size * a.size) (le-leb a.lots a.d (search rules)))
 
-mul-result : tie.Need-overflow-mul-result
+mul-result : tie.Need-overflow_mul-result
 mul-result c = let a = c.before.args in omega (arith, div-mul-le_self a.d a.size)
 
-returns-2 : tie.Need-returns-2
+returns-2 : tie.Need-returns
 unfolding handed_of
 returns-2 c =
     let a = c.before.args in
     sym (cond_false (leb a.lots a.d) a.lots (a.d / a.size * a.size) (lt-leb a.lots a.d (search rules)))
 
-pub handed-lots-spec : {M : Type 1} → statement M
-handed-lots-spec = tie.close (tie.spec returns (λ c. search rules) mul-result returns-2)
+pub handed_lots_spec : {M : Type 1} → statement M
+handed_lots_spec = tie.close
+    (tie.spec returns (λ c. search rules) mul-result returns-2)

@@ -9,34 +9,34 @@ use Rattle.runs.proofs.Numbers.{number_more}
 use Rattle.lifted.proofs.find.Statement.{statement}
 use Rattle.lifted.proofs.find.Tie as tie
 
-abbrev invariant-loop : tie.invariant-loop
+abbrev invariant-loop : tie.invariant-loop-j
 invariant-loop runs n k left₀ j₀ left j = (j ≤ n) × (k ≡ length (units_in runs j) + left)
 
-abbrev decreases-loop : tie.decreases-loop
+abbrev decreases-loop : tie.decreases-loop-j
 decreases-loop runs n k left₀ j₀ left j = n - j
 
-loop-holds : tie.Need-loop-init invariant-loop decreases-loop
+loop-holds : tie.Need-loop-j-init invariant-loop decreases-loop
 unfolding units_in
 loop-holds c = search rules
 
-add-c : tie.Need-overflow-add-c invariant-loop decreases-loop
-add-c c = omega (arith, c.shared-slice-known.given c.before.before.loop.j)
+add-c : tie.Need-overflow_add-c invariant-loop decreases-loop
+add-c c = omega (arith, c.shared_slice_known-1.given c.before.before.loop-j.j)
 
-loop-again : tie.Need-loop-preserved invariant-loop decreases-loop
+loop-again : tie.Need-loop-j-preserved invariant-loop decreases-loop
 loop-again c =
     let a = c.before.before.before.before.args in
-    let l = c.before.before.before.loop in
+    let l = c.before.before.before.loop-j in
     (search rules, omega (arith, l.invariant.1, number_more a.runs.now l.j (search rules)))
 
-returns-2 : tie.Need-returns-2 invariant-loop decreases-loop
+returns-2 : tie.Need-returns invariant-loop decreases-loop
 returns-2 c =
     let s = c.before.before in
-    let l = c.before.loop in
+    let l = c.before.loop-j in
     let e : l.j ≡ s.args.n = omega arith in
     absurd (omega (arith, s.requires.there, l.invariant.1, ap (λ j. length (units_in s.args.runs.now j)) e))
 
 pub find_spec : {M : Type 1} → statement M
 find_spec =
     tie.close
-    (tie.spec invariant-loop decreases-loop loop-holds (λ c. search rules) (λ c. search rules) add-c (λ c. search rules)
-    (λ c. search rules) (λ c. search rules) loop-again returns-2)
+    (tie.spec invariant-loop decreases-loop loop-holds (λ c. search rules) (λ c. search rules) add-c
+    (λ c. search rules) (λ c. search rules) (λ c. search rules) loop-again returns-2)

@@ -7,23 +7,23 @@ use Rattle.lifted.proofs.Lifted.{out_and_in, out_length, lift_same}
 use Rattle.lifted.proofs.lift.Statement.{statement}
 use Rattle.lifted.proofs.lift.Tie as tie
 
-returns : tie.Need-returns
+returns : tie.Need-returns-then-old-new
 returns c = record { few = omega arith; units = lift_same _ _ _ (search rules); plain = λ ps. ps }
 
-put-in-requires : tie.Need-put-in-requires
+put-in-requires : tie.Need-put_in-requires
 put-in-requires c κs =
     let s = c.before.before.before.before.before.before.before in
-    let o = c.before.before.before.take_out in
+    let o = c.before.before.before.take_out-word in
     let us = units_in s.args.runs.now s.args.n in
     record {
       held = omega (arith, o.auto.0, s.requires.held);
       there = omega (arith, s.requires.back, s.requires.there, out_length us (units_in o.new.0 s.args.n) s.args.old s.requires.there o.ensures.rest);
     }
 
-returns-2 : tie.Need-returns-2
+returns-2 : tie.Need-returns
 returns-2 c =
     let s = c.before.before.before.before.before.before.before.before.before.before in
-    let o = c.before.before.before.before.before.before.take_out in
+    let o = c.before.before.before.before.before.before.take_out-word in
     let p = c.before.before.put_in in
     let n = s.args.n in
     record {
@@ -33,5 +33,6 @@ returns-2 c =
       plain = λ ps. p.ensures.plain o.ensures.one (o.ensures.plain ps);
     }
 
-pub lift-spec : {M : Type 1} → statement M
-lift-spec = tie.close (tie.spec returns (λ c κs. search rules) put-in-requires (λ c. search rules) (λ c. search rules) returns-2)
+pub lift_spec : {M : Type 1} → statement M
+lift_spec = tie.close
+    (tie.spec returns (λ c κs. search rules) put-in-requires (λ c. search rules) (λ c. search rules) returns-2)

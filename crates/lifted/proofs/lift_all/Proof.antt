@@ -12,31 +12,31 @@ use Rattle.lifted.proofs.Lifted.{next_among, lifted_next, among_next}
 use Rattle.lifted.proofs.lift_all.Statement.{statement}
 use Rattle.lifted.proofs.lift_all.Tie as tie
 
-abbrev invariant-loop : tie.invariant-loop
+abbrev invariant-loop : tie.invariant-loop-left
 invariant-loop words runs₀ n left₀ i₀ r₀ runs left i r =
     (length runs ≡ length runs₀) × (i + (left + left) ≤ 18) × (r + (left + left) ≤ n + 2 * get_or words 0 0)
     × (lifted (places_in (get_or words 0 0) (drop 2 words)) (units_in runs₀ n) ≡ lifted (places_in left (drop i words)) (units_in runs r))
     × Every (Among (length (units_in runs r))) (places_in left (drop i words))
     × (PlainIn runs₀ n → PlainIn runs r)
 
-abbrev decreases-loop : tie.decreases-loop
+abbrev decreases-loop : tie.decreases-loop-left
 decreases-loop words runs₀ n left₀ i₀ r₀ runs left i r = left
 
-loop-holds : tie.Need-loop-init invariant-loop decreases-loop
+loop-holds : tie.Need-loop-left-init invariant-loop decreases-loop
 loop-holds c = (refl, omega arith, omega arith, refl, c.before.before.before.requires.places, (λ ps. ps))
 
-lift-requires : tie.Need-lift-requires invariant-loop decreases-loop
+lift-requires : tie.Need-lift-r-requires invariant-loop decreases-loop
 lift-requires c κs =
     let s = c.before.before.before.before.before.before.before.before in
-    let l = c.before.before.before.before.loop in
+    let l = c.before.before.before.before.loop-left in
     let m = next_among s.args.words.now l.i l.left (units_in l.runs l.r) (omega arith) l.invariant.4 in
     record { held = omega (arith, s.requires.held, s.requires.few, l.invariant.0); back = m.back; there = m.there }
 
-loop-again : tie.Need-loop-preserved invariant-loop decreases-loop
+loop-again : tie.Need-loop-left-preserved invariant-loop decreases-loop
 loop-again c =
     let ps = c.before.before.before.before.before.before.before.before.before.before.before.args.words.now in
-    let l = c.before.before.before.before.before.before.before.loop in
-    let f = c.before.before.lift in
+    let l = c.before.before.before.before.before.before.before.loop-left in
+    let f = c.before.before.lift-r in
     let us = units_in l.runs l.r in
     let vs = units_in f.new.0 f.result in (
       f.auto.0 ∙ l.invariant.0,
@@ -49,13 +49,13 @@ loop-again c =
 
 returns : tie.Need-returns invariant-loop decreases-loop
 returns c =
-    let l = c.before.loop in
+    let l = c.before.loop-left in
     let z : l.left ≡ 0 = omega arith in
     record { few = omega (arith, l.invariant.2); units = sym (rw z at l.invariant.3); plain = l.invariant.5 }
 
-pub lift-all-spec : {M : Type 1} → statement M
-lift-all-spec =
+pub lift_all_spec : {M : Type 1} → statement M
+lift_all_spec =
     tie.close
-    (tie.spec invariant-loop decreases-loop (λ c. search rules) loop-holds (λ c. search rules) (λ c. search rules) (λ c. search rules)
-    (λ c. search rules) (λ c. search rules) lift-requires (λ c. search rules) (λ c. search rules) (λ c. search rules)
-    loop-again (λ c. search rules) returns)
+    (tie.spec invariant-loop decreases-loop (λ c. search rules) loop-holds (λ c. search rules) (λ c. search rules)
+    (λ c. search rules) (λ c. search rules) (λ c. search rules) lift-requires (λ c. search rules)
+    (λ c. search rules) (λ c. search rules) loop-again (λ c. search rules) returns)

@@ -7,36 +7,36 @@ use Rattle.lifted.proofs.Lifted.{put}
 use Rattle.lifted.proofs.put_in.Statement.{statement}
 use Rattle.lifted.proofs.put_in.Tie as tie
 
-mul-front : tie.Need-overflow-mul-front
-mul-front c = omega (arith, c.before.slice-known2.given c.before.before.find.result.run)
+mul-front : tie.Need-overflow_mul-front
+mul-front c = omega (arith, c.before.slice_known-2-1.given c.before.before.find-s.result.run)
 
-add-runs : tie.Need-overflow-add-runs
-add-runs c = omega (arith, c.before.slice-known2.given c.before.before.find.result.run)
+add-runs : tie.Need-overflow_add-runs
+add-runs c = omega (arith, c.before.slice_known-2-1.given c.before.before.find-s.result.run)
 
 shift-requires : tie.Need-shift-requires
-shift-requires c κs = (omega arith, simp length-set (omega (arith, c.before.before.before.before.before.before.requires.held)))
+shift-requires c κs = (omega arith, simp length-set (omega (arith, c.before.before.before.before.before.requires.held)))
 
 shift-requires-2 : tie.Need-shift-requires-2
 shift-requires-2 c κs =
     let s = c.before.before.before.before.before.before.before.before.before.before in
     (omega arith, omega (arith, simp length-set at c.before.before.before.shift.auto.0, s.requires.held))
 
-same_length : tie.Need-same-length
-same_length c = c.before.before.shift2.auto.0 ∙ simp length-set at c.before.before.before.before.before.before.shift.auto.0
+same_length : tie.Need-shape_of-runs
+same_length c = c.before.before.shift-2.auto.0 ∙ simp length-set at c.before.before.before.before.before.before.shift.auto.0
 
 returns : tie.Need-returns
 returns c =
     let s = c.before.before.before.before.before.before.before.before.before.before.before.before.before in
-    let f = c.before.before.before.before.before.before.before.before.before.before.find in
+    let f = c.before.before.before.before.before.before.before.before.before.before.find-s in
     let h = c.before.before.before.before.before.before.shift in
-    let t = c.before.before.shift2 in
+    let t = c.before.before.shift-2 in
     put s.args.runs.now s.args.n f.result.run f.result.passed s.args.k (omega (arith, s.requires.held)) f.ensures.below
     f.ensures.within f.ensures.place s.args.word _ _ h.new.0 t.new.0 (omega (arith, s.requires.held)) refl refl
     h.ensures t.ensures
 
-pub put-in-spec : {M : Type 1} → statement M
-put-in-spec =
+pub put_in_spec : {M : Type 1} → statement M
+put_in_spec =
     tie.close
     (tie.spec (λ c κs. search rules) (λ c. search rules) (λ c. search rules) mul-front add-runs (λ c. search rules)
-    (λ c. search rules) (λ c. search rules) shift-requires (λ c. search rules) (λ c. search rules) (λ c. search rules)
-    shift-requires-2 same_length returns)
+    (λ c. search rules) (λ c. search rules) shift-requires (λ c. search rules) (λ c. search rules)
+    (λ c. search rules) shift-requires-2 same_length returns)

@@ -8,12 +8,12 @@ use Rattle.lifted.proofs.take_out.Tie as tie
 returns : tie.Need-returns
 returns c =
     let s = c.before.before.before.before.before in
-    let f = c.before.before.find in
+    let f = c.before.before.find-s in
     taken s.args.runs.now s.args.n f.result.run f.result.passed s.args.k s.requires.held f.ensures.below
-    f.ensures.within f.ensures.place c.piece.result _ c.piece.ensures refl
+    f.ensures.within f.ensures.place c.piece-word.result _ c.piece-word.ensures refl
 
-pub take-out-spec : {M : Type 1} → statement M
-take-out-spec =
+pub take_out_spec : {M : Type 1} → statement M
+take_out_spec =
     tie.close
-    (tie.spec (λ c κs. search rules) (λ c. search rules) (λ c. search rules) (λ c κs. search rules) (λ c. search rules)
-    (λ c. search rules) (λ c. search rules) (λ c. search rules) (λ c. search rules) returns)
+    (tie.spec (λ c κs. search rules) (λ c. search rules) (λ c. search rules) (λ c κs. search rules)
+    (λ c. search rules) (λ c. search rules) (λ c. search rules) (λ c. search rules) (λ c. search rules) returns)

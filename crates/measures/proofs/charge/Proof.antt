@@ -9,20 +9,21 @@ use Rattle.measures.proofs.Answers.{number, same_number, charge_refused, charge_
 use Rattle.measures.proofs.charge.Statement.{statement}
 use Rattle.measures.proofs.charge.Tie as tie
 
-asked : (c : tie.After-refusal) → let s = c.before.before.before in
-    c.refusal.result ≡ number (between 1 most_lots s.args.lots.0) (quote_right s.args.price s.args.accrued && term_right s.args.days s.args.rate)
-asked c = c.refusal.ensures ∙ same_number c.before.before.lots-right.ensures c.before.charge-right.ensures
+asked : (c : tie.After-refusal-no) → let s = c.before.before.before in
+    c.refusal-no.result ≡ number (between 1 most_lots s.args.lots.0) (quote_right s.args.price s.args.accrued && term_right s.args.days s.args.rate)
+asked c = c.refusal-no.ensures ∙ same_number c.before.before.lots_right.ensures c.before.charge_right.ensures
 
-returns : tie.Need-returns
-returns c = charge_refused _ _ _ _ _ _ (asked c.before) c.if1.true
+returns : tie.Need-returns-then-no-gt0
+returns c = charge_refused _ _ _ _ _ _ (asked c.before) c.if-no-gt0.true
 
-charge-of-requires : tie.Need-charge-of-requires
+charge-of-requires : tie.Need-charge_of-requires
 charge-of-requires c κs = charge_priced _ _ _ _ _ _ (asked c.before) (omega arith)
 
-returns-2 : tie.Need-returns-2
-returns-2 c = charge_yen _ _ _ _ _ _ (asked c.before.before) (omega arith) _ c.charge-of.ensures.exact
+returns-2 : tie.Need-returns
+returns-2 c = charge_yen _ _ _ _ _ _ (asked c.before.before) (omega arith) _ c.charge_of.ensures.exact
 
-pub charge-spec : {M : Type 1} → statement M
-charge-spec =
+pub charge_spec : {M : Type 1} → statement M
+charge_spec =
     tie.close
-    (tie.spec (λ c κs. search rules) (λ c κs. search rules) (λ c κs. search rules) returns charge-of-requires returns-2)
+    (tie.spec (λ c κs. search rules) (λ c κs. search rules) (λ c κs. search rules) returns charge-of-requires
+    returns-2)

@@ -6,20 +6,21 @@ use Rattle.rules.specs.Measures.{charge_of}
 use Rattle.measures.proofs.charge_of.Statement.{statement}
 use Rattle.measures.proofs.charge_of.Tie as tie
 
-mul-result : tie.Need-overflow-mul-result
-mul-result c = omega (arith, mul-le-mul c.value_of_lem.ensures.most c.before.requires.1.rate)
+mul-result : tie.Need-overflow_mul-result
+mul-result c = omega (arith, mul-le-mul c.value_of.ensures.most c.before.requires.1.rate)
 
-mul-result-2 : tie.Need-overflow-mul-result-2
+mul-result-2 : tie.Need-overflow_mul-result-2
 mul-result-2 c =
-    omega (arith, mul-le-mul (mul-le-mul c.value_of_lem.ensures.most c.before.requires.1.rate) c.before.requires.1.days)
+    omega (arith, mul-le-mul (mul-le-mul c.value_of.ensures.most c.before.requires.1.rate) c.before.requires.1.days)
 
 returns : tie.Need-returns
 unfolding charge_of
 returns c =
     record {
-      exact = rw c.value_of_lem.ensures.exact;
-      most = omega (arith, mul-le-mul (mul-le-mul c.value_of_lem.ensures.most c.before.requires.1.rate) c.before.requires.1.days);
+      exact = rw c.value_of.ensures.exact;
+      most = omega (arith, mul-le-mul (mul-le-mul c.value_of.ensures.most c.before.requires.1.rate) c.before.requires.1.days);
     }
 
-pub charge-of-spec : {M : Type 1} → statement M
-charge-of-spec = tie.close (tie.spec (λ c κs. search rules) mul-result mul-result-2 returns)
+pub charge_of_spec : {M : Type 1} → statement M
+charge_of_spec = tie.close
+    (tie.spec (λ c κs. search rules) mul-result mul-result-2 returns)

@@ -3,7 +3,8 @@ use borrow.Author.Rules.{rules}
 use Rattle.measures.proofs.charge_right.Statement.{statement}
 use Rattle.measures.proofs.charge_right.Tie as tie
 
-pub charge-right-spec : {M : Type 1} → statement M
-charge-right-spec =
+pub charge_right_spec : {M : Type 1} → statement M
+charge_right_spec =
     tie.close
-    (tie.spec (λ c κs. search rules) (λ c κs. search rules) (λ c. rw (c.before.quote-right.ensures, c.term-right.ensures)))
+    (tie.spec (λ c κs. search rules) (λ c κs. search rules)
+    (λ c. rw (c.before.quote_right.ensures, c.term_right.ensures)))

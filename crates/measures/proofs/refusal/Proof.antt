@@ -2,14 +2,15 @@
 use Rattle.measures.proofs.refusal.Statement.{statement}
 use Rattle.measures.proofs.refusal.Tie as tie
 
-returns : tie.Need-returns
-returns c = simp (c.before.if1.true, c.if2.true)
+returns : tie.Need-returns-then-rest
+returns c = simp (c.before.if-lots.true, c.if-rest.true)
 
-returns-2 : tie.Need-returns-2
-returns-2 c = simp (c.before.if1.true, c.if2.false)
+returns-2 : tie.Need-returns-else-rest
+returns-2 c = simp (c.before.if-lots.true, c.if-rest.false)
 
-returns-3 : tie.Need-returns-3
-returns-3 c = simp c.if1.false
+returns-3 : tie.Need-returns-else-lots
+returns-3 c = simp c.if-lots.false
 
-pub refusal-spec : {M : Type 1} → statement M
-refusal-spec = tie.close (tie.spec returns returns-2 returns-3)
+pub refusal_spec : {M : Type 1} → statement M
+refusal_spec = tie.close
+    (tie.spec returns returns-2 returns-3)

@@ -8,20 +8,21 @@ use Rattle.measures.proofs.Answers.{number, same_number, value_refused, value_pr
 use Rattle.measures.proofs.value.Statement.{statement}
 use Rattle.measures.proofs.value.Tie as tie
 
-asked : (c : tie.After-refusal) → let s = c.before.before.before in
-    c.refusal.result ≡ number (between 1 most_lots s.args.lots.0) (quote_right s.args.price s.args.accrued)
-asked c = c.refusal.ensures ∙ same_number c.before.before.lots-right.ensures c.before.quote-right.ensures
+asked : (c : tie.After-refusal-no) → let s = c.before.before.before in
+    c.refusal-no.result ≡ number (between 1 most_lots s.args.lots.0) (quote_right s.args.price s.args.accrued)
+asked c = c.refusal-no.ensures ∙ same_number c.before.before.lots_right.ensures c.before.quote_right.ensures
 
-returns : tie.Need-returns
-returns c = value_refused _ _ _ _ (asked c.before) c.if1.true
+returns : tie.Need-returns-then-no-gt0
+returns c = value_refused _ _ _ _ (asked c.before) c.if-no-gt0.true
 
-value-of-requires : tie.Need-value-of-requires
+value-of-requires : tie.Need-value_of-requires
 value-of-requires c κs = value_priced _ _ _ _ (asked c.before) (omega arith)
 
-returns-2 : tie.Need-returns-2
-returns-2 c = value_yen _ _ _ _ (asked c.before.before) (omega arith) _ c.value_of_lem.ensures.exact
+returns-2 : tie.Need-returns
+returns-2 c = value_yen _ _ _ _ (asked c.before.before) (omega arith) _ c.value_of.ensures.exact
 
 pub value_spec : {M : Type 1} → statement M
 value_spec =
     tie.close
-    (tie.spec (λ c κs. search rules) (λ c κs. search rules) (λ c κs. search rules) returns value-of-requires returns-2)
+    (tie.spec (λ c κs. search rules) (λ c κs. search rules) (λ c κs. search rules) returns value-of-requires
+    returns-2)

@@ -9,23 +9,23 @@ use Rattle.laws.proofs.Charges.{value_most}
 use Rattle.measures.proofs.value_of.Statement.{statement}
 use Rattle.measures.proofs.value_of.Tie as tie
 
-mul-halved : tie.Need-overflow-mul-halved
+mul-halved : tie.Need-overflow_mul-lots
 mul-halved c =
     let h : c.args.price ≤ most_price = omega (arith, c.requires.price) in
     omega (arith, mul-le-mul c.requires.lots h)
 
-mul-halved-2 : tie.Need-overflow-mul-halved-2
+mul-halved-2 : tie.Need-overflow_mul-lots-2
 mul-halved-2 c =
     let s = c.before in
     let h : s.args.accrued ≤ most_price = omega (arith, s.requires.price) in
     omega (arith, mul-le-mul s.requires.lots h)
 
-exact : (c : tie.After-halved2) → let a = c.before.before.args in
-    c.before.halved.result + c.halved2.result ≡ value_of a.lots a.price a.accrued
+exact : (c : tie.After-halved-2) → let a = c.before.before.args in
+    c.before.halved.result + c.halved-2.result ≡ value_of a.lots a.price a.accrued
 unfolding value_of
-exact c = rw (c.before.halved.ensures, c.halved2.ensures)
+exact c = rw (c.before.halved.ensures, c.halved-2.ensures)
 
-add-result : tie.Need-overflow-add-result
+add-result : tie.Need-overflow_add-result
 add-result c =
     let s = c.before.before in
     omega (arith, exact c, value_most _ _ _ s.requires.lots s.requires.price)
@@ -35,5 +35,6 @@ returns c =
     let s = c.before.before in
     record { exact = exact c; most = omega (arith, exact c, value_most _ _ _ s.requires.lots s.requires.price) }
 
-pub value-of-spec : {M : Type 1} → statement M
-value-of-spec = tie.close (tie.spec mul-halved (λ c κs. search rules) mul-halved-2 (λ c κs. search rules) add-result returns)
+pub value_of_spec : {M : Type 1} → statement M
+value_of_spec = tie.close
+    (tie.spec mul-halved (λ c κs. search rules) mul-halved-2 (λ c κs. search rules) add-result returns)

@@ -12,21 +12,21 @@ use Rattle.runs.proofs.Loops.{full_keys}
 use Rattle.ordering.proofs.fulls.Statement.{statement}
 use Rattle.ordering.proofs.fulls.Tie as tie
 
-abbrev invariant-loop : tie.invariant-loop
+abbrev invariant-loop : tie.invariant-loop-i
 invariant-loop keys₀ n i₀ keys i =
     (i ≤ n) × (length keys ≡ length keys₀) × ((j : ℕ) → i ≤ j → get_or keys j 0 ≡ get_or keys₀ j 0)
     × (map part_of (take i keys) ≡ map (λ k. full_of (part_of k)) (take i keys₀))
 
-abbrev decreases-loop : tie.decreases-loop
+abbrev decreases-loop : tie.decreases-loop-i
 decreases-loop keys₀ n i₀ keys i = n - i
 
-loop-holds : tie.Need-loop-init invariant-loop decreases-loop
+loop-holds : tie.Need-loop-i-init invariant-loop decreases-loop
 loop-holds c = (search rules, refl, (λ j h. refl), refl)
 
-loop-again : tie.Need-loop-preserved invariant-loop decreases-loop
+loop-again : tie.Need-loop-i-preserved invariant-loop decreases-loop
 loop-again c =
     let a = c.before.before.before.args in
-    let l = c.before.before.loop in
+    let l = c.before.before.loop-i in
     let k = get_or l.keys l.i 0 in (
       search rules,
       simp length-set l.invariant.1,
@@ -38,12 +38,13 @@ loop-again c =
 returns : tie.Need-returns invariant-loop decreases-loop
 returns c =
     let a = c.before.before.args in
-    let l = c.before.loop in
+    let l = c.before.loop-i in
     let e : l.i ≡ a.n = omega arith in
     rw e at l.invariant.3 ∙ full_keys (take a.n a.keys.now)
 
-pub fulls-spec : {M : Type 1} → statement M
-fulls-spec =
+pub fulls_spec : {M : Type 1} → statement M
+fulls_spec =
     tie.close
-    (tie.spec invariant-loop decreases-loop loop-holds (λ c. search rules) (λ c. search rules) (λ c. search rules) (λ c. search rules) (λ c. search rules)
-    (λ c. search rules) (λ c. search rules) (λ c. search rules) loop-again (λ c. search rules) returns)
+    (tie.spec invariant-loop decreases-loop loop-holds (λ c. search rules) (λ c. search rules) (λ c. search rules)
+    (λ c. search rules) (λ c. search rules) (λ c. search rules) (λ c. search rules) (λ c. search rules) loop-again
+    (λ c. search rules) returns)

@@ -10,11 +10,11 @@ use Rattle.runs.proofs.Loops.{rest_small, ordered, ordered_only}
 use Rattle.ordering.proofs.order.Statement.{statement}
 use Rattle.ordering.proofs.order.Tie as tie
 
-rank-requires-2 : tie.Need-rank-requires-2
+rank-requires-2 : tie.Need-rank-m-requires
 rank-requires-2 c κs =
     let b = c.before.before.before in
     let f = b.before.before.before.before.fulls in
-    let r = b.before.before.before.before.before.before.before.before.rank in
+    let r = b.before.before.before.before.before.before.before.before.rank-n in
     let s = b.before.before.before.before.before.before.before.before.before.before.before.before in
     let rs = b.rests.new.1.0 in
     let n : 64 ≤ length f.new.0 - r.result = omega (arith, f.auto.0, r.auto.1.0, r.ensures.few, s.requires) in (
@@ -28,19 +28,19 @@ rank-requires-2 c κs =
 
 returns : tie.Need-returns
 returns c =
-    let r = c.before.before.before.before.before.before.before.before.before.before.before.before.before.before.rank in
+    let r = c.before.before.before.before.before.before.before.before.before.before.before.before.before.before.rank-n in
     let f = c.before.before.before.before.before.before.before.before.before.before.fulls in
     let rs = c.before.before.before.before.before.before.rests in
-    let s = c.before.before.rank2 in
+    let s = c.before.before.rank-m in
     let a = c.before.before.before.before.before.before.before.before.before.before.before.before.before.before.before.before.before.before in
     let n : r.result ≤ length f.new.0 = omega (arith, f.auto.0, r.auto.1.0, r.ensures.few, a.requires) in
     let m : s.result ≤ length s.new.1.0 = omega (arith, s.auto.1.0, s.ensures.few, simp (length-take, length-drop) at s.auto.1.0, f.auto.0, r.auto.1.0, r.ensures.few, a.requires) in
     let o = ordered a.args.dues.now rs.new.1.0 r.new.1.0 f.new.0 s.new.1.0 r.result s.result (length f.new.0 - r.result) n m r.ensures.order f.ensures rs.ensures s.ensures.order in
     (search rules, o, ordered_only a.args.dues.now _ _ o)
 
-pub order-spec : {M : Type 1} → statement M
-order-spec =
+pub order_spec : {M : Type 1} → statement M
+order_spec =
     tie.close
-    (tie.spec (λ c κs. search rules) (λ c κs. search rules) (λ c. search rules) (λ c κs. search rules) (λ c. search rules)
-    (λ c. search rules) (λ c. search rules) (λ c. search rules) (λ c. search rules) rank-requires-2 (λ c. search rules) (λ c. search rules)
-    returns)
+    (tie.spec (λ c κs. search rules) (λ c κs. search rules) (λ c. search rules) (λ c κs. search rules)
+    (λ c. search rules) (λ c. search rules) (λ c. search rules) (λ c. search rules) (λ c. search rules)
+    rank-requires-2 (λ c. search rules) (λ c. search rules) returns)

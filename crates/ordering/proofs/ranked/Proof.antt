@@ -11,20 +11,21 @@ use Rattle.ordering.proofs.ranked.Tie as tie
 order-requires : tie.Need-order-requires
 order-requires c κs =
     let s = c.before.before.before.before.before.before.before in
-    let d = c.before.before.before.dues-of in
+    let d = c.before.before.before.dues_of in
     can_rank s.args.nets.now s.args.i d.new.1.0 _
     (d.ensures ∙ ap (map due_of) (row_part s.args.nets.now s.args.i)) s.requires
 
 returns : tie.Need-returns
 returns c =
     let s = c.before.before.before.before.before.before.before.before.before.before in
-    let d = c.before.before.before.before.before.before.dues-of in
+    let d = c.before.before.before.before.before.before.dues_of in
     let o = c.before.before.order in
     ranked_nets s.args.nets.now s.args.i d.new.1.0 o.new.1.0 o.result
     (d.ensures ∙ ap (map due_of) (row_part s.args.nets.now s.args.i)) o.ensures.0 o.ensures.1
 
-pub ranked-spec : {M : Type 1} → statement M
-ranked-spec =
+pub ranked_spec : {M : Type 1} → statement M
+ranked_spec =
     tie.close
-    (tie.spec (λ c. search rules) (λ c. search rules) (λ c. search rules) (λ c. search rules) (λ c. search rules) (λ c. search rules)
-    (λ c. search rules) (λ c κs. search rules) (λ c. search rules) order-requires (λ c. search rules) returns)
+    (tie.spec (λ c. search rules) (λ c. search rules) (λ c. search rules) (λ c. search rules) (λ c. search rules)
+    (λ c. search rules) (λ c. search rules) (λ c κs. search rules) (λ c. search rules) order-requires
+    (λ c. search rules) returns)

@@ -10,83 +10,84 @@ use Rattle.placing.proofs.LiftLaws.{not_placed, placed_order, placed_is}
 use Rattle.placing.proofs.placed.Statement.{statement}
 use Rattle.placing.proofs.placed.Tie as tie
 
-abbrev start : tie.After-places-sound → tie.Start
+abbrev start : tie.After-places_sound → tie.Start
 start c = c.before.before.before.before.before.before.before.before
 
 -- the order where the places are right
-order : (c : tie.Else1) → let a = (start c.before).args in CanOrder a.nets.now a.lifts.now a.i
+order : (c : tie.Else-not-places_sound) → let a = (start c.before).args in CanOrder a.nets.now a.lifts.now a.i
 order c =
     let s = start c.before in
-    let n = c.before.before.before.number in
-    let f = c.before.before.before.before.before.before.ranked in
+    let n = c.before.before.before.number-k in
+    let f = c.before.before.before.before.before.before.ranked-n in
     placed_order s.args.nets.now s.args.lifts.now s.args.i f.new.1.1.0 f.result n.result s.pre f.ensures n.ensures
-    (sym c.before.places-sound.ensures ∙ not-false _ c.if1.false)
+    (sym c.before.places_sound.ensures ∙ not-false _ c.if-not-places_sound.false)
 
-abbrev fork : tie.After-lift-all → tie.Else1
+abbrev fork : tie.After-lift_all-m → tie.Else-not-places_sound
 fork c = c.before.before.before
 
-ready : (c : tie.After-lift-all) → let a = (start (fork c).before).args in Prepared a.nets.now a.lifts.now a.i c.lift-all.new.1.0 c.lift-all.result
+ready : (c : tie.After-lift_all-m) → let a = (start (fork c).before).args in Prepared a.nets.now a.lifts.now a.i c.lift_all-m.new.1.0 c.lift_all-m.result
 ready c =
     let s = start (fork c).before in
     let f = (fork c).before.before.before.before.before.before.ranked in
-    let g = c.lift-all in
+    let g = c.lift_all-m in
     prepared s.args.nets.now s.args.lifts.now s.args.i f.last.1.1.0 f.result (order (fork c)) f.ensures g.new.1.0 g.result
     (omega (arith, f.kept.1.1.0, g.auto.1.0)) g.ensures
 
-ranked-requires : tie.Need-ranked-requires
+ranked-requires : tie.Need-ranked-n-requires
 ranked-requires c κs =
     let p = c.before.before.requires in
     record { cells = p.nets; issue = p.issue; size = p.size; room = search rules }
 
-number-requires : tie.Need-number-requires
+number-requires : tie.Need-number-k-requires
 number-requires c κs =
-    let f = c.before.before.ranked in
+    let f = c.before.before.ranked-n in
     (omega (arith, f.ensures.few, f.auto.1.1.0), omega (arith, f.ensures.few))
 
-places-sound-requires : tie.Need-places-sound-requires
+places-sound-requires : tie.Need-places_sound-requires
 places-sound-requires c κs =
     let s = c.before.before.before.before.before.before.before in
     let ls = s.args.lifts.now in
     rw (words_part ls s.args.i) (length_lift_words ls s.args.i s.requires.lifts s.requires.issue, s.requires.few)
 
-returns : tie.Need-returns
+returns : tie.Need-returns-then-not-places_sound
 returns c =
     let s = start c.before in
-    let n = c.before.before.before.number in
-    let f = c.before.before.before.before.before.before.ranked in
+    let n = c.before.before.before.number-k in
+    let f = c.before.before.before.before.before.before.ranked-n in
     not_placed s.args.nets.now s.args.lifts.now s.args.i f.new.1.1.0 f.result n.result s.pre f.ensures n.ensures
-    _ (sym c.before.places-sound.ensures ∙ not-true _ c.if1.true)
+    _ (sym c.before.places_sound.ensures ∙ not-true _ c.if-not-places_sound.true)
 
-lift-all-requires : tie.Need-lift-all-requires
+lift-all-requires : tie.Need-lift_all-m-requires
 lift-all-requires c κs =
     let s = start c.before.before.before in
-    let f = c.before.before.before.before.before.before.before.before.ranked in
+    let f = c.before.before.before.before.before.before.before.before.ranked-n in
     can_lift_all s.args.nets.now s.args.lifts.now s.args.i f.new.1.1.0 f.result (order c.before.before) f.ensures
     (omega (arith, f.auto.1.1.0))
 
-handover-requires : tie.Need-handover-requires
+handover-requires : tie.Need-handover-h-requires
 handover-requires c κs = (ready c.before.before).held
 
-places-sound-requires-2 : tie.Need-places-sound-requires-2
+places-sound-requires-2 : tie.Need-places_sound-requires-2
 places-sound-requires-2 c κs =
     let s = start (fork c.before.before.before.before).before in
     let ls = s.args.lifts.now in
-    rw (words_part ls s.args.i) (length_lift_words ls s.args.i s.pre.lifts s.pre.issue, s.pre.few)
+    rw (words_part ls s.args.i) (length_lift_words ls s.args.i s.requires.lifts s.requires.issue, s.requires.few)
 
-returns-2 : tie.Need-returns-2
+returns-2 : tie.Need-returns
 returns-2 c =
     let e = c.before.before.before.before.before in
     let s = start (fork e).before in
     let n = (fork e).before.before.before.number in
     let f = (fork e).before.before.before.before.before.before.ranked in
-    let h = c.before.before.handover in
+    let h = c.before.before.handover-h in
     placed_is s.args.nets.now s.args.lifts.now s.args.i f.last.1.1.0 f.result n.result s.pre f.ensures n.ensures
-    e.lift-all.new.1.0 e.lift-all.result s.args.d h.result.count c.places-sound2.result (ready e) h.ensures.covers c.places-sound2.ensures
+    e.lift_all-m.new.1.0 e.lift_all-m.result s.args.d h.result.count c.places_sound-2.result (ready e) h.ensures.covers c.places_sound-2.ensures
 
-pub placed-spec : {M : Type 1} → statement M
-placed-spec =
+pub placed_spec : {M : Type 1} → statement M
+placed_spec =
     tie.close
-    (tie.spec (λ c. search rules) (λ c. search rules) (λ c. search rules) ranked-requires (λ c. search rules) number-requires
-    (λ c. search rules) (λ c. search rules) (λ c. search rules) (λ c. search rules) places-sound-requires returns (λ c. search rules)
-    (λ c. search rules) (λ c. search rules) (λ c. search rules) (λ c. search rules) lift-all-requires (λ c. search rules) handover-requires
-    (λ c. search rules) (λ c. search rules) (λ c. search rules) (λ c. search rules) places-sound-requires-2 returns-2)
+    (tie.spec (λ c. search rules) (λ c. search rules) (λ c. search rules) ranked-requires (λ c. search rules)
+    number-requires (λ c. search rules) (λ c. search rules) (λ c. search rules) (λ c. search rules)
+    places-sound-requires returns (λ c. search rules) (λ c. search rules) (λ c. search rules) (λ c. search rules)
+    (λ c. search rules) lift-all-requires (λ c. search rules) handover-requires (λ c. search rules)
+    (λ c. search rules) (λ c. search rules) (λ c. search rules) places-sound-requires-2 returns-2)

@@ -13,27 +13,27 @@ use Rattle.ranking.proofs.Sized.{full_key, full_fits, full_keys}
 use Rattle.ranking.proofs.fulls.Statement.{statement}
 use Rattle.ranking.proofs.fulls.Tie as tie
 
-abbrev invariant-loop : tie.invariant-loop
+abbrev invariant-loop : tie.invariant-loop-i
 invariant-loop keys₀ n size i₀ keys i =
     (i ≤ n) × (length keys ≡ length keys₀) × ((j : ℕ) → i ≤ j → get_or keys j 0 ≡ get_or keys₀ j 0)
     × (map part_of (take i keys) ≡ map (λ k. full_at size (part_of k)) (take i keys₀))
 
-abbrev decreases-loop : tie.decreases-loop
+abbrev decreases-loop : tie.decreases-loop-i
 decreases-loop keys₀ n size i₀ keys i = n - i
 
-loop-holds : tie.Need-loop-init invariant-loop decreases-loop
+loop-holds : tie.Need-loop-i-init invariant-loop decreases-loop
 loop-holds c = (search rules, refl, (λ j h. refl), refl)
 
-mul-keys : tie.Need-overflow-mul-keys invariant-loop decreases-loop
-mul-keys c = omega (arith, c.slice-known.given c.before.before.loop.i, full_fits c.before.before.before.args.size (get_or c.before.before.loop.keys c.before.before.loop.i 0))
+mul-keys : tie.Need-overflow_mul-keys invariant-loop decreases-loop
+mul-keys c = omega (arith, c.slice_known-1.given c.before.before.loop-i.i, full_fits c.before.before.before.args.size (get_or c.before.before.loop-i.keys c.before.before.loop-i.i 0))
 
-sub-keys : tie.Need-overflow-sub-keys invariant-loop decreases-loop
-sub-keys c = omega (arith, full_fits c.before.before.before.args.size (get_or c.before.before.loop.keys c.before.before.loop.i 0))
+sub-keys : tie.Need-overflow_sub-keys invariant-loop decreases-loop
+sub-keys c = omega (arith, full_fits c.before.before.before.args.size (get_or c.before.before.loop-i.keys c.before.before.loop-i.i 0))
 
-loop-again : tie.Need-loop-preserved invariant-loop decreases-loop
+loop-again : tie.Need-loop-i-preserved invariant-loop decreases-loop
 loop-again c =
     let a = c.before.before.before.args in
-    let l = c.before.before.loop in
+    let l = c.before.before.loop-i in
     let k = get_or l.keys l.i 0 in
     let v = k - k / 64 % a.size * 64 in (
       search rules,
@@ -46,12 +46,13 @@ loop-again c =
 returns : tie.Need-returns invariant-loop decreases-loop
 returns c =
     let a = c.before.before.args in
-    let l = c.before.loop in
+    let l = c.before.loop-i in
     let e : l.i ≡ a.n = omega arith in
     rw e at l.invariant.3 ∙ full_keys a.size (take a.n a.keys.now)
 
-pub fulls-spec : {M : Type 1} → statement M
-fulls-spec =
+pub fulls_spec : {M : Type 1} → statement M
+fulls_spec =
     tie.close
-    (tie.spec invariant-loop decreases-loop loop-holds (λ c. search rules) (λ c. search rules) (λ c. search rules) mul-keys sub-keys
-    (λ c. search rules) (λ c. search rules) (λ c. search rules) (λ c. search rules) loop-again (λ c. search rules) returns)
+    (tie.spec invariant-loop decreases-loop loop-holds (λ c. search rules) (λ c. search rules) (λ c. search rules)
+    mul-keys sub-keys (λ c. search rules) (λ c. search rules) (λ c. search rules) (λ c. search rules) loop-again
+    (λ c. search rules) returns)

@@ -11,20 +11,21 @@ use Rattle.ranking.proofs.rank_issue.Tie as tie
 order-requires : tie.Need-order-requires
 order-requires c κs =
     let s = c.before.before.before.before.before.before.before in
-    let d = c.before.before.before.dues-of in
+    let d = c.before.before.before.dues_of in
     can_order s.args.size s.args.nets.now s.args.i d.new.1.0 _
     (d.ensures ∙ ap (map due_of) (row_part s.args.nets.now s.args.i)) s.requires
 
 returns : tie.Need-returns
 returns c =
     let s = c.before.before.before.before.before.before.before.before.before.before in
-    let d = c.before.before.before.before.before.before.dues-of in
+    let d = c.before.before.before.before.before.before.dues_of in
     let o = c.before.before.order in
     ranked_at s.args.size s.args.nets.now s.args.i d.new.1.0 o.new.1.0 o.result s.requires.some
     (d.ensures ∙ ap (map due_of) (row_part s.args.nets.now s.args.i)) o.ensures.0 o.ensures.1
 
-pub rank-issue-spec : {M : Type 1} → statement M
-rank-issue-spec =
+pub rank_issue_spec : {M : Type 1} → statement M
+rank_issue_spec =
     tie.close
-    (tie.spec (λ c. search rules) (λ c. search rules) (λ c. search rules) (λ c. search rules) (λ c. search rules) (λ c. search rules)
-    (λ c. search rules) (λ c κs. search rules) (λ c. search rules) order-requires (λ c. search rules) returns)
+    (tie.spec (λ c. search rules) (λ c. search rules) (λ c. search rules) (λ c. search rules) (λ c. search rules)
+    (λ c. search rules) (λ c. search rules) (λ c κs. search rules) (λ c. search rules) order-requires
+    (λ c. search rules) returns)

@@ -11,28 +11,29 @@ use Rattle.ranking.specs.Orders.{small_at}
 use Rattle.ranking.proofs.rests.Statement.{statement}
 use Rattle.ranking.proofs.rests.Tie as tie
 
-abbrev invariant-loop : tie.invariant-loop
+abbrev invariant-loop : tie.invariant-loop-i
 invariant-loop lots out₀ size i₀ out i = (i ≤ length lots) × (length out ≡ length out₀) × (take i out ≡ map (small_at size) (take i lots))
 
-abbrev decreases-loop : tie.decreases-loop
+abbrev decreases-loop : tie.decreases-loop-i
 decreases-loop lots out₀ size i₀ out i = length lots - i
 
-loop-again : tie.Need-loop-preserved invariant-loop decreases-loop
+loop-again : tie.Need-loop-i-preserved invariant-loop decreases-loop
 loop-again c =
     let a = c.before.before.before.args in
-    let l = c.before.before.loop in
+    let l = c.before.before.loop-i in
     (search rules, simp length-set l.invariant.1, fill_more (small_at a.size) a.lots.now l.out l.i (omega arith) (omega arith) l.invariant.2)
 
 returns : tie.Need-returns invariant-loop decreases-loop
 returns c =
     let a = c.before.before.args in
-    let l = c.before.loop in
+    let l = c.before.loop-i in
     let e : length l.out ≤ l.i = omega arith in
     let f : length a.lots.now ≤ l.i = omega arith in
     rw (take_all l.i l.out e, take_all l.i a.lots.now f) at l.invariant.2
 
-pub rests-spec : {M : Type 1} → statement M
-rests-spec =
+pub rests_spec : {M : Type 1} → statement M
+rests_spec =
     tie.close
-    (tie.spec invariant-loop decreases-loop (λ c. search rules) (λ c. search rules) (λ c. search rules) (λ c. search rules) (λ c. search rules)
-    (λ c. search rules) (λ c. search rules) (λ c. search rules) loop-again (λ c. search rules) returns)
+    (tie.spec invariant-loop decreases-loop (λ c. search rules) (λ c. search rules) (λ c. search rules)
+    (λ c. search rules) (λ c. search rules) (λ c. search rules) (λ c. search rules) (λ c. search rules) loop-again
+    (λ c. search rules) returns)

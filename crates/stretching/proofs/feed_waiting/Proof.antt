@@ -7,94 +7,94 @@ use Rattle.stretching.proofs.Starting.{Waits, waits_starts, waits_ends, can_feed
 use Rattle.stretching.proofs.feed_waiting.Statement.{statement}
 use Rattle.stretching.proofs.feed_waiting.Tie as tie
 
-abbrev invariant-loop : tie.invariant-loop
+abbrev invariant-loop : tie.invariant-loop-p
 invariant-loop runs n m words k count out₀ at₀ gaps₀ c₀ q₀ p₀ out at gaps c q p = Waits runs n m words k count out at gaps p c q
 
-abbrev decreases-loop : tie.decreases-loop
+abbrev decreases-loop : tie.decreases-loop-p
 decreases-loop runs n m words k count out₀ at₀ gaps₀ c₀ q₀ p₀ out at gaps c q p = count - p
 
-loop-holds : tie.Need-loop-init invariant-loop decreases-loop
+loop-holds : tie.Need-loop-p-init invariant-loop decreases-loop
 loop-holds c =
     let s = c.before.before.before.before in
     waits_starts s.args.runs.now s.args.n s.args.m s.args.words.now s.args.k s.args.count s.args.out.now s.args.at.now s.requires _ refl
 
-before-lifts-requires : tie.Need-before-lifts-requires invariant-loop decreases-loop
+before-lifts-requires : tie.Need-before_lifts-s-requires invariant-loop decreases-loop
 before-lifts-requires c κs = search rules
 
-sub-least : tie.Need-overflow-sub-least invariant-loop decreases-loop
+sub-least : tie.Need-overflow_sub-count invariant-loop decreases-loop
 sub-least c = search rules
 
-least-requires : tie.Need-least-requires invariant-loop decreases-loop
+least-requires : tie.Need-least-x-requires invariant-loop decreases-loop
 least-requires c κs = search rules
 
-slice-aggregate-pass : tie.Need-slice-aggregate-pass invariant-loop decreases-loop
+slice-aggregate-pass : tie.Need-slice_bounds-pass-end invariant-loop decreases-loop
 slice-aggregate-pass c = search rules
 
-pass-requires : tie.Need-pass-requires invariant-loop decreases-loop
+pass-requires : tie.Need-pass-r-requires invariant-loop decreases-loop
 pass-requires c κs =
     let s = c.before.before.before.before.before.before.before.before.before.before.before in
-    let l = c.before.before.before.before.before.before.loop in
-    let g = c.before.before.before.before.before-lifts in
-    let x = c.before.before.before.least in
+    let l = c.before.before.before.before.before.before.loop-p in
+    let g = c.before.before.before.before.before_lifts-s in
+    let x = c.before.before.before.least-x in
     can_pass s.args.runs.now s.args.n s.args.m s.args.words.now s.args.k s.args.count s.args.out.now s.args.at.now s.requires l.out l.at l.gaps l.p l.c l.q l.invariant (omega arith) g.result g.ensures x.result x.ensures
 
-add-p : tie.Need-overflow-add-p invariant-loop decreases-loop
+add-p : tie.Need-overflow_add-p invariant-loop decreases-loop
 add-p c =
     let s = c.before.before.before.before.before.before.before.before.before.before.before.before.before.before.before.before.before.before in
-    let x = c.before.before.before.before.before.before.before.before.before.before.least in
+    let x = c.before.before.before.before.before.before.before.before.before.before.least-x in
     omega (arith, x.ensures, s.requires.most)
 
-loop-less : tie.Need-loop-smaller invariant-loop decreases-loop
+loop-less : tie.Need-loop-p-smaller invariant-loop decreases-loop
 loop-less c =
     let s = c.before.before.before.before.before.before.before.before.before.before.before.before.before.before.before.before.before.before in
-    let l = c.before.before.before.before.before.before.before.before.before.before.before.before.before.loop in
-    let g = c.before.before.before.before.before.before.before.before.before.before.before.before-lifts in
-    let x = c.before.before.before.before.before.before.before.before.before.before.least in
+    let l = c.before.before.before.before.before.before.before.before.before.before.before.before.before.loop-p in
+    let g = c.before.before.before.before.before.before.before.before.before.before.before.before_lifts-s in
+    let x = c.before.before.before.before.before.before.before.before.before.before.least-x in
     omega (arith, x.ensures, step_on s.args.runs.now s.args.n s.args.m s.args.words.now s.args.k s.args.count s.args.out.now s.args.at.now s.requires l.out l.at l.gaps l.p l.c l.q l.invariant (omega arith) g.result g.ensures x.result x.ensures)
 
-loop-again : tie.Need-loop-preserved invariant-loop decreases-loop
+loop-again : tie.Need-loop-p-preserved invariant-loop decreases-loop
 loop-again c =
     let s = c.before.before.before.before.before.before.before.before.before.before.before.before.before.before.before.before.before.before in
-    let l = c.before.before.before.before.before.before.before.before.before.before.before.before.before.loop in
-    let g = c.before.before.before.before.before.before.before.before.before.before.before.before-lifts in
-    let x = c.before.before.before.before.before.before.before.before.before.before.least in
+    let l = c.before.before.before.before.before.before.before.before.before.before.before.before.before.loop-p in
+    let g = c.before.before.before.before.before.before.before.before.before.before.before.before_lifts-s in
+    let x = c.before.before.before.before.before.before.before.before.before.before.least-x in
     let h : l.p < s.args.count = omega arith in
-    let f = c.before.before.before.before.before.before.pass in
+    let f = c.before.before.before.before.before.before.pass-r in
     waits_next s.args.runs.now s.args.n s.args.m s.args.words.now s.args.k s.args.count s.args.out.now s.args.at.now s.requires l.out l.at l.gaps l.p l.c l.q l.invariant h g.result g.ensures x.result x.ensures f.new.1.1.1.0 f.new.1.1.1.1.1.0 f.new.1.1.1.1.1.1.0 f.result f.ensures
 
-slice-aggregate-feed-pending : tie.Need-slice-aggregate-feed-pending invariant-loop decreases-loop
+slice-aggregate-feed-pending : tie.Need-slice_bounds-feed_pending-end invariant-loop decreases-loop
 slice-aggregate-feed-pending c = search rules
 
-feed-pending-requires : tie.Need-feed-pending-requires invariant-loop decreases-loop
+feed-pending-requires : tie.Need-feed_pending-requires invariant-loop decreases-loop
 feed-pending-requires c κs =
     let s = c.before.before.before.before.before.before.before.before.before in
-    let l = c.before.before.before.before.loop in
+    let l = c.before.before.before.before.loop-p in
     can_feed s.args.runs.now s.args.n s.args.m s.args.words.now s.args.k s.args.count s.args.out.now s.args.at.now s.requires l.out l.at l.gaps l.p l.c l.q l.invariant
 
-same_length : tie.Need-same-length invariant-loop decreases-loop
+same_length : tie.Need-shape_of-out invariant-loop decreases-loop
 same_length c =
     let s = c.before.before.before.before.before.before.before.before.before.before.before.before.before.before in
-    let l = c.before.before.before.before.before.before.before.before.before.loop in
-    let f = c.before.before.before.before.feed-pending in
+    let l = c.before.before.before.before.before.before.before.before.before.loop-p in
+    let f = c.before.before.before.before.feed_pending in
     f.auto.1.1.1.0 ∙ l.invariant.done.whole ∙ sym s.requires.whole
 
-same-length-2 : tie.Need-same-length-2 invariant-loop decreases-loop
+same-length-2 : tie.Need-shape_of-at invariant-loop decreases-loop
 same-length-2 c =
     let s = c.before.before.before.before.before.before.before.before.before.before.before.before.before.before in
-    let l = c.before.before.before.before.before.before.before.before.before.loop in
-    let f = c.before.before.before.before.feed-pending in
+    let l = c.before.before.before.before.before.before.before.before.before.loop-p in
+    let f = c.before.before.before.before.feed_pending in
     f.auto.1.1.1.1.1.0 ∙ l.invariant.done.index.accounts ∙ sym s.requires.accounts
 
 returns : tie.Need-returns invariant-loop decreases-loop
 returns c =
     let s = c.before.before.before.before.before.before.before.before.before.before.before.before.before.before in
-    let l = c.before.before.before.before.before.before.before.before.before.loop in
-    let f = c.before.before.before.before.feed-pending in
+    let l = c.before.before.before.before.before.before.before.before.before.loop-p in
+    let f = c.before.before.before.before.feed_pending in
     waits_ends s.args.runs.now s.args.n s.args.m s.args.words.now s.args.k s.args.count s.args.out.now s.args.at.now s.requires l.out l.at l.gaps l.p l.c l.q l.invariant (omega arith) f.new.1.1.1.0 f.new.1.1.1.1.1.0 f.result f.auto.1.1.1.0 f.ensures
 
-pub feed-waiting-spec : {M : Type 1} → statement M
-feed-waiting-spec =
+pub feed_waiting_spec : {M : Type 1} → statement M
+feed_waiting_spec =
     tie.close
-    (tie.spec invariant-loop decreases-loop loop-holds before-lifts-requires sub-least least-requires slice-aggregate-pass
-    pass-requires add-p loop-less loop-again slice-aggregate-feed-pending feed-pending-requires same_length
-    same-length-2 returns)
+    (tie.spec invariant-loop decreases-loop loop-holds before-lifts-requires sub-least least-requires
+    slice-aggregate-pass pass-requires add-p loop-less loop-again slice-aggregate-feed-pending feed-pending-requires
+    same_length same-length-2 returns)

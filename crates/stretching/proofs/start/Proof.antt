@@ -7,47 +7,48 @@ use Rattle.stretching.proofs.Starting.{can_wait, starts_none, starts_fits, start
 use Rattle.stretching.proofs.start.Statement.{statement}
 use Rattle.stretching.proofs.start.Tie as tie
 
-feed-waiting-requires : tie.Need-feed-waiting-requires
+feed-waiting-requires : tie.Need-feed_waiting-c-requires
 feed-waiting-requires c κs =
     let s = c.before.before.before.before.before.before.before.before.before.before.before.before.before.before.before.before.before in
-    let p = c.before.before.before.before.before.before.before.before.before.before.before.before.prepare in
-    let h = c.before.before.before.before.before.before.before.handover in
+    let p = c.before.before.before.before.before.before.before.before.before.before.before.prepare-p in
+    let h = c.before.before.before.before.before.before.before.handover-h in
     can_wait s.args.nets.now s.args.lifts.now s.args.i s.requires.order p.new.1.1.1.0 p.result.ranks p.ensures.ranks s.args.d p.new.1.1.1.1.0 p.result.lifted p.ensures.lifted h.result h.ensures
-    c.before.before.before.before.number.result c.before.before.before.before.number.ensures p.new.1.1.1.1.0 _ (omega (arith, p.auto.1.1.1.1.0, s.requires.whole)) refl (zeros 64)
+    c.before.before.before.before.number-count.result c.before.before.before.before.number-count.ensures p.new.1.1.1.1.0 _ (omega (arith, p.auto.1.1.1.1.0, s.requires.whole)) refl (zeros 64)
 
-returns : tie.Need-returns
+returns : tie.Need-returns-then-c-eq0
 returns c =
     let s = c.before.before.before.before.before.before.before.before.before.before.before.before.before.before.before.before.before.before.before.before.before.before.before in
-    let p = c.before.before.before.before.before.before.before.before.before.before.before.before.before.before.before.before.before.before.prepare in
-    let h = c.before.before.before.before.before.before.before.before.before.before.before.before.before.handover in
-    let w = c.before.before.before.before.before.feed-waiting in
+    let p = c.before.before.before.before.before.before.before.before.before.before.before.before.before.before.before.before.before.prepare-p in
+    let h = c.before.before.before.before.before.before.before.before.before.before.before.before.before.handover-h in
+    let w = c.before.before.before.before.before.feed_waiting-c in
     rw c.stand.ensures
     (starts_none s.args.nets.now s.args.lifts.now s.args.i s.requires.order p.new.1.1.1.0 p.result.ranks p.ensures.ranks s.args.d p.new.1.1.1.1.0 p.result.lifted p.ensures.lifted h.result h.ensures
     w.new.1.1.1.1.1.1.0 w.result w.ensures (omega arith))
 
-sub-stand : tie.Need-overflow-sub-stand
+sub-stand : tie.Need-overflow_sub-key
 sub-stand c =
     let s = c.before.before.before.before.before.before.before.before.before.before.before.before.before.before.before.before.before.before.before.before.before.before.before.before in
-    let p = c.before.before.before.before.before.before.before.before.before.before.before.before.before.before.before.before.before.before.before.prepare in
-    let h = c.before.before.before.before.before.before.before.before.before.before.before.before.before.before.handover in
-    let w = c.before.before.before.before.before.before.feed-waiting in
+    let p = c.before.before.before.before.before.before.before.before.before.before.before.before.before.before.before.before.before.before.prepare-p in
+    let h = c.before.before.before.before.before.before.before.before.before.before.before.before.before.before.handover-h in
+    let w = c.before.before.before.before.before.before.feed_waiting-c in
     starts_fits s.args.nets.now s.args.lifts.now s.args.i s.requires.order p.new.1.1.1.0 p.result.ranks p.ensures.ranks s.args.d p.new.1.1.1.1.0 p.result.lifted p.ensures.lifted h.result h.ensures
     w.new.1.1.1.1.1.1.0 w.result w.ensures (omega arith)
 
-returns-2 : tie.Need-returns-2
+returns-2 : tie.Need-returns
 returns-2 c =
     let s = c.before.before.before.before.before.before.before.before.before.before.before.before.before.before.before.before.before.before.before.before.before.before.before.before.before in
-    let p = c.before.before.before.before.before.before.before.before.before.before.before.before.before.before.before.before.before.before.before.before.prepare in
-    let h = c.before.before.before.before.before.before.before.before.before.before.before.before.before.before.before.handover in
-    let w = c.before.before.before.before.before.before.before.feed-waiting in
-    rw c.stand2.ensures
+    let p = c.before.before.before.before.before.before.before.before.before.before.before.before.before.before.before.before.before.before.before.prepare-p in
+    let h = c.before.before.before.before.before.before.before.before.before.before.before.before.before.before.before.handover-h in
+    let w = c.before.before.before.before.before.before.before.feed_waiting-c in
+    rw c.stand-2.ensures
     (starts_some s.args.nets.now s.args.lifts.now s.args.i s.requires.order p.new.1.1.1.0 p.result.ranks p.ensures.ranks s.args.d p.new.1.1.1.1.0 p.result.lifted p.ensures.lifted h.result h.ensures
     w.new.1.1.1.1.1.1.0 w.result w.ensures (omega arith))
 
 pub start_spec : {M : Type 1} → statement M
 start_spec =
     tie.close
-    (tie.spec (λ c. search rules) (λ c κs. search rules) (λ c κs. search rules) (λ c. search rules) (λ c κs. search rules) (λ c. search rules)
-    (λ c. search rules) (λ c. search rules) (λ c. search rules) (λ c. search rules) (λ c. search rules) (λ c. search rules) (λ c. search rules)
-    feed-waiting-requires (λ c κs. search rules) (λ c. search rules) returns (λ c. search rules) sub-stand (λ c κs. search rules)
+    (tie.spec (λ c. search rules) (λ c κs. search rules) (λ c κs. search rules) (λ c. search rules)
+    (λ c κs. search rules) (λ c. search rules) (λ c. search rules) (λ c. search rules) (λ c. search rules)
+    (λ c. search rules) (λ c. search rules) (λ c. search rules) (λ c. search rules) feed-waiting-requires
+    (λ c κs. search rules) (λ c. search rules) returns (λ c. search rules) sub-stand (λ c κs. search rules)
     (λ c. search rules) returns-2)

@@ -6,41 +6,41 @@ use Rattle.stretching.proofs.Taking.{Taking, taking_starts, can_take, taking_nex
 use Rattle.stretching.proofs.take_all.Statement.{statement}
 use Rattle.stretching.proofs.take_all.Tie as tie
 
-abbrev invariant-loop : tie.invariant-loop
+abbrev invariant-loop : tie.invariant-loop-j
 invariant-loop out₀ c at gaps n j₀ out j = Taking out₀ out c at gaps n j
 
-abbrev decreases-loop : tie.decreases-loop
+abbrev decreases-loop : tie.decreases-loop-j
 decreases-loop out₀ c at gaps n j₀ out j = j
 
-loop-holds : tie.Need-loop-init invariant-loop decreases-loop
+loop-holds : tie.Need-loop-j-init invariant-loop decreases-loop
 loop-holds c =
     let s = c.before.before.before in
     taking_starts s.args.out.now s.args.c s.args.at.now s.args.gaps.now s.args.n s.requires
 
-take-off-requires : tie.Need-take-off-requires invariant-loop decreases-loop
+take-off-requires : tie.Need-take_off-requires invariant-loop decreases-loop
 take-off-requires c κs =
     let s = c.before.before.before.before.before.before.before in
-    let l = c.before.before.before.loop in
+    let l = c.before.before.before.loop-j in
     can_take s.args.out.now s.args.c s.args.at.now s.args.gaps.now s.args.n s.requires l.out l.j (l.j - 1) (omega arith) l.invariant
 
-loop-again : tie.Need-loop-preserved invariant-loop decreases-loop
+loop-again : tie.Need-loop-j-preserved invariant-loop decreases-loop
 loop-again c =
     let s = c.before.before.before.before.before.before.before.before.before.before in
-    let l = c.before.before.before.before.before.before.loop in
-    let f = c.before.before.take-off in
+    let l = c.before.before.before.before.before.before.loop-j in
+    let f = c.before.before.take_off in
     taking_next s.args.out.now s.args.c s.args.at.now s.args.gaps.now s.args.n s.requires l.out l.j (l.j - 1) (omega arith) l.invariant f.new.0 f.auto.0 f.ensures
 
-same_length : tie.Need-same-length invariant-loop decreases-loop
-same_length c = c.before.loop.invariant.whole
+same_length : tie.Need-shape_of-out invariant-loop decreases-loop
+same_length c = c.before.loop-j.invariant.whole
 
 returns : tie.Need-returns invariant-loop decreases-loop
 returns c =
     let s = c.before.before.before.before.before in
-    let l = c.before.loop in
+    let l = c.before.loop-j in
     taking_ends s.args.out.now s.args.c s.args.at.now s.args.gaps.now s.args.n s.requires l.out l.j (omega arith) l.invariant
 
 pub take_all_spec : {M : Type 1} → statement M
 take_all_spec =
     tie.close
-    (tie.spec invariant-loop decreases-loop loop-holds (λ c. search rules) (λ c. search rules) (λ c. search rules) take-off-requires
-    (λ c. search rules) loop-again same_length returns)
+    (tie.spec invariant-loop decreases-loop loop-holds (λ c. search rules) (λ c. search rules) (λ c. search rules)
+    take-off-requires (λ c. search rules) loop-again same_length returns)

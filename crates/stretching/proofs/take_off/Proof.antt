@@ -8,35 +8,35 @@ use Rattle.stretching.proofs.Taking.{take_there, take_full, taken}
 use Rattle.stretching.proofs.take_off.Statement.{statement}
 use Rattle.stretching.proofs.take_off.Tie as tie
 
-mul-out : tie.Need-overflow-mul-out
+mul-out : tie.Need-offset_bounds-out-p
 mul-out c =
     let s = c.before in
     let p = get_or s.args.at.now s.args.a 0 in
     let e : p ≡ suc (p - 1) = omega (arith, s.requires.some) in
     omega (arith, take_there s.args.out.now s.args.c s.args.at.now s.args.a s.requires (p - 1) e, s.requires.whole)
 
-slice-read-out : tie.Need-slice-read-out
+slice-read-out : tie.Need-bounds-out-p
 slice-read-out c =
     let s = c.before.before in
     let p = get_or s.args.at.now s.args.a 0 in
     let e : p ≡ suc (p - 1) = omega (arith, s.requires.some) in
     take_there s.args.out.now s.args.c s.args.at.now s.args.a s.requires (p - 1) e
 
-sub-out-2 : tie.Need-overflow-sub-out-2
+sub-out-2 : tie.Need-overflow_sub-out-2
 sub-out-2 c =
     let s = c.before.before in
     let p = get_or s.args.at.now s.args.a 0 in
     let e : p ≡ suc (p - 1) = omega (arith, s.requires.some) in
     omega (arith, take_full s.args.out.now s.args.c s.args.at.now s.args.a s.requires (p - 1) e)
 
-mul-out-2 : tie.Need-overflow-mul-out-2
+mul-out-2 : tie.Need-offset_bounds-out-p-2
 mul-out-2 c =
     let s = c.before.before in
     let p = get_or s.args.at.now s.args.a 0 in
     let e : p ≡ suc (p - 1) = omega (arith, s.requires.some) in
     omega (arith, take_there s.args.out.now s.args.c s.args.at.now s.args.a s.requires (p - 1) e, s.requires.whole)
 
-slice-write-out : tie.Need-slice-write-out
+slice-write-out : tie.Need-bounds-out-p-2
 slice-write-out c =
     let s = c.before.before in
     let p = get_or s.args.at.now s.args.a 0 in
@@ -50,8 +50,8 @@ returns c =
     let e : p ≡ suc (p - 1) = omega (arith, s.requires.some) in
     taken s.args.out.now s.args.c s.args.at.now s.args.a s.requires (p - 1) e
 
-pub take-off-spec : {M : Type 1} → statement M
-take-off-spec =
+pub take_off_spec : {M : Type 1} → statement M
+take_off_spec =
     tie.close
     (tie.spec (λ c. search rules) (λ c. search rules) (λ c. search rules) mul-out slice-read-out sub-out-2
     (λ c. search rules) mul-out-2 slice-write-out (λ c. search rules) returns)

@@ -5,38 +5,39 @@ use Rattle.units.proofs.Steps.{none_short, none_run, hand_least}
 use Rattle.units.proofs.advance.Statement.{statement}
 use Rattle.units.proofs.advance.Tie as tie
 
-returns : tie.Need-returns
+returns : tie.Need-returns-then-s-eq0
 returns c =
-    let s = c.before.before.next-short in
+    let s = c.before.before.next_short-s in
     let a = c.before.before.before.before.before.args in
-    none_short a.runs.now a.n a.missing.now a.c s.result s.ensures c.if1.true
+    none_short a.runs.now a.n a.missing.now a.c s.result s.ensures c.if-s-eq0.true
 
-returns-2 : tie.Need-returns-2
+returns-2 : tie.Need-returns-then-v-eq0
 returns-2 c =
-    let s = c.before.before.before.before.before.next-short in
+    let s = c.before.before.before.before.before.next_short-s in
     let a = c.before.before.before.before.before.before.before.before.args in
-    let r = c.before.before.next-run in
-    none_run a.runs.now a.n a.missing.now a.c s.result s.ensures r.result r.ensures c.if2.true
+    let r = c.before.before.next_run-v in
+    none_run a.runs.now a.n a.missing.now a.c s.result s.ensures r.result r.ensures c.if-v-eq0.true
 
-returns-3 : tie.Need-returns-3
+returns-3 : tie.Need-returns-then-v
 returns-3 c =
-    let s = c.before.before.before.before.before.before.before.before.next-short in
+    let s = c.before.before.before.before.before.before.before.before.next_short-s in
     let a = c.before.before.before.before.before.before.before.before.before.before.before.args in
-    let r = c.before.before.before.before.before.next-run in
+    let r = c.before.before.before.before.before.next_run-v in
     rw c.overlap.ensures
     (hand_least a.runs.now a.n a.missing.now a.c s.result s.ensures r.result r.ensures _
     (omega (arith, r.ensures.short)) (omega arith) (omega arith))
 
-returns-4 : tie.Need-returns-4
+returns-4 : tie.Need-returns
 returns-4 c =
-    let s = c.before.before.before.before.before.before.before.before.next-short in
+    let s = c.before.before.before.before.before.before.before.before.next_short-s in
     let a = c.before.before.before.before.before.before.before.before.before.before.before.args in
-    let r = c.before.before.before.before.before.next-run in
-    rw c.overlap2.ensures
+    let r = c.before.before.before.before.before.next_run-v in
+    rw c.overlap-2.ensures
     (hand_least a.runs.now a.n a.missing.now a.c s.result s.ensures r.result r.ensures _
     (omega (arith, r.ensures.short)) (omega arith) (omega arith))
 
-pub advance-spec : {M : Type 1} → statement M
-advance-spec =
+pub advance_spec : {M : Type 1} → statement M
+advance_spec =
     tie.close
-    (tie.spec (λ c κs. search rules) returns (λ c κs. search rules) returns-2 (λ c κs. search rules) returns-3 (λ c κs. search rules) returns-4)
+    (tie.spec (λ c κs. search rules) returns (λ c κs. search rules) returns-2 (λ c κs. search rules) returns-3
+    (λ c κs. search rules) returns-4)

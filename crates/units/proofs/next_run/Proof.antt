@@ -11,22 +11,22 @@ use Rattle.units.proofs.Steps.{ahead, behind, run_next, run_end}
 use Rattle.units.proofs.next_run.Statement.{statement}
 use Rattle.units.proofs.next_run.Tie as tie
 
-abbrev invariant-loop : tie.invariant-loop
+abbrev invariant-loop : tie.invariant-loop-y
 invariant-loop runs n c j₀ t₀ y₀ j t y =
     (t < 64)
     × ((ss : List AccountLots) → overlaps ss (behind t₀ y₀ j₀ (runs_in runs n)) ≡ overlaps ss (behind t y j (runs_in runs n)))
 
-abbrev decreases-loop : tie.decreases-loop
+abbrev decreases-loop : tie.decreases-loop-y
 decreases-loop runs n c j₀ t₀ y₀ j t y = n - j
 
-loop-holds : tie.Need-loop-init invariant-loop decreases-loop
+loop-holds : tie.Need-loop-y-init invariant-loop decreases-loop
 loop-holds c = (c.requires.1.to, (λ ss. refl))
 
-returns : tie.Need-returns invariant-loop decreases-loop
+returns : tie.Need-returns-then-n-j invariant-loop decreases-loop
 returns c =
     let s = c.before.before.before in
     let k = s.args.c in
-    let l = c.before.before.loop in
+    let l = c.before.before.loop-y in
     let z : l.y ≡ 0 = omega arith in
     record {
       same = λ ss. rw z at (l.invariant.1 (ahead k.from k.short k.account ss));
@@ -37,19 +37,19 @@ returns c =
       range = record { from = s.requires.1.from; to = l.invariant.0; short = s.requires.1.short };
     }
 
-loop-again : tie.Need-loop-preserved invariant-loop decreases-loop
+loop-again : tie.Need-loop-y-preserved invariant-loop decreases-loop
 loop-again c =
     let s = c.before.before.before.before in
-    let l = c.before.before.before.loop in (
+    let l = c.before.before.before.loop-y in (
       omega arith,
       (λ ss. l.invariant.1 ss ∙ run_next ss s.args.runs.now s.args.n l.j s.requires.0 l.t l.y (omega arith) (omega arith)),
     )
 
-returns-2 : tie.Need-returns-2 invariant-loop decreases-loop
+returns-2 : tie.Need-returns invariant-loop decreases-loop
 returns-2 c =
     let s = c.before.before in
     let k = s.args.c in
-    let l = c.before.loop in
+    let l = c.before.loop-y in
     record {
       same = λ ss. l.invariant.1 (ahead k.from k.short k.account ss);
       none = λ q ss. absurd (omega arith);
@@ -57,8 +57,8 @@ returns-2 c =
       range = record { from = s.requires.1.from; to = l.invariant.0; short = s.requires.1.short };
     }
 
-pub next-run-spec : {M : Type 1} → statement M
-next-run-spec =
+pub next_run_spec : {M : Type 1} → statement M
+next_run_spec =
     tie.close
-    (tie.spec invariant-loop decreases-loop loop-holds returns (λ c. search rules) (λ c. search rules) (λ c. search rules)
-    (λ c. search rules) loop-again returns-2)
+    (tie.spec invariant-loop decreases-loop loop-holds returns (λ c. search rules) (λ c. search rules)
+    (λ c. search rules) (λ c. search rules) loop-again returns-2)

@@ -10,21 +10,21 @@ use Rattle.units.proofs.Steps.{ahead, behind, short_next, short_end}
 use Rattle.units.proofs.next_short.Statement.{statement}
 use Rattle.units.proofs.next_short.Tie as tie
 
-abbrev invariant-loop : tie.invariant-loop
+abbrev invariant-loop : tie.invariant-loop-x
 invariant-loop missing c a₀ f₀ x₀ a f x =
     (f < 64) × (x ≤ 20000000) × ((vs : List AccountLots) → overlaps (ahead f₀ x₀ a₀ missing) vs ≡ overlaps (ahead f x a missing) vs)
 
-abbrev decreases-loop : tie.decreases-loop
+abbrev decreases-loop : tie.decreases-loop-x
 decreases-loop missing c a₀ f₀ x₀ a f x = 64 - a
 
-loop-holds : tie.Need-loop-init invariant-loop decreases-loop
+loop-holds : tie.Need-loop-x-init invariant-loop decreases-loop
 loop-holds c = (c.requires.1.from, c.requires.1.short, (λ vs. refl))
 
-returns : tie.Need-returns invariant-loop decreases-loop
+returns : tie.Need-returns-then-a-ge-ACCOUNT_COUNT invariant-loop decreases-loop
 returns c =
     let s = c.before.before.before in
     let k = s.args.c in
-    let l = c.before.before.loop in
+    let l = c.before.before.loop-x in
     let z : l.x ≡ 0 = omega arith in
     record {
       same = λ us. rw z at (l.invariant.2 (behind k.to k.lack k.run us));
@@ -34,28 +34,28 @@ returns c =
       range = record { from = l.invariant.0; to = s.requires.1.to; short = omega arith };
     }
 
-loop-again : tie.Need-loop-preserved invariant-loop decreases-loop
+loop-again : tie.Need-loop-x-preserved invariant-loop decreases-loop
 loop-again c =
     let s = c.before.before.before.before in
-    let l = c.before.before.before.loop in (
+    let l = c.before.before.before.loop-x in (
       omega arith,
       s.requires.0.small l.a,
       (λ vs. l.invariant.2 vs ∙ short_next s.args.missing.now vs l.f l.x l.a (omega arith) (omega arith)),
     )
 
-returns-2 : tie.Need-returns-2 invariant-loop decreases-loop
+returns-2 : tie.Need-returns invariant-loop decreases-loop
 returns-2 c =
     let s = c.before.before in
     let k = s.args.c in
-    let l = c.before.loop in
+    let l = c.before.loop-x in
     record {
       same = λ us. l.invariant.2 (behind k.to k.lack k.run us);
       none = λ q us. absurd (omega arith);
       range = record { from = l.invariant.0; to = s.requires.1.to; short = l.invariant.1 };
     }
 
-pub next-short-spec : {M : Type 1} → statement M
-next-short-spec =
+pub next_short_spec : {M : Type 1} → statement M
+next_short_spec =
     tie.close
-    (tie.spec invariant-loop decreases-loop loop-holds returns (λ c. search rules) (λ c. search rules) (λ c. search rules)
-    (λ c. search rules) (λ c. search rules) loop-again returns-2)
+    (tie.spec invariant-loop decreases-loop loop-holds returns (λ c. search rules) (λ c. search rules)
+    (λ c. search rules) (λ c. search rules) (λ c. search rules) loop-again returns-2)

@@ -5,23 +5,23 @@ use Rattle.lifted.proofs.Lifted.{can_lift_all, prepared}
 use Rattle.units.proofs.prepare.Statement.{statement}
 use Rattle.units.proofs.prepare.Tie as tie
 
-lift-all-requires : tie.Need-lift-all-requires
+lift-all-requires : tie.Need-lift_all-requires
 lift-all-requires c κs =
     let s = c.before.before.before.before.before.before.before.before in
-    let f = c.before.before.before.before.ranked in
+    let f = c.before.before.before.before.ranked-n in
     can_lift_all s.args.nets.now s.args.lifts.now s.args.i f.new.1.1.0 f.result s.requires.order f.ensures
     (omega (arith, s.requires.room, f.auto.1.1.0))
 
 returns : tie.Need-returns
 returns c =
     let s = c.before.before.before.before.before.before.before.before.before.before.before in
-    let f = c.before.before.before.before.before.before.before.ranked in
-    let g = c.before.before.lift-all in
+    let f = c.before.before.before.before.before.before.before.ranked-n in
+    let g = c.before.before.lift_all in
     prepared s.args.nets.now s.args.lifts.now s.args.i f.new.1.1.0 f.result s.requires.order f.ensures
     g.new.1.0 g.result (omega (arith, s.requires.room, f.auto.1.1.0, g.auto.1.0)) g.ensures
 
-pub prepare-spec : {M : Type 1} → statement M
-prepare-spec =
+pub prepare_spec : {M : Type 1} → statement M
+prepare_spec =
     tie.close
     (tie.spec (λ c κs. search rules) (λ c. search rules) (λ c. search rules) (λ c. search rules) (λ c. search rules)
     (λ c. search rules) (λ c. search rules) lift-all-requires (λ c. search rules) returns)

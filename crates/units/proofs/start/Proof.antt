@@ -6,13 +6,13 @@ use Rattle.units.proofs.Begins.{begins_none, can_gather, fits_lent, begins_lent}
 use Rattle.units.proofs.start.Statement.{statement}
 use Rattle.units.proofs.start.Tie as tie
 
-hand-requires : tie.Need-hand-requires
+hand-requires : tie.Need-hand-w-requires
 hand-requires c κs = search rules
 
-returns : tie.Need-returns
+returns : tie.Need-returns-then-n-j
 returns c =
     let s = c.before.before.before.before.before.before.before in
-    let f = c.before.before.before.before.hand in
+    let f = c.before.before.before.before.hand-w in
     rw c.stand.ensures
     (begins_none s.args.runs.now f.new.0 s.args.n s.args.d f.result (omega (arith, f.auto.0, s.requires.there)) f.ensures
     (omega arith))
@@ -20,29 +20,29 @@ returns c =
 gather-requires : tie.Need-gather-requires
 gather-requires c κs =
     let s = c.before.before.before.before.before.before.before in
-    let f = c.before.before.before.before.hand in
+    let f = c.before.before.before.before.hand-w in
     can_gather s.args.runs.now f.new.0 s.args.n s.args.d f.result f.ensures s.requires.small
 
-sub-stand : tie.Need-overflow-sub-stand
+sub-stand : tie.Need-overflow_sub-key
 sub-stand c =
     let s = c.before.before.before.before.before.before.before.before.before.before.before.before in
-    let f = c.before.before.before.before.before.before.before.before.before.hand in
+    let f = c.before.before.before.before.before.before.before.before.before.hand-w in
     let g = c.before.before.before.before.gather in
     fits_lent s.args.runs.now f.new.0 s.args.n s.args.d f.result f.ensures g.new.0
     (omega (arith, f.auto.0, s.requires.there)) (omega arith) g.auto.0 g.ensures
 
-returns-2 : tie.Need-returns-2
+returns-2 : tie.Need-returns
 returns-2 c =
     let s = c.before.before.before.before.before.before.before.before.before.before.before.before.before in
-    let f = c.before.before.before.before.before.before.before.before.before.before.hand in
+    let f = c.before.before.before.before.before.before.before.before.before.before.hand-w in
     let g = c.before.before.before.before.before.gather in
-    rw c.stand2.ensures
+    rw c.stand-2.ensures
     (begins_lent s.args.runs.now f.new.0 s.args.n s.args.d f.result f.ensures g.new.0
     (omega (arith, f.auto.0, s.requires.there)) (omega arith) g.auto.0 g.ensures)
 
 pub start_spec : {M : Type 1} → statement M
 start_spec =
     tie.close
-    (tie.spec hand-requires (λ c κs. search rules) (λ c. search rules) returns (λ c. search rules) (λ c. search rules)
-    (λ c. search rules) (λ c. search rules) gather-requires (λ c. search rules) (λ c. search rules) (λ c. search rules)
-    sub-stand (λ c κs. search rules) (λ c. search rules) returns-2)
+    (tie.spec hand-requires (λ c κs. search rules) (λ c. search rules) returns (λ c. search rules)
+    (λ c. search rules) (λ c. search rules) (λ c. search rules) gather-requires (λ c. search rules)
+    (λ c. search rules) (λ c. search rules) sub-stand (λ c κs. search rules) (λ c. search rules) returns-2)

@@ -7,16 +7,16 @@ use Rattle.unlifting.proofs.Places.{back_front, back_new, back_between, back_beh
 use Rattle.unlifting.proofs.before_lift.Statement.{statement}
 use Rattle.unlifting.proofs.before_lift.Tie as tie
 
-returns : tie.Need-returns
+returns : tie.Need-returns-then-s-new
 returns c =
     let a = c.before.before.before.before.args in
     record {
-      one = omega (arith, c.least.ensures);
-      fewer = omega (arith, c.least.ensures);
-      places = λ t h. back_front a.old a.new (a.s.base + t) (omega (arith, c.least.ensures));
+      one = omega (arith, c.least-x.ensures);
+      fewer = omega (arith, c.least-x.ensures);
+      places = λ t h. back_front a.old a.new (a.s.base + t) (omega (arith, c.least-x.ensures));
     }
 
-returns-2 : tie.Need-returns-2
+returns-2 : tie.Need-returns-then-s-new-2
 returns-2 c =
     let a = c.before.before.before.before.args in
     record {
@@ -25,16 +25,16 @@ returns-2 c =
       places = λ t h. back_new a.old a.new (a.s.base + t) (omega arith) ∙ omega arith;
     }
 
-returns-3 : tie.Need-returns-3
+returns-3 : tie.Need-returns-then-s-old
 returns-3 c =
     let a = c.before.before.before.before.before.before.before.before.before.args in
     record {
-      one = omega (arith, c.before.least2.ensures);
-      fewer = omega (arith, c.before.least2.ensures);
-      places = λ t h. back_between a.old a.new (a.s.base + t) (omega arith) (omega (arith, c.before.least2.ensures)) ∙ omega arith;
+      one = omega (arith, c.before.least-x-then-s-old.ensures);
+      fewer = omega (arith, c.before.least-x-then-s-old.ensures);
+      places = λ t h. back_between a.old a.new (a.s.base + t) (omega arith) (omega (arith, c.before.least-x-then-s-old.ensures)) ∙ omega arith;
     }
 
-returns-4 : tie.Need-returns-4
+returns-4 : tie.Need-returns
 returns-4 c =
     let a = c.before.before.before.before.before.before.args in
     record {
@@ -43,8 +43,8 @@ returns-4 c =
       places = λ t h. back_behind a.old a.new (a.s.base + t) (omega arith) (omega arith);
     }
 
-pub before-lift-spec : {M : Type 1} → statement M
-before-lift-spec =
+pub before_lift_spec : {M : Type 1} → statement M
+before_lift_spec =
     tie.close
-    (tie.spec (λ c. search rules) (λ c κs. search rules) returns returns-2 (λ c. search rules) (λ c κs. search rules)
+    (tie.spec (λ c. search rules) (λ c κs. search rules) returns returns-2 (λ c. search rules) (λ c. search rules)
     (λ c. search rules) returns-3 returns-4)

@@ -10,25 +10,25 @@ use Rattle.unlifting.proofs.Places.{places_none, back_one}
 use Rattle.unlifting.proofs.before_lifts.Statement.{statement}
 use Rattle.unlifting.proofs.before_lifts.Tie as tie
 
-abbrev invariant-loop : tie.invariant-loop
+abbrev invariant-loop : tie.invariant-loop-j
 invariant-loop words k s₀ j₀ s j =
     (1 ≤ s.len) × (j ≤ get_or words 0 0)
     × ((t : ℕ) → t < s.len → place_of (drop j (places_in (get_or words 0 0) (drop 2 words))) (k + t) ≡ s.base + t)
 
-abbrev decreases-loop : tie.decreases-loop
+abbrev decreases-loop : tie.decreases-loop-j
 decreases-loop words k s₀ j₀ s j = j
 
-loop-holds : tie.Need-loop-init invariant-loop decreases-loop
+loop-holds : tie.Need-loop-j-init invariant-loop decreases-loop
 loop-holds c =
     let a = c.before.before.args in
     let ws = a.words.now in
     (omega arith, omega arith, (λ t h. ap (λ ls. place_of ls (a.k + t)) (places_none (get_or ws 0 0) (drop 2 ws))))
 
-loop-again : tie.Need-loop-preserved invariant-loop decreases-loop
+loop-again : tie.Need-loop-j-preserved invariant-loop decreases-loop
 loop-again c =
     let a = c.before.before.before.before.before.before.before.args in
-    let l = c.before.before.before.before.loop in
-    let f = c.before-lift in (
+    let l = c.before.before.before.before.loop-j in
+    let f = c.before_lift-s in (
       f.ensures.one,
       omega arith,
       back_one a.words.now l.j (l.j - 1) a.k l.s.base l.s.len f.result.base f.result.len (omega arith) (omega arith) l.invariant.2
@@ -37,13 +37,14 @@ loop-again c =
 
 returns : tie.Need-returns invariant-loop decreases-loop
 returns c =
-    let l = c.before.loop in
+    let l = c.before.loop-j in
     let z : l.j ≡ 0 = omega arith in
     record { one = l.invariant.0; places = rw z at l.invariant.2 }
 
-pub before-lifts-spec : {M : Type 1} → statement M
-before-lifts-spec =
+pub before_lifts_spec : {M : Type 1} → statement M
+before_lifts_spec =
     tie.close
-    (tie.spec invariant-loop decreases-loop (λ c. search rules) (λ c. search rules) loop-holds (λ c. search rules) (λ c. search rules)
+    (tie.spec invariant-loop decreases-loop (λ c. search rules) (λ c. search rules) loop-holds (λ c. search rules)
     (λ c. search rules) (λ c. search rules) (λ c. search rules) (λ c. search rules) (λ c. search rules)
-    (λ c. search rules) (λ c. search rules) (λ c κs. search rules) (λ c. search rules) loop-again returns)
+    (λ c. search rules) (λ c. search rules) (λ c. search rules) (λ c κs. search rules) (λ c. search rules)
+    loop-again returns)

@@ -8,4 +8,5 @@ returns : tie.Need-returns
 returns c = set_two c.args.part.now _ _ c.requires
 
 pub put_spec : {M : Type 1} → statement M
-put_spec = tie.close (tie.spec (λ c. search rules) (λ c. search rules) (λ c. search rules) returns)
+put_spec = tie.close
+    (tie.spec (λ c. search rules) (λ c. search rules) (λ c. search rules) returns)

@@ -11,7 +11,7 @@ use Rattle.balancing.proofs.EvenLaws.{lots_entries}
 use Rattle.soundness.proofs.scan.sound_columns.Statement.{statement}
 use Rattle.soundness.proofs.scan.sound_columns.Tie as tie
 
-abbrev start : tie.After-charges-sound → tie.Start
+abbrev start : tie.After-charges_sound-yen → tie.Start
 start c = c.before.before.before.before.before.before.before.before.before.before.before
 
 abbrev book : tie.Start → Book
@@ -20,46 +20,46 @@ book s =
     book_of a.s a.nets.now a.delivered.now a.lifts.now a.charges.now a.issues.now a.froms.now a.tos.now a.lots.now a.days.now
 
 -- what the four parts found
-told : (c : tie.After-charges-sound) →
-    ((c.before.before.before.nets-sound.result && c.before.before.delivered-sound.result) && c.before.ledger_sound.result)
-    && c.charges-sound.result ≡ others (book (start c))
+told : (c : tie.After-charges_sound-yen) →
+    ((c.before.before.before.nets_sound-cells.result && c.before.before.delivered_sound-taken.result) && c.before.ledger_sound-ledger.result)
+    && c.charges_sound-yen.result ≡ others (book (start c))
 told c =
-    others_as (book (start c)) _ _ _ _ c.before.before.before.nets-sound.ensures c.before.before.delivered-sound.ensures
-    c.before.ledger_sound.ensures c.charges-sound.ensures
+    others_as (book (start c)) _ _ _ _ c.before.before.before.nets_sound-cells.ensures c.before.before.delivered_sound-taken.ensures
+    c.before.ledger_sound-ledger.ensures c.charges_sound-yen.ensures
 
-returns : tie.Need-returns
+returns : tie.Need-returns-then-not-cells-taken
 returns c =
     let b = book (start c.before) in
-    others_no b (sym (told c.before) ∙ not-true _ c.if1.true)
+    others_no b (sym (told c.before) ∙ not-true _ c.if-not-cells-taken.true)
 
-lifts-sound-requires : tie.Need-lifts-sound-requires
+lifts-sound-requires : tie.Need-lifts_sound-lifted-requires
 lifts-sound-requires c κs =
     let s = start c.before in
     record {
-      nets = s.pre.cells.nets;
-      delivered = s.pre.cells.delivered;
-      lifts = s.pre.lifts;
-      sound = nets_yes (book s) (sym (told c.before) ∙ not-false _ c.if1.false);
+      nets = s.requires.cells.nets;
+      delivered = s.requires.cells.delivered;
+      lifts = s.requires.lifts;
+      sound = nets_yes (book s) (sym (told c.before) ∙ not-false _ c.if-not-cells-taken.false);
     }
 
-entries-even-requires : tie.Need-entries-even-requires
+entries-even-requires : tie.Need-entries_even-entries-requires
 entries-even-requires c κs =
     let e = c.before.before in
     let s = start e.before in
-    let n = count_yes (book s) (sym (told e.before) ∙ not-false _ e.if1.false) in
+    let n = count_yes (book s) (sym (told e.before) ∙ not-false _ e.if-not-cells-taken.false) in
     (omega (arith, s.pre.ledger.issues), omega (arith, s.pre.ledger.lots))
 
-returns-2 : tie.Need-returns-2
+returns-2 : tie.Need-returns
 returns-2 c =
     let l = c.before.before in
     let e = l.before in
     let b = book (start e.before) in
-    others_yes b (sym (told e.before) ∙ not-false _ e.if1.false) l.lifts-sound.result c.before.cells-even.result c.entries-even.result
-    l.lifts-sound.ensures c.before.cells-even.ensures
-    (lots_entries b.state.marks b.state.entries b.issues b.froms b.tos b.lots b.days c.entries-even.result c.entries-even.ensures)
+    others_yes b (sym (told e.before) ∙ not-false _ e.if-not-cells-taken.false) l.lifts_sound-lifted.result c.before.cells_even-cells.result c.entries_even-entries.result
+    l.lifts_sound-lifted.ensures c.before.cells_even-cells.ensures
+    (lots_entries b.state.marks b.state.entries b.issues b.froms b.tos b.lots b.days c.entries_even-entries.result c.entries_even-entries.ensures)
 
-pub sound-columns-spec : {M : Type 1} → statement M
-sound-columns-spec =
+pub sound_columns_spec : {M : Type 1} → statement M
+sound_columns_spec =
     tie.close
     (tie.spec (λ c κs. search rules) (λ c κs. search rules) (λ c κs. search rules) (λ c κs. search rules) returns
     lifts-sound-requires (λ c κs. search rules) entries-even-requires returns-2)
