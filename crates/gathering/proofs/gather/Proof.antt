@@ -15,13 +15,13 @@ sums-requires c κs = record { accounts = refl; none = zeros 64; ready = c.befor
 spread-requires : tie.Need-spread-requires
 spread-requires c κs =
     let f = c.before.before.before.sums in
-    record { accounts = f.auto.1.0; small = λ a. omega (arith, f.ensures a, c.before.before.before.before.before.before.requires.small a) }
+    record { accounts = f.auto.full.0; small = λ a. omega (arith, f.ensures a, c.before.before.before.before.before.before.requires.small a) }
 
 returns : tie.Need-returns
 returns c =
     let f = c.before.before.before.before.before.before.before.sums in
     let rs = c.before.before.before.before.before.before.before.before.before.before.args.runs.now in
-    c.before.before.before.spread.ensures ∙ laid_same (left f.new.1.0) (fulls_of rs) (map part_of rs) f.ensures
+    c.before.before.before.spread.ensures ∙ laid_same (left f.new.full.0) (fulls_of rs) (map part_of rs) f.ensures
 
 pub gather_spec : {M : Type 1} → statement M
 gather_spec =

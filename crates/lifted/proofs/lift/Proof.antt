@@ -16,8 +16,8 @@ put-in-requires c κs =
     let o = c.before.before.before.take_out-word in
     let us = units_in s.args.runs.now s.args.n in
     record {
-      held = omega (arith, o.auto.0, s.requires.held);
-      there = omega (arith, s.requires.back, s.requires.there, out_length us (units_in o.new.0 s.args.n) s.args.old s.requires.there o.ensures.rest);
+      held = omega (arith, o.auto.runs, s.requires.held);
+      there = omega (arith, s.requires.back, s.requires.there, out_length us (units_in o.new.runs s.args.n) s.args.old s.requires.there o.ensures.rest);
     }
 
 returns-2 : tie.Need-returns
@@ -28,7 +28,7 @@ returns-2 c =
     let n = s.args.n in
     record {
       few = omega arith;
-      units = out_and_in (units_in s.args.runs.now n) (units_in o.new.0 n) (units_of_run (part_of o.result)) (units_in p.new.0 (n + 2))
+      units = out_and_in (units_in s.args.runs.now n) (units_in o.new.runs n) (units_of_run (part_of o.result)) (units_in p.new.runs (n + 2))
           s.args.old s.args.new s.requires.back s.requires.there o.ensures.rest o.ensures.unit p.ensures.units;
       plain = λ ps. p.ensures.plain o.ensures.one (o.ensures.plain ps);
     }

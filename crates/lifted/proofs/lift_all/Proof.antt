@@ -38,8 +38,8 @@ loop-again c =
     let l = c.before.before.before.before.before.before.before.loop-left in
     let f = c.before.before.lift-r in
     let us = units_in l.runs l.r in
-    let vs = units_in f.new.0 f.result in (
-      f.auto.0 ∙ l.invariant.0,
+    let vs = units_in f.new.runs f.result in (
+      f.auto.runs ∙ l.invariant.runs,
       omega arith,
       omega (arith, f.ensures.few),
       l.invariant.3 ∙ lifted_next ps l.i l.left us (omega arith) l.invariant.4 vs f.ensures.units,

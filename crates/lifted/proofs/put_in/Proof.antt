@@ -8,30 +8,30 @@ use Rattle.lifted.proofs.put_in.Statement.{statement}
 use Rattle.lifted.proofs.put_in.Tie as tie
 
 mul-front : tie.Need-overflow_mul-front
-mul-front c = omega (arith, c.before.slice_known-2-1.given c.before.before.find-s.result.run)
+mul-front c = omega (arith, c.slice_known-2-1.given c.find-s.result.run)
 
 add-runs : tie.Need-overflow_add-runs
-add-runs c = omega (arith, c.before.slice_known-2-1.given c.before.before.find-s.result.run)
+add-runs c = omega (arith, c.slice_known-2-1.given c.find-s.result.run)
 
 shift-requires : tie.Need-shift-requires
-shift-requires c κs = (omega arith, simp length-set (omega (arith, c.before.before.before.before.before.requires.held)))
+shift-requires c κs = (omega arith, simp length-set (omega (arith, c.requires.held)))
 
 shift-requires-2 : tie.Need-shift-requires-2
 shift-requires-2 c κs =
-    let s = c.before.before.before.before.before.before.before.before.before.before in
-    (omega arith, omega (arith, simp length-set at c.before.before.before.shift.auto.0, s.requires.held))
+    let s = c in
+    (omega arith, omega (arith, simp length-set at c.shift.auto.keys, s.requires.held))
 
 same_length : tie.Need-shape_of-runs
-same_length c = c.before.before.shift-2.auto.0 ∙ simp length-set at c.before.before.before.before.before.before.shift.auto.0
+same_length c = c.shift-2.auto.keys ∙ simp length-set at c.shift.auto.keys
 
 returns : tie.Need-returns
 returns c =
-    let s = c.before.before.before.before.before.before.before.before.before.before.before.before.before in
-    let f = c.before.before.before.before.before.before.before.before.before.before.find-s in
-    let h = c.before.before.before.before.before.before.shift in
-    let t = c.before.before.shift-2 in
+    let s = c in
+    let f = c.find-s in
+    let h = c.shift in
+    let t = c.shift-2 in
     put s.args.runs.now s.args.n f.result.run f.result.passed s.args.k (omega (arith, s.requires.held)) f.ensures.below
-    f.ensures.within f.ensures.place s.args.word _ _ h.new.0 t.new.0 (omega (arith, s.requires.held)) refl refl
+    f.ensures.within f.ensures.place s.args.word _ _ h.new.keys t.new.keys (omega (arith, s.requires.held)) refl refl
     h.ensures t.ensures
 
 pub put_in_spec : {M : Type 1} → statement M

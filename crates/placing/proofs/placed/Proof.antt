@@ -19,13 +19,13 @@ order c =
     let s = start c.before in
     let n = c.before.before.before.number-k in
     let f = c.before.before.before.before.before.before.ranked-n in
-    placed_order s.args.nets.now s.args.lifts.now s.args.i f.new.1.1.0 f.result n.result s.pre f.ensures n.ensures
+    placed_order s.args.nets.now s.args.lifts.now s.args.i f.new.runs.runs.0 f.result n.result s.pre f.ensures n.ensures
     (sym c.before.places_sound.ensures ∙ not-false _ c.if-not-places_sound.false)
 
 abbrev fork : tie.After-lift_all-m → tie.Else-not-places_sound
 fork c = c.before.before.before
 
-ready : (c : tie.After-lift_all-m) → let a = (start (fork c).before).args in Prepared a.nets.now a.lifts.now a.i c.lift_all-m.new.1.0 c.lift_all-m.result
+ready : (c : tie.After-lift_all-m) → let a = (start (fork c).before).args in Prepared a.nets.now a.lifts.now a.i c.lift_all-m.new.runs.0 c.lift_all-m.result
 ready c =
     let s = start (fork c).before in
     let f = (fork c).before.before.before.before.before.before.ranked in
@@ -41,7 +41,7 @@ ranked-requires c κs =
 number-requires : tie.Need-number-k-requires
 number-requires c κs =
     let f = c.before.before.ranked-n in
-    (omega (arith, f.ensures.few, f.auto.1.1.0), omega (arith, f.ensures.few))
+    (omega (arith, f.ensures.few, f.auto.runs.runs.0), omega (arith, f.ensures.few))
 
 places-sound-requires : tie.Need-places_sound-requires
 places-sound-requires c κs =
@@ -54,14 +54,14 @@ returns c =
     let s = start c.before in
     let n = c.before.before.before.number-k in
     let f = c.before.before.before.before.before.before.ranked-n in
-    not_placed s.args.nets.now s.args.lifts.now s.args.i f.new.1.1.0 f.result n.result s.pre f.ensures n.ensures
+    not_placed s.args.nets.now s.args.lifts.now s.args.i f.new.runs.runs.0 f.result n.result s.pre f.ensures n.ensures
     _ (sym c.before.places_sound.ensures ∙ not-true _ c.if-not-places_sound.true)
 
 lift-all-requires : tie.Need-lift_all-m-requires
 lift-all-requires c κs =
     let s = start c.before.before.before in
     let f = c.before.before.before.before.before.before.before.before.ranked-n in
-    can_lift_all s.args.nets.now s.args.lifts.now s.args.i f.new.1.1.0 f.result (order c.before.before) f.ensures
+    can_lift_all s.args.nets.now s.args.lifts.now s.args.i f.new.runs.runs.0 f.result (order c.before.before) f.ensures
     (omega (arith, f.auto.1.1.0))
 
 handover-requires : tie.Need-handover-h-requires
@@ -77,8 +77,8 @@ returns-2 : tie.Need-returns
 returns-2 c =
     let e = c.before.before.before.before.before in
     let s = start (fork e).before in
-    let n = (fork e).before.before.before.number in
-    let f = (fork e).before.before.before.before.before.before.ranked in
+    let n = (fork e).before.before.before.number-k in
+    let f = (fork e).before.before.before.before.before.before.ranked-n in
     let h = c.before.before.handover-h in
     placed_is s.args.nets.now s.args.lifts.now s.args.i f.last.1.1.0 f.result n.result s.pre f.ensures n.ensures
     e.lift_all-m.new.1.0 e.lift_all-m.result s.args.d h.result.count c.places_sound-2.result (ready e) h.ensures.covers c.places_sound-2.ensures

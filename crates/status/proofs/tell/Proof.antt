@@ -25,26 +25,26 @@ abbrev units : tie.After-handover-h → List AccountLots
 units h = units_in (start h).args.runs.now (start h).args.n
 
 abbrev seat : tie.After-handover-h → List AccountLots
-seat h = let g = h.before.before.x-1.given.0 in units_from (start h).args.runs.now (start h).args.n g.1.1.0
+seat h = let g = h.x-1.given.0 in units_from (start h).args.runs.now (start h).args.n g.1.1.0
 
 -- the unit is there
-unit_at : (h : tie.After-handover-h) → let g = h.before.before.x-1.given.0 in
+unit_at : (h : tie.After-handover-h) → let g = h.x-1.given.0 in
     drop (start h).args.k (units h) ≡ account_lots g.0 g.1.0 ∷ seat h
 unit_at h =
     let a = (start h).args in
-    let n = h.before.before.before.before.next_unit in
-    sym (h.before.before.before.before.before.seek-s.ensures a.runs.now a.n)
-    ∙ unit_list a.runs.now a.n _ n.result n.ensures _ _ _ h.before.before.x-1.given.1
+    let n = h.next_unit in
+    sym (h.seek-s.ensures a.runs.now a.n)
+    ∙ unit_list a.runs.now a.n _ n.result n.ensures _ _ _ h.x-1.given.1
 
 there : (h : tie.After-handover-h) → (start h).args.k < length (units h)
 there h = omega (arith, length-drop (start h).args.k (units h), ap length (unit_at h))
 
 returns : tie.Need-returns-in_default
 returns c =
-    let a = c.before.before.before.before.before.args in
-    let n = c.before.before.next_unit in
+    let a = c.args in
+    let n = c.next_unit in
     is_missing a.phase (units_in a.runs.now a.n) a.d a.k
-    (sym (c.before.before.before.seek-s.ensures a.runs.now a.n)
+    (sym (c.seek-s.ensures a.runs.now a.n)
     ∙ unit_end a.runs.now a.n _ n.result n.ensures c.enum_told-1.given.1)
 
 -- a unit that the total does not cover
@@ -56,7 +56,7 @@ handed c = c.before.before
 
 -- the phase
 is_cut_lem : (c : tie.Else-not-cut) → is_cut (start (handed c.before.before)).args.phase ≡ true
-is_cut_lem c = sym c.before.cut.ensures ∙ not-false _ c.if-not-cut.false
+is_cut_lem c = sym c.cut.ensures ∙ not-false _ c.if-not-cut.false
 
 returns-2 : tie.Need-returns-then-k-h
 returns-2 c =
@@ -83,16 +83,16 @@ returns-3 c =
     let h = handed e in
     let a = (start h).args in
     rw c.lots_up_to.ensures
-    (is_waiting a.phase (units h) a.d a.k (there h) (sym c.before.before.cut.ensures ∙ not-true _ c.before.if-not-cut.true)
+    (is_waiting a.phase (units h) a.d a.k (there h) (sym c.cut.ensures ∙ not-true _ c.if-not-cut.true)
     (omega (arith, waits e, h.handover.ensures.covers)))
 
 sub-t15 : tie.Need-overflow_sub-result-then-k-h-2
 sub-t15 c =
-    let e = c.before.before.before.before in
+    let e = c in
     let h = handed e.before.before in
     let a = (start h).args in
     let l = h.handover.ensures.covers in
-    let k = eqb-true a.k h.handover.result.count (and_left _ _ c.before.if-k-h-2.true) in
+    let k = eqb-true a.k h.handover.result.count (and_left _ _ c.if-k-h-2.true) in
     omega (
       arith,
       h.handover.ensures.left,
@@ -106,7 +106,7 @@ returns-4 c =
     let h = handed e.before.before in
     let a = (start h).args in
     is_partly a.phase (units h) a.d a.k (there h) _ _ h.handover.ensures.covers h.handover.ensures.left (is_cut_lem e)
-    (waits e.before.before) _ _ (seat h) (unit_at h) c.before.if-k-h-2.true
+    (waits e.before.before) _ _ (seat h) (unit_at h) c.if-k-h-2.true
 
 returns-5 : tie.Need-returns
 returns-5 c =

@@ -18,25 +18,25 @@ decreases-loop runs n missing cur₀ k₀ cur k = length (overlaps_from runs n m
 
 -- after a step one overlap fewer is left
 shorter : (c : tie.In-Overlap invariant-loop decreases-loop) →
-    let a = c.before.before.before.before.before.before.before.args in
-    let next = c.before.rest-1.given.0.1.1.1.0 in
-    (length (overlaps_from a.runs.now a.n a.missing.now c.before.before.before.before.loop-rest.cur)
+    let a = c.args in
+    let next = c.rest-1.given.0.1.1.1.0 in
+    (length (overlaps_from a.runs.now a.n a.missing.now c.loop-rest.cur)
     ≡ suc (length (overlaps_from a.runs.now a.n a.missing.now next)))
     × InRange next
 shorter c =
-    let a = c.before.before.before.before.before.before.before.args in
-    let l = c.before.before.before.before.loop-rest in
-    let v = c.before.before.before.advance in
-    let e = c.before.rest-1.given.1 in (
+    let a = c.args in
+    let l = c.loop-rest in
+    let v = c.advance in
+    let e = c.rest-1.given.1 in (
       ap length (step_list a.runs.now a.n a.missing.now l.cur v.result v.ensures _ _ _ _ e),
       (step_range a.runs.now a.n a.missing.now l.cur v.result v.ensures _ _ _ _ e).cursor,
     )
 
 returns : tie.Need-returns-in_default invariant-loop decreases-loop
 returns c =
-    let a = c.before.before.before.before.before.before.args in
-    let l = c.before.before.before.loop-rest in
-    let v = c.before.before.advance in
+    let a = c.args in
+    let l = c.loop-rest in
+    let v = c.advance in
     omega (
       arith,
       l.invariant.1,
@@ -45,13 +45,13 @@ returns c =
 
 add-k : tie.Need-overflow_add-k invariant-loop decreases-loop
 add-k c =
-    omega (arith, c.before.before.before.before.loop-rest.invariant.1, c.before.before.before.before.before.before.before.requires.2, (shorter c).0)
+    omega (arith, c.loop-rest.invariant.1, c.requires.2, (shorter c).0)
 
 loop-less : tie.Need-loop-rest-smaller invariant-loop decreases-loop
 loop-less c = omega (arith, (shorter c).0)
 
 loop-again : tie.Need-loop-rest-preserved invariant-loop decreases-loop
-loop-again c = ((shorter c).1, omega (arith, c.before.before.before.before.loop-rest.invariant.1, (shorter c).0))
+loop-again c = ((shorter c).1, omega (arith, c.loop-rest.invariant.1, (shorter c).0))
 
 pub count_spec : {M : Type 1} → statement M
 count_spec =

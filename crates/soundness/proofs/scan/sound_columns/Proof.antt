@@ -30,7 +30,7 @@ told c =
 returns : tie.Need-returns-then-not-cells-taken
 returns c =
     let b = book (start c.before) in
-    others_no b (sym (told c.before) ∙ not-true _ c.if-not-cells-taken.true)
+    others_no b (sym (told c.before) ∙ c.if-not-cells-taken.true)
 
 lifts-sound-requires : tie.Need-lifts_sound-lifted-requires
 lifts-sound-requires c κs =
@@ -39,22 +39,22 @@ lifts-sound-requires c κs =
       nets = s.requires.cells.nets;
       delivered = s.requires.cells.delivered;
       lifts = s.requires.lifts;
-      sound = nets_yes (book s) (sym (told c.before) ∙ not-false _ c.if-not-cells-taken.false);
+      sound = nets_yes (book s) (sym (told c.before) ∙ c.if-not-cells-taken.false);
     }
 
 entries-even-requires : tie.Need-entries_even-entries-requires
 entries-even-requires c κs =
     let e = c.before.before in
     let s = start e.before in
-    let n = count_yes (book s) (sym (told e.before) ∙ not-false _ e.if-not-cells-taken.false) in
-    (omega (arith, s.pre.ledger.issues), omega (arith, s.pre.ledger.lots))
+    let n = count_yes (book s) (sym (told e.before) ∙ e.if-not-cells-taken.false) in
+    (omega (arith, s.requires.ledger.issues), omega (arith, s.requires.ledger.lots))
 
 returns-2 : tie.Need-returns
 returns-2 c =
     let l = c.before.before in
     let e = l.before in
     let b = book (start e.before) in
-    others_yes b (sym (told e.before) ∙ not-false _ e.if-not-cells-taken.false) l.lifts_sound-lifted.result c.before.cells_even-cells.result c.entries_even-entries.result
+    others_yes b (sym (told e.before) ∙ e.if-not-cells-taken.false) l.lifts_sound-lifted.result c.before.cells_even-cells.result c.entries_even-entries.result
     l.lifts_sound-lifted.ensures c.before.cells_even-cells.ensures
     (lots_entries b.state.marks b.state.entries b.issues b.froms b.tos b.lots b.days c.entries_even-entries.result c.entries_even-entries.ensures)
 
