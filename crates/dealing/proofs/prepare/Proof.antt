@@ -8,24 +8,24 @@ use Rattle.dealing.proofs.prepare.Tie as tie
 
 lift-all-requires : tie.Need-lift_all-lifted-requires
 lift-all-requires c κs =
-    let s = c.before.before.before.before.before.before.before.before.before.before.before.before.before.before in
-    let f = c.before.before.before.before.before.before.before.before.rank-ranks in
-    let k = c.before.before.before.before.copy in
-    can_lift_all s.args.nets.now s.args.lifts.now s.args.i k.new.1.1.0 f.result.n s.requires.order
-    (copy_ranked s.args.nets.now s.args.i f.new.1.1.0 k.new.1.1.0 f.result.n k.ensures f.ensures.order)
-    (omega (arith, s.requires.wide, k.auto.1.1.0))
+    let s = c in
+    let f = c.rank-ranks in
+    let k = c.copy in
+    can_lift_all s.args.nets.now s.args.lifts.now s.args.i k.new.out f.result.n s.requires.order
+    (copy_ranked s.args.nets.now s.args.i f.new.keys k.new.out f.result.n k.ensures f.ensures.order)
+    (omega (arith, s.requires.wide, k.auto.out))
 
 returns : tie.Need-returns
 returns c =
-    let s = c.before.before.before.before.before.before.before.before.before.before.before.before.before.before.before.before.before in
-    let f = c.before.before.before.before.before.before.before.before.before.before.before.rank-ranks in
-    let k = c.before.before.before.before.before.before.before.copy in
-    let g = c.before.before.lift_all-lifted in
+    let s = c in
+    let f = c.rank-ranks in
+    let k = c.copy in
+    let g = c.lift_all-lifted in
     record {
       ranks = f.ensures;
-      lifted = prepared s.args.nets.now s.args.lifts.now s.args.i k.new.1.1.0 f.result.n s.requires.order
-          (copy_ranked s.args.nets.now s.args.i f.new.1.1.0 k.new.1.1.0 f.result.n k.ensures f.ensures.order)
-          g.new.1.0 g.result (omega (arith, s.requires.wide, k.auto.1.1.0, g.auto.1.0)) g.ensures;
+      lifted = prepared s.args.nets.now s.args.lifts.now s.args.i k.new.out f.result.n s.requires.order
+          (copy_ranked s.args.nets.now s.args.i f.new.keys k.new.out f.result.n k.ensures f.ensures.order)
+          g.new.runs g.result (omega (arith, s.requires.wide, k.auto.out, g.auto.runs)) g.ensures;
     }
 
 pub prepare_spec : {M : Type 1} → statement M

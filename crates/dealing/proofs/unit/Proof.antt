@@ -8,25 +8,25 @@ use Rattle.dealing.proofs.unit.Tie as tie
 
 returns : tie.Need-returns-then-number-k
 returns c =
-    let s = c.before.before.before.before.before.before.before in
-    let f = c.before.before.before.before.rank-p in
-    none_found s.args.nets.now s.args.lifts.now s.args.i s.args.k s.requires f.new.1.1.0 f.result f.ensures
-    (omega (arith, c.before.number.ensures))
+    let s = c in
+    let f = c.rank-p in
+    none_found s.args.nets.now s.args.lifts.now s.args.i s.args.k s.requires f.new.keys f.result f.ensures
+    (omega (arith, c.number.ensures))
 
 units-from-requires : tie.Need-units_from-requires
 units-from-requires c κs =
-    let s = c.before.before.before.before.before.before.before.before.before in
-    let f = c.before.before.before.before.before.before.rank-p in
-    one_there s.args.nets.now s.args.lifts.now s.args.i s.args.k s.requires f.new.1.1.0 f.result f.ensures _ refl
-    (omega (arith, c.before.before.before.number.ensures))
+    let s = c in
+    let f = c.rank-p in
+    one_there s.args.nets.now s.args.lifts.now s.args.i s.args.k s.requires f.new.keys f.result f.ensures _ refl
+    (omega (arith, c.number.ensures))
 
 returns-2 : tie.Need-returns
 returns-2 c =
-    let s = c.before.before.before.before.before.before.before.before.before.before.before in
-    let f = c.before.before.before.before.before.before.before.before.rank-p in
-    let u = c.before.units_from in
-    one_found s.args.nets.now s.args.lifts.now s.args.i s.args.k s.requires f.new.1.1.0 f.result f.ensures
-    u.new.1.1.1.1.1.0 u.auto.1.1.1.1.1.0 (omega (arith, c.before.before.before.before.before.number.ensures)) u.ensures
+    let s = c in
+    let f = c.rank-p in
+    let u = c.units_from in
+    one_found s.args.nets.now s.args.lifts.now s.args.i s.args.k s.requires f.new.keys f.result f.ensures
+    u.new.out u.auto.out (omega (arith, c.number.ensures)) u.ensures
 
 pub unit_spec : {M : Type 1} → statement M
 unit_spec =

@@ -7,15 +7,15 @@ use Rattle.dealing.proofs.units_from.Tie as tie
 
 window-requires : tie.Need-window-requires
 window-requires c κs =
-    let s = c.before.before.before.before.before in
+    let s = c in
     can_deal_out s.args.keys.now s.args.p s.args.lifts.now s.args.i s.args.k s.args.out.now s.requires
 
 returns : tie.Need-returns
 returns c =
-    let s = c.before.before.before.before.before.before.before.before in
-    let w = c.before.before.window in
+    let s = c in
+    let w = c.window in
     dealt_out s.args.keys.now s.args.p s.args.lifts.now s.args.i s.args.k (length s.args.out.now)
-    w.new.1.1.1.1.1.0 w.ensures
+    w.new.out w.ensures
 
 pub units_from_spec : {M : Type 1} → statement M
 units_from_spec =

@@ -10,18 +10,18 @@ use Rattle.gathering.proofs.gather.Statement.{statement}
 use Rattle.gathering.proofs.gather.Tie as tie
 
 sums-requires : tie.Need-sums-requires
-sums-requires c κs = record { accounts = refl; none = zeros 64; ready = c.before.before.requires }
+sums-requires c κs = record { accounts = refl; none = zeros 64; ready = c.requires }
 
 spread-requires : tie.Need-spread-requires
 spread-requires c κs =
-    let f = c.before.before.before.sums in
-    record { accounts = f.auto.full.0; small = λ a. omega (arith, f.ensures a, c.before.before.before.before.before.before.requires.small a) }
+    let f = c.sums in
+    record { accounts = f.auto.full; small = λ a. omega (arith, f.ensures a, c.requires.small a) }
 
 returns : tie.Need-returns
 returns c =
-    let f = c.before.before.before.before.before.before.before.sums in
-    let rs = c.before.before.before.before.before.before.before.before.before.before.args.runs.now in
-    c.before.before.before.spread.ensures ∙ laid_same (left f.new.full.0) (fulls_of rs) (map part_of rs) f.ensures
+    let f = c.sums in
+    let rs = c.args.runs.now in
+    c.spread.ensures ∙ laid_same (left f.new.full) (fulls_of rs) (map part_of rs) f.ensures
 
 pub gather_spec : {M : Type 1} → statement M
 gather_spec =

@@ -23,23 +23,23 @@ abbrev decreases-loop : tie.decreases-loop-left
 decreases-loop words runs₀ n left₀ i₀ r₀ runs left i r = left
 
 loop-holds : tie.Need-loop-left-init invariant-loop decreases-loop
-loop-holds c = (refl, omega arith, omega arith, refl, c.before.before.before.requires.places, (λ ps. ps))
+loop-holds c = (refl, omega arith, omega arith, refl, c.requires.places, (λ ps. ps))
 
 lift-requires : tie.Need-lift-r-requires invariant-loop decreases-loop
 lift-requires c κs =
-    let s = c.before.before.before.before.before.before.before.before in
-    let l = c.before.before.before.before.loop-left in
+    let s = c in
+    let l = c.loop-left in
     let m = next_among s.args.words.now l.i l.left (units_in l.runs l.r) (omega arith) l.invariant.4 in
     record { held = omega (arith, s.requires.held, s.requires.few, l.invariant.0); back = m.back; there = m.there }
 
 loop-again : tie.Need-loop-left-preserved invariant-loop decreases-loop
 loop-again c =
-    let ps = c.before.before.before.before.before.before.before.before.before.before.before.args.words.now in
-    let l = c.before.before.before.before.before.before.before.loop-left in
-    let f = c.before.before.lift-r in
+    let ps = c.args.words.now in
+    let l = c.loop-left in
+    let f = c.lift-r in
     let us = units_in l.runs l.r in
     let vs = units_in f.new.runs f.result in (
-      f.auto.runs ∙ l.invariant.runs,
+      f.auto.runs ∙ l.invariant.0,
       omega arith,
       omega (arith, f.ensures.few),
       l.invariant.3 ∙ lifted_next ps l.i l.left us (omega arith) l.invariant.4 vs f.ensures.units,
@@ -49,7 +49,7 @@ loop-again c =
 
 returns : tie.Need-returns invariant-loop decreases-loop
 returns c =
-    let l = c.before.loop-left in
+    let l = c.loop-left in
     let z : l.left ≡ 0 = omega arith in
     record { few = omega (arith, l.invariant.2); units = sym (rw z at l.invariant.3); plain = l.invariant.5 }
 

@@ -12,14 +12,14 @@ use Rattle.ordering.proofs.order.Tie as tie
 
 rank-requires-2 : tie.Need-rank-m-requires
 rank-requires-2 c κs =
-    let b = c.before.before.before in
-    let f = b.before.before.before.before.fulls in
-    let r = b.before.before.before.before.before.before.before.before.rank-n in
-    let s = b.before.before.before.before.before.before.before.before.before.before.before.before in
-    let rs = b.rests.new.out.0 in
-    let n : 64 ≤ length f.new.0 - r.result = omega (arith, f.auto.0, r.auto.1.0, r.ensures.few, s.requires) in (
+    let b = c in
+    let f = b.fulls in
+    let r = b.rank-n in
+    let s = b in
+    let rs = b.rests.new.out in
+    let n : 64 ≤ length f.new.keys - r.result = omega (arith, f.auto.keys, r.auto.keys, r.ensures.few, s.requires) in (
       record {
-        accounts = omega (arith, b.rests.auto.1.0, s.requires, ap length b.rests.ensures, length-map s.args.dues.now small_lots);
+        accounts = omega (arith, b.rests.auto.out, s.requires, ap length b.rests.ensures, length-map s.args.dues.now small_lots);
         held = simp (length-take, length-drop) (omega arith);
         small = rest_small s.args.dues.now rs b.rests.ensures;
       },
@@ -28,14 +28,14 @@ rank-requires-2 c κs =
 
 returns : tie.Need-returns
 returns c =
-    let r = c.before.before.before.before.before.before.before.before.before.before.before.before.before.before.rank-n in
-    let f = c.before.before.before.before.before.before.before.before.before.before.fulls in
-    let rs = c.before.before.before.before.before.before.rests in
-    let s = c.before.before.rank-m in
-    let a = c.before.before.before.before.before.before.before.before.before.before.before.before.before.before.before.before.before.before in
-    let n : r.result ≤ length f.new.keys = omega (arith, f.auto.keys, r.auto.keys.keys, r.ensures.few, a.requires) in
-    let m : s.result ≤ length s.new.1.0 = omega (arith, s.auto.1.0, s.ensures.few, simp (length-take, length-drop) at s.auto.1.0, f.auto.0, r.auto.1.0, r.ensures.few, a.requires) in
-    let o = ordered a.args.dues.now rs.new.1.0 r.new.1.0 f.new.0 s.new.1.0 r.result s.result (length f.new.0 - r.result) n m r.ensures.order f.ensures rs.ensures s.ensures.order in
+    let r = c.rank-n in
+    let f = c.fulls in
+    let rs = c.rests in
+    let s = c.rank-m in
+    let a = c in
+    let n : r.result ≤ length f.new.keys = omega (arith, f.auto.keys, r.auto.keys, r.ensures.few, a.requires) in
+    let m : s.result ≤ length s.new.keys = omega (arith, s.auto.keys, s.ensures.few, simp (length-take, length-drop) at s.auto.keys, f.auto.keys, r.auto.keys, r.ensures.few, a.requires) in
+    let o = ordered a.args.dues.now rs.new.out r.new.keys f.new.keys s.new.keys r.result s.result (length f.new.keys - r.result) n m r.ensures.order f.ensures rs.ensures s.ensures.order in
     (search rules, o, ordered_only a.args.dues.now _ _ o)
 
 pub order_spec : {M : Type 1} → statement M

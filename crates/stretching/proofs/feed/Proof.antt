@@ -16,35 +16,35 @@ decreases-loop runs x y round rounds out₀ c at₀ j₀ k₀ out at j k = y - j
 
 loop-holds : tie.Need-loop-j-init invariant-loop decreases-loop
 loop-holds c =
-    let s = c.before.before.before in
+    let s = c in
     feed_starts s.args.runs.now s.args.x s.args.y s.args.round s.args.rounds s.args.out.now s.args.c s.args.at.now s.requires
 
 add-requires : tie.Need-add-k-requires invariant-loop decreases-loop
 add-requires c κs =
-    let s = c.before.before.before.before.before.before.before.before.before in
-    let l = c.before.before.before.before.before.loop-j in
+    let s = c in
+    let l = c.loop-j in
     can_add s.args.runs.now s.args.x s.args.y s.args.round s.args.rounds s.args.out.now s.args.c s.args.at.now s.requires
     l.out l.at l.j l.k (omega arith) l.invariant c.share.result c.share.ensures
 
 loop-again : tie.Need-loop-j-preserved invariant-loop decreases-loop
 loop-again c =
-    let s = c.before.before.before.before.before.before.before.before.before.before.before.before.before.before in
-    let l = c.before.before.before.before.before.before.before.before.before.before.loop-j in
-    let h = c.before.before.before.before.before.share in
-    let a = c.before.before.before.before.add-k in
+    let s = c in
+    let l = c.loop-j in
+    let h = c.share in
+    let a = c.add-k in
     feed_next s.args.runs.now s.args.x s.args.y s.args.round s.args.rounds s.args.out.now s.args.c s.args.at.now s.requires
-    l.out l.at l.j l.k (omega arith) l.invariant h.result h.ensures a.new.0 a.new.1.1.0 a.result a.auto.0 a.ensures
+    l.out l.at l.j l.k (omega arith) l.invariant h.result h.ensures a.new.out a.new.at a.result a.auto.out a.ensures
 
 same_length : tie.Need-shape_of-out invariant-loop decreases-loop
-same_length c = c.before.loop-j.invariant.whole ∙ sym c.before.before.before.before.before.requires.room.whole
+same_length c = c.loop-j.invariant.whole ∙ sym c.requires.room.whole
 
 same-length-2 : tie.Need-shape_of-at invariant-loop decreases-loop
-same-length-2 c = c.before.loop-j.invariant.index.accounts ∙ sym c.before.before.before.before.before.requires.room.index.accounts
+same-length-2 c = c.loop-j.invariant.index.accounts ∙ sym c.requires.room.index.accounts
 
 returns : tie.Need-returns invariant-loop decreases-loop
 returns c =
-    let s = c.before.before.before.before.before in
-    let l = c.before.loop-j in
+    let s = c in
+    let l = c.loop-j in
     feed_ends s.args.runs.now s.args.x s.args.y s.args.round s.args.rounds s.args.out.now s.args.c s.args.at.now s.requires l.out l.at l.j l.k (omega arith) l.invariant
 
 pub feed_spec : {M : Type 1} → statement M

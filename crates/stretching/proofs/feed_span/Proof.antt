@@ -8,53 +8,53 @@ use Rattle.stretching.proofs.feed_span.Tie as tie
 
 feed-requires : tie.Need-feed-requires
 feed-requires c κs =
-    let s = c.before.before.before.before.before.before.before in
-    let d = c.before.before.before.seat-d in
+    let s = c in
+    let d = c.seat-d in
     feed_small s.args.runs.now s.args.n s.args.m s.args.base s.args.len s.args.out.now s.args.c s.args.at.now s.requires d.result d.ensures.2 (omega arith)
 
 returns : tie.Need-returns-then-w-eq0
 returns c =
-    let s = c.before.before.before.before.before.before.before.before.before.before.before.before in
-    let d = c.before.before.before.before.before.before.before.before.seat-d in
-    let f = c.before.before.before.before.feed in
+    let s = c in
+    let d = c.seat-d in
+    let f = c.feed in
     fed_small s.args.runs.now s.args.n s.args.m s.args.base s.args.len s.args.out.now s.args.c s.args.at.now s.requires d.result d.ensures.2 (omega arith)
-    f.new.1.1.1.1.1.0 f.new.1.1.1.1.1.1.1.0 f.result f.ensures
+    f.new.out f.new.at f.result f.ensures
 
 sub-if2 : tie.Need-overflow_sub-w
-sub-if2 c = omega (arith, c.before.seat-d.ensures.1.within (omega arith))
+sub-if2 c = omega (arith, c.seat-d.ensures.1.within (omega arith))
 
 feed-requires-2 : tie.Need-feed-requires-then-x-w
 feed-requires-2 c κs =
-    let s = c.before.before.before.before.before.before.before.before in
-    let d = c.before.before.before.before.seat-d in
+    let s = c in
+    let d = c.seat-d in
     feed_part s.args.runs.now s.args.n s.args.m s.args.base s.args.len s.args.out.now s.args.c s.args.at.now s.requires d.result d.ensures.2 (omega arith)
     (omega (arith, d.ensures.1.within (omega arith)))
 
 returns-2 : tie.Need-returns-then-x-w
 returns-2 c =
-    let s = c.before.before.before.before.before.before.before.before.before.before.before.before.before in
-    let d = c.before.before.before.before.before.before.before.before.before.seat-d in
-    let f = c.before.before.before.before.feed-then-x-w in
+    let s = c in
+    let d = c.seat-d in
+    let f = c.feed-then-x-w in
     fed_part s.args.runs.now s.args.n s.args.m s.args.base s.args.len s.args.out.now s.args.c s.args.at.now s.requires d.result d.ensures.2 (omega arith)
-    (omega (arith, d.ensures.1.within (omega arith))) f.new.1.1.1.1.1.0 f.new.1.1.1.1.1.1.1.0 f.result f.ensures
+    (omega (arith, d.ensures.1.within (omega arith))) f.new.out f.new.at f.result f.ensures
 
 feed-requires-3 : tie.Need-feed-a-requires
 feed-requires-3 c κs =
-    let s = c.before.before.before.before.before.before.before.before.before in
-    let d = c.before.before.before.before.before.seat-d in
-    let o : 0 < d.result.wide = omega (arith, c.before.before.before.before.if-w-eq0.false) in
-    let h = c.before.before.before.if-x-w.false in
-    let g = c.before.before.seat-g in
+    let s = c in
+    let d = c.seat-d in
+    let o : 0 < d.result.wide = omega (arith, c.if-w-eq0.false) in
+    let h = c.if-x-w.false in
+    let g = c.seat-g in
     feed_rest s.args.runs.now s.args.n s.args.m s.args.base s.args.len s.args.out.now s.args.c s.args.at.now s.requires d.result d.ensures.2
     g.result g.ensures.2 g.ensures.1.within (d.ensures.1.within o) (omega (arith, d.ensures.1.within o, h))
 
 sub-feed : tie.Need-overflow_sub-q
 sub-feed c =
-    let s = c.before.before.before.before.before.before.before.before.before.before.before.before.before.before in
-    let d = c.before.before.before.before.before.before.before.before.before.before.seat-d in
-    let o : 0 < d.result.wide = omega (arith, c.before.before.before.before.before.before.before.before.before.if-w-eq0.false) in
-    let h = c.before.before.before.before.before.before.before.before.if-x-w.false in
-    let g = c.before.before.before.before.before.before.before.seat-g in
+    let s = c in
+    let d = c.seat-d in
+    let o : 0 < d.result.wide = omega (arith, c.if-w-eq0.false) in
+    let h = c.if-x-w.false in
+    let g = c.seat-g in
     omega (
       arith,
       next_round s.args.runs.now s.args.n s.args.m s.args.base s.args.len s.args.out.now s.args.c s.args.at.now s.requires d.result d.ensures.2
@@ -64,10 +64,10 @@ sub-feed c =
 sub-feed-2 : tie.Need-overflow_sub-q-2
 sub-feed-2 c =
     let s = c.before.before.before.before.before.before.before.before.before.before.before.before.before.before in
-    let d = c.before.before.before.before.before.before.before.before.before.before.seat-d in
-    let o : 0 < d.result.wide = omega (arith, c.before.before.before.before.before.before.before.before.before.if-w-eq0.false) in
-    let h = c.before.before.before.before.before.before.before.before.if-x-w.false in
-    let g = c.before.before.before.before.before.before.before.seat-g in
+    let d = c.seat-d in
+    let o : 0 < d.result.wide = omega (arith, c.if-w-eq0.false) in
+    let h = c.if-x-w.false in
+    let g = c.seat-g in
     omega (
       arith,
       next_round s.args.runs.now s.args.n s.args.m s.args.base s.args.len s.args.out.now s.args.c s.args.at.now s.requires d.result d.ensures.2
@@ -76,23 +76,23 @@ sub-feed-2 c =
 
 feed-requires-4 : tie.Need-feed-b-requires
 feed-requires-4 c κs =
-    let s = c.before.before.before.before.before.before.before.before.before.before.before.before.before.before.before.before in
-    let d = c.before.before.before.before.before.before.before.before.before.before.before.before.seat-d in
-    let o : 0 < d.result.wide = omega (arith, c.before.before.before.before.before.before.before.before.before.before.before.if-w-eq0.false) in
-    let h = c.before.before.before.before.before.before.before.before.before.before.if-x-w.false in
-    let g = c.before.before.before.before.before.before.before.before.before.seat-g in
-    let a = c.before.before.before.before.before.before.feed-a in
+    let s = c in
+    let d = c.seat-d in
+    let o : 0 < d.result.wide = omega (arith, c.if-w-eq0.false) in
+    let h = c.if-x-w.false in
+    let g = c.seat-g in
+    let a = c.feed-a in
     feed_whole s.args.runs.now s.args.n s.args.m s.args.base s.args.len s.args.out.now s.args.c s.args.at.now s.requires d.result d.ensures.2
     g.result g.ensures.2 g.ensures.1.within (d.ensures.1.within o) (omega (arith, d.ensures.1.within o, h))
-    a.new.1.1.1.1.1.0 a.new.1.1.1.1.1.1.1.0 a.result a.auto.1.1.1.1.1.0 a.ensures
+    a.new.out a.new.at a.result a.auto.out a.ensures
 
 add-feed-6 : tie.Need-overflow_add-m-then-g-eq0
 add-feed-6 c =
     let s = c.before.before.before.before.before.before.before.before.before.before.before.before.before.before.before.before.before.before.before.before.before.before.before in
-    let d = c.before.before.before.before.before.before.before.before.before.before.before.before.before.before.before.before.before.before.before.seat-d in
-    let o : 0 < d.result.wide = omega (arith, c.before.before.before.before.before.before.before.before.before.before.before.before.before.before.before.before.before.before.if-w-eq0.false) in
-    let h = c.before.before.before.before.before.before.before.before.before.before.before.before.before.before.before.before.before.if-x-w.false in
-    let g = c.before.before.before.before.before.before.before.before.before.before.before.before.before.before.before.before.seat-g in
+    let d = c.seat-d in
+    let o : 0 < d.result.wide = omega (arith, c.if-w-eq0.false) in
+    let h = c.if-x-w.false in
+    let g = c.seat-g in
     omega (
       arith,
       (last_small s.args.runs.now s.args.n s.args.m s.requires.parted s.args.base s.args.len s.requires.there d.result d.ensures.2
@@ -102,59 +102,59 @@ add-feed-6 c =
 
 feed-requires-5 : tie.Need-feed-requires-then-g-eq0
 feed-requires-5 c κs =
-    let s = c.before.before.before.before.before.before.before.before.before.before.before.before.before.before.before.before.before.before.before.before.before.before.before.before.before in
-    let d = c.before.before.before.before.before.before.before.before.before.before.before.before.before.before.before.before.before.before.before.before.before.seat-d in
-    let o : 0 < d.result.wide = omega (arith, c.before.before.before.before.before.before.before.before.before.before.before.before.before.before.before.before.before.before.before.before.if-w-eq0.false) in
-    let h = c.before.before.before.before.before.before.before.before.before.before.before.before.before.before.before.before.before.before.before.if-x-w.false in
-    let g = c.before.before.before.before.before.before.before.before.before.before.before.before.before.before.before.before.before.before.seat-g in
-    let a = c.before.before.before.before.before.before.before.before.before.before.before.before.before.before.before.feed-a in
-    let b = c.before.before.before.before.before.before.before.before.feed-b in
+    let s = c in
+    let d = c.seat-d in
+    let o : 0 < d.result.wide = omega (arith, c.if-w-eq0.false) in
+    let h = c.if-x-w.false in
+    let g = c.seat-g in
+    let a = c.feed-a in
+    let b = c.feed-b in
     feed_last_small s.args.runs.now s.args.n s.args.m s.args.base s.args.len s.args.out.now s.args.c s.args.at.now s.requires d.result d.ensures.2
     g.result g.ensures.2 g.ensures.1.within (d.ensures.1.within o) (omega (arith, d.ensures.1.within o, h))
-    a.new.1.1.1.1.1.0 a.new.1.1.1.1.1.1.1.0 a.result a.auto.1.1.1.1.1.0 a.ensures b.new.1.1.1.1.1.0 b.new.1.1.1.1.1.1.1.0 b.result b.auto.1.1.1.1.1.0 b.ensures (omega arith)
+    a.new.out a.new.at a.result a.auto.out a.ensures b.new.out b.new.at b.result b.auto.out b.ensures (omega arith)
 
 returns-3 : tie.Need-returns-then-g-eq0
 returns-3 c =
-    let s = c.before.before.before.before.before.before.before.before.before.before.before.before.before.before.before.before.before.before.before.before.before.before.before.before.before.before.before.before.before.before in
-    let d = c.before.before.before.before.before.before.before.before.before.before.before.before.before.before.before.before.before.before.before.before.before.before.before.before.before.before.seat-d in
-    let o : 0 < d.result.wide = omega (arith, c.before.before.before.before.before.before.before.before.before.before.before.before.before.before.before.before.before.before.before.before.before.before.before.before.before.if-w-eq0.false) in
-    let h = c.before.before.before.before.before.before.before.before.before.before.before.before.before.before.before.before.before.before.before.before.before.before.before.before.if-x-w.false in
-    let g = c.before.before.before.before.before.before.before.before.before.before.before.before.before.before.before.before.before.before.before.before.before.before.before.seat-g in
-    let a = c.before.before.before.before.before.before.before.before.before.before.before.before.before.before.before.before.before.before.before.before.feed-a in
-    let b = c.before.before.before.before.before.before.before.before.before.before.before.before.before.feed-b in
-    let f = c.before.before.before.before.feed-then-g-eq0 in
+    let s = c in
+    let d = c.seat-d in
+    let o : 0 < d.result.wide = omega (arith, c.if-w-eq0.false) in
+    let h = c.if-x-w.false in
+    let g = c.seat-g in
+    let a = c.feed-a in
+    let b = c.feed-b in
+    let f = c.feed-then-g-eq0 in
     fed_last_small s.args.runs.now s.args.n s.args.m s.args.base s.args.len s.args.out.now s.args.c s.args.at.now s.requires d.result d.ensures.2
     g.result g.ensures.2 g.ensures.1.within (d.ensures.1.within o) (omega (arith, d.ensures.1.within o, h))
-    a.new.1.1.1.1.1.0 a.new.1.1.1.1.1.1.1.0 a.result a.auto.1.1.1.1.1.0 a.ensures b.new.1.1.1.1.1.0 b.new.1.1.1.1.1.1.1.0 b.result b.auto.1.1.1.1.1.0 b.ensures (omega (arith, c.before.before.before.before.before.before.before.if-g-eq0.true))
-    f.new.1.1.1.1.1.0 f.new.1.1.1.1.1.1.1.0 f.result f.ensures
+    a.new.out a.new.at a.result a.auto.out a.ensures b.new.out b.new.at b.result b.auto.out b.ensures (omega (arith, c.if-g-eq0.true))
+    f.new.out f.new.at f.result f.ensures
 
 feed-requires-6 : tie.Need-feed-requires-2
 feed-requires-6 c κs =
-    let s = c.before.before.before.before.before.before.before.before.before.before.before.before.before.before.before.before.before.before.before.before.before.before.before.before.before in
-    let d = c.before.before.before.before.before.before.before.before.before.before.before.before.before.before.before.before.before.before.before.before.before.seat-d in
-    let o : 0 < d.result.wide = omega (arith, c.before.before.before.before.before.before.before.before.before.before.before.before.before.before.before.before.before.before.before.before.if-w-eq0.false) in
-    let h = c.before.before.before.before.before.before.before.before.before.before.before.before.before.before.before.before.before.before.before.if-x-w.false in
-    let g = c.before.before.before.before.before.before.before.before.before.before.before.before.before.before.before.before.before.before.seat-g in
-    let a = c.before.before.before.before.before.before.before.before.before.before.before.before.before.before.before.feed-a in
-    let b = c.before.before.before.before.before.before.before.before.feed-b in
+    let s = c in
+    let d = c.seat-d in
+    let o : 0 < d.result.wide = omega (arith, c.if-w-eq0.false) in
+    let h = c.if-x-w.false in
+    let g = c.seat-g in
+    let a = c.feed-a in
+    let b = c.feed-b in
     feed_last_part s.args.runs.now s.args.n s.args.m s.args.base s.args.len s.args.out.now s.args.c s.args.at.now s.requires d.result d.ensures.2
     g.result g.ensures.2 g.ensures.1.within (d.ensures.1.within o) (omega (arith, d.ensures.1.within o, h))
-    a.new.1.1.1.1.1.0 a.new.1.1.1.1.1.1.1.0 a.result a.auto.1.1.1.1.1.0 a.ensures b.new.1.1.1.1.1.0 b.new.1.1.1.1.1.1.1.0 b.result b.auto.1.1.1.1.1.0 b.ensures (omega arith)
+    a.new.out a.new.at a.result a.auto.out a.ensures b.new.out b.new.at b.result b.auto.out b.ensures (omega arith)
 
 returns-4 : tie.Need-returns
 returns-4 c =
-    let s = c.before.before.before.before.before.before.before.before.before.before.before.before.before.before.before.before.before.before.before.before.before.before.before.before.before.before.before.before.before.before in
-    let d = c.before.before.before.before.before.before.before.before.before.before.before.before.before.before.before.before.before.before.before.before.before.before.before.before.before.before.seat-d in
-    let o : 0 < d.result.wide = omega (arith, c.before.before.before.before.before.before.before.before.before.before.before.before.before.before.before.before.before.before.before.before.before.before.before.before.before.if-w-eq0.false) in
-    let h = c.before.before.before.before.before.before.before.before.before.before.before.before.before.before.before.before.before.before.before.before.before.before.before.before.if-x-w.false in
-    let g = c.before.before.before.before.before.before.before.before.before.before.before.before.before.before.before.before.before.before.before.before.before.before.before.seat-g in
-    let a = c.before.before.before.before.before.before.before.before.before.before.before.before.before.before.before.before.before.before.before.before.feed-a in
-    let b = c.before.before.before.before.before.before.before.before.before.before.before.before.before.feed-b in
-    let f = c.before.before.before.before.feed-2 in
+    let s = c in
+    let d = c.seat-d in
+    let o : 0 < d.result.wide = omega (arith, c.if-w-eq0.false) in
+    let h = c.if-x-w.false in
+    let g = c.seat-g in
+    let a = c.feed-a in
+    let b = c.feed-b in
+    let f = c.feed-2 in
     fed_last_part s.args.runs.now s.args.n s.args.m s.args.base s.args.len s.args.out.now s.args.c s.args.at.now s.requires d.result d.ensures.2
     g.result g.ensures.2 g.ensures.1.within (d.ensures.1.within o) (omega (arith, d.ensures.1.within o, h))
-    a.new.1.1.1.1.1.0 a.new.1.1.1.1.1.1.1.0 a.result a.auto.1.1.1.1.1.0 a.ensures b.new.1.1.1.1.1.0 b.new.1.1.1.1.1.1.1.0 b.result b.auto.1.1.1.1.1.0 b.ensures (omega (arith, c.before.before.before.before.before.before.before.if-g-eq0.false))
-    f.new.1.1.1.1.1.0 f.new.1.1.1.1.1.1.1.0 f.result f.ensures
+    a.new.out a.new.at a.result a.auto.out a.ensures b.new.out b.new.at b.result b.auto.out b.ensures (omega (arith, c.if-g-eq0.false))
+    f.new.out f.new.at f.result f.ensures
 
 pub feed_span_spec : {M : Type 1} → statement M
 feed_span_spec =

@@ -19,7 +19,7 @@ decreases-loop runs n missing cur₀ k₀ cur k = length (overlaps_from runs n m
 -- after a step one overlap fewer is left
 shorter : (c : tie.In-Overlap invariant-loop decreases-loop) →
     let a = c.args in
-    let next = c.rest-1.given.0.1.1.1.0 in
+    let next = c.in-Overlap.rest in
     (length (overlaps_from a.runs.now a.n a.missing.now c.loop-rest.cur)
     ≡ suc (length (overlaps_from a.runs.now a.n a.missing.now next)))
     × InRange next
@@ -27,7 +27,7 @@ shorter c =
     let a = c.args in
     let l = c.loop-rest in
     let v = c.advance in
-    let e = c.rest-1.given.1 in (
+    let e = c.in-Overlap.is in (
       ap length (step_list a.runs.now a.n a.missing.now l.cur v.result v.ensures _ _ _ _ e),
       (step_range a.runs.now a.n a.missing.now l.cur v.result v.ensures _ _ _ _ e).cursor,
     )
@@ -40,7 +40,7 @@ returns c =
     omega (
       arith,
       l.invariant.1,
-      ap length (step_end a.runs.now a.n a.missing.now l.cur v.result v.ensures c.enum_told-1.given.1),
+      ap length (step_end a.runs.now a.n a.missing.now l.cur v.result v.ensures c.in_default.is),
     )
 
 add-k : tie.Need-overflow_add-k invariant-loop decreases-loop

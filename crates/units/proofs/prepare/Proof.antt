@@ -7,18 +7,18 @@ use Rattle.units.proofs.prepare.Tie as tie
 
 lift-all-requires : tie.Need-lift_all-requires
 lift-all-requires c κs =
-    let s = c.before.before.before.before.before.before.before.before in
-    let f = c.before.before.before.before.ranked-n in
-    can_lift_all s.args.nets.now s.args.lifts.now s.args.i f.new.runs.runs.0 f.result s.requires.order f.ensures
-    (omega (arith, s.requires.room, f.auto.1.1.0))
+    let s = c in
+    let f = c.ranked-n in
+    can_lift_all s.args.nets.now s.args.lifts.now s.args.i f.new.runs f.result s.requires.order f.ensures
+    (omega (arith, s.requires.room, f.auto.runs))
 
 returns : tie.Need-returns
 returns c =
-    let s = c.before.before.before.before.before.before.before.before.before.before.before in
-    let f = c.before.before.before.before.before.before.before.ranked-n in
-    let g = c.before.before.lift_all in
-    prepared s.args.nets.now s.args.lifts.now s.args.i f.new.runs.runs.0 f.result s.requires.order f.ensures
-    g.new.1.0 g.result (omega (arith, s.requires.room, f.auto.1.1.0, g.auto.1.0)) g.ensures
+    let s = c in
+    let f = c.ranked-n in
+    let g = c.lift_all in
+    prepared s.args.nets.now s.args.lifts.now s.args.i f.new.runs f.result s.requires.order f.ensures
+    g.new.runs g.result (omega (arith, s.requires.room, f.auto.runs, g.auto.runs)) g.ensures
 
 pub prepare_spec : {M : Type 1} → statement M
 prepare_spec =
