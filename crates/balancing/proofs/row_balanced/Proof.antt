@@ -23,31 +23,26 @@ loop-holds : tie.Need-loop-a-init invariant-loop decreases-loop
 loop-holds c = sum_start _
 
 -- what is added is the net
-same : (c : tie.After-n-1 invariant-loop decreases-loop) → let l = c.before.before.loop-a in
-    let n = get_or c.before.before.before.args.net.now l.a (pos 0) in
-    back w32 n ≡ n
+same : (c : tie.After-n-1 invariant-loop decreases-loop) → let n = get_or c.args.net.now c.loop-a.a (pos 0) in back w32 n ≡ n
 same c = to_z-of_z w32 _ (search rules)
 
 add-sum : tie.Need-overflow_add-sum invariant-loop decreases-loop
 add-sum c =
-    let s = c.before.before.before in
-    let l = c.before.before.loop-a in
-    rw (same c) (next_fits s.args.net.now s.requires l.a (to_z w32 l.sum) l.invariant (omega arith))
+    let l = c.loop-a in
+    rw (same c) (next_fits c.args.net.now c.requires l.a (to_z w32 l.sum-bits) l.invariant (omega arith))
 
 loop-again : tie.Need-loop-a-preserved invariant-loop decreases-loop
 loop-again c =
-    let s = c.before.before.before in
-    let l = c.before.before.loop-a in
-    let ns = s.args.net.now in
-    let z = to_z w32 l.sum in
-    rw (same c, to_z-of_z w32 (z +ℤ get_or ns l.a (pos 0)) (next_fits ns s.requires l.a z l.invariant (omega arith)))
-    (sum_next ns s.requires l.a z l.invariant (omega arith))
+    let l = c.loop-a in
+    let ns = c.args.net.now in
+    let z = to_z w32 l.sum-bits in
+    rw (same c, to_z-of_z w32 (z +ℤ get_or ns l.a (pos 0)) (next_fits ns c.requires l.a z l.invariant (omega arith)))
+    (sum_next ns c.requires l.a z l.invariant (omega arith))
 
 returns : tie.Need-returns invariant-loop decreases-loop
 returns c =
-    let s = c.before.before in
-    let l = c.before.loop-a in
-    sum_end s.args.net.now s.requires l.a l.sum l.invariant (omega arith)
+    let l = c.loop-a in
+    sum_end c.args.net.now c.requires l.a l.sum-bits l.invariant (omega arith)
 
 pub row_balanced_spec : {M : Type 1} → statement M
 row_balanced_spec =

@@ -8,12 +8,12 @@ use Rattle.bookkeeping.proofs.ledger_sound.Tie as tie
 
 returns : tie.Need-returns-then-n-gt-MOST_ENTRIES
 unfolding ledger_sound
-returns c = rw (lt-leb c.before.before.before.before.before.before.args.s.entries most_entries c.if-n-gt-MOST_ENTRIES.true)
+returns c = rw (lt-leb c.args.s.entries most_entries c.if-n-gt-MOST_ENTRIES.true)
 
 returns-2 : tie.Need-returns
 unfolding ledger_sound
 returns-2 c =
-    rw (le-leb c.before.before.before.before.before.before.before.before.args.s.entries most_entries c.before.before.if-n-gt-MOST_ENTRIES.false, c.before.entries_sound-used.ensures, c.unused_zero-unused.ensures)
+    rw (le-leb c.args.s.entries most_entries c.if-n-gt-MOST_ENTRIES.false, c.entries_sound-used.ensures, c.unused_zero-unused.ensures)
 
 pub ledger_sound_spec : {M : Type 1} → statement M
 ledger_sound_spec =

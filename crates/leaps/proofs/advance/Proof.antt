@@ -8,26 +8,26 @@ use Rattle.leaps.proofs.Columns.{filled, behind, advanced}
 use Rattle.leaps.proofs.advance.Statement.{statement}
 use Rattle.leaps.proofs.advance.Tie as tie
 
-abbrev invariant-loop : tie.invariant-loop
+abbrev invariant-loop : tie.invariant-loop-c
 invariant-loop xs k delivered₀ c₀ delivered c =
     (c ≤ length delivered₀) × (length delivered ≡ length delivered₀) × ((b : ℕ) → b < c → get_or delivered b 0 ≡ get_or delivered₀ b 0 + k * get_or xs b 0) × ((b : ℕ) → c ≤ b → get_or delivered b 0 ≡ get_or delivered₀ b 0)
 
-abbrev decreases-loop : tie.decreases-loop
+abbrev decreases-loop : tie.decreases-loop-c
 decreases-loop xs k delivered₀ c₀ delivered c = length delivered₀ - c
 
-loop-holds : tie.Need-loop-init invariant-loop decreases-loop
+loop-holds : tie.Need-loop-c-init invariant-loop decreases-loop
 loop-holds c = (search rules, refl, (λ b h. absurd (omega arith)), λ b h. refl)
 
-mul-delivered-2 : tie.Need-overflow-mul-delivered-2 invariant-loop decreases-loop
-mul-delivered-2 c = omega (arith, c.before.before.before.requires.fits c.before.before.loop.c)
+mul-delivered-2 : tie.Need-overflow_mul-delivered invariant-loop decreases-loop
+mul-delivered-2 c = omega (arith, c.before.before.before.requires.fits c.before.before.loop-c.c)
 
-add-delivered : tie.Need-overflow-add-delivered invariant-loop decreases-loop
-add-delivered c = let l = c.before.before.before.loop in omega (arith, c.before.before.before.before.requires.fits l.c, l.invariant.3 l.c (omega arith))
+add-delivered : tie.Need-overflow_add-delivered invariant-loop decreases-loop
+add-delivered c = let l = c.before.before.before.loop-c in omega (arith, c.before.before.before.before.requires.fits l.c, l.invariant.3 l.c (omega arith))
 
-loop-again : tie.Need-loop-preserved invariant-loop decreases-loop
+loop-again : tie.Need-loop-c-preserved invariant-loop decreases-loop
 loop-again c =
     let s = c.before.before.before.before in
-    let l = c.before.before.before.loop in
+    let l = c.before.before.before.loop-c in
     let ds = s.args.delivered.now in
     let xs = s.args.xs.now in
     let k = s.args.k in
@@ -42,12 +42,12 @@ loop-again c =
 returns : tie.Need-returns invariant-loop decreases-loop
 returns c =
     let a = c.before.before.args in
-    let l = c.before.loop in
+    let l = c.before.loop-c in
     advanced a.k a.xs.now a.delivered.now l.delivered l.c l.invariant.1 (omega (arith, l.invariant.1)) l.invariant.2
 
-pub advance-spec : {M : Type 1} → statement M
-advance-spec =
+pub advance_spec : {M : Type 1} → statement M
+advance_spec =
     tie.close
-    (tie.spec invariant-loop decreases-loop loop-holds (λ c. search rules) (λ c. search rules) mul-delivered-2 (λ c. search rules)
-    (λ c. search rules) add-delivered (λ c. search rules) (λ c. search rules) (λ c. search rules) loop-again
-    (λ c. search rules) returns)
+    (tie.spec invariant-loop decreases-loop loop-holds (λ c. search rules) (λ c. search rules) mul-delivered-2
+    (λ c. search rules) (λ c. search rules) add-delivered (λ c. search rules) (λ c. search rules)
+    (λ c. search rules) loop-again (λ c. search rules) returns)

@@ -7,17 +7,18 @@ use borrow.Author.Rules.{rules}
 use Rattle.leaps.proofs.issue_rounds.Statement.{statement}
 use Rattle.leaps.proofs.issue_rounds.Tie as tie
 
-returns : tie.Need-returns
+returns : tie.Need-returns-then-x-eq0
 returns c =
     let a = c.before.before.args in
-    (omega arith, again_none_for (units_of_runs a.size (runs_in a.runs.now a.n)) a.d a.x a.k c.if1.true)
+    (omega arith, again_none_for (units_of_runs a.size (runs_in a.runs.now a.n)) a.d a.x a.k c.if-x-eq0.true)
 
-returns-2 : tie.Need-returns-2
+returns-2 : tie.Need-returns
 returns-2 c =
     let a = c.before.before.before.before.args in
     let e = c.smaller.ensures in
     let us = units_of_runs a.size (runs_in a.runs.now a.n) in
-    (omega (arith, e), again_fewer us a.d a.x c.before.run-rounds.result c.smaller.result (omega (arith, e)) c.before.run-rounds.ensures)
+    (omega (arith, e), again_fewer us a.d a.x c.before.run_rounds.result c.smaller.result (omega (arith, e)) c.before.run_rounds.ensures)
 
-pub issue-rounds-spec : {M : Type 1} → statement M
-issue-rounds-spec = tie.close (tie.spec returns (λ c κs. search rules) (λ c κs. search rules) returns-2)
+pub issue_rounds_spec : {M : Type 1} → statement M
+issue_rounds_spec = tie.close
+    (tie.spec returns (λ c κs. search rules) (λ c κs. search rules) returns-2)

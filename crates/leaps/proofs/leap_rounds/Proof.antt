@@ -18,58 +18,58 @@ use borrow.Author.Rules.{rules}
 use Rattle.leaps.proofs.leap_rounds.Statement.{statement}
 use Rattle.leaps.proofs.leap_rounds.Tie as tie
 
-abbrev invariant-loop : tie.invariant-loop
+abbrev invariant-loop : tie.invariant-loop-i
 invariant-loop nets runs counts size before after xs k₀ i₀ k i =
     (i ≤ 16) × (k ≤ 20000000) × OwedFor nets after xs k
     × ((b : ℕ) → b < i → AgainFor (units size (dues_of nets b)) (delivered_total before b) (delivered_total xs b) k)
 
-abbrev decreases-loop : tie.decreases-loop
+abbrev decreases-loop : tie.decreases-loop-i
 decreases-loop nets runs counts size before after xs k₀ i₀ k i = 16 - i
 
-loop-holds : tie.Need-loop-init invariant-loop decreases-loop
-loop-holds c = (search rules, c.owed-rounds.ensures.0, c.owed-rounds.ensures.1, λ b h. absurd (omega arith))
+loop-holds : tie.Need-loop-i-init invariant-loop decreases-loop
+loop-holds c = (search rules, c.owed_rounds-k.ensures.0, c.owed_rounds-k.ensures.1, λ b h. absurd (omega arith))
 
-total-requires : tie.Need-total-requires invariant-loop decreases-loop
+total-requires : tie.Need-total-d-requires invariant-loop decreases-loop
 total-requires c κs =
     let s = c.before.before.before.before.before.before.before.before.before in
-    let l = c.before.before.loop in
+    let l = c.before.before.loop-i in
     rw (row_part s.args.before.now l.i) (omega (arith, s.requires.small_before l.i (omega arith)))
 
-total-requires-2 : tie.Need-total-requires-2 invariant-loop decreases-loop
+total-requires-2 : tie.Need-total-x-requires invariant-loop decreases-loop
 total-requires-2 c κs =
     let s = c.before.before.before.before.before.before.before.before.before.before.before in
-    let l = c.before.before.before.before.loop in
+    let l = c.before.before.before.before.loop-i in
     rw (row_part s.args.xs.now l.i) (omega (arith, s.requires.small_each l.i (omega arith)))
 
-cast-issue-rounds : tie.Need-overflow-cast-issue-rounds invariant-loop decreases-loop
-cast-issue-rounds c = let s = c.before.before.before.before.before.before.before.before.before.before.before.before.before.before in let l = c.before.before.before.before.before.before.before.loop in omega (arith, (s.requires.ranked.orders l.i (omega arith)).few)
+cast-issue-rounds : tie.Need-overflow_cast-counts invariant-loop decreases-loop
+cast-issue-rounds c = let s = c.before.before.before.before.before.before.before.before.before.before.before.before.before.before in let l = c.before.before.before.before.before.before.before.loop-i in omega (arith, (s.requires.ranked.orders l.i (omega arith)).few)
 
-issue-rounds-requires : tie.Need-issue-rounds-requires invariant-loop decreases-loop
+issue-rounds-requires : tie.Need-issue_rounds-k-requires invariant-loop decreases-loop
 issue-rounds-requires c κs =
     let s = c.before.before.before.before.before.before.before.before.before.before.before.before.before.before in
-    let l = c.before.before.before.before.before.before.before.loop in
+    let l = c.before.before.before.before.before.before.before.loop-i in
     let rs = s.args.runs.now in
-    let x : c.before.before.total2.result ≡ delivered_total s.args.xs.now l.i =
-    c.before.before.total2.ensures ∙ ap sum (row_part s.args.xs.now l.i) in
+    let x : c.before.before.total-x.result ≡ delivered_total s.args.xs.now l.i =
+    c.before.before.total-x.ensures ∙ ap sum (row_part s.args.xs.now l.i) in
     record {
       there = rw (part_block rs l.i) (omega (arith, length_block 128 rs l.i (omega (arith, s.requires.ranked.table)), (s.requires.ranked.orders l.i (omega arith)).few));
       some = s.requires.some;
       small = omega (arith, x, s.requires.small_each l.i (omega arith));
     }
 
-loop-again : tie.Need-loop-preserved invariant-loop decreases-loop
+loop-again : tie.Need-loop-i-preserved invariant-loop decreases-loop
 loop-again c =
     let s = c.before.before.before.before.before.before.before.before.before.before.before.before.before.before.before in
     let a = s.args in
-    let l = c.before.before.before.before.before.before.before.before.loop in
-    let f = c.issue-rounds.ensures in
-    let r = c.issue-rounds.result in
+    let l = c.before.before.before.before.before.before.before.before.loop-i in
+    let f = c.issue_rounds-k.ensures in
+    let r = c.issue_rounds-k.result in
     let hi : l.i < 16 = omega arith in
     let n = get_or a.counts.now l.i 0 in
-    let d : c.before.before.before.before.before.total.result ≡ delivered_total a.before.now l.i =
-    c.before.before.before.before.before.total.ensures ∙ ap sum (row_part a.before.now l.i) in
-    let x : c.before.before.before.total2.result ≡ delivered_total a.xs.now l.i =
-    c.before.before.before.total2.ensures ∙ ap sum (row_part a.xs.now l.i) in
+    let d : c.before.before.before.before.before.total-d.result ≡ delivered_total a.before.now l.i =
+    c.before.before.before.before.before.total-d.ensures ∙ ap sum (row_part a.before.now l.i) in
+    let x : c.before.before.before.total-x.result ≡ delivered_total a.xs.now l.i =
+    c.before.before.before.total-x.ensures ∙ ap sum (row_part a.xs.now l.i) in
     let us : units_of_runs a.size (runs_in (take (l.i * 128 + 128 - l.i * 128) (drop (l.i * 128) a.runs.now)) n) ≡ units a.size (dues_of a.nets.now l.i) =
     ap (λ w. units_of_runs a.size (runs_in w n)) (part_block a.runs.now l.i) ∙ (s.requires.ranked.orders l.i hi).units in (
       search rules,
@@ -81,15 +81,15 @@ loop-again c =
 
 returns : tie.Need-returns invariant-loop decreases-loop
 returns c =
-    let l = c.before.loop in
+    let l = c.before.loop-i in
     record { owed = l.invariant.2; most = l.invariant.1; units = λ b h. l.invariant.3 b (omega arith) }
 
-pub leap-rounds-spec : {M : Type 1} → statement M
-leap-rounds-spec =
+pub leap_rounds_spec : {M : Type 1} → statement M
+leap_rounds_spec =
     tie.close
-    (tie.spec invariant-loop decreases-loop (λ c κs. search rules) loop-holds (λ c. search rules) (λ c. search rules)
-    (λ c. search rules) (λ c. search rules) (λ c. search rules) (λ c. search rules) total-requires (λ c. search rules)
-    (λ c. search rules) (λ c. search rules) (λ c. search rules) total-requires-2 (λ c. search rules) (λ c. search rules)
+    (tie.spec invariant-loop decreases-loop (λ c κs. search rules) loop-holds (λ c. search rules)
     (λ c. search rules) (λ c. search rules) (λ c. search rules) (λ c. search rules) (λ c. search rules)
-    (λ c. search rules) cast-issue-rounds issue-rounds-requires (λ c. search rules) (λ c. search rules) loop-again
-    returns)
+    total-requires (λ c. search rules) (λ c. search rules) (λ c. search rules) (λ c. search rules) total-requires-2
+    (λ c. search rules) (λ c. search rules) (λ c. search rules) (λ c. search rules) (λ c. search rules)
+    (λ c. search rules) (λ c. search rules) (λ c. search rules) cast-issue-rounds issue-rounds-requires
+    (λ c. search rules) (λ c. search rules) loop-again returns)

@@ -23,13 +23,13 @@ loop-holds c = (search rules, lifts_start _ _ _ _)
 
 loop-again : tie.Need-loop-i-preserved invariant-loop decreases-loop
 loop-again c =
-    let a = c.before.before.before.before.before.args in
-    let l = c.before.before.loop-i in
+    let a = c.args in
+    let l = c.loop-i in
     (search rules, issues_more (lifts_sound a.phase (order_in false a.nets.now a.lifts.now) a.delivered.now a.lifts.now) l.i l.good _ _ (omega arith) c.issue_lifts-good.ensures l.invariant.1)
 
 returns : tie.Need-returns invariant-loop decreases-loop
 returns c =
-    let l = c.before.loop-i in
+    let l = c.loop-i in
     issues_end _ l.i l.good _ (omega arith) l.invariant.1
 
 pub lifts_sound_spec : {M : Type 1} → statement M

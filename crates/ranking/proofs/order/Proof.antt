@@ -15,10 +15,10 @@ rank-requires-2 c κs =
     let f = b.before.before.before.before.fulls in
     let r = b.before.before.before.before.before.before.before.before.rank-n in
     let s = b.before.before.before.before.before.before.before.before.before.before.before.before in
-    let rs = b.rests.new.1.0 in
-    let n : 64 ≤ length f.new.0 - r.result = omega (arith, f.auto.0, r.auto.1.0, r.ensures.few, s.requires.ranks.held) in (
+    let rs = b.rests.new.out in
+    let n : 64 ≤ length f.new.keys - r.result = omega (arith, f.auto.keys, r.auto.keys, r.ensures.few, s.requires.ranks.held) in (
       record {
-        accounts = omega (arith, b.rests.auto.1.0, s.requires.ranks.accounts, ap length b.rests.ensures, length-map s.args.dues.now (small_at s.args.size));
+        accounts = omega (arith, b.rests.auto.out, s.requires.ranks.accounts, ap length b.rests.ensures, length-map s.args.dues.now (small_at s.args.size));
         held = simp (length-take, length-drop) (omega arith);
         small = rest_small s.args.size s.args.dues.now rs b.rests.ensures s.requires.ranks.small;
       },
@@ -32,10 +32,10 @@ returns c =
     let rs = c.before.before.before.before.before.before.rests in
     let s = c.before.before.rank-m in
     let a = c.before.before.before.before.before.before.before.before.before.before.before.before.before.before.before.before.before.before in
-    let n : r.result ≤ length f.new.0 = omega (arith, f.auto.0, r.auto.1.0, r.ensures.few, a.requires.ranks.held) in
-    let m : s.result ≤ length s.new.1.0 = omega (arith, s.auto.1.0, s.ensures.few, simp (length-take, length-drop) at s.auto.1.0, f.auto.0, r.auto.1.0, r.ensures.few, a.requires.ranks.held) in (
+    let n : r.result ≤ length f.new.keys = omega (arith, f.auto.keys, r.auto.keys, r.ensures.few, a.requires.ranks.held) in
+    let m : s.result ≤ length s.new.keys = omega (arith, s.auto.keys, s.ensures.few, simp (length-take, length-drop) at s.auto.keys, f.auto.keys, r.auto.keys, r.ensures.few, a.requires.ranks.held) in (
       search rules,
-      ordered a.args.size a.args.dues.now rs.new.1.0 r.new.1.0 f.new.0 s.new.1.0 r.result s.result (length f.new.0 - r.result) n m r.ensures.order f.ensures rs.ensures s.ensures.order,
+      ordered a.args.size a.args.dues.now rs.new.out r.new.keys f.new.keys s.new.keys r.result s.result (length f.new.keys - r.result) n m r.ensures.order f.ensures rs.ensures s.ensures.order,
     )
 
 pub order_spec : {M : Type 1} → statement M

@@ -34,18 +34,18 @@ loop-again c =
     let l = c.before.before.before.before.before.loop-i in
     let g = c.before.before.rank_issue-n in
     let hi : l.i < 16 = omega arith in
-    let k : length g.new.1.1.0 ≡ 128 =
+    let k : length g.new.runs ≡ 128 =
     omega (
       arith,
-      g.auto.1.1.0,
+      g.auto.runs,
       length-take (l.i * 128 + 128 - l.i * 128) (drop (l.i * 128) l.runs),
       length-drop (l.i * 128) l.runs,
       l.invariant.1,
     ) in (
       search rules,
-      length_put l.runs g.new.1.1.0 l.i l.invariant.1 hi k,
+      length_put l.runs g.new.runs l.i l.invariant.1 hi k,
       simp length-set l.invariant.2,
-      rank_more s.args.size s.args.nets.now l.runs g.new.1.1.0 l.counts l.i g.result l.invariant.1 l.invariant.2 hi k l.invariant.3 g.ensures,
+      rank_more s.args.size s.args.nets.now l.runs g.new.runs l.counts l.i g.result l.invariant.1 l.invariant.2 hi k l.invariant.3 g.ensures,
     )
 
 returns : tie.Need-returns invariant-loop decreases-loop

@@ -12,7 +12,7 @@ order-requires : tie.Need-order-requires
 order-requires c κs =
     let s = c.before.before.before.before.before.before.before in
     let d = c.before.before.before.dues_of in
-    can_order s.args.size s.args.nets.now s.args.i d.new.1.0 _
+    can_order s.args.size s.args.nets.now s.args.i d.new.dues _
     (d.ensures ∙ ap (map due_of) (row_part s.args.nets.now s.args.i)) s.requires
 
 returns : tie.Need-returns
@@ -20,7 +20,7 @@ returns c =
     let s = c.before.before.before.before.before.before.before.before.before.before in
     let d = c.before.before.before.before.before.before.dues_of in
     let o = c.before.before.order in
-    ranked_at s.args.size s.args.nets.now s.args.i d.new.1.0 o.new.1.0 o.result s.requires.some
+    ranked_at s.args.size s.args.nets.now s.args.i d.new.dues o.new.runs o.result s.requires.some
     (d.ensures ∙ ap (map due_of) (row_part s.args.nets.now s.args.i)) o.ensures.0 o.ensures.1
 
 pub rank_issue_spec : {M : Type 1} → statement M

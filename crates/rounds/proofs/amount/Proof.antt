@@ -11,16 +11,16 @@ use borrow.Author.Rules.{rules}
 use Rattle.rounds.proofs.amount.Statement.{statement}
 use Rattle.rounds.proofs.amount.Tie as tie
 
-cast-k : tie.Need-cast-k
+cast-k : tie.Need-overflow_cast-k
 cast-k c = let s = c.before.before.before.before in omega (arith, s.pre.settled s.args.a)
 
-add-k : tie.Need-add-k
+add-k : tie.Need-overflow_add-k
 add-k c = let s = c.before.before.before.before in omega (arith, s.pre.settled s.args.a, s.pre.issue)
 
-mul-smaller : tie.Need-mul-smaller
+mul-smaller : tie.Need-offset_bounds-inventories-k
 mul-smaller c = let s = c.before.before.before.before.before.before.before.before in omega (arith, s.pre.settled s.args.a, s.pre.issue)
 
-shared-slice-read-smaller : tie.Need-shared-slice-read-smaller
+shared-slice-read-smaller : tie.Need-bounds-inventories-k
 shared-slice-read-smaller c = let s = c.before.before.before.before.before.before.before.before.before in omega (arith, s.pre.settled s.args.a, s.pre.issue, s.pre.stocks)
 
 returns : tie.Need-returns
@@ -29,12 +29,12 @@ returns c =
     let n = get_or a.nets.now (a.i * 64 + a.a) (pos 0) in
     c.smaller.ensures
     ∙ ap (λ o. min (get_or a.inventories.now (a.i * 16 + get_or a.settles.now a.a 0) 0) o)
-    (c.before.before.less.ensures
+    (c.before.before.less-owed.ensures
     ∙ ap (λ o. o - get_or a.delivered.now (a.i * 64 + a.a) 0) (c.before.before.before.before.owed.ensures ∙ ap owed_of (to_z-of_z w32 n (search rules))))
 
-pub amount-spec : {M : Type 1} → statement M
-amount-spec =
+pub amount_spec : {M : Type 1} → statement M
+amount_spec =
     tie.close
-    (tie.spec (λ c. search rules) (λ c. search rules) (λ c. search rules) (λ c. search rules) (λ c. search rules) cast-k
-    add-k (λ c. search rules) (λ c. search rules) (λ c κs. search rules) (λ c. search rules) (λ c. search rules)
-    (λ c κs. search rules) mul-smaller shared-slice-read-smaller (λ c κs. search rules) returns)
+    (tie.spec (λ c. search rules) (λ c. search rules) (λ c. search rules) (λ c. search rules) (λ c. search rules)
+    cast-k add-k (λ c. search rules) (λ c. search rules) (λ c κs. search rules) (λ c. search rules)
+    (λ c. search rules) (λ c κs. search rules) mul-smaller shared-slice-read-smaller (λ c κs. search rules) returns)

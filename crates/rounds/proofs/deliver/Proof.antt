@@ -13,25 +13,25 @@ use borrow.Author.Rules.{rules}
 use Rattle.rounds.proofs.deliver.Statement.{statement}
 use Rattle.rounds.proofs.deliver.Tie as tie
 
-total-requires : tie.Need-total-requires
+total-requires : tie.Need-total-d-requires
 total-requires c κs = let s = c.before.before.before.before.before.before in rw (row_part s.args.delivered.now s.args.i) (omega (arith, s.requires.fits))
 
-cast-k : tie.Need-overflow-cast-k
+cast-k : tie.Need-overflow_cast-k
 cast-k c = let s = c.before.before.before.before.before.before.before.before in omega (arith, s.requires.settled s.args.a)
 
-add-k : tie.Need-overflow-add-k
+add-k : tie.Need-overflow_add-k
 add-k c = let s = c.before.before.before.before.before.before.before.before in omega (arith, s.requires.settled s.args.a, s.requires.issue)
 
-add-delivered : tie.Need-overflow-add-delivered
+add-delivered : tie.Need-overflow_add-delivered
 add-delivered c = let s = c.before.before.before.before.before.before.before.before.before in omega (arith, cell_total s.args.delivered.now s.args.i s.args.a s.requires.account, s.requires.fits)
 
-mul-inventories : tie.Need-overflow-mul-inventories
+mul-inventories : tie.Need-offset_bounds-inventories-k
 mul-inventories c = let s = c.before.before.before.before.before.before.before.before.before in omega (arith, s.requires.settled s.args.a, s.requires.issue)
 
-slice-read-inventories : tie.Need-slice-read-inventories
+slice-read-inventories : tie.Need-bounds-inventories-k
 slice-read-inventories c = let s = c.before.before.before.before.before.before.before.before.before.before in omega (arith, s.requires.settled s.args.a, s.requires.issue, s.requires.stocks)
 
-slice-write-inventories : tie.Need-slice-write-inventories
+slice-write-inventories : tie.Need-bounds-inventories-k-2
 slice-write-inventories c = let s = c.before.before.before.before.before.before.before.before.before.before in omega (arith, s.requires.settled s.args.a, s.requires.issue, s.requires.stocks)
 
 join-requires : tie.Need-join-requires
@@ -40,8 +40,8 @@ join-requires c κs =
     let a = s.args in
     let v = a.inventories.now in
     let k = a.i * 16 + get_or a.settles.now a.a 0 in
-    let t : c.before.before.before.before.total.result ≡ delivered_total a.delivered.now a.i =
-    c.before.before.before.before.total.ensures ∙ ap sum (row_part a.delivered.now a.i) in
+    let t : c.before.before.before.before.total-d.result ≡ delivered_total a.delivered.now a.i =
+    c.before.before.before.before.total-d.ensures ∙ ap sum (row_part a.delivered.now a.i) in
     let h : k < length v = omega (arith, s.requires.settled a.a, s.requires.issue, s.requires.stocks) in
     record {
       there = s.requires.there;
@@ -51,15 +51,15 @@ join-requires c κs =
       issue = s.requires.issue;
       whole = length-set v k (get_or v k 0 - a.x) ∙ s.requires.stocks;
       fits = omega (arith, t, s.requires.fits);
-      small = lowered_small v k a.x (c.before.before.before.before.total.result + a.x) h s.requires.small (omega (arith, t, s.requires.fits));
+      small = lowered_small v k a.x (c.before.before.before.before.total-d.result + a.x) h s.requires.small (omega (arith, t, s.requires.fits));
     }
 
-same-length-2 : tie.Need-same-length-2
+same-length-2 : tie.Need-shape_of-inventories
 same-length-2 c =
-    let a = c.before.before.before.before.before.before.before.before.before.before.before.before.before.before.args in
+    let a = c.before.before.before.before.before.before.before.before.before.before.before.before.before.args in
     let v = a.inventories.now in
     let k = a.i * 16 + get_or a.settles.now a.a 0 in
-    let d = c.before.before.before.before.before.before.before.total.result in
+    let d = c.before.before.before.before.before.before.before.total-d.result in
     ap length c.before.before.join.ensures
     ∙ length_joined a.settles.now a.size a.i (runs_in a.runs.now a.n) d (d + a.x) (set v k (get_or v k 0 - a.x))
     ∙ length-set v k (get_or v k 0 - a.x)
@@ -70,19 +70,19 @@ returns c =
     let a = s.args in
     let k = a.i * 16 + get_or a.settles.now a.a 0 in
     let v = a.inventories.now in
-    let t : c.before.before.before.before.before.before.before.total.result ≡ delivered_total a.delivered.now a.i =
-    c.before.before.before.before.before.before.before.total.ensures ∙ ap sum (row_part a.delivered.now a.i) in
+    let t : c.before.before.before.before.before.before.before.total-d.result ≡ delivered_total a.delivered.now a.i =
+    c.before.before.before.before.before.before.before.total-d.ensures ∙ ap sum (row_part a.delivered.now a.i) in
     record {
       cells = refl;
       stocks = c.before.before.join.ensures
           ∙ ap (λ d. joined_runs a.settles.now a.size a.i (runs_in a.runs.now a.n) d (d + a.x) (set v k (get_or v k 0 - a.x))) t;
     }
 
-pub deliver-spec : {M : Type 1} → statement M
-deliver-spec =
+pub deliver_spec : {M : Type 1} → statement M
+deliver_spec =
     tie.close
     (tie.spec (λ c. search rules) (λ c. search rules) (λ c. search rules) (λ c. search rules) (λ c. search rules)
-    (λ c. search rules) total-requires (λ c. search rules) (λ c. search rules) (λ c. search rules) (λ c. search rules)
-    cast-k add-k (λ c. search rules) (λ c. search rules) add-delivered (λ c. search rules) mul-inventories
-    slice-read-inventories (λ c. search rules) slice-write-inventories join-requires (λ c. search rules) same-length-2
-    returns)
+    (λ c. search rules) total-requires (λ c. search rules) (λ c. search rules) (λ c. search rules)
+    (λ c. search rules) cast-k add-k (λ c. search rules) (λ c. search rules) add-delivered (λ c. search rules)
+    mul-inventories slice-read-inventories (λ c. search rules) slice-write-inventories join-requires
+    (λ c. search rules) same-length-2 returns)

@@ -7,17 +7,17 @@ use borrow.Author.Rules.{rules}
 use Rattle.rounds.proofs.turn.Statement.{statement}
 use Rattle.rounds.proofs.turn.Tie as tie
 
-returns : tie.Need-returns
+returns : tie.Need-returns-then-x-eq0
 returns c =
     let s = c.before.before.before.before.before.before.before.before in
     let a = s.args in
     turned_none a.nets.now a.settles.now a.size a.a a.i a.delivered.now a.inventories.now
-    (sym c.before.amount.ensures ∙ c.if1.true)
+    (sym c.before.amount-x.ensures ∙ c.if-x-eq0.true)
 
 deliver-requires : tie.Need-deliver-requires
 deliver-requires c κs =
     let s = c.before.before.before.before.before.before.before.before.before.before in
-    let e = c.before.before.before.amount.ensures in
+    let e = c.before.before.before.amount-x.ensures in
     record {
       whole = s.requires.asks.whole;
       accounts = s.requires.asks.accounts;
@@ -32,12 +32,12 @@ deliver-requires c κs =
       small = s.requires.small;
     }
 
-returns-2 : tie.Need-returns-2
+returns-2 : tie.Need-returns
 returns-2 c =
     let s = c.before.before.before.before.before.before.before.before.before.before.before.before.before.before.before in
     let a = s.args in
     turned_some a.nets.now a.settles.now a.runs.now a.n a.size a.a a.i a.delivered.now _ a.inventories.now _
-    c.before.before.before.before.before.before.before.before.amount.result s.requires c.before.before.before.before.before.before.before.before.amount.ensures (ne_eqb _ _ c.before.before.before.before.before.before.before.if1.false) c.before.before.before.before.deliver.ensures
+    c.before.before.before.before.before.before.before.before.amount-x.result s.requires c.before.before.before.before.before.before.before.before.amount-x.ensures (ne_eqb _ _ c.before.before.before.before.before.before.before.if-x-eq0.false) c.before.before.before.before.deliver.ensures
 
 pub turn_spec : {M : Type 1} → statement M
 turn_spec =

@@ -10,40 +10,40 @@ use Rattle.sizes.proofs.Stepping.{loop_begin, loop_more, loop_last, times_more}
 use Rattle.sizes.proofs.to_the_end.Statement.{statement}
 use Rattle.sizes.proofs.to_the_end.Tie as tie
 
-abbrev invariant-loop : tie.invariant-loop
+abbrev invariant-loop : tie.invariant-loop-rounds
 invariant-loop nets settles runs counts size delivered₀ inventories₀ deliveries₀ rounds₀ delivered inventories deliveries rounds =
     CanRound nets settles runs counts size delivered inventories
     × (left (plan nets settles size) (desk delivered inventories 0) + deliveries ≤ left (plan nets settles size) (desk delivered₀ inventories₀ 0))
     × (rounds ≤ deliveries)
     × (ending (plan nets settles size) (desk delivered₀ inventories₀ 0) ≡ later rounds (ending (plan nets settles size) (desk delivered inventories deliveries)))
 
-abbrev decreases-loop : tie.decreases-loop
+abbrev decreases-loop : tie.decreases-loop-rounds
 decreases-loop nets settles runs counts size delivered₀ inventories₀ deliveries₀ rounds₀ delivered inventories deliveries rounds = left (plan nets settles size) (desk delivered inventories 0)
 
-loop-holds : tie.Need-loop-init invariant-loop decreases-loop
+loop-holds : tie.Need-loop-rounds-init invariant-loop decreases-loop
 loop-holds c =
     let s = c.before.before.before.before.before in
     let a = s.args in
     (s.requires.can, omega arith, omega arith, loop_begin a.nets.now a.settles.now a.runs.now a.counts.now a.size a.delivered.now a.inventories.now)
 
-returns : tie.Need-returns invariant-loop decreases-loop
+returns : tie.Need-returns-then-made-eq0 invariant-loop decreases-loop
 returns c =
     let a = c.before.before.before.before.before.before.before.before.before.before.before.before.before.before.before.before.args in
-    let l = c.before.before.before.before.before.before.before.before.before.before.loop in
-    let g = c.before.before.before.before.before.before.before.round-and-leap in
+    let l = c.before.before.before.before.before.before.before.before.before.before.loop-rounds in
+    let g = c.before.before.before.before.before.before.before.round_and_leap-s in
     loop_last a.nets.now a.settles.now a.runs.now a.counts.now a.size a.delivered.now a.inventories.now l.deliveries l.rounds l.invariant.3 g.ensures (search rules)
 
-loop-less : tie.Need-loop-smaller invariant-loop decreases-loop
+loop-less : tie.Need-loop-rounds-smaller invariant-loop decreases-loop
 loop-less c =
-    let g = c.before.before.before.before.before.before.before.round-and-leap in
+    let g = c.before.before.before.before.before.before.before.round_and_leap-s in
     let h : 0 < g.result.made = search rules in
     omega (arith, g.ensures.falls)
 
-loop-again : tie.Need-loop-preserved invariant-loop decreases-loop
+loop-again : tie.Need-loop-rounds-preserved invariant-loop decreases-loop
 loop-again c =
     let a = c.before.before.before.before.before.before.before.before.before.before.before.before.before.before.before.before.args in
-    let l = c.before.before.before.before.before.before.before.before.before.before.loop in
-    let g = c.before.before.before.before.before.before.before.round-and-leap in
+    let l = c.before.before.before.before.before.before.before.before.before.before.loop-rounds in
+    let g = c.before.before.before.before.before.before.before.round_and_leap-s in
     let h : 0 < g.result.made = search rules in (
       g.ensures.can,
       omega (arith, g.ensures.falls, l.invariant.1),
@@ -51,9 +51,9 @@ loop-again c =
       loop_more a.nets.now a.settles.now a.runs.now a.counts.now a.size a.delivered.now a.inventories.now l.deliveries l.rounds _ _ l.invariant.3 g.ensures h (omega arith) (omega arith),
     )
 
-pub to-the-end-spec : {M : Type 1} → statement M
-to-the-end-spec =
+pub to_the_end_spec : {M : Type 1} → statement M
+to_the_end_spec =
     tie.close
-    (tie.spec invariant-loop decreases-loop loop-holds (λ c κs. search rules) (λ c. search rules) (λ c. search rules)
-    (λ c. search rules) (λ c. search rules) (λ c. search rules) returns (λ c. search rules) (λ c. search rules)
-    (λ c. search rules) (λ c. search rules) (λ c. search rules) loop-less loop-again)
+    (tie.spec invariant-loop decreases-loop loop-holds (λ c κs. search rules) (λ c. search rules)
+    (λ c. search rules) (λ c. search rules) (λ c. search rules) (λ c. search rules) returns (λ c. search rules)
+    (λ c. search rules) (λ c. search rules) (λ c. search rules) (λ c. search rules) loop-less loop-again)

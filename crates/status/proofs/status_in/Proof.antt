@@ -13,38 +13,35 @@ use Rattle.status.proofs.status_in.Tie as tie
 
 returns : tie.Need-returns-then-taking
 returns c new =
-    let a = c.before.before.before.before.args in
+    let a = c.args in
     is_taking_lem new a.phase a.nets.now a.delivered.now a.lifts.now a.i a.k
-    (sym c.before.taking.ensures ∙ c.if-taking.true)
+    (sym c.taking.ensures ∙ c.if-taking.true)
 
 returns-2 : tie.Need-returns-then-i-gt-LAST_ISSUE
 returns-2 c new =
-    let a = c.before.before.before.before.before.args in
+    let a = c.args in
     no_issue new a.phase a.nets.now a.delivered.now a.lifts.now a.i a.k
-    (sym c.before.before.taking.ensures ∙ c.before.if-taking.false) c.if-i-gt-LAST_ISSUE.true
+    (sym c.taking.ensures ∙ c.if-taking.false) c.if-i-gt-LAST_ISSUE.true
 
 prepare-requires : tie.Need-prepare-n-requires
 prepare-requires c κs =
-    let s = c.before.before.before.before.before.before in
+    let s = c in
     record { order = can_order s.args.nets.now s.args.delivered.now s.args.lifts.now s.args.i s.requires (omega arith); room = omega arith }
 
 total-requires : tie.Need-total-d-requires
 total-requires c κs =
-    let s = c.before.before.before.before.before.before.before.before.before in
+    let s = c in
     rw (row_part s.args.delivered.now s.args.i)
     (total_small s.args.nets.now s.args.delivered.now s.args.lifts.now s.requires s.args.i (omega arith))
 
-abbrev start : tie.After-runs-3-1 → tie.Start
-start c = c.before.before.before.before.before.before.before.before.before.before.before
-
-total_is : (c : tie.After-runs-3-1) → c.before.total-d.result ≡ delivered_total (start c).args.delivered.now (start c).args.i
-total_is c = c.before.total-d.ensures ∙ ap sum (row_part (start c).args.delivered.now (start c).args.i)
+total_is : (c : tie.After-runs-3-1) → c.total-d.result ≡ delivered_total c.args.delivered.now c.args.i
+total_is c = c.total-d.ensures ∙ ap sum (row_part c.args.delivered.now c.args.i)
 
 tell-requires : tie.Need-tell-requires
 tell-requires c κs =
-    let s = start c in
+    let s = c in
     let a = s.args in
-    let p = c.before.before.before.before.prepare-n.ensures in
+    let p = c.prepare-n.ensures in
     record {
       held = p.held;
       small = rw p.units (omega (arith, (order_in_lem false a.nets.now a.lifts.now a.i).whole, dues_sum a.nets.now a.i s.requires.size s.requires.cells (omega arith)));
@@ -53,11 +50,11 @@ tell-requires c κs =
 returns-3 : tie.Need-returns
 returns-3 c new =
     let r = c.before in
-    let a = (start r).args in
-    let e = r.before.before.before.before.before.before in
+    let a = r.args in
+    let e = r in
     c.tell.ensures
-    ∙ of_unit new a.phase a.nets.now a.delivered.now a.lifts.now a.i a.k _ _ r.before.before.before.before.prepare-n.ensures.units
-    (total_is r) (sym e.before.before.taking.ensures ∙ e.before.if-taking.false) (omega arith)
+    ∙ of_unit new a.phase a.nets.now a.delivered.now a.lifts.now a.i a.k _ _ r.prepare-n.ensures.units
+    (total_is r) (sym e.taking.ensures ∙ e.if-taking.false) (omega arith)
 
 pub status_in_spec : {M : Type 1} → statement M
 status_in_spec =

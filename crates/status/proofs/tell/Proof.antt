@@ -1,11 +1,11 @@
 -- The unit is found first; then the total's covering, the phase and the stock say what is told.
-use mathlib.Core.Path.{◌≡◌, sym, ap, ◌∙◌}
+use mathlib.Core.Path.{◌≡◌, refl, sym, ap, ◌∙◌}
 use mathlib.Core.Bool.{true}
 use mathlib.Core.List.{List, ◌∷◌}
-use Prim.Native.Nat.{◌≤◌, ◌<◌}
+use Prim.Native.Nat.{ℕ, ◌≤◌, ◌<◌}
 use native.Mathlib.Omega.{arith}
 use lib.ListN.{length, drop, length-drop}
-use borrow.Author.Tests.{not-true, not-false, eqb-true}
+use borrow.Author.Tests.{eqb-true}
 use Rattle.rules.specs.Units.{AccountLots, account_lots}
 use Rattle.rules.specs.Handover.{first_unit}
 use Rattle.rules.specs.Book.{is_cut}
@@ -14,30 +14,34 @@ use Rattle.runs.specs.Runs.{units_in}
 use Rattle.handover.specs.Walking.{units_from}
 use Rattle.handover.proofs.Questions.{unit_list, unit_end}
 use Rattle.status.proofs.Telling.{wanted_some, stock_less, is_missing, is_handed_lem, is_waiting, is_partly, is_wholly}
+use Rattle.handover.specs.declared.NextUnit.{NextUnit}
+use Rattle.handover.specs.declared.NextUnit.TheVariants as next
+use Rattle.handover.specs.declared.Seat.{Seat}
 use borrow.Author.Rules.{rules}
 use Rattle.status.proofs.tell.Statement.{statement}
 use Rattle.status.proofs.tell.Tie as tie
 
-abbrev start : tie.After-handover-h → tie.Start
-start h = h.before.before.before.before.before.before.before
-
 abbrev units : tie.After-handover-h → List AccountLots
-units h = units_in (start h).args.runs.now (start h).args.n
+units h = units_in h.args.runs.now h.args.n
 
 abbrev seat : tie.After-handover-h → List AccountLots
-seat h = let g = h.x-1.given.0 in units_from (start h).args.runs.now (start h).args.n g.1.1.0
+seat h = units_from h.args.runs.now h.args.n h.in-Unit.field-2
 
 -- the unit is there
-unit_at : (h : tie.After-handover-h) → let g = h.x-1.given.0 in
-    drop (start h).args.k (units h) ≡ account_lots g.0 g.1.0 ∷ seat h
+unit_at : (h : tie.After-handover-h) → drop h.args.k (units h) ≡ account_lots h.in-Unit.field-0 h.in-Unit.x ∷ seat h
 unit_at h =
-    let a = (start h).args in
+    let a = h.args in
     let n = h.next_unit in
     sym (h.seek-s.ensures a.runs.now a.n)
-    ∙ unit_list a.runs.now a.n _ n.result n.ensures _ _ _ h.x-1.given.1
+    ∙ unit_list a.runs.now a.n _ n.result n.ensures _ _ _ h.in-Unit.is
 
-there : (h : tie.After-handover-h) → (start h).args.k < length (units h)
-there h = omega (arith, length-drop (start h).args.k (units h), ap length (unit_at h))
+there : (h : tie.After-handover-h) → h.args.k < length (units h)
+there h = omega (arith, length-drop h.args.k (units h), ap length (unit_at h))
+
+-- an answer that is no unit is none
+no_unit : (r : NextUnit) → ((a : ℕ) → (x : ℕ) → (s : Seat) → r ≡ next.Unit a x s → ⊥) → r ≡ next.Nothing
+no_unit (next.Unit a x s) n = absurd (n a x s refl)
+no_unit next.Nothing n = refl
 
 returns : tie.Need-returns-in_default
 returns c =
@@ -45,33 +49,30 @@ returns c =
     let n = c.next_unit in
     is_missing a.phase (units_in a.runs.now a.n) a.d a.k
     (sym (c.seek-s.ensures a.runs.now a.n)
-    ∙ unit_end a.runs.now a.n _ n.result n.ensures c.enum_told-1.given.1)
+    ∙ unit_end a.runs.now a.n _ n.result n.ensures (no_unit _ c.in_default.not-Unit))
 
 -- a unit that the total does not cover
-waits : (c : tie.Else-k-h) → let h = c.before.before in h.handover-h.result.count ≤ (start h).args.k
+waits : (c : tie.Else-k-h) → c.handover-h.result.count ≤ c.args.k
 waits c = omega arith
 
-abbrev handed : tie.Else-k-h → tie.After-handover-h
-handed c = c.before.before
-
 -- the phase
-is_cut_lem : (c : tie.Else-not-cut) → is_cut (start (handed c.before.before)).args.phase ≡ true
-is_cut_lem c = sym c.cut.ensures ∙ not-false _ c.if-not-cut.false
+is_cut_lem : (c : tie.Else-not-cut) → is_cut c.args.phase ≡ true
+is_cut_lem c = sym c.cut.ensures ∙ c.if-not-cut.false
 
 returns-2 : tie.Need-returns-then-k-h
 returns-2 c =
     let h = c.before.before in
-    let a = (start h).args in
-    is_handed_lem a.phase (units h) a.d a.k (there h) (omega (arith, h.handover-h.ensures.covers))
+    let a = c.args in
+    is_handed_lem a.phase (units h) a.d a.k (there h) (omega (arith, c.handover-h.ensures.covers))
 
-up_to : (c : tie.After-lots_up_to) → let h = handed c.before.before.before in (start h).args.d < c.lots_up_to.result
+up_to : (c : tie.After-lots_up_to) → c.args.d < c.lots_up_to.result
 up_to c =
-    let h = handed c.before.before.before in
-    let a = (start h).args in
+    let h = c.before.before.before.before.before in
+    let a = c.args in
     omega (
       arith,
       c.lots_up_to.ensures,
-      wanted_some (units h) a.d a.k (there h) (omega (arith, waits c.before.before.before, h.handover.ensures.covers)),
+      wanted_some (units h) a.d a.k (there h) (omega (arith, waits c.before.before.before, c.handover-h.ensures.covers)),
     )
 
 sub-t13 : tie.Need-overflow_sub-result
@@ -80,22 +81,21 @@ sub-t13 c = omega (arith, up_to c)
 returns-3 : tie.Need-returns-then-not-cut
 returns-3 c =
     let e = c.before.before.before in
-    let h = handed e in
-    let a = (start h).args in
+    let h = e.before.before in
+    let a = c.args in
     rw c.lots_up_to.ensures
-    (is_waiting a.phase (units h) a.d a.k (there h) (sym c.cut.ensures ∙ not-true _ c.if-not-cut.true)
-    (omega (arith, waits e, h.handover.ensures.covers)))
+    (is_waiting a.phase (units h) a.d a.k (there h) (sym c.cut.ensures ∙ c.if-not-cut.true)
+    (omega (arith, waits e, c.handover-h.ensures.covers)))
 
 sub-t15 : tie.Need-overflow_sub-result-then-k-h-2
 sub-t15 c =
-    let e = c in
-    let h = handed e.before.before in
-    let a = (start h).args in
-    let l = h.handover.ensures.covers in
-    let k = eqb-true a.k h.handover.result.count (and_left _ _ c.if-k-h-2.true) in
+    let h = c.before.before.before.before.before.before.before.before in
+    let a = c.args in
+    let l = c.handover-h.ensures.covers in
+    let k = eqb-true a.k c.handover-h.result.count (and_left _ _ c.if-k-h-2.true) in
     omega (
       arith,
-      h.handover.ensures.left,
+      c.handover-h.ensures.left,
       stock_less (units h) a.d a.k (there h) (omega (arith, l)) (k ∙ l),
       ap (λ us. (first_unit us).lots) (unit_at h),
     )
@@ -103,17 +103,17 @@ sub-t15 c =
 returns-4 : tie.Need-returns-then-k-h-2
 returns-4 c =
     let e = c.before.before.before.before in
-    let h = handed e.before.before in
-    let a = (start h).args in
-    is_partly a.phase (units h) a.d a.k (there h) _ _ h.handover.ensures.covers h.handover.ensures.left (is_cut_lem e)
+    let h = e.before.before.before.before in
+    let a = c.args in
+    is_partly a.phase (units h) a.d a.k (there h) _ _ c.handover-h.ensures.covers c.handover-h.ensures.left (is_cut_lem e)
     (waits e.before.before) _ _ (seat h) (unit_at h) c.if-k-h-2.true
 
 returns-5 : tie.Need-returns
 returns-5 c =
     let e = c.before.before.before in
-    let h = handed e.before.before in
-    let a = (start h).args in
-    is_wholly a.phase (units h) a.d a.k (there h) _ _ h.handover.ensures.covers h.handover.ensures.left (is_cut_lem e)
+    let h = e.before.before.before.before in
+    let a = c.args in
+    is_wholly a.phase (units h) a.d a.k (there h) _ _ c.handover-h.ensures.covers c.handover-h.ensures.left (is_cut_lem e)
     (waits e.before.before) c.if-k-h-2.false
 
 pub tell_spec : {M : Type 1} → statement M
