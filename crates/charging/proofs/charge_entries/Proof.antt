@@ -13,7 +13,7 @@ use borrow.Author.Rules.{rules}
 use Rattle.charging.proofs.charge_entries.Statement.{statement}
 use Rattle.charging.proofs.charge_entries.Tie as tie
 
-abbrev invariant-loop : tie.invariant-loop
+abbrev invariant-loop : tie.invariant-loop-k
 invariant-loop days rate quotes count issues froms tos lots charges₀ k₀ charges k =
     (k ≤ count)
     × (length charges ≡ 64)
@@ -21,94 +21,94 @@ invariant-loop days rate quotes count issues froms tos lots charges₀ k₀ char
     × (charged days rate quotes (drop k (entries count issues froms tos lots [])) charges
     ≡ charged days rate quotes (entries count issues froms tos lots []) charges₀)
 
-abbrev decreases-loop : tie.decreases-loop
+abbrev decreases-loop : tie.decreases-loop-k
 decreases-loop days rate quotes count issues froms tos lots charges₀ k₀ charges k = count - k
 
-cast-i : tie.Need-overflow-cast-i invariant-loop decreases-loop
+cast-i : tie.Need-overflow_cast-i invariant-loop decreases-loop
 cast-i c =
-    let l = c.before.before.loop in
-    let s = c.before.before.before.before.before.before.before.before in
+    let l = c.loop-k in
+    let s = c in
     let h : l.k < s.args.entries = omega arith in
     record { fits = omega (arith, s.requires.issue l.k h) }
 
-mul-charge-of-2 : tie.Need-overflow-mul-charge-of-2 invariant-loop decreases-loop
+mul-charge-of-2 : tie.Need-offset_bounds-quotes-i invariant-loop decreases-loop
 mul-charge-of-2 c =
-    let l = c.before.before.before.loop in
-    let s = c.before.before.before.before.before.before.before.before.before in
+    let l = c.loop-k in
+    let s = c in
     let h : l.k < s.args.entries = omega arith in
     record { fits = omega (arith, s.requires.issue l.k h) }
 
-shared-slice-read-charge-of-2 : tie.Need-shared-slice-read-charge-of-2 invariant-loop decreases-loop
+shared-slice-read-charge-of-2 : tie.Need-bounds-quotes-i invariant-loop decreases-loop
 shared-slice-read-charge-of-2 c =
-    let l = c.before.before.before.before.loop in
-    let s = c.before.before.before.before.before.before.before.before.before.before in
+    let l = c.loop-k in
+    let s = c in
     let h : l.k < s.args.entries = omega arith in
     omega (arith, s.requires.issue l.k h, s.requires.counted)
 
-add-charge-of : tie.Need-overflow-add-charge-of invariant-loop decreases-loop
+add-charge-of : tie.Need-overflow_add-i invariant-loop decreases-loop
 add-charge-of c =
-    let l = c.before.before.before.before.loop in
-    let s = c.before.before.before.before.before.before.before.before.before.before in
+    let l = c.loop-k in
+    let s = c in
     let h : l.k < s.args.entries = omega arith in
     omega (arith, s.requires.issue l.k h)
 
-mul-charge-of-3 : tie.Need-overflow-mul-charge-of-3 invariant-loop decreases-loop
+mul-charge-of-3 : tie.Need-offset_bounds-quotes-i-in-loop-k invariant-loop decreases-loop
 mul-charge-of-3 c =
-    let l = c.before.before.before.before.loop in
-    let s = c.before.before.before.before.before.before.before.before.before.before in
+    let l = c.loop-k in
+    let s = c in
     let h : l.k < s.args.entries = omega arith in
     record { fits = omega (arith, s.requires.issue l.k h) }
 
-shared-slice-read-charge-of-3 : tie.Need-shared-slice-read-charge-of-3 invariant-loop decreases-loop
+shared-slice-read-charge-of-3 : tie.Need-bounds-quotes-i-in-loop-k invariant-loop decreases-loop
 shared-slice-read-charge-of-3 c =
-    let l = c.before.before.before.before.before.loop in
-    let s = c.before.before.before.before.before.before.before.before.before.before.before in
+    let l = c.loop-k in
+    let s = c in
     let h : l.k < s.args.entries = omega arith in
     omega (arith, s.requires.issue l.k h, s.requires.counted)
 
-charge-of-requires : tie.Need-charge-of-requires invariant-loop decreases-loop
+charge-of-requires : tie.Need-charge_of-y-requires invariant-loop decreases-loop
 charge-of-requires c κs =
-    let l = c.before.before.before.before.before.loop in
-    let s = c.before.before.before.before.before.before.before.before.before.before.before in
+    let l = c.loop-k in
+    let s = c in
     let h : l.k < s.args.entries = omega arith in
     (record { lots = s.requires.most l.k h; price = s.requires.quoted (get_or s.args.issues.now l.k 0) (s.requires.issue l.k h) }, s.requires.term)
 
-cast_f : tie.Need-overflow-cast-f invariant-loop decreases-loop
+cast_f : tie.Need-overflow_cast-f invariant-loop decreases-loop
 cast_f c =
-    let l = c.before.before.before.before.before.before.before.loop in
-    let s = c.before.before.before.before.before.before.before.before.before.before.before.before.before in
+    let l = c.loop-k in
+    let s = c in
     let h : l.k < s.args.entries = omega arith in
     record { fits = omega (arith, s.requires.from l.k h) }
 
-cast_t : tie.Need-overflow-cast-t invariant-loop decreases-loop
+cast_t : tie.Need-overflow_cast-t invariant-loop decreases-loop
 cast_t c =
-    let l = c.before.before.before.before.before.before.before.before.loop in
-    let s = c.before.before.before.before.before.before.before.before.before.before.before.before.before.before in
+    let l = c.loop-k in
+    let s = c in
     let h : l.k < s.args.entries = omega arith in
     record { fits = omega (arith, s.requires.to l.k h) }
 
 pay-requires : tie.Need-pay-requires invariant-loop decreases-loop
 pay-requires c κs =
-    let l = c.before.before.before.before.before.before.before.before.before.loop in
-    let s = c.before.before.before.before.before.before.before.before.before.before.before.before.before.before.before in
+    let l = c.loop-k in
+    let s = c in
     let h : l.k < s.args.entries = omega arith in
     record {
       accounts = l.invariant.1;
       from = s.requires.from l.k h;
       to = s.requires.to l.k h;
-      room = λ a. let b = l.invariant.2 a in omega (arith, c.before.before.before.charge-of.ensures.most, s.requires.count);
+      room = λ a. let b = l.invariant.2 a in omega (arith, c.charge_of-y.ensures.most, s.requires.count);
     }
 
-loop-again : tie.Need-loop-preserved invariant-loop decreases-loop
+loop-again : tie.Need-loop-k-preserved invariant-loop decreases-loop
 loop-again c =
-    let l = c.before.before.before.before.before.before.before.before.before.before.before.loop in
-    let s = c.before.before.before.before.before.before.before.before.before.before.before.before.before.before.before.before.before in
+    let l = c.loop-k in
+    let s = c in
     let h : l.k < s.args.entries = omega arith in
-    let y = c.before.before.before.before.before.charge-of in
+    let y = c.charge_of-y in
     let a = s.args in
     let f = get_or a.froms.now l.k 0 in
     let t = get_or a.tos.now l.k 0 in
-    let p : c.before.pay.new.0 ≡ paid f t y.result l.charges = c.before.pay.ensures in (
+    let p : c.pay.new.charges ≡ paid f t y.result l.charges = c.pay.ensures in (
       search rules,
       ap length p ∙ length_paid f t y.result l.charges ∙ l.invariant.1,
       λ j. let b = within_paid _ f t y.result l.charges l.invariant.2 j in
@@ -120,8 +120,8 @@ loop-again c =
 
 returns : tie.Need-returns invariant-loop decreases-loop
 returns c =
-    let l = c.before.loop in
-    let a = c.before.before.before.before.before.before.before.args in
+    let l = c.loop-k in
+    let a = c.args in
     let e = charge_end a.days a.rate a.quotes.now a.entries a.issues.now a.froms.now a.tos.now
     a.lots.now l.k _ l.charges (omega arith) l.invariant.3 in
     record {
@@ -130,10 +130,10 @@ returns c =
           a.lots.now [] ds a.charges.now;
     }
 
-pub charge-entries-spec : {M : Type 1} → statement M
-charge-entries-spec =
+pub charge_entries_spec : {M : Type 1} → statement M
+charge_entries_spec =
     tie.close
-    (tie.spec invariant-loop decreases-loop (λ c. search rules) (λ c. search rules) cast-i (λ c. search rules) (λ c. search rules)
-    mul-charge-of-2 shared-slice-read-charge-of-2 add-charge-of mul-charge-of-3 shared-slice-read-charge-of-3
-    charge-of-requires (λ c. search rules) cast_f (λ c. search rules) cast_t pay-requires (λ c. search rules)
-    (λ c. search rules) loop-again (λ c. search rules) returns)
+    (tie.spec invariant-loop decreases-loop (λ c. search rules) (λ c. search rules) cast-i (λ c. search rules)
+    (λ c. search rules) mul-charge-of-2 shared-slice-read-charge-of-2 add-charge-of mul-charge-of-3
+    shared-slice-read-charge-of-3 charge-of-requires (λ c. search rules) cast_f (λ c. search rules) cast_t
+    pay-requires (λ c. search rules) (λ c. search rules) loop-again (λ c. search rules) returns)

@@ -20,11 +20,12 @@ yen c = to_z_pos w64 c.args.y (omega (arith, c.requires.room))
 fits : (c : tie.Start) → SFits w64 (c.args.c -ℤ pos c.args.y)
 fits c = sum_fits w64 c.args.c (neg_ℤ (pos c.args.y)) (omega (arith, abs_neg c.args.y, c.requires.room))
 
-sub-result : tie.Need-overflow-sub-result
+sub-result : tie.Need-overflow_sub-result
 sub-result c = rw (same c, yen c) (fits c)
 
 returns : tie.Need-returns
 returns c = rw (same c, yen c) (to_z-of_z w64 (c.args.c -ℤ pos c.args.y) (fits c))
 
-pub lowered-spec : {M : Type 1} → statement M
-lowered-spec = tie.close (tie.spec (λ c. search rules) sub-result returns)
+pub lowered_spec : {M : Type 1} → statement M
+lowered_spec = tie.close
+    (tie.spec (λ c. search rules) sub-result returns)

@@ -20,11 +20,12 @@ yen c = to_z_pos w64 c.args.y (omega (arith, c.requires.room))
 fits : (c : tie.Start) → SFits w64 (c.args.c +ℤ pos c.args.y)
 fits c = sum_fits w64 c.args.c (pos c.args.y) (omega (arith, abs_neg c.args.y, c.requires.room))
 
-add-result : tie.Need-overflow-add-result
+add-result : tie.Need-overflow_add-result
 add-result c = rw (same c, yen c) (fits c)
 
 returns : tie.Need-returns
 returns c = rw (same c, yen c) (to_z-of_z w64 (c.args.c +ℤ pos c.args.y) (fits c))
 
-pub raised-spec : {M : Type 1} → statement M
-raised-spec = tie.close (tie.spec (λ c. search rules) add-result returns)
+pub raised_spec : {M : Type 1} → statement M
+raised_spec = tie.close
+    (tie.spec (λ c. search rules) add-result returns)

@@ -4,17 +4,18 @@ use borrow.Author.Rules.{rules}
 use Rattle.committing.proofs.hand_on.Statement.{statement}
 use Rattle.committing.proofs.hand_on.Tie as tie
 
-returns : tie.Need-returns
+returns : tie.Need-returns-then-stock-t
 returns c =
-    let a = c.before.before.before.args in
-    handed_none a.t a.stock a.out.now c.if1.true
+    let a = c.args in
+    handed_none a.t a.stock a.out.now c.if-stock-t.true
 
-returns-2 : tie.Need-returns-2
+returns-2 : tie.Need-returns
 returns-2 c =
-    let e = c.before.before.before.before in
-    let a = e.before.before.before.args in
-    let o = c.before.before.«record» in
-    handed_one a.t a.stock a.out.now o.new.0 e.if1.false o.ensures
+    let e = c in
+    let a = e.args in
+    let o = c.«record» in
+    handed_one a.t a.stock a.out.now o.new.part e.if-stock-t.false o.ensures
 
 pub hand_on_spec : {M : Type 1} → statement M
-hand_on_spec = tie.close (tie.spec returns (λ c κs. search rules) (λ c. search rules) returns-2)
+hand_on_spec = tie.close
+    (tie.spec returns (λ c κs. search rules) (λ c. search rules) returns-2)

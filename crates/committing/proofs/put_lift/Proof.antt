@@ -12,75 +12,75 @@ use Rattle.committing.proofs.put_lift.Tie as tie
 few : (s : tie.Start) → get_or s.args.lifts.now (s.args.i * 18) 0 < 8
 few s = omega (arith, number_at s.args.lifts.now s.args.i, s.requires.few)
 
-cast-at : tie.Need-overflow-cast-at
+cast-at : tie.Need-overflow_cast-at
 cast-at c =
-    let s = c.before in
-    record { fits = omega (arith, few s) }
+    let s = c in
+    record { fits = omega (arith, few s.before) }
 
-mul_at : tie.Need-overflow-mul-at
+mul_at : tie.Need-overflow_mul-at
 mul_at c =
-    let s = c.before in
-    record { fits = omega (arith, few s) }
+    let s = c in
+    record { fits = omega (arith, few s.before) }
 
-add_at : tie.Need-overflow-add-at
+add_at : tie.Need-overflow_add-at
 add_at c =
-    let s = c.before in
-    record { fits = omega (arith, few s, s.requires.issue) }
+    let s = c in
+    record { fits = omega (arith, few s.before, s.requires.issue) }
 
-add-at-2 : tie.Need-overflow-add-at-2
+add-at-2 : tie.Need-overflow_add-at-2
 add-at-2 c =
-    let s = c.before in
-    record { fits = omega (arith, few s, s.requires.issue) }
+    let s = c in
+    record { fits = omega (arith, few s.before, s.requires.issue) }
 
-add-lifts-2 : tie.Need-overflow-add-lifts-2
+add-lifts-2 : tie.Need-overflow_add-lifts-2
 add-lifts-2 c =
-    let s = c.before.before in
+    let s = c in
     record { fits = omega (arith, count_at_lem s.args.lifts.now s.args.i, s.requires.counted) }
 
-add-lifts-4 : tie.Need-overflow-add-lifts-4
+add-lifts-4 : tie.Need-overflow_add-lifts-4
 add-lifts-4 c =
-    let s = c.before.before in
-    record { fits = omega (arith, few s) }
+    let s = c in
+    record { fits = omega (arith, few s.before.before) }
 
-slice-write-lifts-2 : tie.Need-slice-write-lifts-2
+slice-write-lifts-2 : tie.Need-bounds-lifts-s-4
 slice-write-lifts-2 c =
-    let s = c.before.before in
+    let s = c in
     rw length-set (omega (arith, s.requires.cells, s.requires.issue))
 
-mul-lifts-4 : tie.Need-overflow-mul-lifts-4
+mul-lifts-4 : tie.Need-offset_bounds-lifts-at
 mul-lifts-4 c =
-    let s = c.before.before in
-    record { fits = omega (arith, few s, s.requires.issue) }
+    let s = c in
+    record { fits = omega (arith, few s.before.before, s.requires.issue) }
 
-slice-write-lifts-3 : tie.Need-slice-write-lifts-3
+slice-write-lifts-3 : tie.Need-bounds-lifts-at
 slice-write-lifts-3 c =
-    let s = c.before.before in
-    simp length-set (omega (arith, few s, s.requires.cells, s.requires.issue))
+    let s = c in
+    simp length-set (omega (arith, few s.before.before, s.requires.cells, s.requires.issue))
 
-add-lifts-5 : tie.Need-overflow-add-lifts-5
+add-lifts-5 : tie.Need-overflow_add-lifts-5
 add-lifts-5 c =
-    let s = c.before.before in
-    record { fits = omega (arith, few s, s.requires.issue) }
+    let s = c in
+    record { fits = omega (arith, few s.before.before, s.requires.issue) }
 
-mul-lifts-5 : tie.Need-overflow-mul-lifts-5
+mul-lifts-5 : tie.Need-offset_bounds-lifts-at-2
 mul-lifts-5 c =
-    let s = c.before.before in
-    record { fits = omega (arith, few s, s.requires.issue) }
+    let s = c in
+    record { fits = omega (arith, few s.before.before, s.requires.issue) }
 
-slice-write-lifts-4 : tie.Need-slice-write-lifts-4
+slice-write-lifts-4 : tie.Need-bounds-lifts-at-2
 slice-write-lifts-4 c =
-    let s = c.before.before in
-    simp length-set (omega (arith, few s, s.requires.cells, s.requires.issue))
+    let s = c in
+    simp length-set (omega (arith, few s.before.before, s.requires.cells, s.requires.issue))
 
 returns : tie.Need-returns
 returns c =
-    let a = c.before.before.args in
+    let a = c.args in
     put_lift a.lifts.now a.i a.old a.new
 
-pub put-lift-spec : {M : Type 1} → statement M
-put-lift-spec =
+pub put_lift_spec : {M : Type 1} → statement M
+put_lift_spec =
     tie.close
     (tie.spec (λ c. search rules) (λ c. search rules) (λ c. search rules) cast-at mul_at add_at add-at-2
     (λ c. search rules) (λ c. search rules) (λ c. search rules) add-lifts-2 (λ c. search rules) (λ c. search rules)
-    (λ c. search rules) add-lifts-4 (λ c. search rules) slice-write-lifts-2 mul-lifts-4 slice-write-lifts-3 add-lifts-5
-    mul-lifts-5 slice-write-lifts-4 (λ c. search rules) returns)
+    (λ c. search rules) add-lifts-4 (λ c. search rules) slice-write-lifts-2 mul-lifts-4 slice-write-lifts-3
+    add-lifts-5 mul-lifts-5 slice-write-lifts-4 (λ c. search rules) returns)

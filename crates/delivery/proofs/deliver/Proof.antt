@@ -18,48 +18,48 @@ abbrev within : tie.Start → Book → Book
 within s b = within_cells s.args.s s.args.nets.now s.args.delivered.now s.args.lifts.now b
 
 -- where the questions were asked
-abbrev start : tie.After-deliver-asks → tie.Start
-start c = c.before.before.before.before.before
+abbrev start : tie.After-deliver_asks-no → tie.Start
+start c = c.before.before.before.before
 
 cells : (s : tie.Start) → SoundCells s.args.nets.now s.args.delivered.now s.args.lifts.now
 cells s =
     let b = within s s.requires.2.rest in
     sound_cells b (sound_parts b s.requires.2.sound) s.requires.0.nets s.requires.0.delivered s.requires.1
 
-deliver-asks-requires : tie.Need-deliver-asks-requires
-deliver-asks-requires c κs = owed_cells _ _ _ (cells c.before.before.before.before)
+deliver-asks-requires : tie.Need-deliver_asks-no-requires
+deliver-asks-requires c κs = owed_cells _ _ _ (cells c.before.before.before)
 
-returns : tie.Need-returns
+returns : tie.Need-returns-then-no-ne0
 returns r b q =
-    let c = r.before in
-    let s = start c.before in
+    let c = r in
+    let s = start c.before.before in
     let a = s.args in
     rw r.refused.ensures
-    (turn_no (within s b) (Deliver a.i a.a a.x a.out.now) (room_out a.out.now s.pre.3) q a.s
-    c.before.deliver-asks.result c.before.deliver-asks.ensures c.if1.true)
+    (turn_no (within s b) (Deliver a.i a.a a.x a.out.now) (room_out a.out.now s.requires.3) q a.s
+    c.deliver_asks-no.result c.deliver_asks-no.ensures c.if-no-ne0.true)
 
-deliver-in-requires : tie.Need-deliver-in-requires
+deliver-in-requires : tie.Need-deliver_in-count-requires
 deliver-in-requires c κs =
-    let k = c.before.before.before.before in
-    let s = start k.before in
+    let k = c in
+    let s = start k.before.before.before.before.before in
     let a = s.args in
     can_deliver a.s.phase a.s.marks a.nets.now a.delivered.now a.lifts.now a.i a.a a.x a.out.now (cells s)
-    (sym k.before.deliver-asks.ensures ∙ k.if1.false) s.pre.3
+    (sym k.deliver_asks-no.ensures ∙ k.if-no-ne0.false) s.requires.3
 
-returns-2 : tie.Need-returns-2
+returns-2 : tie.Need-returns
 returns-2 c b q =
-    let v = c.before.before.before.before.before.before in
-    let d = v.deliver-in in
-    let o = v.before.before.before.before.dealt-today in
-    let k = v.before.before.before.before.before in
-    let s = start k.before in
+    let v = c in
+    let d = v.deliver_in-count in
+    let o = v.dealt_today-dealt in
+    let k = v in
+    let s = start k.before.before.before.before.before.before.before.before.before.before.before.before in
     let a = s.args in
-    turn_yes (within s b) (Deliver a.i a.a a.x a.out.now) (room_out a.out.now s.pre.3) q a.s
-    k.before.deliver-asks.result d.result 0 _ _ k.before.deliver-asks.ensures k.if1.false
+    turn_yes (within s b) (Deliver a.i a.a a.x a.out.now) (room_out a.out.now s.requires.3) q a.s
+    k.deliver_asks-no.result d.result 0 _ _ k.deliver_asks-no.ensures k.if-no-ne0.false
     (delivered_to a.s o.result a.nets.now a.delivered.now _ a.lifts.now _ a.i a.a a.x a.out.now _ d.result b o.ensures d.ensures)
 
-pub deliver-spec : {M : Type 1} → statement M
-deliver-spec =
+pub deliver_spec : {M : Type 1} → statement M
+deliver_spec =
     tie.close
     (tie.spec deliver-asks-requires (λ c κs. search rules) (λ c. search rules) returns (λ c κs. search rules)
     deliver-in-requires (λ c. search rules) (λ c. search rules) (λ c. search rules) returns-2)

@@ -17,78 +17,79 @@ use Rattle.handing.proofs.Handing.{Handing, handing_starts, handing_more, handin
 use Rattle.handing.proofs.hand.Statement.{statement}
 use Rattle.handing.proofs.hand.Tie as tie
 
-abbrev invariant-loop : tie.invariant-loop
+abbrev invariant-loop : tie.invariant-loop-m
 invariant-loop runs n i c count out₀ seat₀ m₀ out seat m =
     (m ≤ count) × Handing i m (count - m) (units_from runs n seat) (words (hand_records i count (drop c (units_in runs n)))) out₀ out
 
-abbrev decreases-loop : tie.decreases-loop
+abbrev decreases-loop : tie.decreases-loop-m
 decreases-loop runs n i c count out₀ seat₀ m₀ out seat m = count - m
 
-loop-holds : tie.Need-loop-init invariant-loop decreases-loop
+loop-holds : tie.Need-loop-m-init invariant-loop decreases-loop
 loop-holds c =
-    let s = c.before.before.before in
+    let s = c in
     let a = s.args in (
       omega arith,
-      rw (c.seek.ensures a.runs.now a.n, sub-zero)
+      rw (c.seek-seat.ensures a.runs.now a.n, sub-zero)
           (handing_starts a.i a.count (drop a.c (units_in a.runs.now a.n)) a.out.now s.requires.there s.requires.room),
     )
 
 -- the next unit stands in front of what is left
-found : (c : tie.After-known-told invariant-loop decreases-loop) →
-    let a = c.before.before.before.before.before.before.before.before.before.args in
-    let g = c.before.to.given.0 in
-    units_from a.runs.now a.n c.before.before.before.before.before.loop.seat ≡ account_lots g.0 g.1.0 ∷ units_from a.runs.now a.n g.1.1.0
+found : (c : tie.In-Unit invariant-loop decreases-loop) →
+    let a = c.args in
+    let g = c.in-Unit in
+    units_from a.runs.now a.n c.loop-m.seat ≡ account_lots g.to g.lots ∷ units_from a.runs.now a.n g.next
 found c =
-    let a = c.before.before.before.before.before.before.before.before.before.args in
-    let n = c.before.before.before.next-unit in
-    unit_list a.runs.now a.n c.before.before.before.before.before.loop.seat n.result n.ensures _ _ _ c.before.to.given.1
+    let a = c.args in
+    let n = c.next_unit in
+    unit_list a.runs.now a.n c.loop-m.seat n.result n.ensures _ _ _ c.in-Unit.is
 
-returns : tie.Need-returns invariant-loop decreases-loop
+returns : tie.Need-returns-in_default invariant-loop decreases-loop
 returns c =
-    let a = c.before.before.before.before.before.before.before.before.args in
-    let l = c.before.before.before.before.loop in
-    let n = c.before.before.next-unit in
+    let a = c.args in
+    let l = c.loop-m in
+    let n = c.next_unit in
     absurd (
     omega (
       arith,
       l.invariant.1.there,
-      ap length (unit_end a.runs.now a.n l.seat n.result n.ensures c.enum_told.given.1),
+      ap length (unit_end a.runs.now a.n l.seat n.result n.ensures c.in_default.is),
     )
     )
 
 record-requires : tie.Need-record-requires invariant-loop decreases-loop
 record-requires c κs =
-    let s = c.before.before.before.before.before.before.before.before.before.before in
-    let l = c.before.before.before.before.before.before.loop in
-    let n = c.before.before.before.before.next-unit in
-    let f = unit_range s.args.runs.now s.args.n l.seat n.result n.ensures _ _ _ c.before.before.to.given.1 in
+    let s = c in
+    let l = c.loop-m in
+    let n = c.next_unit in
+    let f = unit_range s.args.runs.now s.args.n l.seat n.result n.ensures _ _ _ c.in-Unit.is in
     record {
       room = omega (arith, part_length l.out (2 * l.m), l.invariant.1.same, s.requires.room);
       head = record { kinds = omega arith; issues = s.requires.issue; froms = omega arith; tos = f.0 };
       lots = omega (arith, f.1);
     }
 
-loop-again : tie.Need-loop-preserved invariant-loop decreases-loop
+loop-again : tie.Need-loop-m-preserved invariant-loop decreases-loop
 loop-again c =
-    let s = c.before.before.before.before.before.before.before.before.before.before.before.before.before in
-    let l = c.before.before.before.before.before.before.before.before.before.loop in
-    let g = c.before.before.before.before.before.to.given.0 in
-    let w = words (handover s.args.i (account_lots g.0 g.1.0) ∷ []) in
+    let s = c in
+    let l = c.loop-m in
+    let g = c.in-Unit in
+    let w = words (handover s.args.i (account_lots g.to g.lots) ∷ []) in
     let e : s.args.count - (l.m + 1) ≡ s.args.count - l.m - 1 = omega arith in (
       omega arith,
       rw e
           (handing_more s.args.i l.m _ _ _ _ l.out l.invariant.1 _ _ _ _ (omega arith) (found c.before.before.before.before)
-          (part_over l.out c.before.before.«record».new.0 w (2 * l.m) (omega (arith, l.invariant.1.same, s.requires.room)) c.before.before.«record».ensures)),
+          (part_over l.out c.«record».new.part w (2 * l.m) (omega (arith, l.invariant.1.same, s.requires.room)) c.«record».ensures)),
     )
 
-returns-2 : tie.Need-returns-2 invariant-loop decreases-loop
+returns-2 : tie.Need-returns invariant-loop decreases-loop
 returns-2 c =
-    let l = c.before.loop in
+    let l = c.loop-m in
     handing_ends _ _ _ _ _ _ _ l.invariant.1 (omega arith)
 
-pub hand-spec : {M : Type 1} → statement M
-hand-spec =
+pub hand_spec : {M : Type 1} → statement M
+hand_spec =
     tie.close
-    (tie.spec invariant-loop decreases-loop (λ c κs. search rules) loop-holds (λ c κs. search rules) (λ c. search rules) (λ c. search rules)
-    (λ c. search rules) returns (λ c. search rules) (λ c. search rules) (λ c. search rules) (λ c. search rules) (λ c. search rules)
-    record-requires (λ c. search rules) (λ c. search rules) loop-again (λ c. search rules) returns-2)
+    (tie.spec invariant-loop decreases-loop (λ c κs. search rules) loop-holds (λ c κs. search rules)
+    (λ c. search rules) (λ c. search rules) (λ c. search rules) returns (λ c. search rules) (λ c. search rules)
+    (λ c. search rules) (λ c. search rules) (λ c. search rules) record-requires (λ c. search rules)
+    (λ c. search rules) loop-again (λ c. search rules) returns-2)

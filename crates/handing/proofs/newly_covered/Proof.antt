@@ -6,13 +6,14 @@ use Rattle.runs.specs.Runs.{units_in}
 use Rattle.handing.proofs.newly_covered.Statement.{statement}
 use Rattle.handing.proofs.newly_covered.Tie as tie
 
-sub-t7 : tie.Need-overflow-sub-t7
+sub-t7 : tie.Need-overflow_sub-result
 sub-t7 c =
-    let h = c.before.before in
-    let a = h.before.before.before.args in
-    omega (arith, h.handover2.ensures.covers, h.before.handover.ensures.covers, covered_grows (units_in a.runs.now a.n) a.d a.x)
+    let h = c in
+    let a = h.args in
+    omega (arith, h.handover-after.ensures.covers, h.handover-before.ensures.covers, covered_grows (units_in a.runs.now a.n) a.d a.x)
 
-pub newly-covered-spec : {M : Type 1} → statement M
-newly-covered-spec =
+pub newly_covered_spec : {M : Type 1} → statement M
+newly_covered_spec =
     tie.close
-    (tie.spec (λ c κs. search rules) (λ c. search rules) (λ c κs. search rules) sub-t7 (λ c. search rules) (λ c. search rules))
+    (tie.spec (λ c κs. search rules) (λ c. search rules) (λ c κs. search rules) sub-t7 (λ c. search rules)
+    (λ c. search rules))

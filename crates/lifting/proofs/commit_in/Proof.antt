@@ -4,7 +4,6 @@ use mathlib.Core.Bool.{true}
 use Prim.Native.Nat.{◌≤◌}
 use native.Mathlib.Omega.{arith}
 use borrow.Author.Rules.{rules}
-use borrow.Author.Tests.{not-true, not-false}
 use Rattle.rules.specs.Book.{is_settling, order_in}
 use Rattle.rules.specs.Questions.{first_no}
 use Rattle.rules.specs.Calls.{commit_asks}
@@ -15,100 +14,101 @@ use Rattle.lifting.proofs.commit_in.Statement.{statement}
 use Rattle.lifting.proofs.commit_in.Tie as tie
 
 -- where the issue's units stand, from the start on
-abbrev begin : tie.After-stand-of → tie.Start
-begin c = c.before.before.before.before.before.before.before.before.before.before.before
+abbrev begin : tie.After-stand_of-p → tie.Start
+begin c = c.before.before.before.before.before.before.before.before.before.before
 
 -- the answers to 3 and 4
-settles : (c : tie.After-stand-of) → is_settling (begin c).args.phase ≡ true
+settles : (c : tie.After-stand_of-p) → is_settling (begin c).args.phase ≡ true
 settles c =
-    let e = c.before.before.before.before.before.before in
-    sym e.before.settling.ensures ∙ not-false _ e.if1.false
+    let e = c in
+    sym e.settling.ensures ∙ e.if-not-settling.false
 
-below : (c : tie.After-stand-of) → (begin c).args.t.issue ≤ 15
-below c = c.before.before.before.before.if2.false
+below : (c : tie.After-stand_of-p) → (begin c).args.t.issue ≤ 15
+below c = c.if-t-gt-LAST_ISSUE.false
 
-abbrev stood : tie.After-ticket-asks → tie.After-stand-of
-stood c = c.before.before.before.before.before.before
+abbrev stood : tie.After-ticket_asks-no → tie.After-stand_of-p
+stood c = c.before.before.before.before.before
 
 -- and to 16, 17 and 18
-number : (c : tie.After-ticket-asks) →
+number : (c : tie.After-ticket_asks-no) →
     let a = (begin (stood c)).args in
-    c.ticket-asks.result ≡ first_no (commit_asks a.phase a.day (order_in a.dealt a.nets.now a.lifts.now) a.delivered.now a.lifts.now a.t)
+    c.ticket_asks-no.result ≡ first_no (commit_asks a.phase a.day (order_in a.dealt a.nets.now a.lifts.now) a.delivered.now a.lifts.now a.t)
 number c =
     let a = (begin (stood c)).args in
-    let p = (stood c).Stand-of.ensures in
+    let p = (stood c).stand_of-p.ensures in
     by_ticket a.dealt a.phase a.day a.nets.now a.delivered.now a.lifts.now a.t _ _ _ _ (settles (stood c)) (below (stood c)) (p.covers a.dealt)
-    c.before.before.ticket-in.ensures (sym (number_at a.lifts.now a.t.issue)) c.ticket-asks.ensures
+    c.ticket_in-asked.ensures (sym (number_at a.lifts.now a.t.issue)) c.ticket_asks-no.ensures
 
 -- where none is answered 'no'
-unhanded : (c : tie.Else3) → let a = (begin (stood c.before)).args in Unhanded a.dealt a.phase a.day a.nets.now a.delivered.now a.lifts.now a.t
+unhanded : (c : tie.Else-no-ne0) → let a = (begin (stood c.before)).args in Unhanded a.dealt a.phase a.day a.nets.now a.delivered.now a.lifts.now a.t
 unhanded c =
     let a = (begin (stood c.before)).args in
-    all_yes a.dealt a.phase a.day a.nets.now a.delivered.now a.lifts.now a.t (sym (number c.before) ∙ c.if3.false)
+    all_yes a.dealt a.phase a.day a.nets.now a.delivered.now a.lifts.now a.t (sym (number c.before) ∙ c.if-no-ne0.false)
 
-returns : tie.Need-returns
+returns : tie.Need-returns-then-not-settling
 returns c =
-    let a = c.before.before.before.before.before.before.args in
+    let a = c.args in
     is_refused a.dealt a.phase a.day a.nets.now a.delivered.now a.lifts.now a.t a.out.now 3 c.refused.result c.refused.ensures
-    (not_settling a.dealt a.phase a.day a.nets.now a.delivered.now a.lifts.now a.t (sym c.before.before.settling.ensures ∙ not-true _ c.before.if1.true))
+    (not_settling a.dealt a.phase a.day a.nets.now a.delivered.now a.lifts.now a.t (sym c.settling.ensures ∙ c.if-not-settling.true))
     (λ z. omega arith)
 
-returns-2 : tie.Need-returns-2
+returns-2 : tie.Need-returns-then-t-gt-LAST_ISSUE
 returns-2 c =
-    let a = c.before.before.before.before.before.before.before.before.args in
-    is_refused a.dealt a.phase a.day a.nets.now a.delivered.now a.lifts.now a.t a.out.now 4 c.refused2.result c.refused2.ensures
+    let a = c.args in
+    is_refused a.dealt a.phase a.day a.nets.now a.delivered.now a.lifts.now a.t a.out.now 4 c.refused-then-t-gt-LAST_ISSUE.result c.refused-then-t-gt-LAST_ISSUE.ensures
     (no_issue a.dealt a.phase a.day a.nets.now a.delivered.now a.lifts.now a.t
-    (sym c.before.before.before.before.settling.ensures ∙ not-false _ c.before.before.before.if1.false) c.before.if2.true)
+    (sym c.settling.ensures ∙ c.if-not-settling.false) c.if-t-gt-LAST_ISSUE.true)
     (λ z. omega arith)
 
-ticket-in-requires : tie.Need-ticket-in-requires
+ticket-in-requires : tie.Need-ticket_in-asked-requires
 ticket-in-requires c κs =
-    let f = c.before.before.before in
-    let s = begin f in
+    let f = c in
+    let s = begin f.before.before in
     record {
-      order = can_order s.args.nets.now s.args.delivered.now s.args.lifts.now s.args.t.issue s.pre.0 (omega (arith, below f));
-      there = f.Stand-of.ensures.there;
-      units = f.Stand-of.ensures.units;
+      order = can_order s.args.nets.now s.args.delivered.now s.args.lifts.now s.args.t.issue s.requires.0 (omega (arith, below f.before.before));
+      there = f.stand_of-p.ensures.there;
+      units = f.stand_of-p.ensures.units;
     }
 
-returns-3 : tie.Need-returns-3
+returns-3 : tie.Need-returns-then-no-ne0
 returns-3 c =
-    let k = c.before.before in
-    let a = (begin (stood k)).args in
-    is_refused a.dealt a.phase a.day a.nets.now a.delivered.now a.lifts.now a.t a.out.now _ c.refused3.result c.refused3.ensures (number k) c.before.if3.true
+    let k = c in
+    let a = (begin (stood k.before.before)).args in
+    is_refused a.dealt a.phase a.day a.nets.now a.delivered.now a.lifts.now a.t a.out.now _ c.refused-then-no-ne0.result c.refused-then-no-ne0.ensures (number k.before.before) c.if-no-ne0.true
 
-hand-on-requires : tie.Need-hand-on-requires
+hand-on-requires : tie.Need-hand_on-count-requires
 hand-on-requires c κs =
-    let e = c.before in
-    let f = stood e.before in
+    let e = c in
+    let f = stood e.before.before in
     let s = begin f in
     let a = s.args in
-    can_hand_on a.dealt a.phase a.day a.nets.now a.delivered.now a.lifts.now a.t a.out.now (unhanded e) s.pre.0.cells (below f)
-    s.pre.1
+    can_hand_on a.dealt a.phase a.day a.nets.now a.delivered.now a.lifts.now a.t a.out.now (unhanded e.before) s.requires.0.cells (below f)
+    s.requires.1
 
-put-lift-requires : tie.Need-put-lift-requires
+put-lift-requires : tie.Need-put_lift-requires
 put-lift-requires c κs =
-    let e = c.before.before.before.before.before in
-    let s = begin (stood e.before) in
+    let e = c in
+    let s = begin (stood e.before.before.before.before.before.before) in
     record {
-      cells = s.pre.0.lifted;
-      issue = omega (arith, below (stood e.before));
-      few = (unhanded e).few;
-      counted = s.pre.0.counted s.args.t.issue (omega (arith, below (stood e.before)));
+      cells = s.requires.0.lifted;
+      issue = omega (arith, below (stood e.before.before.before.before.before.before));
+      few = (unhanded e.before.before.before.before.before).few;
+      counted = s.requires.0.counted s.args.t.issue (omega (arith, below (stood e.before.before.before.before.before.before)));
     }
 
-returns-4 : tie.Need-returns-4
+returns-4 : tie.Need-returns
 returns-4 c =
-    let e = c.before.before.before.before.before.before.before.before in
-    let f = stood e.before in
+    let e = c in
+    let f = stood e.before.before.before.before.before.before.before.before.before in
     let a = (begin f).args in
-    is_done a.dealt a.phase a.day a.nets.now a.delivered.now a.lifts.now a.t a.out.now _ _ _ _ _ _ (number e.before) e.if3.false
-    f.Stand-of.ensures c.before.before.before.before.before.before.hand_on.ensures c.before.before.put_lift.ensures
+    is_done a.dealt a.phase a.day a.nets.now a.delivered.now a.lifts.now a.t a.out.now _ _ _ _ _ _ (number e.before.before.before.before.before.before.before.before.before) e.if-no-ne0.false
+    f.stand_of-p.ensures c.hand_on-count.ensures c.put_lift.ensures
 
-pub commit-in-spec : {M : Type 1} → statement M
-commit-in-spec =
+pub commit_in_spec : {M : Type 1} → statement M
+commit_in_spec =
     tie.close
-    (tie.spec (λ c κs. search rules) (λ c κs. search rules) returns (λ c κs. search rules) returns-2 (λ c. search rules)
-    (λ c. search rules) (λ c κs. search rules) (λ c. search rules) ticket-in-requires (λ c. search rules)
-    (λ c. search rules) (λ c. search rules) (λ c κs. search rules) (λ c κs. search rules) (λ c. search rules) returns-3
-    hand-on-requires put-lift-requires (λ c. search rules) (λ c. search rules) returns-4)
+    (tie.spec (λ c κs. search rules) (λ c κs. search rules) returns (λ c. search rules) returns-2
+    (λ c. search rules) (λ c. search rules) (λ c κs. search rules) (λ c. search rules) ticket-in-requires
+    (λ c. search rules) (λ c. search rules) (λ c. search rules) (λ c κs. search rules) (λ c. search rules)
+    (λ c. search rules) returns-3 hand-on-requires put-lift-requires (λ c. search rules) (λ c. search rules)
+    returns-4)

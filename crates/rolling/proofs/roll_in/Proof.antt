@@ -8,21 +8,21 @@ use Rattle.rolling.proofs.roll_in.Tie as tie
 
 returns : tie.Need-returns
 returns c =
-    let l = c.before.before in
-    let d = l.before.before.before.before in
-    let n = d.before.before.before in
-    let e = n.before.before.before in
-    let s = e.before.before.before.before.before.before.before.before.before in (
-      e.charge-entries.ensures,
+    let l = c in
+    let d = l in
+    let n = d in
+    let e = n in
+    let s = e in (
+      e.charge_entries.ensures,
       record {
-        nets = n.clear-nets.ensures ∙ ap (λ k. replicate k (pos 0)) s.requires.1.nets;
-        delivered = d.clear-words.ensures ∙ ap (λ k. replicate k 0) s.requires.1.delivered;
-        lifts = l.clear-words2.ensures ∙ ap (λ k. replicate k 0) s.requires.1.lifts;
+        nets = n.clear_nets.ensures ∙ ap (λ k. replicate k (pos 0)) s.requires.1.nets;
+        delivered = d.clear_words.ensures ∙ ap (λ k. replicate k 0) s.requires.1.delivered;
+        lifts = l.clear_words-2.ensures ∙ ap (λ k. replicate k 0) s.requires.1.lifts;
       },
     )
 
-pub roll-in-spec : {M : Type 1} → statement M
-roll-in-spec =
+pub roll_in_spec : {M : Type 1} → statement M
+roll_in_spec =
     tie.close
     (tie.spec (λ c κs. search rules) (λ c κs. search rules) (λ c κs. search rules) (λ c κs. search rules)
     (λ c. search rules) (λ c. search rules) (λ c. search rules) (λ c. search rules) returns)

@@ -11,38 +11,38 @@ use Rattle.serving.proofs.Named.{served_as}
 use Rattle.serving.proofs.serve.Statement.{statement}
 use Rattle.serving.proofs.serve.Tie as tie
 
-abbrev begin : tie.After-newly-covered → tie.Start
+abbrev begin : tie.After-newly_covered-p → tie.Start
 begin c = c.before.before.before.before.before.before.before
 
-abbrev ready : tie.After-newly-covered → tie.After-prepare
+abbrev ready : tie.After-newly_covered-p → tie.After-prepare-n
 ready c = c.before.before.before
 
 -- the units that are covered now
-newly : (c : tie.After-newly-covered) →
-    let a = (begin c).args in NewlyCovered (order_in false a.nets.now a.lifts.now a.i) a.d a.x c.newly-covered.result
-newly c = newly_same _ _ _ _ _ (ap lots_in (ready c).prepare.ensures.units) c.newly-covered.ensures
+newly : (c : tie.After-newly_covered-p) →
+    let a = (begin c).args in NewlyCovered (order_in false a.nets.now a.lifts.now a.i) a.d a.x c.newly_covered-p.result
+newly c = newly_same _ _ _ _ _ (ap lots_in (ready c).prepare-n.ensures.units) c.newly_covered-p.ensures
 
 hand-requires : tie.Need-hand-requires
 hand-requires c κs =
-    let k = c.before.before in
-    let s = begin k in
+    let k = c in
+    let s = begin k.before.before in
     record {
-      held = (ready k).prepare.ensures.held.there;
-      issue = s.pre.order.issue;
-      there = newly_there _ _ _ _ k.newly-covered.ensures;
-      room = omega (arith, newly_number _ _ _ _ (newly k), s.pre.few, s.pre.room);
+      held = (ready k.before.before).prepare-n.ensures.held.there;
+      issue = s.requires.order.issue;
+      there = newly_there _ _ _ _ k.newly_covered-p.ensures;
+      room = omega (arith, newly_number _ _ _ _ (newly k.before.before), s.requires.few, s.requires.room);
     }
 
 returns : tie.Need-returns
 returns c =
-    let h = c.before.before in
-    let k = h.before.before.before in
-    let a = (begin k).args in
-    served_as _ _ _ _ _ _ _ _ (ready k).prepare.ensures.units
-    (served _ _ _ _ k.newly-covered.ensures a.i a.out.now h.hand.new.1.1.1.1.1.0 h.hand.ensures)
+    let h = c in
+    let k = h in
+    let a = (begin k.before.before.before.before.before).args in
+    served_as _ _ _ _ _ _ _ _ (ready k.before.before.before.before.before).prepare-n.ensures.units
+    (served _ _ _ _ k.newly_covered-p.ensures a.i a.out.now h.hand.new.out h.hand.ensures)
 
-pub serve-spec : {M : Type 1} → statement M
-serve-spec =
+pub serve_spec : {M : Type 1} → statement M
+serve_spec =
     tie.close
-    (tie.spec (λ c. search rules) (λ c κs. search rules) (λ c. search rules) (λ c κs. search rules) (λ c. search rules)
-    hand-requires (λ c. search rules) returns)
+    (tie.spec (λ c. search rules) (λ c κs. search rules) (λ c. search rules) (λ c κs. search rules)
+    (λ c. search rules) hand-requires (λ c. search rules) returns)

@@ -19,117 +19,118 @@ use Rattle.serving.proofs.Served.{newly_there, newly_number, newly_same, served,
 use Rattle.serving.proofs.serve_dealt.Statement.{statement}
 use Rattle.serving.proofs.serve_dealt.Tie as tie
 
-abbrev begin : tie.After-newly-covered → tie.Start
+abbrev begin : tie.After-newly_covered-p → tie.Start
 begin c = c.before.before.before.before.before.before.before.before.before
 
-abbrev ready : tie.After-newly-covered → tie.After-prepare
+abbrev ready : tie.After-newly_covered-p → tie.After-prepare-ready
 ready c = c.before.before.before.before
 
-abbrev units : tie.After-newly-covered → List AccountLots
+abbrev units : tie.After-newly_covered-p → List AccountLots
 units c = let a = (begin c).args in order_in true a.nets.now a.lifts.now a.i
 
-abbrev number : tie.After-newly-covered → ℕ
-number c = c.newly-covered.result.number
+abbrev number : tie.After-newly_covered-p → ℕ
+number c = c.newly_covered-p.result.number
 
-abbrev first : tie.After-newly-covered → ℕ
-first c = c.newly-covered.result.first
+abbrev first : tie.After-newly_covered-p → ℕ
+first c = c.newly_covered-p.result.first
 
 -- the units that are covered now
-newly : (c : tie.After-newly-covered) → NewlyCovered (units c) (begin c).args.d (begin c).args.x c.newly-covered.result
+newly : (c : tie.After-newly_covered-p) → NewlyCovered (units c) (begin c).args.d (begin c).args.x c.newly_covered-p.result
 newly c =
     let a = (begin c).args in
     newly_same _ _ _ _ _
-    (ap lots_in (ready c).prepare.ensures.lifted.units ∙ sym (order_lots true a.nets.now a.lifts.now a.i))
-    c.newly-covered.ensures
+    (ap lots_in (ready c).prepare-ready.ensures.lifted.units ∙ sym (order_lots true a.nets.now a.lifts.now a.i))
+    c.newly_covered-p.ensures
 
-few : (c : tie.After-newly-covered) → number c ≤ 264
+few : (c : tie.After-newly_covered-p) → number c ≤ 264
 few c = omega (arith, newly_number _ _ _ _ (newly c), (begin c).requires.few)
 
 -- places for them
 abbrev places : List ℕ
 places = replicate 264 0
 
-lent : (c : tie.After-newly-covered) → length (take (number c) places) ≡ number c
+lent : (c : tie.After-newly_covered-p) → length (take (number c) places) ≡ number c
 lent c = length-take-le (number c) places (omega (arith, few c))
 
-array-borrow-prefix-dealt : tie.Need-array-borrow-prefix-dealt
+array-borrow-prefix-dealt : tie.Need-slice_bounds-dealt-end
 array-borrow-prefix-dealt c = omega (arith, few c.before.before)
 
-slice-aggregate-units-from-2 : tie.Need-slice-aggregate-units-from-2
+slice-aggregate-units-from-2 : tie.Need-slice_bounds-units_from-end-2
 slice-aggregate-units-from-2 c = sym (lent c.before.before.before)
 
-units-from-requires : tie.Need-units-from-requires
+units-from-requires : tie.Need-units_from-requires
 units-from-requires c κs =
-    let k = c.before.before.before in
-    let s = begin k in
-    let us = units k in
+    let k = c in
+    let s = begin k.before.before.before in
+    let us = units k.before.before.before in
     record {
       nets = s.args.nets.now;
-      order = s.pre.order;
-      ranked = (ready k).prepare.ensures.ranks;
+      order = s.requires.order;
+      ranked = (ready k.before.before.before).prepare-ready.ensures.ranks;
       there =
           omega (
             arith,
-            lent k,
-            newly_there us s.args.d s.args.x k.newly-covered.result (newly k),
-            (newly k).first,
-            length-drop (first k) us,
+            lent k.before.before.before,
+            newly_there us s.args.d s.args.x k.newly_covered-p.result (newly k.before.before.before),
+            (newly k.before.before.before).first,
+            length-drop (first k.before.before.before) us,
             covered_le us s.args.d,
           );
     }
 
 -- the units put out
-abbrev counted : tie.After-units-from → tie.After-newly-covered
+abbrev counted : tie.After-units_from → tie.After-newly_covered-p
 counted c = c.before.before.before.before
 
-abbrev put : tie.After-units-from → List ℕ
-put c = c.units-from.new.1.1.1.1.1.0
+abbrev put : tie.After-units_from → List ℕ
+put c = c.units_from.new.out
 
-as_dealt : (c : tie.After-units-from) → map part_of (put c) ≡ take (number (counted c)) (drop (first (counted c)) (units (counted c)))
+as_dealt : (c : tie.After-units_from) → map part_of (put c) ≡ take (number (counted c)) (drop (first (counted c)) (units (counted c)))
 as_dealt c =
     let k = counted c in
     let s = begin k in
-    c.units-from.ensures s.args.nets.now s.pre.order (ready k).prepare.ensures.ranks
+    c.units_from.ensures s.args.nets.now s.requires.order (ready k).prepare-ready.ensures.ranks
     ∙ ap (λ n. take n (drop (first k) (units k))) (lent k)
 
-put_number : (c : tie.After-dealt2) → length (put c.before) ≡ number (counted c.before)
-put_number c = c.dealt2.given ∙ lent (counted c.before)
+put_number : (c : tie.After-dealt-2-1) → length (put c.before) ≡ number (counted c.before)
+put_number c = c.dealt-2-1.given ∙ lent (counted c.before)
 
-width : (c : tie.After-dealt2) → length (put c.before ++ drop (number (counted c.before)) places) ≡ 264
+width : (c : tie.After-dealt-2-1) → length (put c.before ++ drop (number (counted c.before)) places) ≡ 264
 width c =
     let k = counted c.before in
     omega (arith, length-append (put c.before) (drop (number k) places), length-drop (number k) places, put_number c, few k)
 
-slice-aggregate-hand : tie.Need-slice-aggregate-hand
+slice-aggregate-hand : tie.Need-slice_bounds-hand-end
 slice-aggregate-hand c = sym (width c.before)
 
 hand-requires : tie.Need-hand-requires
 hand-requires c κs =
-    let d = c.before.before in
-    let u = d.before in
-    let k = counted u in
+    let d = c in
+    let u = d in
+    let k = counted u.before.before.before in
     let s = begin k in
     record {
-      held = omega (arith, width d, few k);
-      issue = s.pre.order.issue;
-      there = dealt_number s.args.nets.now s.args.lifts.now s.args.i (first k) (number k) (put u) _ (put_number d) (as_dealt u);
-      room = omega (arith, few k, s.pre.room);
+      held = omega (arith, width d.before.before, few k);
+      issue = s.requires.order.issue;
+      there = dealt_number s.args.nets.now s.args.lifts.now s.args.i (first k) (number k) (put u.before.before.before) _ (put_number d.before.before) (as_dealt u.before.before.before);
+      room = omega (arith, few k, s.requires.room);
     }
 
 returns : tie.Need-returns
 returns c =
-    let h = c.before.before in
-    let d = h.before.before.before in
-    let u = d.before in
-    let k = counted u in
+    let h = c in
+    let d = h in
+    let u = d in
+    let k = counted u.before.before.before.before.before.before in
     let a = (begin k).args in
-    served (units k) a.d a.x k.newly-covered.result (newly k) a.i a.out.now h.hand.new.1.1.1.1.1.0
+    served (units k) a.d a.x k.newly_covered-p.result (newly k) a.i a.out.now h.hand.new.out
     (h.hand.ensures
     ∙ ap (λ rs. over (words rs) a.out.now)
-    (dealt_records a.nets.now a.lifts.now a.i (first k) (number k) (put u) _ (put_number d) (as_dealt u) a.i))
+    (dealt_records a.nets.now a.lifts.now a.i (first k) (number k) (put u.before.before.before.before.before.before) _ (put_number d.before.before.before.before.before) (as_dealt u.before.before.before.before.before.before) a.i))
 
-pub serve-dealt-spec : {M : Type 1} → statement M
-serve-dealt-spec =
+pub serve_dealt_spec : {M : Type 1} → statement M
+serve_dealt_spec =
     tie.close
-    (tie.spec (λ c. search rules) (λ c. search rules) (λ c κs. search rules) (λ c. search rules) (λ c κs. search rules) (λ c. search rules)
-    array-borrow-prefix-dealt slice-aggregate-units-from-2 units-from-requires slice-aggregate-hand hand-requires (λ c. search rules) returns)
+    (tie.spec (λ c. search rules) (λ c. search rules) (λ c κs. search rules) (λ c. search rules)
+    (λ c κs. search rules) (λ c. search rules) array-borrow-prefix-dealt slice-aggregate-units-from-2
+    units-from-requires slice-aggregate-hand hand-requires (λ c. search rules) returns)

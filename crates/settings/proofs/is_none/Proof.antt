@@ -10,9 +10,10 @@ use Rattle.settings.proofs.is_none.Tie as tie
 
 returns : tie.Need-returns
 returns c =
-    let s = c.before.before in
+    let s = c in
     let z = to_z-of_z w32 s.args.n s.ranges.n in
-    none_parts s.args.n c.before.due.result c.owed.result (c.before.due.ensures ∙ ap due_of z) (c.owed.ensures ∙ ap owed_of z)
+    none_parts s.args.n c.due-d.result c.owed-o.result (c.due-d.ensures ∙ ap due_of z) (c.owed-o.ensures ∙ ap owed_of z)
 
-pub is-none-spec : {M : Type 1} → statement M
-is-none-spec = tie.close (tie.spec (λ c κs. search rules) (λ c κs. search rules) returns)
+pub is_none_spec : {M : Type 1} → statement M
+is_none_spec = tie.close
+    (tie.spec (λ c κs. search rules) (λ c κs. search rules) returns)

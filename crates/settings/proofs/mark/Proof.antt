@@ -16,37 +16,39 @@ use Rattle.settings.proofs.mark.Tie as tie
 abbrev within : tie.Start → Book → Book
 within s b = within_use s.args.s s.args.nets.now s.args.issues.now b
 
-mark-asks-requires : tie.Need-mark-asks-requires
+mark-asks-requires : tie.Need-mark_asks-no-requires
 mark-asks-requires c κs =
-    let s = c.before in
-    ((sound_parts (within s s.requires.2.rest) s.requires.2.sound).ledger.count, s.requires.0, s.requires.1)
+    let s = c in
+    ((sound_parts (within s.before s.requires.2.rest) s.requires.2.sound).ledger.count, s.requires.0, s.requires.1)
 
-returns : tie.Need-returns
+returns : tie.Need-returns-then-no-ne0
 returns r b q =
-    let c = r.before in
-    let s = c.before.before.before in
+    let c = r in
+    let s = c in
     let a = s.args in
     rw r.refused.ensures
-    (turn_no (within s b) (Mark a.i a.m) refl q a.s c.before.mark-asks.result
-    (c.before.mark-asks.ensures b.froms b.tos b.lots b.days) c.if1.true)
+    (turn_no (within s.before.before.before.before b) (Mark a.i a.m) refl q a.s c.mark_asks-no.result
+    (c.mark_asks-no.ensures b.froms b.tos b.lots b.days) c.if-no-ne0.true)
 
-mark-in-requires : tie.Need-mark-in-requires
+mark-in-requires : tie.Need-mark_in-requires
 mark-in-requires c κs =
-    let k = c.before in
-    let s = k.before.before.before in
-    let b = within s s.requires.2.rest in
-    markable b.nets (ledger_of b) s.args.i (sym (k.before.mark-asks.ensures b.froms b.tos b.lots b.days) ∙ k.if1.false)
+    let k = c in
+    let s = k in
+    let b = within s.before.before.before.before s.requires.2.rest in
+    markable b.nets (ledger_of b) s.args.i (sym (k.mark_asks-no.ensures b.froms b.tos b.lots b.days) ∙ k.if-no-ne0.false)
 
-returns-2 : tie.Need-returns-2
+returns-2 : tie.Need-returns
 returns-2 r b q =
-    let c = r.before in
-    let k = c.before.before.before in
-    let s = k.before.before.before in
+    let c = r in
+    let k = c in
+    let s = k in
     let a = s.args in
     rw r.done.ensures
-    (turn_yes (within s b) (Mark a.i a.m) refl q _ k.before.mark-asks.result 0 0 _ _
-    (k.before.mark-asks.ensures b.froms b.tos b.lots b.days) k.if1.false
-    (marked_on a.s _ a.nets.now a.issues.now _ a.i a.m b c.with-marks.ensures c.before.mark-in.ensures))
+    (turn_yes (within s.before.before.before.before.before.before.before b) (Mark a.i a.m) refl q _ k.mark_asks-no.result 0 0 _ _
+    (k.mark_asks-no.ensures b.froms b.tos b.lots b.days) k.if-no-ne0.false
+    (marked_on a.s _ a.nets.now a.issues.now _ a.i a.m b c.with_marks-next.ensures c.mark_in.ensures))
 
 pub mark_spec : {M : Type 1} → statement M
-mark_spec = tie.close (tie.spec mark-asks-requires (λ c κs. search rules) returns mark-in-requires (λ c κs. search rules) (λ c κs. search rules) returns-2)
+mark_spec = tie.close
+    (tie.spec mark-asks-requires (λ c κs. search rules) returns mark-in-requires (λ c κs. search rules)
+    (λ c κs. search rules) returns-2)

@@ -6,7 +6,8 @@ use Rattle.settings.proofs.mark_in.Statement.{statement}
 use Rattle.settings.proofs.mark_in.Tie as tie
 
 returns : tie.Need-returns
-returns c = ap (λ v. set c.before.args.marks c.before.args.i v) c.bit.ensures
+returns c = ap (λ v. set c.args.marks c.args.i v) c.bit.ensures
 
-pub mark-in-spec : {M : Type 1} → statement M
-mark-in-spec = tie.close (tie.spec (λ c κs. search rules) (λ c. search rules) returns)
+pub mark_in_spec : {M : Type 1} → statement M
+mark_in_spec = tie.close
+    (tie.spec (λ c κs. search rules) (λ c. search rules) returns)

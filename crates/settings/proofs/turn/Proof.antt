@@ -8,21 +8,23 @@ use borrow.Author.Rules.{rules}
 use Rattle.settings.proofs.turn.Statement.{statement}
 use Rattle.settings.proofs.turn.Tie as tie
 
-returns : tie.Need-returns
+returns : tie.Need-returns-then-no-ne0
 returns r b q =
-    let c = r.before in
-    let a = c.before.before.args in
+    let c = r in
+    let a = c.args in
     rw r.refused.ensures
-    (turn_no (in_state a.s b) (NameTurn a.d) refl q a.s c.before.turn-asks.result c.before.turn-asks.ensures c.if1.true)
+    (turn_no (in_state a.s b) (NameTurn a.d) refl q a.s c.turn_asks-no.result c.turn_asks-no.ensures c.if-no-ne0.true)
 
-returns-2 : tie.Need-returns-2
+returns-2 : tie.Need-returns
 returns-2 r b q =
-    let c = r.before in
-    let k = c.before in
-    let a = k.before.before.args in
+    let c = r in
+    let k = c in
+    let a = k.args in
     rw r.done.ensures
-    (turn_yes (in_state a.s b) (NameTurn a.d) refl q _ k.before.turn-asks.result 0 0 _ _ k.before.turn-asks.ensures k.if1.false
-    (turned_on a.s _ a.d b c.with-turn.ensures))
+    (turn_yes (in_state a.s b) (NameTurn a.d) refl q _ k.turn_asks-no.result 0 0 _ _ k.turn_asks-no.ensures k.if-no-ne0.false
+    (turned_on a.s _ a.d b c.with_turn-next.ensures))
 
 pub turn_spec : {M : Type 1} → statement M
-turn_spec = tie.close (tie.spec (λ c κs. search rules) (λ c κs. search rules) returns (λ c κs. search rules) (λ c κs. search rules) returns-2)
+turn_spec = tie.close
+    (tie.spec (λ c κs. search rules) (λ c κs. search rules) returns (λ c κs. search rules) (λ c κs. search rules)
+    returns-2)

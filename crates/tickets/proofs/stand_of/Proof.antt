@@ -8,33 +8,33 @@ use borrow.Author.Rules.{rules}
 use Rattle.tickets.proofs.stand_of.Statement.{statement}
 use Rattle.tickets.proofs.stand_of.Tie as tie
 
-prepare-requires : tie.Need-prepare-requires
+prepare-requires : tie.Need-prepare-n-requires
 prepare-requires c κs =
-    let s = c.before.before.before.before in
+    let s = c in
     record { order = can_order s.args.nets.now s.args.delivered.now s.args.lifts.now s.args.i s.requires.sound s.requires.issue; room = s.requires.room }
 
-total-requires : tie.Need-total-requires
+total-requires : tie.Need-total-total-requires
 total-requires c κs =
-    let s = c.before.before.before.before.before.before.before.before in
+    let s = c in
     rw (row_part s.args.delivered.now s.args.i)
     (total_small s.args.nets.now s.args.delivered.now s.args.lifts.now s.requires.sound s.args.i s.requires.issue)
 
 returns : tie.Need-returns
 returns c =
-    let s = c.before.before.before.before.before.before.before.before.before.before.before in
-    let p = c.before.before.before.before.before.before.prepare in
-    let t = c.before.before.total.ensures ∙ ap sum (row_part s.args.delivered.now s.args.i) in
+    let s = c in
+    let p = c.prepare-n in
+    let t = c.total-total.ensures ∙ ap sum (row_part s.args.delivered.now s.args.i) in
     let e = p.ensures.units in
     let a = s.args in
     record {
       there = p.ensures.held.there;
       units = e;
-      covers = λ new. c.handover.ensures.covers ∙ covers_either a.nets.now a.delivered.now a.lifts.now a.i _ _ e t new;
-      left = λ new. c.handover.ensures.left ∙ left_either a.nets.now a.delivered.now a.lifts.now a.i _ _ e t new;
+      covers = λ new. c.handover-h.ensures.covers ∙ covers_either a.nets.now a.delivered.now a.lifts.now a.i _ _ e t new;
+      left = λ new. c.handover-h.ensures.left ∙ left_either a.nets.now a.delivered.now a.lifts.now a.i _ _ e t new;
     }
 
-pub stand-of-spec : {M : Type 1} → statement M
-stand-of-spec =
+pub stand_of_spec : {M : Type 1} → statement M
+stand_of_spec =
     tie.close
     (tie.spec (λ c. search rules) (λ c. search rules) prepare-requires (λ c. search rules) (λ c. search rules)
     (λ c. search rules) (λ c. search rules) total-requires (λ c κs. search rules) (λ c. search rules) returns)

@@ -6,33 +6,34 @@ use borrow.Author.Rules.{rules}
 use Rattle.tickets.proofs.ticket_dealt.Statement.{statement}
 use Rattle.tickets.proofs.ticket_dealt.Tie as tie
 
-returns : tie.Need-returns
+returns : tie.Need-returns-then-k-handed
 returns c =
-    let a = c.before.before.args in
-    is_handed_lem _ a.handed a.day a.count a.i a.k c.if1.true
+    let a = c.args in
+    is_handed_lem _ a.handed a.day a.count a.i a.k c.if-k-handed.true
 
-returns-2 : tie.Need-returns-2
+returns-2 : tie.Need-returns-in-Unit
 returns-2 c =
-    let u = c.before.before.before in
-    let a = u.before.before.before.args in
-    sym (ap (found_ticket a.day a.count a.i a.k) c.before.found.given.1)
-    ∙ of_found _ a.handed a.day a.count a.i a.k u.unit.result (omega arith) u.unit.ensures
+    let u = c in
+    let a = c.args in
+    sym (ap (found_ticket a.day a.count a.i a.k) c.in-Unit.is)
+    ∙ of_found _ a.handed a.day a.count a.i a.k u.unit-found.result (omega arith) u.unit-found.ensures
 
-returns-3 : tie.Need-returns-3
+returns-3 : tie.Need-returns-in-Nothing
 returns-3 c =
-    let u = c.before.before in
-    let a = u.before.before.before.args in
-    sym (ap (found_ticket a.day a.count a.i a.k) c.enum_told.given.1)
-    ∙ of_found _ a.handed a.day a.count a.i a.k u.unit.result (omega arith) u.unit.ensures
+    let u = c in
+    let a = c.args in
+    sym (ap (found_ticket a.day a.count a.i a.k) c.in-Nothing.is)
+    ∙ of_found _ a.handed a.day a.count a.i a.k u.unit-found.result (omega arith) u.unit-found.ensures
 
-returns-4 : tie.Need-returns-4
+returns-4 : tie.Need-returns-in-Refused
 returns-4 c =
-    let u = c.before.before.before in
-    let a = u.before.before.before.args in
-    sym (ap (found_ticket a.day a.count a.i a.k) c.before.found2.given.1)
-    ∙ of_found _ a.handed a.day a.count a.i a.k u.unit.result (omega arith) u.unit.ensures
+    let u = c in
+    let a = c.args in
+    sym (ap (found_ticket a.day a.count a.i a.k) c.in-Refused.is)
+    ∙ of_found _ a.handed a.day a.count a.i a.k u.unit-found.result (omega arith) u.unit-found.ensures
 
-pub ticket-dealt-spec : {M : Type 1} → statement M
-ticket-dealt-spec =
+pub ticket_dealt_spec : {M : Type 1} → statement M
+ticket_dealt_spec =
     tie.close
-    (tie.spec returns (λ c κs. search rules) (λ c. search rules) (λ c. search rules) (λ c. search rules) returns-2 returns-3 returns-4)
+    (tie.spec returns (λ c κs. search rules) (λ c. search rules) (λ c. search rules) (λ c. search rules) returns-2
+    returns-3 returns-4)

@@ -7,23 +7,23 @@ use borrow.Author.Rules.{rules}
 use Rattle.tickets.proofs.ticket_in.Statement.{statement}
 use Rattle.tickets.proofs.ticket_in.Tie as tie
 
-returns : tie.Need-returns
+returns : tie.Need-returns-then-dealt
 returns c =
-    let a = c.before.before.before.before.before.args in
-    c.ticket-dealt.ensures
-    ∙ ticket_as _ _ _ _ _ _ _ _ (ap (λ new. order_in new a.nets.now a.lifts.now a.i) (sym c.before.if1.true))
+    let a = c.args in
+    c.ticket_dealt.ensures
+    ∙ ticket_as _ _ _ _ _ _ _ _ (ap (λ new. order_in new a.nets.now a.lifts.now a.i) (sym c.if-dealt.true))
     (sym (count_at_lem a.lifts.now a.i))
 
-returns-2 : tie.Need-returns-2
+returns-2 : tie.Need-returns
 returns-2 c =
-    let s = c.before.before.before.before.before in
+    let s = c in
     let a = s.args in
-    c.ticket-at.ensures
-    ∙ ticket_as _ _ _ _ _ _ _ _ (s.requires.units ∙ ap (λ new. order_in new a.nets.now a.lifts.now a.i) (sym c.before.if1.false))
+    c.ticket_at.ensures
+    ∙ ticket_as _ _ _ _ _ _ _ _ (s.requires.units ∙ ap (λ new. order_in new a.nets.now a.lifts.now a.i) (sym c.if-dealt.false))
     (sym (count_at_lem a.lifts.now a.i))
 
-pub ticket-in-spec : {M : Type 1} → statement M
-ticket-in-spec =
+pub ticket_in_spec : {M : Type 1} → statement M
+ticket_in_spec =
     tie.close
     (tie.spec (λ c. search rules) (λ c. search rules) (λ c. search rules) (λ c. search rules) (λ c κs. search rules)
     returns (λ c κs. search rules) returns-2)

@@ -8,21 +8,23 @@ use borrow.Author.Rules.{rules}
 use Rattle.trading.proofs.close.Statement.{statement}
 use Rattle.trading.proofs.close.Tie as tie
 
-returns : tie.Need-returns
+returns : tie.Need-returns-then-no-ne0
 returns r b q =
-    let c = r.before in
-    let s = c.before.before.args.s in
+    let c = r in
+    let s = c.args.s in
     rw r.refused.ensures
-    (turn_no (in_state s b) Close refl q s c.before.close-asks.result c.before.close-asks.ensures c.if1.true)
+    (turn_no (in_state s b) Close refl q s c.close_asks-no.result c.close_asks-no.ensures c.if-no-ne0.true)
 
-returns-2 : tie.Need-returns-2
+returns-2 : tie.Need-returns
 returns-2 r b q =
-    let c = r.before in
-    let k = c.before in
-    let s = k.before.before.args.s in
+    let c = r in
+    let k = c in
+    let s = k.args.s in
     rw r.done.ensures
-    (turn_yes (in_state s b) Close refl q _ k.before.close-asks.result 0 0 _ _ k.before.close-asks.ensures k.if1.false
-    (closed s _ b c.with-phase.ensures))
+    (turn_yes (in_state s b) Close refl q _ k.close_asks-no.result 0 0 _ _ k.close_asks-no.ensures k.if-no-ne0.false
+    (closed s _ b c.with_phase-next.ensures))
 
 pub close_spec : {M : Type 1} → statement M
-close_spec = tie.close (tie.spec (λ c κs. search rules) (λ c κs. search rules) returns (λ c κs. search rules) (λ c κs. search rules) returns-2)
+close_spec = tie.close
+    (tie.spec (λ c κs. search rules) (λ c κs. search rules) returns (λ c κs. search rules) (λ c κs. search rules)
+    returns-2)

@@ -13,31 +13,31 @@ use Rattle.trading.proofs.trade_in.Statement.{statement}
 use Rattle.trading.proofs.trade_in.Tie as tie
 
 -- a net that is read comes as its bits
-from_net : (c : tie.After-rises) → let a = c.before.before.args in
+from_net : (c : tie.After-rises-1) → let a = c.args in
     to_z w32 (of_z w32 (net_at a.nets.now a.i a.f)) ≡ net_at a.nets.now a.i a.f
-from_net c = let a = c.before.before.args in to_z-of_z w32 (net_at a.nets.now a.i a.f) (search rules)
+from_net c = let a = c.args in to_z-of_z w32 (net_at a.nets.now a.i a.f) (search rules)
 
-to_net : (c : tie.After-rises) → let a = c.before.before.args in
+to_net : (c : tie.After-rises-1) → let a = c.args in
     to_z w32 (of_z w32 (net_at a.nets.now a.i a.t)) ≡ net_at a.nets.now a.i a.t
-to_net c = let a = c.before.before.args in to_z-of_z w32 (net_at a.nets.now a.i a.t) (search rules)
+to_net c = let a = c.args in to_z-of_z w32 (net_at a.nets.now a.i a.t) (search rules)
 
 lowered-requires : tie.Need-lowered-requires
 lowered-requires c κs =
-    let s = c.before.before in
+    let s = c in
     record { net = rw (from_net c) (s.requires.column.small (s.args.i * 64 + s.args.f)); lots = s.requires.lots }
 
 raised-requires : tie.Need-raised-requires
 raised-requires c κs =
-    let s = c.before.before.before in
+    let s = c in
     record { net = rw (to_net c.before) (s.requires.column.small (s.args.i * 64 + s.args.t)); lots = s.requires.lots }
 
-slice-set-from-nets-2 : tie.Need-slice-set-from-nets-2
-slice-set-from-nets-2 c = simp length-set (omega (arith, c.before.before.before.before.requires.column.cells))
+slice-set-from-nets-2 : tie.Need-bounds-nets-to
+slice-set-from-nets-2 c = simp length-set (omega (arith, c.requires.column.cells))
 
 returns : tie.Need-returns
 returns c =
-    let s = c.before.before.before.before in
-    let l = c.before.lowered in
+    let s = c in
+    let l = c.lowered in
     let r = c.raised in
     let f : to_z w32 (of_z w32 l.result) ≡ net_at s.args.nets.now s.args.i s.args.f -ℤ pos s.args.x =
     to_z-of_z w32 l.result (search rules) ∙ l.ensures.value ∙ ap (λ n. n -ℤ pos s.args.x) (from_net c.before.before) in
@@ -45,10 +45,10 @@ returns c =
     to_z-of_z w32 r.result (search rules) ∙ r.ensures.value ∙ ap (λ n. n +ℤ pos s.args.x) (to_net c.before.before) in
     rw (f, t)
 
-pub trade-in-spec : {M : Type 1} → statement M
-trade-in-spec =
+pub trade_in_spec : {M : Type 1} → statement M
+trade_in_spec =
     tie.close
     (tie.spec (λ c. search rules) (λ c. search rules) (λ c. search rules) (λ c. search rules) (λ c. search rules)
-    (λ c. search rules) (λ c. search rules) (λ c. search rules) (λ c. search rules) (λ c. search rules) lowered-requires
-    (λ c. search rules) (λ c. search rules) raised-requires (λ c. search rules) slice-set-from-nets-2
-    (λ c. search rules) returns)
+    (λ c. search rules) (λ c. search rules) (λ c. search rules) (λ c. search rules) (λ c. search rules)
+    lowered-requires (λ c. search rules) (λ c. search rules) raised-requires (λ c. search rules)
+    slice-set-from-nets-2 (λ c. search rules) returns)
