@@ -2,7 +2,7 @@
 use Rattle.std.specs.Prelude.{◌≡◌, true, List, ◌++◌, ℕ, ◌+◌, ◌≤◌, ◌<◌, length}
 use Rattle.rules.specs.Ledger.{Pairing, pairing}
 use Rattle.rules.specs.Book.{all, entries, entry_sound}
-use Rattle.ledger.specs.Columns.{Held, without_zeros, Lent, Column, before, Shared, SharedColumn}
+use Rattle.ledger.specs.Columns.{Held, without_zeros, Lent, Column, Shared, SharedColumn}
 use Rattle.stepping.specs.declared.Made.{Made}
 
 -- a ledger whose entries are sound, in its columns, and an issue
@@ -27,10 +27,10 @@ pairable n i issues froms tos lots days = Pairable n i issues.now froms.now tos.
 
 abbrev pub can_pair : ℕ → ℕ → Shared → Shared → Shared → Lent → Shared → Lent → Lent → Lent → Lent → Lent → Type 0
 can_pair n i issues froms tos lots days is fs ts xs ds =
-    pairable n i issues froms tos lots days × Held 0 is.now fs.now ts.now xs.now ds.now
+    Pairable n i issues.now froms.now tos.now lots.now days.now × Held 0 is.now fs.now ts.now xs.now ds.now
 
 abbrev pub was_made : ℕ → ℕ → ℕ → ℕ → Made → SharedColumn → SharedColumn → SharedColumn → Column → SharedColumn → Column → Column → Column → Column → Column → Type 0
 was_made n today i a r issues froms tos lots days is fs ts xs ds =
-    WasMade (pairing today i a (before n issues froms tos lots days)) n r
+    WasMade (pairing today i a (entries n issues.entry.now froms.entry.now tos.entry.now lots.entry.now days.entry.now)) n r
     issues.exit.now froms.exit.now tos.exit.now lots.exit.now days.exit.now
     is.exit.now fs.exit.now ts.exit.now xs.exit.now ds.exit.now
