@@ -4,19 +4,19 @@ use borrow.Author.Rules.{rules}
 use Rattle.falling.proofs.append_between.Statement.{statement}
 use Rattle.falling.proofs.append_between.Tie as tie
 
-returns : tie.Need-returns
+returns : tie.Need-returns-then-p-q
 returns c =
-    let a = c.before.before.before.before.before.before.args in
-    kept_none a.today a.i a.p a.q a.m _ _ _ _ _ _ c.if1.true c.before.before.before.before.before.before.requires.1
+    let a = c.args in
+    kept_none a.today a.i a.p a.q a.m _ _ _ _ _ _ c.if-p-q.true c.requires.1
 
-returns-2 : tie.Need-returns-2
+returns-2 : tie.Need-returns
 returns-2 c =
-    let a = c.before.before.before.before.before.before.before.before.before.before.before.before.before.before.before.before.before.before.before.before.before.before.args in
+    let a = c.args in
     kept_one a.today a.i a.p a.q a.m a.entries _ a.issues.now a.froms.now a.tos.now a.lots.now a.days.now _ _ _ _ _
-    c.before.before.before.before.before.before.before.before.before.before.before.before.before.before.before.before.if1.false c.before.before.before.before.before.before.before.before.before.before.append.ensures
+    c.if-p-q.false c.append.ensures
 
-pub append-between-spec : {M : Type 1} → statement M
-append-between-spec =
+pub append_between_spec : {M : Type 1} → statement M
+append_between_spec =
     tie.close
     (tie.spec returns (λ c κs. search rules) (λ c. search rules) (λ c. search rules) (λ c. search rules)
     (λ c. search rules) (λ c. search rules) (λ c. search rules) returns-2)

@@ -5,10 +5,10 @@ use Rattle.falling.proofs.fall_both.Statement.{statement}
 use Rattle.falling.proofs.fall_both.Tie as tie
 
 returns : tie.Need-returns
-returns c = both_fell_lem c.before.before.before.before.before.before.before.before.before.before.before.before.before.before.before.before.before.before.before.before.args.t c.before.before.before.before.before.before.before.before.before.before.before.before.before.before.before.before.before.before.before.before.args.f c.before.before.before.before.before.before.before.before.before.before.before.before.smaller.result _ _ _ c.before.before.before.before.before.before.before.before.before.before.before.before.smaller.ensures c.before.before.before.before.before.before.left-of.ensures c.left-of2.ensures
+returns c = both_fell_lem c.args.t c.args.f c.smaller-m.result _ _ _ c.smaller-m.ensures c.left_of-x.ensures c.left_of-y.ensures
 
-pub fall-both-spec : {M : Type 1} → statement M
-fall-both-spec =
+pub fall_both_spec : {M : Type 1} → statement M
+fall_both_spec =
     tie.close
     (tie.spec (λ c. search rules) (λ c. search rules) (λ c. search rules) (λ c. search rules) (λ c κs. search rules)
     (λ c. search rules) (λ c. search rules) (λ c. search rules) (λ c. search rules) (λ c. search rules)

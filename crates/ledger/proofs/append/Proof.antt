@@ -5,10 +5,10 @@ use Rattle.ledger.proofs.append.Statement.{statement}
 use Rattle.ledger.proofs.append.Tie as tie
 
 returns : tie.Need-returns
-returns c = held_append _ _ _ _ _ _ _ _ _ _ _ _ c.before.before.before.before.before.before.before.before.before.before.before.before.before.before.before.before.before.before.before.before.before.requires.0 c.before.before.before.before.before.before.before.before.before.before.before.before.before.before.before.before.before.before.before.before.before.requires.1 c.before.before.before.before.before.before.before.before.before.before.store.ensures
+returns c = held_append _ _ _ _ _ _ _ _ _ _ _ _ c.requires.0 c.requires.1 c.store.ensures
 
-pub append-spec : {M : Type 1} → statement M
-append-spec =
+pub append_spec : {M : Type 1} → statement M
+append_spec =
     tie.close
     (tie.spec (λ c κs. search rules) (λ c. search rules) (λ c. search rules) (λ c. search rules) (λ c. search rules)
     (λ c. search rules) returns)

@@ -7,29 +7,29 @@ use Rattle.ledger.proofs.Entries.{Joined, joined_starts, joined_more, joined_end
 use Rattle.ledger.proofs.append_all.Statement.{statement}
 use Rattle.ledger.proofs.append_all.Tie as tie
 
-abbrev invariant-loop : tie.invariant-loop
+abbrev invariant-loop : tie.invariant-loop-j
 invariant-loop count issues₀ froms₀ tos₀ lots₀ days₀ more mi mf mt mx md j₀ issues froms tos lots days j =
     Joined (entries count issues₀ froms₀ tos₀ lots₀ days₀) count j more mi mf mt mx md issues froms tos lots days
 
-abbrev decreases-loop : tie.decreases-loop
+abbrev decreases-loop : tie.decreases-loop-j
 decreases-loop count issues₀ froms₀ tos₀ lots₀ days₀ more mi mf mt mx md j₀ issues froms tos lots days j = more - j
 
-loop-holds : tie.Need-loop-init invariant-loop decreases-loop
-loop-holds c = joined_starts _ _ _ _ _ _ _ _ _ _ _ _ c.before.before.before.before.before.before.before.before.before.before.requires.0 c.before.before.before.before.before.before.before.before.before.before.requires.1
+loop-holds : tie.Need-loop-j-init invariant-loop decreases-loop
+loop-holds c = joined_starts _ _ _ _ _ _ _ _ _ _ _ _ c.requires.0 c.requires.1
 
 append-requires : tie.Need-append-requires invariant-loop decreases-loop
-append-requires c κs = (omega (arith, c.before.before.before.before.before.before.before.before.before.before.before.loop.invariant.most, c.before.before.before.before.before.before.before.before.before.before.loop-test.true), c.before.before.before.before.before.before.before.before.before.before.before.loop.invariant.held)
+append-requires c κs = (omega (arith, c.loop-j.invariant.most, c.loop-j-test.true), c.loop-j.invariant.held)
 
-loop-again : tie.Need-loop-preserved invariant-loop decreases-loop
-loop-again c = joined_more c.before.before.before.before.before.before.before.before.before.before.before.before.before.before.before.before.before.before.before.before.before.before.loop.invariant c.before.before.before.before.before.before.before.before.before.before.before.before.before.before.before.before.before.before.before.before.before.loop-test.true c.before.before.before.before.before.before.before.before.before.before.append.ensures
+loop-again : tie.Need-loop-j-preserved invariant-loop decreases-loop
+loop-again c = joined_more c.loop-j.invariant c.loop-j-test.true c.append.ensures
 
 returns : tie.Need-returns invariant-loop decreases-loop
-returns c = joined_ends c.before.loop.invariant c.loop-test.false
+returns c = joined_ends c.loop-j.invariant c.loop-j-test.false
 
-pub append-all-spec : {M : Type 1} → statement M
-append-all-spec =
+pub append_all_spec : {M : Type 1} → statement M
+append_all_spec =
     tie.close
-    (tie.spec invariant-loop decreases-loop loop-holds (λ c. search rules) (λ c. search rules) (λ c. search rules) (λ c. search rules)
-    (λ c. search rules) (λ c. search rules) (λ c. search rules) (λ c. search rules) append-requires (λ c. search rules)
-    (λ c. search rules) loop-again (λ c. search rules) (λ c. search rules) (λ c. search rules) (λ c. search rules)
-    (λ c. search rules) returns)
+    (tie.spec invariant-loop decreases-loop loop-holds (λ c. search rules) (λ c. search rules) (λ c. search rules)
+    (λ c. search rules) (λ c. search rules) (λ c. search rules) (λ c. search rules) (λ c. search rules)
+    append-requires (λ c. search rules) (λ c. search rules) loop-again (λ c. search rules) (λ c. search rules)
+    (λ c. search rules) (λ c. search rules) (λ c. search rules) returns)

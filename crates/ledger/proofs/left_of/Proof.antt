@@ -6,7 +6,8 @@ use Rattle.ledger.proofs.left_of.Statement.{statement}
 use Rattle.ledger.proofs.left_of.Tie as tie
 
 returns : tie.Need-returns
-returns c = ap (λ (e : Entry). e.lots) c.met.ensures
+returns c = ap (λ (e : Entry). e.lots) c.met-after.ensures
 
-pub left-of-spec : {M : Type 1} → statement M
-left-of-spec = tie.close (tie.spec (λ c κs. search rules) returns)
+pub left_of_spec : {M : Type 1} → statement M
+left_of_spec = tie.close
+    (tie.spec (λ c κs. search rules) returns)

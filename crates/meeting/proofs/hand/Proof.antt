@@ -6,17 +6,17 @@ use borrow.Author.Rules.{rules}
 use Rattle.meeting.proofs.hand.Statement.{statement}
 use Rattle.meeting.proofs.hand.Tie as tie
 
-returns : tie.Need-returns
-returns c = λ y d. recorded_none _ _ _ _ c.if1.true
+returns : tie.Need-returns-then-x-eq0
+returns c = λ y d. recorded_none _ _ _ _ c.if-x-eq0.true
 
-returns-2 : tie.Need-returns-2
+returns-2 : tie.Need-returns
 returns-2 c =
-    let a = c.before.before.before.before.before.before.args in
-    λ y d. recorded_some _ _ _ _ d y _ _ _ c.before.before.before.before.if1.false
-    (part_put a.out.now c.before.before.«record».new.0 (2 * a.n) _ _ c.before.before.before.before.before.before.requires.0 c.before.before.«record».ensures)
+    let a = c.args in
+    λ y d. recorded_some _ _ _ _ d y _ _ _ c.if-x-eq0.false
+    (part_put a.out.now c.«record».new.part (2 * a.n) _ _ c.requires.0 c.«record».ensures)
 
-pub hand-spec : {M : Type 1} → statement M
-hand-spec =
+pub hand_spec : {M : Type 1} → statement M
+hand_spec =
     tie.close
     (tie.spec returns (λ c. search rules) (λ c. search rules) (λ c. search rules) (λ c. search rules)
     (λ c. search rules) (λ c κs. search rules) (λ c. search rules) (λ c. search rules) returns-2)

@@ -6,14 +6,15 @@ use borrow.Author.Rules.{rules}
 use Rattle.meeting.proofs.met_by.Statement.{statement}
 use Rattle.meeting.proofs.met_by.Tie as tie
 
-sub-result : tie.Need-overflow-sub-result
-sub-result c = omega (arith, c.left-of.ensures)
+sub-result : tie.Need-overflow_sub-result
+sub-result c = omega (arith, c.left_of.ensures)
 
-returns : tie.Need-returns
-returns c = simp (sym c.before.before.is-of.ensures ∙ c.before.if1.true) (omega (arith, c.left-of.ensures))
+returns : tie.Need-returns-then-is_of
+returns c = simp (sym c.is_of.ensures ∙ c.if-is_of.true) (omega (arith, c.left_of.ensures))
 
-returns-2 : tie.Need-returns-2
-returns-2 c = simp (sym c.before.is-of.ensures ∙ c.if1.false)
+returns-2 : tie.Need-returns
+returns-2 c = simp (sym c.is_of.ensures ∙ c.if-is_of.false)
 
-pub met-by-spec : {M : Type 1} → statement M
-met-by-spec = tie.close (tie.spec (λ c κs. search rules) (λ c κs. search rules) sub-result returns returns-2)
+pub met_by_spec : {M : Type 1} → statement M
+met_by_spec = tie.close
+    (tie.spec (λ c κs. search rules) (λ c κs. search rules) sub-result returns returns-2)

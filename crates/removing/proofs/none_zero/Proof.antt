@@ -11,25 +11,26 @@ use Rattle.removing.proofs.Looking.{zero_turn}
 use Rattle.removing.proofs.none_zero.Statement.{statement}
 use Rattle.removing.proofs.none_zero.Tie as tie
 
-abbrev invariant-loop : tie.invariant-loop
+abbrev invariant-loop : tie.invariant-loop-k
 invariant-loop s e lots none₀ k₀ none k = (s ≤ k) × (k ≤ e) × (none ≡ true → NoneIn (zero_at lots) s k)
 
-abbrev decreases-loop : tie.decreases-loop
+abbrev decreases-loop : tie.decreases-loop-k
 decreases-loop s e lots none₀ k₀ none k = e - k
 
-loop-holds : tie.Need-loop-init invariant-loop decreases-loop
+loop-holds : tie.Need-loop-k-init invariant-loop decreases-loop
 loop-holds c = (search rules, search rules, λ y. none_start _ _)
 
-loop-again : tie.Need-loop-preserved invariant-loop decreases-loop
+loop-again : tie.Need-loop-k-preserved invariant-loop decreases-loop
 loop-again c =
-    let l = c.before.before.loop in
-    let g = c.before.before.before.args in
+    let l = c.loop-k in
+    let g = c.args in
     (search rules, search rules, zero_turn g.lots.now g.s l.k l.none l.invariant.2)
 
 returns : tie.Need-returns invariant-loop decreases-loop
-returns c y k h l = c.before.loop.invariant.2 y k h (omega (arith, c.loop-test.false))
+returns c y k h l = c.loop-k.invariant.2 y k h (omega (arith, c.loop-k-test.false))
 
-pub none-zero-spec : {M : Type 1} → statement M
-none-zero-spec =
+pub none_zero_spec : {M : Type 1} → statement M
+none_zero_spec =
     tie.close
-    (tie.spec invariant-loop decreases-loop loop-holds (λ c. search rules) (λ c. search rules) (λ c. search rules) (λ c. search rules) loop-again returns)
+    (tie.spec invariant-loop decreases-loop loop-holds (λ c. search rules) (λ c. search rules) (λ c. search rules)
+    (λ c. search rules) loop-again returns)

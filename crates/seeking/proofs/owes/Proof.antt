@@ -5,26 +5,26 @@ use Rattle.seeking.proofs.Owing.{Asking, asking_starts, asking_none, asking_more
 use Rattle.seeking.proofs.owes.Statement.{statement}
 use Rattle.seeking.proofs.owes.Tie as tie
 
-abbrev invariant-loop : tie.invariant-loop
+abbrev invariant-loop : tie.invariant-loop-left
 invariant-loop entries issues froms lots i a x left₀ k₀ left k = Asking entries i a issues froms lots x k left
 
-abbrev decreases-loop : tie.decreases-loop
+abbrev decreases-loop : tie.decreases-loop-left
 decreases-loop entries issues froms lots i a x left₀ k₀ left k = entries - k
 
-loop-holds : tie.Need-loop-init invariant-loop decreases-loop
+loop-holds : tie.Need-loop-left-init invariant-loop decreases-loop
 loop-holds c = asking_starts _ _ _ _ _ _ _
 
-returns : tie.Need-returns invariant-loop decreases-loop
-returns c = asking_none c.before.before.before.loop.invariant c.before.seek.ensures c.if1.true c.before.before.loop-test.true
+returns : tie.Need-returns-then-k-entries invariant-loop decreases-loop
+returns c = asking_none c.loop-left.invariant c.seek-k.ensures c.if-k-entries.true c.loop-left-test.true
 
-loop-again : tie.Need-loop-preserved invariant-loop decreases-loop
-loop-again c = asking_more c.before.before.before.before.before.loop.invariant c.before.before.before.seek.ensures c.before.before.if1.false c.less.ensures
+loop-again : tie.Need-loop-left-preserved invariant-loop decreases-loop
+loop-again c = asking_more c.loop-left.invariant c.seek-k.ensures c.if-k-entries.false c.less-left.ensures
 
-returns-2 : tie.Need-returns-2 invariant-loop decreases-loop
-returns-2 c = asking_all c.before.loop.invariant c.loop-test.false
+returns-2 : tie.Need-returns invariant-loop decreases-loop
+returns-2 c = asking_all c.loop-left.invariant c.loop-left-test.false
 
-pub owes-spec : {M : Type 1} → statement M
-owes-spec =
+pub owes_spec : {M : Type 1} → statement M
+owes_spec =
     tie.close
-    (tie.spec invariant-loop decreases-loop loop-holds (λ c κs. search rules) returns (λ c. search rules) (λ c. search rules)
-    (λ c κs. search rules) (λ c. search rules) (λ c. search rules) loop-again returns-2)
+    (tie.spec invariant-loop decreases-loop loop-holds (λ c κs. search rules) returns (λ c. search rules)
+    (λ c. search rules) (λ c κs. search rules) (λ c. search rules) (λ c. search rules) loop-again returns-2)

@@ -8,81 +8,82 @@ use borrow.Author.Rules.{rules}
 use Rattle.stepping.proofs.make_steps.Statement.{statement}
 use Rattle.stepping.proofs.make_steps.Tie as tie
 
-abbrev invariant-loop : tie.invariant-loop
+abbrev invariant-loop : tie.invariant-loop-t
 invariant-loop count issues froms tos lots₀ days today i a is₀ fs₀ ts₀ xs₀ ds₀ t₀ f₀ more₀ steps₀ cancelled₀ lots is fs ts xs ds t f more steps cancelled =
     Turns today i a (entries count issues froms tos lots₀ days) count t f more steps cancelled issues froms tos lots days is fs ts xs ds
 
-abbrev decreases-loop : tie.decreases-loop
+abbrev decreases-loop : tie.decreases-loop-t
 decreases-loop count issues froms tos lots₀ days today i a is₀ fs₀ ts₀ xs₀ ds₀ t₀ f₀ more₀ steps₀ cancelled₀ lots is fs ts xs ds t f more steps cancelled =
     in_and_out i a (standing count more issues froms tos lots days is fs ts xs ds)
 
-loop-holds : tie.Need-loop-init invariant-loop decreases-loop
-loop-holds c = turns_start _ _ _ _ _ _ _ _ _ _ _ _ _ _ c.before.before.before.before.before.before.before.before.before.before.requires.0 c.before.before.before.before.before.before.before.before.before.before.requires.1
+loop-holds : tie.Need-loop-t-init invariant-loop decreases-loop
+loop-holds c = turns_start _ _ _ _ _ _ _ _ _ _ _ _ _ _ c.requires.0 c.requires.1
 
-next-of-requires : tie.Need-next-of-requires invariant-loop decreases-loop
-next-of-requires c κs = seek_to c.before.loop.invariant
+next-of-requires : tie.Need-next_of-t-requires invariant-loop decreases-loop
+next-of-requires c κs = seek_to c.loop-t.invariant
 
-returns : tie.Need-returns invariant-loop decreases-loop
-returns c = ends_in c.before.before.before.loop.invariant c.before.next_of.ensures c.if1.true
+returns : tie.Need-returns-then-t-entries invariant-loop decreases-loop
+returns c = ends_in c.loop-t.invariant c.next_of-t.ensures c.if-t-entries.true
 
-next-of-requires-2 : tie.Need-next-of-requires-2 invariant-loop decreases-loop
-next-of-requires-2 c κs = seek_from c.before.before.before.before.loop.invariant
+next-of-requires-2 : tie.Need-next_of-f-requires invariant-loop decreases-loop
+next-of-requires-2 c κs = seek_from c.loop-t.invariant
 
-returns-2 : tie.Need-returns-2 invariant-loop decreases-loop
-returns-2 c = ends_out c.before.before.before.before.before.before.loop.invariant c.before.next-of2.ensures c.if2.true
+returns-2 : tie.Need-returns-then-f-entries invariant-loop decreases-loop
+returns-2 c = ends_out c.loop-t.invariant c.next_of-f.ensures c.if-f-entries.true
 
 -- both entries are there
-both : (c : tie.Else2 invariant-loop decreases-loop) →
-    let a = c.before.before.before.before.before.before.before.before.before.before.before.before.before.before.before.before.before.args in
-    Both a.entries a.i a.a c.before.before.before.before.next_of.result c.before.next-of2.result a.issues.now a.froms.now a.tos.now c.before.before.before.before.before.before.loop.lots
-both c = record { to = c.before.before.before.before.next_of.ensures; from = c.before.next-of2.ensures; some_to = c.before.before.before.if1.false; some_from = c.if2.false }
+both : (c : tie.Else-f-entries invariant-loop decreases-loop) →
+    let a = c.args in
+    Both a.entries a.i a.a c.next_of-t.result c.next_of-f.result a.issues.now a.froms.now a.tos.now c.loop-t.lots
+both c = record { to = c.next_of-t.ensures; from = c.next_of-f.ensures; some_to = c.if-t-entries.false; some_from = c.if-f-entries.false }
 
-fall-both-requires : tie.Need-fall-both-requires invariant-loop decreases-loop
+fall-both-requires : tie.Need-fall_both-m-requires invariant-loop decreases-loop
 fall-both-requires c κs =
-    turn_can c.before.before.before.before.before.before.before.loop.invariant (both c.before)
+    turn_can c.loop-t.invariant (both c.before)
 
-cast-append-between : tie.Need-overflow-cast-append-between invariant-loop decreases-loop
-cast-append-between c = omega (arith, c.before.before.before.before.before.before.before.before.before.before.before.before.before.before.before.loop.invariant.issue)
+cast-append-between : tie.Need-overflow_cast-i invariant-loop decreases-loop
+cast-append-between c = omega (arith, c.loop-t.invariant.issue)
 
-shared-slice-read-append-between : tie.Need-shared-slice-read-append-between invariant-loop decreases-loop
+shared-slice-read-append-between : tie.Need-bounds-froms-t invariant-loop decreases-loop
 shared-slice-read-append-between c =
-    let h = turn_can c.before.before.before.before.before.before.before.before.before.before.before.before.before.before.before.before.loop.invariant (both c.before.before.before.before.before.before.before.before.before.before) in
-    omega (arith, h.to, c.before.before.before.before.before.before.before.before.before.before.before.before.before.before.before.before.loop.invariant.held.whole.froms)
+    let h = turn_can c.loop-t.invariant (both c.before.before.before.before.before.before.before.before.before.before) in
+    omega (arith, h.to, c.loop-t.invariant.held.whole.froms)
 
-shared-slice-read-append-between-2 : tie.Need-shared-slice-read-append-between-2 invariant-loop decreases-loop
+shared-slice-read-append-between-2 : tie.Need-bounds-tos-f invariant-loop decreases-loop
 shared-slice-read-append-between-2 c =
-    let h = turn_can c.before.before.before.before.before.before.before.before.before.before.before.before.before.before.before.before.before.loop.invariant (both c.before.before.before.before.before.before.before.before.before.before.before) in
-    omega (arith, h.from, c.before.before.before.before.before.before.before.before.before.before.before.before.before.before.before.before.before.loop.invariant.held.whole.tos)
+    let h = turn_can c.loop-t.invariant (both c.before.before.before.before.before.before.before.before.before.before.before) in
+    omega (arith, h.from, c.loop-t.invariant.held.whole.tos)
 
-append-between-requires : tie.Need-append-between-requires invariant-loop decreases-loop
+append-between-requires : tie.Need-append_between-more-requires invariant-loop decreases-loop
 append-between-requires c κs = (
-  turn_room c.before.before.before.before.before.before.before.before.before.before.before.before.before.before.before.before.before.loop.invariant (both c.before.before.before.before.before.before.before.before.before.before.before),
-  c.before.before.before.before.before.before.before.before.before.before.before.before.before.before.before.before.before.loop.invariant.more,
+  turn_room c.loop-t.invariant (both c.before.before.before.before.before.before.before.before.before.before.before),
+  c.loop-t.invariant.more,
 )
 
-add-steps : tie.Need-overflow-add-steps invariant-loop decreases-loop
+add-steps : tie.Need-overflow_add-steps invariant-loop decreases-loop
 add-steps c =
-    let h = turn_small c.before.before.before.before.before.before.before.before.before.before.before.before.before.before.before.before.before.before.before.before.before.before.before.before.before.before.before.before.loop.invariant (both c.before.before.before.before.before.before.before.before.before.before.before.before.before.before.before.before.before.before.before.before.before.before) c.before.before.before.before.before.before.before.before.before.before.before.before.before.before.before.before.before.before.before.before.fall-both.ensures in
+    let h = turn_small c.loop-t.invariant (both c.before.before.before.before.before.before.before.before.before.before.before.before.before.before.before.before.before.before.before.before.before.before) c.fall_both-m.ensures in
     omega (arith, h.1)
 
-add-cancelled : tie.Need-overflow-add-cancelled invariant-loop decreases-loop
+add-cancelled : tie.Need-overflow_add-cancelled invariant-loop decreases-loop
 add-cancelled c =
-    let h = turn_small c.before.before.before.before.before.before.before.before.before.before.before.before.before.before.before.before.before.before.before.before.before.before.before.before.before.before.before.before.loop.invariant (both c.before.before.before.before.before.before.before.before.before.before.before.before.before.before.before.before.before.before.before.before.before.before) c.before.before.before.before.before.before.before.before.before.before.before.before.before.before.before.before.before.before.before.before.fall-both.ensures in
+    let h = turn_small c.loop-t.invariant (both c.before.before.before.before.before.before.before.before.before.before.before.before.before.before.before.before.before.before.before.before.before.before) c.fall_both-m.ensures in
     omega (arith, h.0, h.1)
 
-loop-less : tie.Need-loop-smaller invariant-loop decreases-loop
+loop-less : tie.Need-loop-t-smaller invariant-loop decreases-loop
 loop-less c =
-    turn_less c.before.before.before.before.before.before.before.before.before.before.before.before.before.before.before.before.before.before.before.before.before.before.before.before.before.before.before.before.loop.invariant (both c.before.before.before.before.before.before.before.before.before.before.before.before.before.before.before.before.before.before.before.before.before.before) c.before.before.before.before.before.before.before.before.before.before.before.before.before.before.before.before.before.before.before.before.fall-both.ensures c.before.before.before.before.before.before.before.before.before.before.append-between.ensures
+    turn_less c.loop-t.invariant (both c.before.before.before.before.before.before.before.before.before.before.before.before.before.before.before.before.before.before.before.before.before.before) c.fall_both-m.ensures c.append_between-more.ensures
 
-loop-again : tie.Need-loop-preserved invariant-loop decreases-loop
+loop-again : tie.Need-loop-t-preserved invariant-loop decreases-loop
 loop-again c =
-    turns_more c.before.before.before.before.before.before.before.before.before.before.before.before.before.before.before.before.before.before.before.before.before.before.before.before.before.before.before.before.loop.invariant (both c.before.before.before.before.before.before.before.before.before.before.before.before.before.before.before.before.before.before.before.before.before.before) c.before.before.before.before.before.before.before.before.before.before.before.before.before.before.before.before.before.before.before.before.fall-both.ensures c.before.before.before.before.before.before.before.before.before.before.append-between.ensures
+    turns_more c.loop-t.invariant (both c.before.before.before.before.before.before.before.before.before.before.before.before.before.before.before.before.before.before.before.before.before.before) c.fall_both-m.ensures c.append_between-more.ensures
 
-pub make-steps-spec : {M : Type 1} → statement M
-make-steps-spec =
+pub make_steps_spec : {M : Type 1} → statement M
+make_steps_spec =
     tie.close
-    (tie.spec invariant-loop decreases-loop loop-holds next-of-requires (λ c. search rules) (λ c. search rules) (λ c. search rules)
-    (λ c. search rules) (λ c. search rules) (λ c. search rules) returns next-of-requires-2 (λ c. search rules)
-    (λ c. search rules) (λ c. search rules) (λ c. search rules) (λ c. search rules) (λ c. search rules) returns-2
-    fall-both-requires cast-append-between shared-slice-read-append-between shared-slice-read-append-between-2
-    append-between-requires add-steps (λ c. search rules) add-cancelled loop-less loop-again)
+    (tie.spec invariant-loop decreases-loop loop-holds next-of-requires (λ c. search rules) (λ c. search rules)
+    (λ c. search rules) (λ c. search rules) (λ c. search rules) (λ c. search rules) returns next-of-requires-2
+    (λ c. search rules) (λ c. search rules) (λ c. search rules) (λ c. search rules) (λ c. search rules)
+    (λ c. search rules) returns-2 fall-both-requires cast-append-between shared-slice-read-append-between
+    shared-slice-read-append-between-2 append-between-requires add-steps (λ c. search rules) add-cancelled loop-less
+    loop-again)
