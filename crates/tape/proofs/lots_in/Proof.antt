@@ -4,8 +4,9 @@ use lib.ListN.{get_or-eq_default}
 use Rattle.tape.proofs.lots_in.Statement.{statement}
 use Rattle.tape.proofs.lots_in.Tie as tie
 
-returns : tie.Need-returns
-returns c = rw (get_or-eq_default c.before.before.args.tape.now 0 c.if1.true)
+returns : tie.Need-returns-then-tape-le1
+returns c = rw (get_or-eq_default c.before.before.args.tape.now 0 c.if-tape-le1.true)
 
-pub lots-in-spec : {M : Type 1} → statement M
-lots-in-spec = tie.close (tie.spec returns (λ c. search rules) (λ c κs. search rules) (λ c. search rules))
+pub lots_in_spec : {M : Type 1} → statement M
+lots_in_spec = tie.close
+    (tie.spec returns (λ c. search rules) (λ c κs. search rules) (λ c. search rules))

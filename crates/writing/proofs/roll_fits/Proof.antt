@@ -3,5 +3,6 @@ use borrow.Author.Rules.{rules}
 use Rattle.writing.proofs.roll_fits.Statement.{statement}
 use Rattle.writing.proofs.roll_fits.Tie as tie
 
-pub roll-fits-spec : {M : Type 1} → statement M
-roll-fits-spec = tie.close (tie.spec (λ c κs. search rules) (λ c. rw c.quotes-fit.ensures))
+pub roll_fits_spec : {M : Type 1} → statement M
+roll_fits_spec = tie.close
+    (tie.spec (λ c κs. search rules) (λ c. rw c.quotes_fit.ensures))
