@@ -15,7 +15,7 @@ use mir.Syntax.{w64}
 use mir.Val.{SFits, to_z, of_z}
 use mir.ValLaws.{to_z-of_z}
 use Rattle.laws.proofs.Basics.{by_test}
-use Rattle.io.specs.Counts.{clamp_len}
+use Rattle.std.specs.Counts.{clamp_len}
 use Rattle.rules.specs.Bytes.{word_of, words_in, says_end, says_failed}
 use Rattle.input.specs.declared.Fill.{Fill}
 use Rattle.input.specs.Fed.{Took, Refilled}
@@ -64,11 +64,8 @@ decode_ends bytes words all n h q =
     ∙ q
 
 -- bytes that were copied to the front stand there
-pub copied : (part tail all : List ℕ) (n m : ℕ) → n ≡ length part → m ≡ length part → all ≡ take m part ++ tail → take n all ≡ part
-copied part tail all n m e d h =
-    ap (take n) (h ∙ ap (λ (l : List ℕ). l ++ tail) (ap (λ (k : ℕ). take k part) d ∙ take-length part))
-    ∙ ap (λ (k : ℕ). take k (part ++ tail)) e
-    ∙ take-append_seam part tail
+pub copied : (part tail all : List ℕ) (n : ℕ) → n ≡ length part → all ≡ part ++ tail → take n all ≡ part
+copied part tail all n e h = ap (take n) h ∙ ap (λ (k : ℕ). take k (part ++ tail)) e ∙ take-append_seam part tail
 
 -- What a read answered
 

@@ -1,6 +1,6 @@
 -- Bytes of the tape in a buffer, and their words.
 use Rattle.std.specs.Prelude.{◌≡◌, ℕ, ◌+◌, ◌-◌, ◌≤◌, ◌<◌, List, ◌++◌, ℤ, length, take, drop}
-use Rattle.io.specs.Counts.{clamp_len}
+use Rattle.std.specs.Counts.{clamp_len}
 use Rattle.rules.specs.Bytes.{words_in, says_end, says_failed}
 use Rattle.input.specs.declared.Fill.{Fill}
 use Rattle.input.specs.declared.Words.{Words}

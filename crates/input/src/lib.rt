@@ -2,9 +2,12 @@
 // of the tape, and nothing else is.
 #![tactic(auto)]
 
-ghost use Rattle.std.specs.Prelude.{◌≡◌, ◌+◌, ◌-◌, ◌*◌, ◌≤◌, ◌<◌, ◌^◌, length, get_or, take, drop};
+ghost use Rattle.std.specs.Prelude.{◌≡◌, ◌++◌, ◌+◌, ◌-◌, ◌*◌, ◌≤◌, ◌<◌, ◌^◌, length, get_or, take, drop};
+ghost use Rattle.std.specs.Counts.{clamp_len};
 ghost use Rattle.rules.specs.Bytes.{word_of};
 ghost use Rattle.input.specs.Fed.{Decoded, Few, Took, Received, Refilled, Fed};
+
+use std::io::Read;
 
 // Where the bytes in the buffer end, whether the input has ended, and whether the read failed.
 #[derive(Clone, Copy, Drop)]
@@ -46,15 +49,36 @@ fn decode(bytes: &[u8], words: &mut [u32]) -> usize
     n
 }
 
+// The bytes of a part, copied to the front of others; answers how many.
+fn copy(part: &[u8], to: &mut [u8]) -> usize
+    requires { length part.now ≤ length to.old }
+    ensures { (result ≡ length part.now) × (to.new ≡ part.now ++ drop (length part.now) to.old) }
+{
+    let n = part.len();
+    to[..n].copy_from_slice(part);
+    n
+}
+
 // The bytes from `start` to `end`, fewer than thirty-three words and a stray, go to the front.
 fn shift(buffer: &mut [u8], start: usize, end: usize) -> usize
     requires { Few start end buffer.old }
     ensures { (result ≡ end - start) × (take (end - start) buffer.new ≡ take (end - start) (drop start buffer.old)) }
 {
     let mut kept = [0u8; 132];
-    let left = bytes::copy(&buffer[start..end], &mut kept);
-    bytes::copy(&kept[..left], buffer);
+    let left = copy(&buffer[start..end], &mut kept);
+    copy(&kept[..left], buffer);
     left
+}
+
+// How many bytes a read that answered so brought, where there was room for so many: none if it failed.
+fn count(got: isize, room: usize) -> usize
+    ensures { result ≡ clamp_len got room }
+{
+    if got < 0 {
+        return 0;
+    }
+    let n = got as usize;
+    if n < room { n } else { room }
 }
 
 // What a read answered: behind the bytes left come as many as it says. There is room for a byte, so an
@@ -63,7 +87,7 @@ fn took(got: isize, left: usize, room: &[u8]) -> Fill
     requires { (0 < length room.now) × (left + length room.now < 2 ^ 64) }
     ensures { Took got left (length room.now) result }
 {
-    let n = io::count(got, room);
+    let n = count(got, room.len());
     let failed = got < 0;
     let done = !failed & (n == 0);
     Fill {
@@ -73,22 +97,30 @@ fn took(got: isize, left: usize, room: &[u8]) -> Fill
     }
 }
 
+// What one read answers: how many bytes it brought, or a negative number where it failed.
+fn read_once<R: Read>(reader: &mut R, room: &mut [u8]) -> isize {
+    match reader.read(room) {
+        Ok(n) => n as isize,
+        Err(_) => -1,
+    }
+}
+
 // One read fills the room behind the bytes left. That `took` is given what the read answered cannot be
 // proved: an answer of C has no name in a contract.
-fn receive(room: &mut [u8], left: usize) -> Fill
+fn receive<R: Read>(reader: &mut R, room: &mut [u8], left: usize) -> Fill
     requires { (0 < length room.old) × (left + length room.old < 2 ^ 64) }
     ensures { Received left (length room.old) result }
 {
-    took(libc::read(libc::STDIN_FILENO, room), left, room)
+    took(read_once(reader, room), left, room)
 }
 
 // The bytes not yet used go to the front, and one read fills up behind them.
-fn refill(buffer: &mut [u8], start: usize, end: usize) -> Fill
+fn refill<R: Read>(reader: &mut R, buffer: &mut [u8], start: usize, end: usize) -> Fill
     requires { Few start end buffer.old }
     ensures { Refilled buffer.old buffer.new start (end - start) result }
 {
     let left = shift(buffer, start, end);
-    receive(&mut buffer[left..], left)
+    receive(reader, &mut buffer[left..], left)
 }
 
 // The words in the buffer: how many, where their bytes end, and whether the input has ended or could not
@@ -102,11 +134,17 @@ pub struct Words {
 }
 
 // The words of the bytes not yet used and of those that one more read gives.
-pub fn next(buffer: &mut [u8], words: &mut [u32], start: usize, end: usize) -> Words
+pub fn next<R: Read>(
+    reader: &mut R,
+    buffer: &mut [u8],
+    words: &mut [u32],
+    start: usize,
+    end: usize,
+) -> Words
     requires { Few start end buffer.old × (length buffer.old ≤ 4 * length words.old) }
     ensures { Fed buffer.old buffer.new words.new start end result }
 {
-    let f = refill(buffer, start, end);
+    let f = refill(reader, buffer, start, end);
     let filled = f.end;
     let count = decode(&buffer[..filled], words);
     Words {

@@ -8,7 +8,7 @@ use lib.Dec.{eqb}
 use lib.IntN.{ℤ, pos, negsuc}
 use lib.ListN.{length, take, drop, length-append}
 use lib.Seq.{take-nil, drop-nil, take-append_seam, drop-append_seam, length-take-le}
-use Rattle.io.specs.Counts.{clamp_len}
+use Rattle.std.specs.Counts.{clamp_len}
 use Rattle.rules.specs.declared.Book.{Book}
 use Rattle.rules.specs.Bytes.{words_in, stray_in, says_end, says_failed}
 use Rattle.rules.specs.Book.{fresh, sound}

@@ -8,7 +8,7 @@ use native.Mathlib.Nat.{pow-suc, one-le-pow, mul_comm, div-lt_iff_lt-mul, le-div
 use lib.Pow.{pow-add}
 use lib.ListN.{length, take, drop, set, length-append, length-set, take-append-drop, drop_of_length-le}
 use lib.Seq.{take-set-le, take-take, length-take-le}
-use Rattle.io.specs.Digits.{last_digits, hex_digit_ascii, IsDigitCount}
+use Rattle.report.specs.Digits.{last_digits, hex_digit_ascii, IsDigitCount}
 use Rattle.rules.specs.Text.{decimal}
 use Rattle.report.specs.Added.{Added}
 use Rattle.report.proofs.Texts.{glyph_digit, decimal_digits, decimal_length}

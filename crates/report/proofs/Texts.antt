@@ -10,7 +10,7 @@ use lib.Dec.{ltb, eqb}
 use lib.IntN.{ℤ, pos, nat_abs}
 use lib.ListN.{length, get_or, take, drop, length-append}
 use lib.Seq.{drop-cons, length-take-le, take-length, take-append_seam}
-use Rattle.io.specs.Digits.{last_digits, hex_digit_ascii, IsDigitCount}
+use Rattle.report.specs.Digits.{last_digits, hex_digit_ascii, IsDigitCount}
 use Rattle.rules.specs.declared.Name.{Name}
 use Rattle.rules.specs.Run.{charge_lines_from, line}
 use Rattle.laws.proofs.Basics.{by_test, either}
@@ -19,13 +19,12 @@ use Rattle.report.specs.Added.{Added}
 use Rattle.report.specs.Lines.{rest_text, plain_text}
 
 -- a part copied behind the first `at` bytes
-pub added_behind : (text part last tail rest : List ℕ) (at n m : ℕ) → at ≤ length text → n ≡ length part → m ≡ length part → last ≡ take m part ++ tail →
+pub added_behind : (text part last tail rest : List ℕ) (at n : ℕ) → at ≤ length text → n ≡ length part → last ≡ part ++ tail →
     Added (length part) text (take at text ++ (last ++ rest)) at (at + n) part
-added_behind text part last tail rest at n m h e d b =
+added_behind text part last tail rest at n h e b =
     let front = take at text ++ part in
     let size : at + n ≡ length front = omega (arith, e, length-append (take at text) part, length-take-le at text h) in
-    let whole : take m part ≡ part = ap (λ (k : ℕ). take k part) d ∙ take-length part in
-    let back : last ++ rest ≡ part ++ (tail ++ rest) = ap (λ (l : List ℕ). l ++ rest) (b ∙ ap (λ (l : List ℕ). l ++ tail) whole) ∙ append_assoc part tail rest in
+    let back : last ++ rest ≡ part ++ (tail ++ rest) = ap (λ (l : List ℕ). l ++ rest) b ∙ append_assoc part tail rest in
     record {
       few = omega arith;
       ends = omega arith;

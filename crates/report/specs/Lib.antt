@@ -1,3 +1,4 @@
 -- Where text stands.
 pub mod Added
+pub mod Digits
 pub mod Lines

@@ -1,21 +1,31 @@
 // The text of a run's lines: bytes put behind the first `at` of a lent buffer. Each function answers
 // where its last byte ends.
-ghost use Rattle.std.specs.Prelude.{◌≡◌, ◌++◌, ◌+◌, ◌-◌, ◌^◌, ◌≤◌, ◌<◌, length, take, nat_abs};
+ghost use Rattle.std.specs.Prelude.{◌≡◌, ◌++◌, ◌+◌, ◌-◌, ◌^◌, ◌≤◌, ◌<◌, length, take, drop, nat_abs};
 ghost use Rattle.rules.specs.Ledger.{entry as entry_of};
 ghost use Rattle.rules.specs.Run.{line as line_of};
 ghost use Rattle.rules.specs.Text.{decimal, signed as signedText, name_text, field as fieldText, line_text, fail_text, charge_text, yen_of};
-ghost use Rattle.io.specs.Digits.{last_digits, IsDigitCount};
+ghost use Rattle.report.specs.Digits.{last_digits, IsDigitCount};
 ghost use Rattle.report.specs.Added.{Added};
 ghost use Rattle.report.specs.Lines.{rest_text, plain_text};
 
 use rules::Name;
+
+// The bytes of a part, copied to the front of others; answers how many.
+fn copy(part: &[u8], to: &mut [u8]) -> usize
+    requires { length part.now ≤ length to.old }
+    ensures { (result ≡ length part.now) × (to.new ≡ part.now ++ drop (length part.now) to.old) }
+{
+    let n = part.len();
+    to[..n].copy_from_slice(part);
+    n
+}
 
 // The bytes of a part.
 fn put(text: &mut [u8], at: usize, part: &[u8]) -> usize
     requires { at + length part.now ≤ length text.old }
     ensures { Added (length part.now) text.old text.new at result part.now }
 {
-    at + bytes::copy(part, &mut text[at..])
+    at + copy(part, &mut text[at..])
 }
 
 // How many decimal digits a number below 100,000,000 has.

@@ -7,7 +7,8 @@ use Rattle.report.proofs.closing.Tie as tie
 
 returns : tie.Need-returns
 unfolding closing_text
-returns c = added_then _ _ 222016 _ _ _ _ _ _ _ _ (search rules) c.before.before.before.before.before.before.before.before.before.fails.ensures c.before.before.charges.ensures
+returns c = added_then _ _ 222016 _ _ _ _ _ _ _ _ (search rules) c.before.before.before.before.before.before.before.before.fails-at.ensures c.before.before.charges.ensures
 
-pub closing-spec : {M : Type 1} → statement M
-closing-spec = tie.close (tie.spec (λ c κs. search rules) (λ c κs. search rules) (λ c. search rules) returns)
+pub closing_spec : {M : Type 1} → statement M
+closing_spec = tie.close
+    (tie.spec (λ c κs. search rules) (λ c κs. search rules) (λ c. search rules) returns)

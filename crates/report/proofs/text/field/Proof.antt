@@ -6,8 +6,9 @@ use Rattle.report.proofs.text.field.Statement.{statement}
 use Rattle.report.proofs.text.field.Tie as tie
 
 returns : tie.Need-returns
-returns c = added_then 1 20 21 _ _ _ _ _ _ _ _ (omega arith) c.before.before.before.before.before.before.put.ensures c.before.before.number.ensures
+returns c = added_then 1 20 21 _ _ _ _ _ _ _ _ (omega arith) c.before.before.before.before.before.before.put-to.ensures c.before.before.number.ensures
 
-pub field-spec : {M : Type 1} → statement M
-field-spec =
-    tie.close (tie.spec (λ c. search rules) (λ c κs. search rules) (λ c κs. search rules) (λ c. search rules) returns)
+pub field_spec : {M : Type 1} → statement M
+field_spec =
+    tie.close
+    (tie.spec (λ c κs. search rules) (λ c κs. search rules) (λ c. search rules) returns)

@@ -5,7 +5,7 @@ use borrow.Author.Rules.{rules}
 use Rattle.report.proofs.text.number.Statement.{statement}
 use Rattle.report.proofs.text.number.Tie as tie
 
-add-end : tie.Need-overflow-add-end
+add-end : tie.Need-overflow_add-end
 add-end c =
     let s = c.before.before in
     omega (arith, few_digits c.width.result s.args.n s.ranges.n.fits c.width.ensures)
@@ -22,5 +22,6 @@ returns c =
     let s = c.before.before.before.before.before.before in
     added_number s.args.at s.args.n w.result s.ranges.n.fits w.ensures s.args.text.now _ c.before.before.spell.ensures
 
-pub number-spec : {M : Type 1} → statement M
-number-spec = tie.close (tie.spec (λ c κs. search rules) add-end spell-requires (λ c. search rules) returns)
+pub number_spec : {M : Type 1} → statement M
+number_spec = tie.close
+    (tie.spec (λ c κs. search rules) add-end spell-requires (λ c. search rules) returns)

@@ -1,5 +1,4 @@
 -- The part is copied behind the first `at` bytes.
-use mathlib.Core.Path.{refl}
 use native.Mathlib.Omega.{arith}
 use Rattle.report.proofs.Texts.{added_behind}
 use borrow.Author.Rules.{rules}
@@ -8,12 +7,10 @@ use Rattle.report.proofs.text.put.Tie as tie
 
 returns : tie.Need-returns
 returns c =
-    let k = c.before.before in
-    let s = k.before.before.before.before in
-    added_behind s.args.text.now s.args.part.now k.copy.new.1.0 _ _ s.args.at k.copy.result _ (omega arith) k.copy.ensures.0 refl
-    k.copy.ensures.1
+    added_behind c.args.text.now c.args.part.now c.copy.new.to _ _ c.args.at c.copy.result (omega arith) c.copy.ensures.0 c.copy.ensures.1
 
 pub put_spec : {M : Type 1} → statement M
 put_spec =
     tie.close
-    (tie.spec (λ c. search rules) (λ c. search rules) (λ c. search rules) (λ c κs. search rules) (λ c. search rules) (λ c. search rules) returns)
+    (tie.spec (λ c. search rules) (λ c. search rules) (λ c. search rules) (λ c κs. search rules) (λ c. search rules)
+    (λ c. search rules) returns)
