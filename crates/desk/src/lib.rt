@@ -55,8 +55,7 @@ fn plain(a: Amount, yen: &mut u64) -> u32
 }
 
 // The value of lots at a price and an accrued amount: 0 with the yen, or 7 (lots) or 11 (price, accrued) with 0 yen.
-#[unsafe(no_mangle)]
-pub extern "C" fn day_value(lots: u32, price: u32, accrued: u32, yen: &mut u64) -> u32
+pub fn day_value(lots: u32, price: u32, accrued: u32, yen: &mut u64) -> u32
     ensures { Plain (value lots price accrued) result yen.new }
 {
     plain(measures::value(Lots(lots), price, accrued), yen)
@@ -64,15 +63,7 @@ pub extern "C" fn day_value(lots: u32, price: u32, accrued: u32, yen: &mut u64) 
 
 // The charge on lots at a price and an accrued amount over days at a rate: 0 with the yen, or 7 (lots) or 11 (the other numbers)
 // with 0 yen.
-#[unsafe(no_mangle)]
-pub extern "C" fn day_charge(
-    lots: u32,
-    price: u32,
-    days: u32,
-    rate: u32,
-    accrued: u32,
-    yen: &mut u64,
-) -> u32
+pub fn day_charge(lots: u32, price: u32, days: u32, rate: u32, accrued: u32, yen: &mut u64) -> u32
     ensures { Plain (charge lots price days rate accrued) result yen.new }
 {
     plain(
