@@ -111,8 +111,7 @@ fn unless_unsound<'a>(
 
 // The call of an instruction by a caller, with roll's quotes and an output beside it. The answer is the house's: of it a
 // participant may be told the refusal's number alone.
-#[unsafe(no_mangle)]
-pub extern "C" fn day_call_as(
+pub fn day_call_as(
     w: Caller,
     kind: u32,
     a: u32,
@@ -151,8 +150,7 @@ pub extern "C" fn day_call_as(
 }
 
 // The k-th unit of an issue, for a caller: the operator's alone.
-#[unsafe(no_mangle)]
-pub extern "C" fn day_unit_as<'a>(
+pub fn day_unit_as<'a>(
     w: Caller,
     state: DayState,
     nets: &'a [i32],
@@ -193,8 +191,7 @@ pub extern "C" fn day_unit_as<'a>(
 }
 
 // What is told of unit k of an issue, for a caller: the operator's alone.
-#[unsafe(no_mangle)]
-pub extern "C" fn day_status_as<'a>(
+pub fn day_status_as<'a>(
     w: Caller,
     state: DayState,
     nets: &'a [i32],
@@ -236,8 +233,7 @@ pub extern "C" fn day_status_as<'a>(
 }
 
 // Asks for a unit of an issue, for a caller: the operator's alone.
-#[unsafe(no_mangle)]
-pub extern "C" fn day_ask_as<'a>(
+pub fn day_ask_as<'a>(
     w: Caller,
     state: DayState,
     nets: &'a [i32],
@@ -279,8 +275,7 @@ pub extern "C" fn day_ask_as<'a>(
 }
 
 // Commits a ticket, for a caller: the operator's alone.
-#[unsafe(no_mangle)]
-pub extern "C" fn day_commit_as<'a>(
+pub fn day_commit_as<'a>(
     w: Caller,
     ticket: &[u32; 6],
     state: DayState,
@@ -336,8 +331,7 @@ fn early(no: u32) -> u32
 }
 
 // How a simulated desk goes, for a caller: the operator's alone.
-#[unsafe(no_mangle)]
-pub extern "C" fn day_simulate_as<'a>(
+pub fn day_simulate_as<'a>(
     w: Caller,
     state: DayState,
     nets: &'a [i32],
@@ -435,8 +429,7 @@ fn seen_out(found: Seen) -> DaySeen
 }
 
 // Reads an account for a caller: its net in the issue, its charge and its k-th entry there at either end.
-#[unsafe(no_mangle)]
-pub extern "C" fn day_look<'a>(
+pub fn day_look<'a>(
     w: Caller,
     state: DayState,
     nets: &'a [i32],

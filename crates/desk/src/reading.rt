@@ -28,16 +28,14 @@ fn read_out(read: Read, instruction: &mut [u32; 5], count: &mut usize) -> u32
 }
 
 // Reads the instruction that begins at the first word.
-#[unsafe(no_mangle)]
-pub extern "C" fn day_read(words: &[u32], instruction: &mut [u32; 5], count: &mut usize) -> u32
+pub fn day_read(words: &[u32], instruction: &mut [u32; 5], count: &mut usize) -> u32
     ensures { ReadIs (read_answer (read_of words.now)) result instruction.new count.new }
 {
     read_out(tape::read(words), instruction, count)
 }
 
 // The quotes in the words after a roll's head, sixteen prices and then sixteen accrued amounts, 0 where a word is missing.
-#[unsafe(no_mangle)]
-pub extern "C" fn day_quotes(words: &[u32], quotes: &mut [u32; QUOTE_COUNT])
+pub fn day_quotes(words: &[u32], quotes: &mut [u32; QUOTE_COUNT])
     ensures { quotes.new ≡ sets (replicate 32 0) 0 (quotes_of words.now) }
 {
     *quotes = [0; QUOTE_COUNT];
@@ -45,8 +43,7 @@ pub extern "C" fn day_quotes(words: &[u32], quotes: &mut [u32; QUOTE_COUNT])
 }
 
 // Writes an instruction, with the quotes of a roll.
-#[unsafe(no_mangle)]
-pub extern "C" fn day_write(
+pub fn day_write(
     kind: u32,
     a: u32,
     b: u32,

@@ -67,8 +67,7 @@ fn turned(t: Turn) -> DayTurned
 }
 
 // The call of an instruction, with roll's quotes and an output beside it.
-#[unsafe(no_mangle)]
-pub extern "C" fn day_call(
+pub fn day_call(
     kind: u32,
     a: u32,
     b: u32,

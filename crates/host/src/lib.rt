@@ -1,5 +1,5 @@
-// The settlement-day book for hosts: C functions over plain numbers and lent columns. All that is asked of a host's book
-// stands here: question 1 where a call is lent an output, question 2, and then the call's own function.
+// The settlement-day book for hosts: functions over plain numbers and lent columns, which `host_c` exports to C. All that is
+// asked of a host's book stands here: question 1 where a call is lent an output, question 2, and then the call's own function.
 //
 // A book goes in as a state, by value, and nine columns:
 //   struct day_state {
@@ -19,50 +19,6 @@
 // another length is a damaged book: no sound one, refused by 2. Every number, word and column is taken;
 // nothing is assumed of them. The number returned, but for day_sound's, is the refusal's, 0 where it is
 // done. A refusal leaves book and output byte for byte as they came.
-//
-// uint32_t day_sound(struct day_state,
-//     const int32_t *nets, size_t, const uint32_t *delivered, size_t, const uint32_t *lifts, size_t,
-//     const int64_t *charges, size_t,
-//     const uint8_t *issues, size_t, const uint8_t *froms, size_t, const uint8_t *tos, size_t,
-//     const uint32_t *lots, size_t, const uint16_t *days, size_t);
-//   1 where the book is sound, else 0.
-//
-// uint32_t day_unit(struct day_state, <the nine columns as above>, uint32_t issue, uint32_t k, uint32_t answer[3]);
-//   The k-th unit of an issue, k from 0. Refused by 2 and 4. The answer is 1, account, lots; or 0, 0, 0
-//   where there is no such unit, and on a refusal.
-//
-// uint32_t day_status(struct day_state, <the nine columns>, uint32_t issue, uint32_t k, uint32_t answer[2]);
-//   Why unit k of an issue, k from 0, has not come. Refused by 2, 3 (Taking), 4 and 16. The answer is the case
-//   and its lots: 1 handed, 2 waiting for so many lots, 3 partly failed with so many lots lacking, 4 wholly
-//   failed; lots are 0 for 1 and 4, and both are 0 on a refusal.
-//
-// uint32_t day_simulate(struct day_state, <the nine columns>, <settlement accounts>, <inventories>, each with its
-//     length, uint32_t size, uint64_t *deliveries, uint64_t *rounds, uint32_t owed[16]);
-//   How a desk goes whose 64 netting accounts share 16 settlement accounts, with units of so many lots. Of the
-//   book, which is only read, its nets count. The settlement account of netting account a stands at place a; the
-//   opening inventory of settlement account s in issue i at i * 16 + s. Refused by 2, by 5 (other than 64
-//   settlement accounts, or one above 15) and by 7 (a size that is not 1 to 100,000, other than 256
-//   inventories, or one above 20,000,000). The answer is the deliveries made, the rounds, the last one
-//   included, and the lots still owed of each issue; all of them are 0 on a refusal.
-//
-// struct day_turned day_call(uint32_t kind, uint32_t a, uint32_t b, uint32_t c, uint32_t d,
-//     const uint32_t *quotes, size_t, struct day_state,
-//     int32_t *nets, size_t, uint32_t *delivered, size_t, uint32_t *lifts, size_t, int64_t *charges, size_t,
-//     uint8_t *issues, size_t, uint8_t *froms, size_t, uint8_t *tos, size_t,
-//     uint32_t *lots, size_t, uint16_t *days, size_t, uint32_t *out, size_t);
-//   struct day_turned { uint32_t refusal; size_t count; uint64_t cancelled; struct day_state state; };
-//   The call of an instruction (its kind and numbers are in `desk`), made in place on any book; the state after it
-//   comes back by value. A kind that is none is refused by 14; then the desk's questions are put in their order.
-//   Only deliver, cutoff and resolve use the output, and only roll the quotes: for the others any slice will do,
-//   an empty one too. count is that of the records written (for pair-off, of the steps), cancelled pair-off's
-//   lots; both are 0 on a refusal, and the state is as it came.
-//
-// uint32_t day_ask(struct day_state, <the nine columns>, uint32_t issue, uint32_t unit, uint32_t ticket[6]);
-//   The ticket for a lift of a unit: issue, unit, account, lots, day, count; six times 0 on a refusal.
-//
-// uint32_t day_commit(const uint32_t ticket[6], struct day_state, <the nine columns, lifts to be written>,
-//     uint32_t *out, size_t, size_t *count);
-//   The lift of a ticket; count is that of the records written, 0 on a refusal.
 #![tactic(auto)]
 
 pub mod calls;

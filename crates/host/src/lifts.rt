@@ -25,8 +25,7 @@ pub fn ticket_out(asked: Asked, ticket: &mut [u32; 6]) -> u32
 }
 
 // Asks for a unit of an issue.
-#[unsafe(no_mangle)]
-pub extern "C" fn day_ask<'a>(
+pub fn day_ask<'a>(
     state: DayState,
     nets: &'a [i32],
     delivered: &'a [u32],
@@ -80,8 +79,7 @@ fn ticket_in(words: &[u32; 6]) -> Ticket
 }
 
 // Commits a ticket: of the book only the lifts change, and the records go to the output.
-#[unsafe(no_mangle)]
-pub extern "C" fn day_commit<'a>(
+pub fn day_commit<'a>(
     ticket: &[u32; 6],
     state: DayState,
     nets: &'a [i32],

@@ -12,8 +12,7 @@ use rules::{Found, ISSUE_COUNT, LAST_ISSUE};
 use told::Told;
 
 // Is the book sound? 1 sound, 0 not.
-#[unsafe(no_mangle)]
-pub extern "C" fn day_sound<'a>(
+pub fn day_sound<'a>(
     state: DayState,
     nets: &'a [i32],
     delivered: &'a [u32],
@@ -67,8 +66,7 @@ pub fn told(found: Found, answer: &mut [u32; 3]) -> u32
 }
 
 // The k-th unit of an issue, k from 0.
-#[unsafe(no_mangle)]
-pub extern "C" fn day_unit<'a>(
+pub fn day_unit<'a>(
     state: DayState,
     nets: &'a [i32],
     delivered: &'a [u32],
@@ -137,8 +135,7 @@ pub fn plain(told: Told, answer: &mut [u32; 2]) -> u32
 }
 
 // What is told of unit k of an issue, k from 0.
-#[unsafe(no_mangle)]
-pub extern "C" fn day_status<'a>(
+pub fn day_status<'a>(
     state: DayState,
     nets: &'a [i32],
     delivered: &'a [u32],
@@ -177,8 +174,7 @@ pub extern "C" fn day_status<'a>(
 }
 
 // How a simulated desk goes with units of this size: the refusal's number, 0 where it is done.
-#[unsafe(no_mangle)]
-pub extern "C" fn day_simulate<'a>(
+pub fn day_simulate<'a>(
     state: DayState,
     nets: &'a [i32],
     delivered: &'a [u32],

@@ -49,8 +49,7 @@ fn put_commit(ticket: &[u32; 6], out: &mut [u32])
 }
 
 // The record of an instruction.
-#[unsafe(no_mangle)]
-pub extern "C" fn day_journal_call(
+pub fn day_journal_call(
     number: u32,
     kind: u32,
     a: u32,
@@ -78,8 +77,7 @@ pub extern "C" fn day_journal_call(
 }
 
 // The record of a ticket's commit.
-#[unsafe(no_mangle)]
-pub extern "C" fn day_journal_commit(number: u32, ticket: &[u32; 6], out: &mut [u32]) -> u32
+pub fn day_journal_commit(number: u32, ticket: &[u32; 6], out: &mut [u32]) -> u32
     ensures { NotedIs (commit_noted number ticket.now out.old) result out.new }
 {
     if out.len() < 36 {

@@ -113,8 +113,7 @@ fn call_in(words: &[u32], reason: u32) -> Journalled
 }
 
 // The record with this number, at the front of the rest of a journal.
-#[unsafe(no_mangle)]
-pub extern "C" fn day_journal_read(number: u32, words: &[u32]) -> Journalled
+pub fn day_journal_read(number: u32, words: &[u32]) -> Journalled
     ensures { result ≡ journalled (read_next number words.now) }
 {
     let reason = reason_of(words.len());

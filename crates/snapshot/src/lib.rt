@@ -38,8 +38,7 @@ fn numbers_of(s: State) -> DayState
 
 // The words of a sound book, from the output's first on: 0 done, 1 the output has fewer words than a snapshot, 5 no sound
 // book. A refusal leaves the output as it came.
-#[unsafe(no_mangle)]
-pub extern "C" fn day_save<'a>(
+pub fn day_save<'a>(
     state: DayState,
     nets: &'a [i32],
     delivered: &'a [u32],
@@ -91,8 +90,7 @@ pub extern "C" fn day_save<'a>(
 
 // The book of words, in lent columns: 0 opened, 1 another number of words, or a column of another length than a book's, 2
 // another version, 3 the checksum, 4 a number that does not fit its field, 5 no sound book. A refusal leaves the columns.
-#[unsafe(no_mangle)]
-pub extern "C" fn day_open<'a>(
+pub fn day_open<'a>(
     words: &'a [u32],
     nets: &mut [i32],
     delivered: &mut [u32],

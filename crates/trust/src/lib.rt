@@ -100,8 +100,7 @@ fn report_asks(
 }
 
 // Each report's share of the fail, at the place of its number: the refusal's number, 0 where it is done.
-#[unsafe(no_mangle)]
-pub extern "C" fn day_trust(
+pub fn day_trust(
     subs: &[u32],
     parties: &[u32],
     lots: &[i32],

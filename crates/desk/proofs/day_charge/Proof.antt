@@ -6,5 +6,6 @@ use Rattle.desk.proofs.day_charge.Tie as tie
 returns : tie.Need-returns
 returns c = rw (← c.before.before.charge.ensures) c.plain.ensures
 
-pub day-charge-spec : {M : Type 1} → statement M
-day-charge-spec = tie.close (tie.spec (λ c κs. search rules) (λ c κs. search rules) returns)
+pub day_charge_spec : {M : Type 1} → statement M
+day_charge_spec = tie.close
+    (tie.spec (λ c κs. search rules) (λ c κs. search rules) returns)

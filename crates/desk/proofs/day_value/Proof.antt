@@ -6,5 +6,6 @@ use Rattle.desk.proofs.day_value.Tie as tie
 returns : tie.Need-returns
 returns c = rw (← c.before.before.value.ensures) c.plain.ensures
 
-pub day-value-spec : {M : Type 1} → statement M
-day-value-spec = tie.close (tie.spec (λ c κs. search rules) (λ c κs. search rules) returns)
+pub day_value_spec : {M : Type 1} → statement M
+day_value_spec = tie.close
+    (tie.spec (λ c κs. search rules) (λ c κs. search rules) returns)

@@ -2,11 +2,12 @@
 use Rattle.desk.proofs.fields.is_kind.Statement.{statement}
 use Rattle.desk.proofs.fields.is_kind.Tie as tie
 
-returns : tie.Need-returns
-returns c = rw c.if1.true
+returns : tie.Need-returns-then-kind
+returns c = rw c.if-kind.true
 
-returns-2 : tie.Need-returns-2
-returns-2 c = rw c.if1.false
+returns-2 : tie.Need-returns
+returns-2 c = rw c.if-kind.false
 
-pub is-kind-spec : {M : Type 1} → statement M
-is-kind-spec = tie.close (tie.spec returns returns-2)
+pub is_kind_spec : {M : Type 1} → statement M
+is_kind_spec = tie.close
+    (tie.spec returns returns-2)

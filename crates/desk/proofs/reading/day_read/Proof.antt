@@ -6,5 +6,6 @@ use Rattle.desk.proofs.reading.day_read.Tie as tie
 returns : tie.Need-returns
 returns c = rw (← c.before.before.before.read.ensures) c.read_out.ensures
 
-pub day-read-spec : {M : Type 1} → statement M
-day-read-spec = tie.close (tie.spec (λ c κs. search rules) (λ c κs. search rules) returns)
+pub day_read_spec : {M : Type 1} → statement M
+day_read_spec = tie.close
+    (tie.spec (λ c κs. search rules) (λ c κs. search rules) returns)
