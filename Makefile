@@ -2,7 +2,7 @@
 
 BUILD := build
 
-# The crates whose functions hosts call: one library is joined of them.
+# The crates whose functions hosts call, each by a crate NAME_c for C: one library is joined of them.
 LIBRARY_CRATES := callers desk entries funds host journal listing snapshot statement trust
 # The programs that are installed, with a man page each; and those whose words a shell completes.
 PROGRAMS := target/bin/dayrun $(BUILD)/release/tape $(BUILD)/release/treasury $(BUILD)/release/daybook
@@ -18,7 +18,7 @@ SHARED := $(BUILD)/lib/libsettlement_day.so.$(basename $(VERSION))
 HOSTS := $(BUILD)/measures $(BUILD)/day $(BUILD)/trust $(BUILD)/sizes $(BUILD)/funds $(BUILD)/markets $(BUILD)/statement $(BUILD)/stack
 CFLAGS := -std=c11 -O2 -Wall -Wextra -Wpedantic -Werror
 CXXFLAGS := -std=c++17 -Wall -Wextra -Wpedantic -Werror
-CRATE_FILES := crates.txt $(shell find crates -name '*.rt' -o -name '*.antt')
+CRATE_FILES := crates.txt $(shell find crates -name out -prune -o '(' -name '*.rt' -o -name '*.antt' ')' -print)
 
 # The name of a tape and of a folder, as it was given: a dollar or a quote in it is a letter of the name.
 unexport TAPE PREFIX DESTDIR
@@ -83,4 +83,4 @@ target/staticlib/lib%.a: $(CRATE_FILES)
 	@scripts/library.sh $*
 
 clean:
-	rm -rf $(BUILD) target
+	rm -rf $(BUILD) target crates/*/out

@@ -1,7 +1,8 @@
 #!/usr/bin/env bash
 # Shows how far `rt` is, out of what it prints: its output is read from standard input and kept
-# whole in a file. The prover's notes and the line 'N passed, M failed' are not shown; every line
-# about an error is. A crate that was proved before is only counted. Usage: rt check NAME 2>&1 | progress.sh LOG [NAME..]
+# whole in a file; beside it LOG.times has when each crate was proved and each wrong edit refused. The
+# prover's notes and the line 'N passed, M failed' are not shown; every line about an error is.
+# Usage: rt check NAME 2>&1 | progress.sh LOG [NAME..]
 # The names are the crates that are proved, with all that they depend on; none are all of them,
 # with their must-fail edits. PROGRESS_LATER names libraries whose archives are made after these: their
 # time is counted too.
@@ -10,13 +11,13 @@ cd "$(dirname "$0")/.."
 
 log=$1
 shift
-waiting=${PROGRESS_SECONDS:-60} # seconds without a line after which it is said what is being proved
+waiting=${PROGRESS_SECONDS:-60} # seconds without a line after which it is said that rt is still at work
 
 # The crates of these names and all that they depend on, in no order; of no name, all.
 needed() {
     awk -v wanted="$*" '
         { sub(/#.*/, ""); if (!index($0, ":")) next
-          name = substr($0, 1, index($0, ":") - 1); uses[name] = substr($0, index($0, ":") + 1) }
+          split($0, part, ":"); name = part[1]; sub(/ .*/, "", name); uses[name] = part[2] }
         function visit(name,    i, n, list) {
             if (!(name in uses) || name in seen) return
             seen[name] = 1
@@ -37,57 +38,49 @@ edits_of() { # NAME
 
 edits_too=0
 [ $# -gt 0 ] || edits_too=1
-# Of each crate the seconds of its proof, and of one of its edits (rounded up), as they were measured;
-# where none are known, 20 for a crate, and for an edit those of its crate.
-declare -A seconds an_edit
-while IFS='|' read -r _ name time number sum _; do
-    name=${name// /} time=${time// /} number=${number// /} sum=${sum// /}
-    [[ $time =~ ^[0-9]+$ ]] || continue
-    seconds[$name]=$time
-    [[ $number =~ ^[1-9][0-9]*$ && $sum =~ ^[0-9]+$ ]] && an_edit[$name]=$(((sum + number - 1) / number))
-done <"${CHECK_TIMES:-docs/CHECK-TIMES.md}"
 
+# What a crate's proof is worth, by its text: so many seconds of one core a kilobyte, and a few for any.
+# An edit is worth as much as a check after a change.
+declare -A worth
 to_prove() { # NAME
-    echo "${seconds[$1]:-20}"
+    if [ -z "${worth[$1]:-}" ]; then
+        local bytes
+        bytes=$(find "crates/$1/src" "crates/$1/specs" "crates/$1/proofs" -type f -printf '%s\n' 2>/dev/null | awk '{ n += $1 } END { print n + 0 }')
+        worth[$1]=$((8 + bytes / 1000))
+    fi
+    echo "${worth[$1]}"
 }
 
 to_refuse() { # NAME of the edit's crate
-    echo "${an_edit[$1]:-$(to_prove "$1")}"
-}
-
-# Has a crate been proved before? rt tests whether that still holds; with the edits, all begin anew.
-known() { # NAME
-    [ "$edits_too" -eq 0 ] && [ -f "target/stamp/$1" ]
+    echo $((5 + $(to_prove "$1") / 2))
 }
 
 crates=0 edits=0 left=0
 for name in $(needed "$@"); do
     of_crate=$(edits_of "$name" | wc -l)
     crates=$((crates + 1)) edits=$((edits + of_crate))
-    known "$name" || left=$((left + $(to_prove "$name") + of_crate * $(to_refuse "$name")))
+    left=$((left + $(to_prove "$name") + of_crate * $(to_refuse "$name")))
 done
 libraries=0
 for name in ${PROGRESS_LATER:-}; do
-    libraries=$((libraries + 1)) left=$((left + ${seconds[$name]:-20}))
+    libraries=$((libraries + 1)) left=$((left + $(to_prove "${name}_c")))
 done
 all=$left
 cores=$(nproc 2>/dev/null || echo 1)
-[ "$cores" -le 2 ] || cores=2
-at_once=${RT_JOBS:-$cores} # so many are proved at a time, here and where the table was measured
 
 # The seconds since the start; a test names a file that has them.
 gone() {
     if [ -n "${PROGRESS_CLOCK:-}" ]; then cat "$PROGRESS_CLOCK"; else echo $((SECONDS - first)); fi
 }
 
-# How long so many seconds of the table take by the clock. At the beginning that is the table divided
-# by how many are proved at once; the more is proved, the more the pace so far counts.
-by_the_clock() { # SECONDS
-    local weight=30 # seconds by the clock for which the table speaks
-    echo $(($1 * ($(gone) + weight) / (all - left + weight * at_once)))
+# How long so much takes by the clock. At the beginning that is its worth divided by the cores; the more
+# is proved, the more the pace so far counts.
+by_the_clock() { # WORTH
+    local weight=30 # seconds by the clock for which the worth speaks
+    echo $(($1 * ($(gone) + weight) / (all - left + weight * cores)))
 }
 
-minutes() { # SECONDS of the table
+minutes() { # WORTH
     local whole=$((($(by_the_clock "$1") + 59) / 60))
     if [ "$whole" -le 1 ]; then echo 'about a minute'; else echo "about $whole minutes"; fi
 }
@@ -96,68 +89,56 @@ some() { # COUNT THING: with an s where they are not one
     if [ "$1" -eq 1 ]; then echo "1 $2"; else echo "$1 $2s"; fi
 }
 
-# How many of the crates are to be proved.
-unproved() { # NAME..
-    local count=0 name
-    for name in $(needed "$@"); do known "$name" || count=$((count + 1)); done
-    echo "$count"
-}
-
 first=$SECONDS
 what=$(some "$crates" crate)
-few=$(unproved "$@")
-[ "$few" -eq "$crates" ] || what="$few of $what"
 [ "$edits" -eq 0 ] || what="$what, and $(some "$edits" 'wrong edit') to be refused"
 [ "$libraries" -eq 0 ] || what="$what, then $(some "$libraries" library | sed 's/librarys/libraries/')"
-[ "$left" -eq 0 ] || echo "To be proved: $what; $(minutes "$left") on $(some "$cores" core), by docs/CHECK-TIMES.md."
+[ "$left" -eq 0 ] || echo "To be proved, where it was not before: $what; at most $(minutes "$left") on $(some "$cores" core)."
 
-took() { # LINE: the seconds in it
-    sed -n 's/.*[( ]\([0-9][0-9]*\) s).*/\1 s/p' <<<"$1"
-}
-
-to_come() { [ "$left" -le 0 ] || printf '; %s to come' "$(minutes "$left")"; }
+to_come() { [ "$left" -le 0 ] || printf '; at most %s to come' "$(minutes "$left")"; }
 
 proved=0 refused=0
+declare -A begun
+note() { printf '%s %s\n' "$1" "$(gone)" >>"$log.times"; }
 show() { # LINE
     local line=$1 name
     case $line in
     [0-9]*' passed, '[0-9]*' failed') ;;
-    'library '*': modules '* | 'logic='* | 'logic /'* | 'axioms '* | 'linked target='*) ;;
-    'fn '*': proved' | 'enum '*': proved' | 'struct '*': proved') ;;
-    *': note: large solution'* | 'note: no function with a body'* | 'rt: ok, '* | 'rt: target/staticlib/'*) ;;
+    'library '*': modules '* | 'crate '*': modules '* | 'statements '* | 'logic='* | 'logic /'* | 'axioms '* | 'linked target='*) ;;
+    'fn '*': proved' | 'enum '*': proved' | 'struct '*': proved' | 'checked '*' of '* | '== '* | 'empty contracts: 0 found'*) ;;
+    *'note: no function with a body'* | 'note: finished '* | 'rt: rt check --fix-imports'* | 'rt: '*': begins with what a check kept in '*) ;;
     'rt: must-fail '*': refused, as it must be'*)
-        name=${line#rt: must-fail } name=${name%%:*}
+        name=${line#rt: must-fail } name=${name%%:*} name=${name%.edit}
         refused=$((refused + 1)) left=$((left - $(to_refuse "${name%%/*}")))
-        printf 'refused %d of %d: %s (%s)\n' "$refused" "$edits" "$name" "$(took "$line")"
+        note "refused $name"
+        printf 'refused %d of %d: %s\n' "$refused" "$edits" "$name"
         ;;
-    'rt: '*' proved (unchanged'*)
-        proved=$((proved + 1))
+    'rt: chose --jobs '*' for '*)
+        # without the gate there is no line where a crate is proved, but one where it is begun
+        name=${line##* }
+        [ "$edits_too" -eq 0 ] && [ -z "${begun[$name]:-}" ] || return 0
+        begun[$name]=1
+        printf 'proving %d of %d: %s\n' "${#begun[@]}" "$crates" "$name"
         ;;
-    'rt: '*' proved ('*)
+    'rt: '*' proved')
         name=${line#rt: } name=${name%% *}
         proved=$((proved + 1)) left=$((left - $(to_prove "$name")))
-        printf 'proved %d of %d: %s (%s)%s\n' "$proved" "$crates" "$name" "$(took "$line")" "$(to_come)"
+        note "proved $name"
+        printf 'proved %d of %d: %s%s\n' "$proved" "$crates" "$name" "$(to_come)"
         ;;
     *) printf '%s\n' "$line" ;;
     esac
 }
 
-# What is being proved now: crates whose output does not have rt's last word yet.
-still() {
-    local busy
-    busy=$({ grep -L '^rt: ' target/log/*.out target/must-fail/*/*.out 2>/dev/null || true; } |
-        sed 's,^target/log/,,; s,^target/must-fail/,,; s,\.out$,,' | tr '\n' ' ')
-    [ -z "$busy" ] || printf '   %d s: at work on %s\n' "$(gone)" "$busy"
-}
-
 : >"$log"
+: >"$log.times"
 part='' # of a line whose end has not come yet
 while true; do
     status=0
     IFS= read -r -t "$waiting" line || status=$?
     part=$part$line
     if [ "$status" -gt 128 ]; then
-        still
+        printf '   %d s: rt is at work\n' "$(gone)"
         continue
     fi
     if [ "$status" -eq 0 ] || [ -n "$part" ]; then

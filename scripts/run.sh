@@ -12,14 +12,13 @@ trap 'exit 129' HUP
 trap 'exit 130' INT
 trap 'exit 143' TERM
 
-# Runs the day on the program as `rt try` builds it, which proves nothing; a copy of the sources has
-# the day as its standard input and the stored lines as what must come of it.
+# Runs the day on the program as `rt try` builds it, which proves nothing, in a copy of the sources; what
+# must come of it is stored.
 try_day() {
     copy=$(mktemp -d)
-    cp -R crates crates.txt "$copy"
-    cp "$day.tape" "$copy/crates/dayrun/stdin"
-    cp "$day.expected" "$copy/crates/dayrun/stdout"
-    (cd "$copy" && exec rt try dayrun) >"$copy/log" 2>&1 || { cat "$copy/log" >&2; exit 1; }
+    tar --exclude='*/out' -cf - crates crates.txt | tar -xf - -C "$copy"
+    (cd "$copy" && exec rt try dayrun) <"$day.tape" >"$copy/printed" 2>"$copy/log" &&
+        cmp "$copy/printed" "$day.expected" >>"$copy/log" || { cat "$copy/log" >&2; exit 1; }
     rm -rf "$copy"
     copy=''
 }

@@ -22,18 +22,16 @@ tool() { # NAME: its script is read from standard input
 tool rt <<'END'
 echo "rt $*" >>called
 case $1 in
-check) mkdir -p target/bin target/staticlib target/stamp
-    if cmp -s crates/dayrun/src/main.rt target/stamp/dayrun; then
-        echo 'rt: dayrun proved (unchanged since it was last proved)'
-        exit
-    fi
+run) mkdir -p crates/dayrun/out
+    if cmp -s crates/dayrun/src/main.rt crates/dayrun/out/from; then exit; fi
     [ ! -e fails ] || exit 1
-    { echo '#!/bin/sh' && date +%N; } >target/bin/dayrun
-    chmod 755 target/bin/dayrun
-    cp crates/dayrun/src/main.rt target/stamp/dayrun
-    echo "rt: dayrun proved (1 s)" ;;
-staticlib) : >"target/staticlib/lib$2.a" ;;
-try) [ ! -e "$TEST_HOME/slow" ] || sleep 20 ;;
+    { echo '#!/bin/sh' && date +%N; } >crates/dayrun/out/dayrun
+    chmod 755 crates/dayrun/out/dayrun
+    cp crates/dayrun/src/main.rt crates/dayrun/out/from
+    echo "logic=proved functions=1" >&2 ;;
+lib) mkdir -p "crates/$2/out" && : >"crates/$2/out/lib$2.a" ;;
+try) [ ! -e "$TEST_HOME/slow" ] || sleep 20
+    cat "$TEST_HOME/tapes/p5-to-p9.expected" ;;
 esac
 END
 tool gcc </dev/null
@@ -113,7 +111,7 @@ day TAPE=plain.txt
 [ "$status" -eq 0 ] && [ -x target/bin/dayrun ] || wrong 'a program that is missing is not made'
 
 # make run: the story at once, and 'proved' only behind the proof.
-rm -rf build target called
+rm -rf build target crates/*/out called
 status=0
 said=$(make --no-print-directory run 2>&1) || status=$?
 [ "$status" -eq 0 ] || wrong "make run ends with $status"
@@ -132,7 +130,7 @@ said=$(make --no-print-directory run 2>&1)
 
 # An interrupted run leaves nothing behind.
 for signal in TERM HUP; do
-    rm -rf build target
+    rm -rf build target crates/*/out
     : >slow
     setsid make --no-print-directory run >said 2>&1 &
     group=$!

@@ -85,7 +85,7 @@ fn main() -> ExitCode {
 fn run(options: &Options) -> Result<usize, String> {
     let program = options.own_or("--program", PROGRAM);
     if !Path::new(program).is_file() {
-        return Err(format!("there is no program {program}: make it by `rt check dayrun`"));
+        return Err(format!("there is no program {program}: make it by `make programs`"));
     }
     let program = Path::new(program).canonicalize().map_err(|error| error.to_string())?;
     let program = program.to_string_lossy();
