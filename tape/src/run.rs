@@ -204,7 +204,7 @@ pub fn found(named: Option<&Path>) -> Result<PathBuf, String> {
         tool.ancestors().nth(3).map(|folder| folder.join(PROGRAM)),
     ];
     places.into_iter().flatten().find(|place| place.is_file()).ok_or_else(|| {
-        format!("there is no {PROGRAM}: make it by `rt check dayrun`, or name it by --program PATH")
+        format!("there is no {PROGRAM}: make it by `make programs`, or name it by --program PATH")
     })
 }
 

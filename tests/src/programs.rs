@@ -22,7 +22,7 @@ pub const REFERENCE: &str = "build/release/reference_dayrun";
 pub fn both_there(program: &str, reference: &str) -> Result<(), String> {
     if !Path::new(program).is_file() {
         return Err(format!(
-            "there is no program {program}: make it by `rt check dayrun`, or name it by --program"
+            "there is no program {program}: make it by `make programs`, or name it by --program"
         ));
     }
     if !Path::new(reference).is_file() {
