@@ -12,25 +12,25 @@ use Rattle.rounds.proofs.amount.Statement.{statement}
 use Rattle.rounds.proofs.amount.Tie as tie
 
 cast-k : tie.Need-overflow_cast-k
-cast-k c = let s = c.before.before.before.before in omega (arith, s.pre.settled s.args.a)
+cast-k c = let s = c in omega (arith, s.requires.settled s.args.a)
 
 add-k : tie.Need-overflow_add-k
-add-k c = let s = c.before.before.before.before in omega (arith, s.pre.settled s.args.a, s.pre.issue)
+add-k c = let s = c in omega (arith, s.requires.settled s.args.a, s.requires.issue)
 
 mul-smaller : tie.Need-offset_bounds-inventories-k
-mul-smaller c = let s = c.before.before.before.before.before.before.before.before in omega (arith, s.pre.settled s.args.a, s.pre.issue)
+mul-smaller c = let s = c in omega (arith, s.requires.settled s.args.a, s.requires.issue)
 
 shared-slice-read-smaller : tie.Need-bounds-inventories-k
-shared-slice-read-smaller c = let s = c.before.before.before.before.before.before.before.before.before in omega (arith, s.pre.settled s.args.a, s.pre.issue, s.pre.stocks)
+shared-slice-read-smaller c = let s = c in omega (arith, s.requires.settled s.args.a, s.requires.issue, s.requires.stocks)
 
 returns : tie.Need-returns
 returns c =
-    let a = c.before.before.before.before.before.before.before.before.before.before.args in
+    let a = c.args in
     let n = get_or a.nets.now (a.i * 64 + a.a) (pos 0) in
     c.smaller.ensures
     ∙ ap (λ o. min (get_or a.inventories.now (a.i * 16 + get_or a.settles.now a.a 0) 0) o)
-    (c.before.before.less-owed.ensures
-    ∙ ap (λ o. o - get_or a.delivered.now (a.i * 64 + a.a) 0) (c.before.before.before.before.owed.ensures ∙ ap owed_of (to_z-of_z w32 n (search rules))))
+    (c.less-owed.ensures
+    ∙ ap (λ o. o - get_or a.delivered.now (a.i * 64 + a.a) 0) (c.owed.ensures ∙ ap owed_of (to_z-of_z w32 n (search rules))))
 
 pub amount_spec : {M : Type 1} → statement M
 amount_spec =

@@ -14,34 +14,34 @@ use Rattle.rounds.proofs.deliver.Statement.{statement}
 use Rattle.rounds.proofs.deliver.Tie as tie
 
 total-requires : tie.Need-total-d-requires
-total-requires c κs = let s = c.before.before.before.before.before.before in rw (row_part s.args.delivered.now s.args.i) (omega (arith, s.requires.fits))
+total-requires c κs = let s = c in rw (row_part s.args.delivered.now s.args.i) (omega (arith, s.requires.fits))
 
 cast-k : tie.Need-overflow_cast-k
-cast-k c = let s = c.before.before.before.before.before.before.before.before in omega (arith, s.requires.settled s.args.a)
+cast-k c = let s = c in omega (arith, s.requires.settled s.args.a)
 
 add-k : tie.Need-overflow_add-k
-add-k c = let s = c.before.before.before.before.before.before.before.before in omega (arith, s.requires.settled s.args.a, s.requires.issue)
+add-k c = let s = c in omega (arith, s.requires.settled s.args.a, s.requires.issue)
 
 add-delivered : tie.Need-overflow_add-delivered
-add-delivered c = let s = c.before.before.before.before.before.before.before.before.before in omega (arith, cell_total s.args.delivered.now s.args.i s.args.a s.requires.account, s.requires.fits)
+add-delivered c = let s = c in omega (arith, cell_total s.args.delivered.now s.args.i s.args.a s.requires.account, s.requires.fits)
 
 mul-inventories : tie.Need-offset_bounds-inventories-k
-mul-inventories c = let s = c.before.before.before.before.before.before.before.before.before in omega (arith, s.requires.settled s.args.a, s.requires.issue)
+mul-inventories c = let s = c in omega (arith, s.requires.settled s.args.a, s.requires.issue)
 
 slice-read-inventories : tie.Need-bounds-inventories-k
-slice-read-inventories c = let s = c.before.before.before.before.before.before.before.before.before.before in omega (arith, s.requires.settled s.args.a, s.requires.issue, s.requires.stocks)
+slice-read-inventories c = let s = c in omega (arith, s.requires.settled s.args.a, s.requires.issue, s.requires.stocks)
 
 slice-write-inventories : tie.Need-bounds-inventories-k-2
-slice-write-inventories c = let s = c.before.before.before.before.before.before.before.before.before.before in omega (arith, s.requires.settled s.args.a, s.requires.issue, s.requires.stocks)
+slice-write-inventories c = let s = c in omega (arith, s.requires.settled s.args.a, s.requires.issue, s.requires.stocks)
 
 join-requires : tie.Need-join-requires
 join-requires c κs =
-    let s = c.before.before.before.before.before.before.before.before.before.before.before in
+    let s = c in
     let a = s.args in
     let v = a.inventories.now in
     let k = a.i * 16 + get_or a.settles.now a.a 0 in
-    let t : c.before.before.before.before.total-d.result ≡ delivered_total a.delivered.now a.i =
-    c.before.before.before.before.total-d.ensures ∙ ap sum (row_part a.delivered.now a.i) in
+    let t : c.total-d.result ≡ delivered_total a.delivered.now a.i =
+    c.total-d.ensures ∙ ap sum (row_part a.delivered.now a.i) in
     let h : k < length v = omega (arith, s.requires.settled a.a, s.requires.issue, s.requires.stocks) in
     record {
       there = s.requires.there;
@@ -51,30 +51,30 @@ join-requires c κs =
       issue = s.requires.issue;
       whole = length-set v k (get_or v k 0 - a.x) ∙ s.requires.stocks;
       fits = omega (arith, t, s.requires.fits);
-      small = lowered_small v k a.x (c.before.before.before.before.total-d.result + a.x) h s.requires.small (omega (arith, t, s.requires.fits));
+      small = lowered_small v k a.x (c.total-d.result + a.x) h s.requires.small (omega (arith, t, s.requires.fits));
     }
 
 same-length-2 : tie.Need-shape_of-inventories
 same-length-2 c =
-    let a = c.before.before.before.before.before.before.before.before.before.before.before.before.before.args in
+    let a = c.args in
     let v = a.inventories.now in
     let k = a.i * 16 + get_or a.settles.now a.a 0 in
-    let d = c.before.before.before.before.before.before.before.total-d.result in
-    ap length c.before.before.join.ensures
+    let d = c.total-d.result in
+    ap length c.join.ensures
     ∙ length_joined a.settles.now a.size a.i (runs_in a.runs.now a.n) d (d + a.x) (set v k (get_or v k 0 - a.x))
     ∙ length-set v k (get_or v k 0 - a.x)
 
 returns : tie.Need-returns
 returns c =
-    let s = c.before.before.before.before.before.before.before.before.before.before.before.before.before.before in
+    let s = c in
     let a = s.args in
     let k = a.i * 16 + get_or a.settles.now a.a 0 in
     let v = a.inventories.now in
-    let t : c.before.before.before.before.before.before.before.total-d.result ≡ delivered_total a.delivered.now a.i =
-    c.before.before.before.before.before.before.before.total-d.ensures ∙ ap sum (row_part a.delivered.now a.i) in
+    let t : c.total-d.result ≡ delivered_total a.delivered.now a.i =
+    c.total-d.ensures ∙ ap sum (row_part a.delivered.now a.i) in
     record {
       cells = refl;
-      stocks = c.before.before.join.ensures
+      stocks = c.join.ensures
           ∙ ap (λ d. joined_runs a.settles.now a.size a.i (runs_in a.runs.now a.n) d (d + a.x) (set v k (get_or v k 0 - a.x))) t;
     }
 

@@ -19,39 +19,39 @@ decreases-loop nets settles runs counts size delivered₀ inventories₀ made₀
 
 loop-holds : tie.Need-loop-t-init invariant-loop decreases-loop
 loop-holds c =
-    let s = c.before.before.before.before.before in
+    let s = c in
     let a = s.args in
     (search rules, search rules, s.requires, λ m. round_begin a.nets.now a.settles.now a.runs.now a.counts.now a.size a.delivered.now a.inventories.now m)
 
 cast-n : tie.Need-overflow_cast-n invariant-loop decreases-loop
-cast-n c = let l = c.before.before.loop-t in omega (arith, (l.invariant.2.ranked.orders (l.t % 16) (omega arith)).few)
+cast-n c = let l = c.loop-t in omega (arith, (l.invariant.2.ranked.orders (l.t % 16) (omega arith)).few)
 
 turn-requires : tie.Need-turn-made-requires invariant-loop decreases-loop
 turn-requires c κs =
-    let a = c.before.before.before.before.before.before.before.before.before.before.before.args in
-    let l = c.before.before.before.before.before.loop-t in
+    let a = c.args in
+    let l = c.loop-t in
     can_turn a.nets.now a.settles.now a.runs.now a.counts.now a.size l.delivered l.inventories (l.t / 16) (l.t % 16)
     l.invariant.2 (omega arith) (omega arith)
 
 loop-again : tie.Need-loop-t-preserved invariant-loop decreases-loop
 loop-again c =
-    let a = c.before.before.before.before.before.before.before.before.before.before.before.before.before.before.before.before.args in
-    let l = c.before.before.before.before.before.before.before.before.before.before.loop-t in
-    let g = c.before.before.before.before.turn-made.ensures in (
+    let a = c.args in
+    let l = c.loop-t in
+    let g = c.turn-made.ensures in (
       search rules,
       omega (arith, g.one, l.invariant.1),
       can_again a.nets.now a.settles.now a.runs.now a.counts.now a.size l.delivered _ l.inventories _ (l.t / 16) (l.t % 16)
-          c.before.before.before.before.turn-made.result l.invariant.2 (omega arith) (omega arith) g,
+          c.turn-made.result l.invariant.2 (omega arith) (omega arith) g,
       λ m.
           sym (round_step a.nets.now a.settles.now a.runs.now a.counts.now a.size l.t l.made m l.delivered _ l.inventories _
-          c.before.before.before.before.turn-made.result (search rules) g)
+          c.turn-made.result (search rules) g)
           ∙ l.invariant.3 m,
     )
 
 returns : tie.Need-returns invariant-loop decreases-loop
 returns c =
-    let a = c.before.before.before.before.before.before.before.args in
-    let l = c.before.loop-t in
+    let a = c.args in
+    let l = c.loop-t in
     record {
       few = omega (arith, l.invariant.0, l.invariant.1);
       desk = λ m.

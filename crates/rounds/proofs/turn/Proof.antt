@@ -9,15 +9,15 @@ use Rattle.rounds.proofs.turn.Tie as tie
 
 returns : tie.Need-returns-then-x-eq0
 returns c =
-    let s = c.before.before.before.before.before.before.before.before in
+    let s = c in
     let a = s.args in
     turned_none a.nets.now a.settles.now a.size a.a a.i a.delivered.now a.inventories.now
-    (sym c.before.amount-x.ensures ∙ c.if-x-eq0.true)
+    (sym c.amount-x.ensures ∙ c.if-x-eq0.true)
 
 deliver-requires : tie.Need-deliver-requires
 deliver-requires c κs =
-    let s = c.before.before.before.before.before.before.before.before.before.before in
-    let e = c.before.before.before.amount-x.ensures in
+    let s = c in
+    let e = c.amount-x.ensures in
     record {
       whole = s.requires.asks.whole;
       accounts = s.requires.asks.accounts;
@@ -34,10 +34,10 @@ deliver-requires c κs =
 
 returns-2 : tie.Need-returns
 returns-2 c =
-    let s = c.before.before.before.before.before.before.before.before.before.before.before.before.before.before.before in
+    let s = c in
     let a = s.args in
     turned_some a.nets.now a.settles.now a.runs.now a.n a.size a.a a.i a.delivered.now _ a.inventories.now _
-    c.before.before.before.before.before.before.before.before.amount-x.result s.requires c.before.before.before.before.before.before.before.before.amount-x.ensures (ne_eqb _ _ c.before.before.before.before.before.before.before.if-x-eq0.false) c.before.before.before.before.deliver.ensures
+    c.amount-x.result s.requires c.amount-x.ensures (ne_eqb _ _ c.if-x-eq0.false) c.deliver.ensures
 
 pub turn_spec : {M : Type 1} → statement M
 turn_spec =

@@ -22,28 +22,28 @@ decreases-loop nets settles runs counts size delivered₀ inventories₀ deliver
 
 loop-holds : tie.Need-loop-rounds-init invariant-loop decreases-loop
 loop-holds c =
-    let s = c.before.before.before.before.before in
+    let s = c.before in
     let a = s.args in
     (s.requires.can, omega arith, omega arith, loop_begin a.nets.now a.settles.now a.runs.now a.counts.now a.size a.delivered.now a.inventories.now)
 
 returns : tie.Need-returns-then-made-eq0 invariant-loop decreases-loop
 returns c =
-    let a = c.before.before.before.before.before.before.before.before.before.before.before.before.before.before.before.before.args in
-    let l = c.before.before.before.before.before.before.before.before.before.before.loop-rounds in
-    let g = c.before.before.before.before.before.before.before.round_and_leap-s in
+    let a = c.args in
+    let l = c.loop-rounds in
+    let g = c.round_and_leap-s in
     loop_last a.nets.now a.settles.now a.runs.now a.counts.now a.size a.delivered.now a.inventories.now l.deliveries l.rounds l.invariant.3 g.ensures (search rules)
 
 loop-less : tie.Need-loop-rounds-smaller invariant-loop decreases-loop
 loop-less c =
-    let g = c.before.before.before.before.before.before.before.round_and_leap-s in
+    let g = c.round_and_leap-s in
     let h : 0 < g.result.made = search rules in
     omega (arith, g.ensures.falls)
 
 loop-again : tie.Need-loop-rounds-preserved invariant-loop decreases-loop
 loop-again c =
-    let a = c.before.before.before.before.before.before.before.before.before.before.before.before.before.before.before.before.args in
-    let l = c.before.before.before.before.before.before.before.before.before.before.loop-rounds in
-    let g = c.before.before.before.before.before.before.before.round_and_leap-s in
+    let a = c.args in
+    let l = c.loop-rounds in
+    let g = c.round_and_leap-s in
     let h : 0 < g.result.made = search rules in (
       g.ensures.can,
       omega (arith, g.ensures.falls, l.invariant.1),
