@@ -40,10 +40,9 @@ turned c =
 loop-again : tie.Need-loop-i-preserved invariant-loop decreases-loop
 loop-again c =
     let e = c.cut_issue-k in (
-      omega (arith, (within c).loop-test.true),
+      omega (arith, c.loop-i-test.true),
       (turned (within c)).more e.result
-          (lent e.new.froms.froms.froms.froms.froms.froms.froms.0 e.new.froms.froms.froms.froms.froms.froms.froms.froms.0 e.new.froms.froms.froms.froms.froms.froms.froms.froms.froms.0 e.new.froms.froms.froms.froms.froms.froms.froms.froms.froms.froms.0
-          e.new.1.1.1.1.1.1.1.1.1.1.1.0 e.new.1.1.1.1.1.1.1.1.1.1.1.1.0) e.ensures,
+          (lent e.new.issues e.new.froms e.new.tos e.new.lots e.new.days e.new.out) e.ensures,
     )
 
 returns : tie.Need-returns invariant-loop decreases-loop
