@@ -9,31 +9,31 @@ use Rattle.cutting.proofs.count_issue.Tie as tie
 
 settled-requires : tie.Need-settled-requires
 settled-requires c κs =
-    let s = c.before.before in
+    let s = c in
     (record { nets = s.requires.0.cells; delivered = s.requires.0.both }, s.requires.1)
 
-returns : tie.Need-returns
+returns : tie.Need-returns-then-settled
 returns c =
-    let s = c.before.before.before.before in
+    let s = c in
     let a = s.args in
-    let e = sym c.before.settled.ensures ∙ c.if1.true in
+    let e = sym c.settled.ensures ∙ c.if-settled.true in
     sym (ap length (no_fails a.dealt a.nets.now a.delivered.now a.lifts.now a.i s.requires.1 s.requires.0 e))
 
 count-requires : tie.Need-count-requires
 count-requires c κs =
-    let s = c.before.before.before.before.before.before.before.before.before.before.before.before in
+    let s = c in
     let a = s.args in
-    let y = c.before.before.before.before.before.prepare-for.ensures in (
+    let y = c.prepare_for-p.ensures in (
       y.advance,
       y.range,
       omega (arith, ap length y.fails, few a.dealt a.nets.now a.delivered.now a.lifts.now a.i s.requires.1 s.requires.0),
     )
 
-returns-2 : tie.Need-returns-2
-returns-2 c = c.count.ensures ∙ ap length c.before.before.before.before.before.before.prepare-for.ensures.fails
+returns-2 : tie.Need-returns
+returns-2 c = c.count.ensures ∙ ap length c.prepare_for-p.ensures.fails
 
-pub count-issue-spec : {M : Type 1} → statement M
-count-issue-spec =
+pub count_issue_spec : {M : Type 1} → statement M
+count_issue_spec =
     tie.close
-    (tie.spec settled-requires returns (λ c. search rules) (λ c. search rules) (λ c κs. search rules) (λ c. search rules) (λ c. search rules)
-    count-requires returns-2)
+    (tie.spec settled-requires returns (λ c. search rules) (λ c. search rules) (λ c κs. search rules)
+    (λ c. search rules) (λ c. search rules) count-requires returns-2)

@@ -12,73 +12,75 @@ use Rattle.cutting.proofs.cut_issue.Tie as tie
 
 settled-requires : tie.Need-settled-requires
 settled-requires c κs =
-    let s = c.before.before.before.before.before.before.before.before in
+    let s = c in
     (record { nets = s.requires.sound.cells; delivered = s.requires.sound.both }, s.requires.issue)
 
-returns : tie.Need-returns
+returns : tie.Need-returns-then-settled
 returns c =
-    let t = c.before in
-    let s = t.before.before.before.before.before.before.before.before.before.before in
+    let t = c in
+    let s = t in
     let a = s.args in
     rw c.numbers.ensures
     (nothing_cut a.dealt a.nets.now a.delivered.now a.lifts.now a.day a.i a.n (lending a.issues a.froms a.tos a.lots a.days a.out)
-    s.requires (sym t.before.settled.ensures ∙ t.if1.true))
+    s.requires (sym t.settled.ensures ∙ t.if-settled.true))
 
-hand-stock-requires : tie.Need-hand-stock-requires
+hand-stock-requires : tie.Need-hand_stock-v-requires
 hand-stock-requires c κs =
-    let s = c.before.before.before.before.before.before.before.before.before.before.before.before.before.before.before.before.before in
+    let s = c in
     let a = s.args in
-    let p = c.before.before.before.before.prepare-for in
+    let p = c.prepare_for-p in
     can_hand a.dealt a.nets.now a.delivered.now a.lifts.now a.day a.i a.n (lending a.issues a.froms a.tos a.lots a.days a.out)
-    s.requires p.new.1.1.1.1.1.0 p.new.1.1.1.1.1.1.0 p.result p.ensures
+    s.requires p.new.missing.missing.missing.missing.missing.0 p.new.missing.missing.missing.missing.missing.missing.0 p.result p.ensures
 
-abbrev start : tie.After-hand-stock → tie.Start
+abbrev start : tie.After-hand_stock-v → tie.Start
 start c = c.before.before.before.before.before.before.before.before.before.before.before.before.before.before.before.before.before.before
 
-handed : (c : tie.After-hand-stock) →
+handed : (c : tie.After-hand_stock-v) →
     let a = (start c).args in
-    let p = c.before.before.before.before.before.prepare-for in
+    let p = c.prepare_for-p in
     Behind a.dealt a.nets.now a.delivered.now a.lifts.now a.day a.i a.n (lending a.issues a.froms a.tos a.lots a.days a.out)
-    p.new.1.1.1.1.1.0 p.new.1.1.1.1.1.1.0 p.result c.hand-stock.result c.hand-stock.new.0
+    p.new.missing.missing.missing.missing.missing.0 p.new.missing.missing.missing.missing.missing.missing.0 p.result c.hand_stock-v.result c.hand_stock-v.new.0
 handed c =
     let s = start c in
     let a = s.args in
-    let p = c.before.before.before.before.before.prepare-for in
+    let p = c.prepare_for-p in
     stock_handed a.dealt a.nets.now a.delivered.now a.lifts.now a.day a.i a.n (lending a.issues a.froms a.tos a.lots a.days a.out)
-    s.pre p.new.1.1.1.1.1.0 p.new.1.1.1.1.1.1.0 p.result p.ensures c.hand-stock.result c.hand-stock.new.0 c.hand-stock.ensures
+    s.pre p.new.1.1.1.1.1.0 p.new.1.1.1.1.1.1.0 p.result p.ensures c.hand_stock-v.result c.hand_stock-v.new.0 c.hand_stock-v.ensures
 
-lay-requires : tie.Need-lay-requires
+lay-requires : tie.Need-lay-m-requires
 lay-requires c κs = (handed c.before.before.before.before.before.before.before.before.before.before).can
 
-abbrev stocked : tie.After-slice-known13 → tie.After-hand-stock
+abbrev stocked : tie.After-slice_known-13-1 → tie.After-hand_stock-v
 stocked c = c.before.before.before.before.before.before.before.before.before.before.before.before.before.before.before.before.before.before.before.before.before.before.before
 
 -- the issue is cut
-cut : (c : tie.After-slice-known13) →
+cut : (c : tie.After-slice_known-13-1) →
     let a = (start (stocked c)).args in
-    let l = c.before.before.before.before.before.before.before.before.before.before.before.before.lay in
-    let v = (stocked c).hand-stock in
+    let l = c.lay-m in
+    let v = (stocked c).hand_stock-v in
     WasCut a.dealt a.nets.now a.delivered.now a.lifts.now a.day a.i a.n (lending a.issues a.froms a.tos a.lots a.days a.out) (counts_of (a.n + l.result) (v.result + l.result))
     (back v.result (with_out (lending a.issues a.froms a.tos a.lots a.days a.out) v.last.0)
     (lent l.new.1.1.1.1.1.1.0 l.new.1.1.1.1.1.1.1.0 l.new.1.1.1.1.1.1.1.1.0 l.new.1.1.1.1.1.1.1.1.1.0
     l.new.1.1.1.1.1.1.1.1.1.1.0 l.new.1.1.1.1.1.1.1.1.1.1.1.0))
 cut c =
-    let l = c.before.before.before.before.before.before.before.before.before.before.before.before.lay in
+    let l = c.lay-m in
     (handed (stocked c)).done l.result
     (lent l.new.1.1.1.1.1.1.0 l.new.1.1.1.1.1.1.1.0 l.new.1.1.1.1.1.1.1.1.0 l.new.1.1.1.1.1.1.1.1.1.0
     l.new.1.1.1.1.1.1.1.1.1.1.0 l.new.1.1.1.1.1.1.1.1.1.1.1.0) l.ensures
 
-returns-2 : tie.Need-returns-2
-returns-2 c = rw c.numbers2.ensures (cut c.before)
+returns-2 : tie.Need-returns
+returns-2 c = rw c.numbers-2.ensures (cut c.before)
 
-pub cut-issue-spec : {M : Type 1} → statement M
-cut-issue-spec =
+pub cut_issue_spec : {M : Type 1} → statement M
+cut_issue_spec =
     tie.close
-    (tie.spec settled-requires (λ c κs. search rules) returns (λ c. search rules) (λ c. search rules) (λ c κs. search rules) (λ c. search rules) hand-stock-requires (λ c. search rules)
-    (λ c. search rules) (λ c. search rules)
+    (tie.spec settled-requires (λ c κs. search rules) returns (λ c. search rules) (λ c. search rules)
+    (λ c κs. search rules) (λ c. search rules) hand-stock-requires (λ c. search rules) (λ c. search rules)
+    (λ c. search rules)
     (λ c. omega (arith, (handed c.before.before.before.before.before.before.before.before.before).room, (handed c.before.before.before.before.before.before.before.before.before).few))
     (λ c. omega (arith, (handed c.before.before.before.before.before.before.before.before.before).room, (handed c.before.before.before.before.before.before.before.before.before).few))
     (λ c. (handed c.before.before.before.before.before.before.before.before.before).room)
-    (λ c. (handed c.before.before.before.before.before.before.before.before.before).room) (λ c. search rules) lay-requires
-    (λ c. search rules) (λ c. omega (arith, (cut c).wrote.held.most, (handed (stocked c)).few)) (λ c κs. search rules) (λ c. search rules)
-    (λ c. search rules) (λ c. search rules) (λ c. search rules) (λ c. search rules) (λ c. search rules) returns-2)
+    (λ c. (handed c.before.before.before.before.before.before.before.before.before).room) (λ c. search rules)
+    lay-requires (λ c. search rules) (λ c. omega (arith, (cut c).wrote.held.most, (handed (stocked c)).few))
+    (λ c κs. search rules) (λ c. search rules) (λ c. search rules) (λ c. search rules) (λ c. search rules)
+    (λ c. search rules) (λ c. search rules) returns-2)

@@ -8,7 +8,7 @@ use Rattle.cutting.proofs.enter.Tie as tie
 
 record-requires : tie.Need-record-requires
 record-requires c κs =
-    let p = c.before.before.before.before.before.before.before.before.before.before.before.before.before.before.before.before.before.before.before.before.before.before.before.before.before.before.requires in
+    let p = c.requires in
     record {
       room = omega (arith, p.write.room);
       head = record { kinds = omega arith; issues = p.issue; froms = p.from; tos = p.to };
@@ -17,18 +17,19 @@ record-requires c κs =
 
 returns : tie.Need-returns
 returns c =
-    let e = c.before.before.before.before.before.before.before.before.before.before.before.before.before.before.before.before.before in
-    let s = e.before.before.before.before.before.before.before.before.before.before.before.before in
+    let e = c in
+    let s = e in
     let a = s.args in
     let k = e.append in
-    let o = c.before.before.«record» in
+    let o = c.«record» in
     entered a.e a.n
     (lending a.issues a.froms a.tos a.lots a.days a.out)
-    (lent k.new.1.0 k.new.1.1.0 k.new.1.1.1.0 k.new.1.1.1.1.0 k.new.1.1.1.1.1.0 o.new.0)
+    (lent k.new.froms.0 k.new.froms.froms.0 k.new.froms.froms.froms.0 k.new.froms.froms.froms.froms.0 k.new.froms.froms.froms.froms.froms.0 o.new.0)
     (omega (arith, s.requires.write.most)) k.ensures o.ensures
 
 pub enter_spec : {M : Type 1} → statement M
 enter_spec =
     tie.close
-    (tie.spec (λ c κs. search rules) (λ c. search rules) (λ c. search rules) (λ c. search rules) record-requires (λ c. search rules)
-    (λ c. search rules) (λ c. search rules) (λ c. search rules) (λ c. search rules) (λ c. search rules) returns)
+    (tie.spec (λ c κs. search rules) (λ c. search rules) (λ c. search rules) (λ c. search rules) record-requires
+    (λ c. search rules) (λ c. search rules) (λ c. search rules) (λ c. search rules) (λ c. search rules)
+    (λ c. search rules) returns)

@@ -4,13 +4,13 @@ use Rattle.cutting.proofs.Fails.{handed_one}
 use Rattle.cutting.proofs.hand_stock.Statement.{statement}
 use Rattle.cutting.proofs.hand_stock.Tie as tie
 
-returns-2 : tie.Need-returns-2
+returns-2 : tie.Need-returns
 returns-2 c =
-    let a = c.before.before.before.before.before.before.args in
-    let o = c.before.before.«record» in
-    handed_one a.i a.to a.lots a.out.now o.new.0 c.before.before.before.before.if1.false o.ensures
+    let a = c.args in
+    let o = c.«record» in
+    handed_one a.i a.to a.lots a.out.now o.new.part c.if-lots-eq0.false o.ensures
 
-pub hand-stock-spec : {M : Type 1} → statement M
-hand-stock-spec =
+pub hand_stock_spec : {M : Type 1} → statement M
+hand_stock_spec =
     tie.close
     (tie.spec (λ c. search rules) (λ c κs. search rules) (λ c. search rules) returns-2)

@@ -7,47 +7,47 @@ use Rattle.cutting.proofs.Issues.{owing, ready}
 use Rattle.cutting.proofs.prepare.Statement.{statement}
 use Rattle.cutting.proofs.prepare.Tie as tie
 
-prepare-requires : tie.Need-prepare-requires
+prepare-requires : tie.Need-prepare-n-requires
 prepare-requires c κs =
-    let s = c.before.before.before.before.before in
+    let s = c in
     let a = s.args in
     record { order = can_order a.nets.now a.delivered.now a.lifts.now a.i s.requires.sound s.requires.issue; room = omega (arith, s.requires.held) }
 
-abbrev begin : tie.After-prepare → tie.Start
+abbrev begin : tie.After-prepare-n → tie.Start
 begin c = c.before.before.before.before.before.before
 
-total-requires : tie.Need-total-requires
+total-requires : tie.Need-total-d-requires
 total-requires c κs =
     let s = begin c.before.before.before in
     let a = s.args in
-    rw (row_part a.delivered.now a.i) (total_small a.nets.now a.delivered.now a.lifts.now s.pre.sound a.i s.pre.issue)
+    rw (row_part a.delivered.now a.i) (total_small a.nets.now a.delivered.now a.lifts.now s.requires.sound a.i s.requires.issue)
 
-missing-of-requires : tie.Need-missing-of-requires
+missing-of-requires : tie.Need-missing_of-requires
 missing-of-requires c κs =
     let s = begin c.before.before.before.before.before.before.before in
     let a = s.args in
     rw (row_part a.nets.now a.i, row_part a.delivered.now a.i)
-    (owing a.nets.now a.delivered.now a.lifts.now a.i s.pre.issue s.pre.sound _ s.pre.accounts)
+    (owing a.nets.now a.delivered.now a.lifts.now a.i s.requires.issue s.requires.sound _ s.requires.accounts)
 
 returns : tie.Need-returns
 returns c =
-    let v = c.before.before.before in
-    let h = v.before.before.before.before in
-    let t = h.before.before.before.before in
-    let p = t.before.before.before.before in
+    let v = c in
+    let h = v in
+    let t = h in
+    let p = t in
     let s = begin p in
     let a = s.args in
     ready false a.nets.now a.delivered.now a.lifts.now a.i s.pre.issue s.pre.sound
-    v.start.new.0 h.missing-of.new.1.1.0 p.prepare.result t.total.result v.start.result
-    (rw (row_part a.delivered.now a.i) at t.total.ensures)
-    (rw (row_part a.nets.now a.i, row_part a.delivered.now a.i) at h.missing-of.ensures)
-    (omega (arith, h.missing-of.auto.1.1.0, s.pre.accounts)) (omega (arith, p.prepare.ensures.held.there, v.start.auto.0))
-    (rw p.prepare.ensures.units at v.start.ensures)
+    v.start-p.new.0 h.missing_of.new.1.1.0 p.prepare-n.result t.total-d.result v.start-p.result
+    (rw (row_part a.delivered.now a.i) at t.total-d.ensures)
+    (rw (row_part a.nets.now a.i, row_part a.delivered.now a.i) at h.missing_of.ensures)
+    (omega (arith, h.missing_of.auto.1.1.0, s.pre.accounts)) (omega (arith, p.prepare-n.ensures.held.there, v.start-p.auto.0))
+    (rw p.prepare-n.ensures.units at v.start-p.ensures)
 
-pub prepare-spec : {M : Type 1} → statement M
-prepare-spec =
+pub prepare_spec : {M : Type 1} → statement M
+prepare_spec =
     tie.close
     (tie.spec (λ c. search rules) (λ c. search rules) prepare-requires (λ c. search rules) (λ c. search rules)
-    (λ c. search rules) (λ c. search rules) total-requires (λ c. search rules) (λ c. search rules) (λ c. search rules)
+    (λ c. search rules) (λ c. search rules) total-requires (λ c. search rules) (λ c. search rules)
     (λ c. search rules) (λ c. search rules) (λ c. search rules) (λ c. search rules) (λ c. search rules)
-    missing-of-requires (λ c κs. search rules) (λ c. search rules) (λ c. search rules) returns)
+    (λ c. search rules) missing-of-requires (λ c κs. search rules) (λ c. search rules) (λ c. search rules) returns)

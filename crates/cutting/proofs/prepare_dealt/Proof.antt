@@ -7,41 +7,42 @@ use Rattle.cutting.proofs.Issues.{owing, ready}
 use Rattle.cutting.proofs.prepare_dealt.Statement.{statement}
 use Rattle.cutting.proofs.prepare_dealt.Tie as tie
 
-total-requires : tie.Need-total-requires
+total-requires : tie.Need-total-d-requires
 total-requires c κs =
-    let s = c.before.before.before.before.before in
+    let s = c in
     let a = s.args in
     rw (row_part a.delivered.now a.i) (total_small a.nets.now a.delivered.now a.lifts.now s.requires.sound a.i s.requires.issue)
 
-missing-of-requires : tie.Need-missing-of-requires
+missing-of-requires : tie.Need-missing_of-requires
 missing-of-requires c κs =
-    let s = c.before.before.before.before.before.before.before.before.before in
+    let s = c in
     let a = s.args in
     rw (row_part a.nets.now a.i, row_part a.delivered.now a.i)
     (owing a.nets.now a.delivered.now a.lifts.now a.i s.requires.issue s.requires.sound _ s.requires.accounts)
 
-start-requires : tie.Need-start-requires
+start-requires : tie.Need-start-b-requires
 start-requires c κs =
-    let s = c.before.before.before.before.before.before.before.before.before.before.before.before.before in
+    let s = c in
     let a = s.args in
     record { order = can_order a.nets.now a.delivered.now a.lifts.now a.i s.requires.sound s.requires.issue; whole = s.requires.held }
 
 returns : tie.Need-returns
 returns c =
-    let s = c.before.before.before.before.before.before.before.before.before.before.before.before.before.before.before.before.before.before in
+    let s = c in
     let a = s.args in
-    let t = c.before.before.before.before.before.before.before.before.before.before.before.before.total in
-    let m = c.before.before.before.before.before.before.before.before.missing-of in
-    let v = c.before.before.before.before.start in
+    let t = c.total-d in
+    let m = c.missing_of in
+    let v = c.start-b in
     ready true a.nets.now a.delivered.now a.lifts.now a.i s.requires.issue s.requires.sound
-    v.new.1.1.1.1.0 m.new.1.1.0 v.result.n t.result v.result.position
+    v.new.out.out.out.out.0 m.new.out.out.0 v.result.n t.result v.result.position
     (rw (row_part a.delivered.now a.i) at t.ensures)
     (rw (row_part a.nets.now a.i, row_part a.delivered.now a.i) at m.ensures)
     (omega (arith, m.auto.1.1.0, s.requires.accounts)) v.ensures.there v.ensures.started
 
-pub prepare-dealt-spec : {M : Type 1} → statement M
-prepare-dealt-spec =
+pub prepare_dealt_spec : {M : Type 1} → statement M
+prepare_dealt_spec =
     tie.close
-    (tie.spec (λ c. search rules) (λ c. search rules) (λ c. search rules) (λ c. search rules) (λ c. search rules) (λ c. search rules)
-    total-requires (λ c. search rules) (λ c. search rules) (λ c. search rules) (λ c. search rules) (λ c. search rules) (λ c. search rules)
-    (λ c. search rules) (λ c. search rules) missing-of-requires start-requires (λ c. search rules) (λ c. search rules) returns)
+    (tie.spec (λ c. search rules) (λ c. search rules) (λ c. search rules) (λ c. search rules) (λ c. search rules)
+    (λ c. search rules) total-requires (λ c. search rules) (λ c. search rules) (λ c. search rules)
+    (λ c. search rules) (λ c. search rules) (λ c. search rules) (λ c. search rules) (λ c. search rules)
+    missing-of-requires start-requires (λ c. search rules) (λ c. search rules) returns)

@@ -6,11 +6,12 @@ use Rattle.cutting.proofs.settled.Tie as tie
 
 returns : tie.Need-returns
 returns c =
-    let a = c.before.before.before.before.args in
+    let a = c.args in
     rw (row_part a.nets.now a.i, row_part a.delivered.now a.i) at c.all_delivered.ensures
 
-pub settled-spec : {M : Type 1} → statement M
-settled-spec =
+pub settled_spec : {M : Type 1} → statement M
+settled_spec =
     tie.close
     (tie.spec (λ c. search rules) (λ c. search rules) (λ c. search rules) (λ c. search rules) (λ c. search rules)
-    (λ c. search rules) (λ c. search rules) (λ c. search rules) (λ c. search rules) (λ c. search rules) (λ c κs. search rules) returns)
+    (λ c. search rules) (λ c. search rules) (λ c. search rules) (λ c. search rules) (λ c. search rules)
+    (λ c κs. search rules) returns)
