@@ -10,17 +10,17 @@ use Rattle.counting.proofs.cut.Statement.{statement}
 use Rattle.counting.proofs.cut.Tie as tie
 
 -- a net comes as its bits
-owes : (k : tie.After-owed) → k.owed.result ≡ owed_of k.before.args.net
-owes k = k.owed.ensures ∙ ap owed_of (to_z-of_z w32 k.before.args.net k.before.ranges.net)
+owes : (k : tie.After-owed-owed) → k.owed-owed.result ≡ owed_of k.before.args.net
+owes k = k.owed-owed.ensures ∙ ap owed_of (to_z-of_z w32 k.before.args.net k.before.ranges.net)
 
-sub-t9 : tie.Need-overflow-sub-t9
+sub-t9 : tie.Need-overflow_sub-result
 sub-t9 c = omega (arith, owes c.before.before, c.before.before.before.requires.1)
 
 returns : tie.Need-returns
 returns c =
     let k = c.before.before.before in
     let e = owes k in
-    let o = k.owed.type-inv in (
+    let o = k.owed-owed.type_inv in (
       same_statement _ _ _ _ _ _ _ _ (omega (arith, e)) refl (omega (arith, e)) refl,
       record { due = omega (arith, o); delivered = omega (arith, k.before.ranges.given); failed = omega (arith, o); resolved = omega arith },
     )
@@ -28,5 +28,5 @@ returns c =
 pub cut_spec : {M : Type 1} → statement M
 cut_spec =
     tie.close
-    (tie.spec
-    (λ c κs. search rules) (λ c. search rules) (λ c. search rules) (λ c. search rules) sub-t9 (λ c. search rules) (λ c. search rules) returns)
+    (tie.spec (λ c κs. search rules) (λ c. search rules) (λ c. search rules) (λ c. search rules) sub-t9
+    (λ c. search rules) (λ c. search rules) returns)
