@@ -1,18 +1,18 @@
 -- The bytes of a struct's array are below 256.
 use mathlib.Core.Path.{◌≡◌, refl}
 use mathlib.Core.Bool.{true}
-use mathlib.Core.List.{List, [], ◌∷◌, map}
+use mathlib.Core.List.{List, [], ◌∷◌}
 use Prim.Native.Nat.{ℕ}
 use mir.Val.{Val}
 use denote.Shadow.{shadow}
 use denote.Array.{each}
-use denote.Struct.Field.{u8-field}
+use denote.Builtin.{u8}
 use borrow.Author.Tests.{lt-ltb}
 use Rattle.rules.specs.Book.{all}
 use Rattle.laws.proofs.Basics.{and_both}
 use Rattle.checksums.specs.Sums.{below}
 
-pub bytes_below : (xs : List ℕ) (us : List Val) → shadow (each ℕ u8-field.row.own_val (map (λ v. v) xs) us) → all (below 256) xs ≡ true
+pub bytes_below : (xs : List ℕ) (us : List Val) → shadow (each u8.Denot u8.own_val xs us) → all (below 256) xs ≡ true
 bytes_below [] us s = refl
 bytes_below (x ∷ xs) [] s = absurd s
 bytes_below (x ∷ xs) (u ∷ us) s =

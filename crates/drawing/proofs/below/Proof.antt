@@ -11,30 +11,28 @@ use borrow.Author.Rules.{rules}
 use Rattle.drawing.proofs.below.Statement.{statement}
 use Rattle.drawing.proofs.below.Tie as tie
 
-abbrev invariant-loop : tie.invariant-loop
+abbrev invariant-loop : tie.invariant-loop-i
 invariant-loop column limit good₀ i₀ good i =
     (i ≤ length column) × (good && all (λ x. ltb x limit) (drop i column) ≡ all (λ x. ltb x limit) column)
 
-abbrev decreases-loop : tie.decreases-loop
+abbrev decreases-loop : tie.decreases-loop-i
 decreases-loop column limit good₀ i₀ good i = length column - i
 
-cast-good : tie.Need-overflow-cast-good invariant-loop decreases-loop
-cast-good c = omega (arith, c.shared-slice-known.given c.before.before.loop.i)
+cast-good : tie.Need-overflow_cast-good invariant-loop decreases-loop
+cast-good c = omega (arith, c.shared_slice_known-1.given c.loop-i.i)
 
-loop-again : tie.Need-loop-preserved invariant-loop decreases-loop
+loop-again : tie.Need-loop-i-preserved invariant-loop decreases-loop
 loop-again c =
-    let s = c.before.before.before in
-    let l = c.before.before.loop in
-    (search rules, all_more (λ x. ltb x s.args.limit) s.args.column.now l.i 0 l.good _ (omega arith) l.invariant.1)
+    let l = c.loop-i in
+    (search rules, all_more (λ x. ltb x c.args.limit) c.args.column.now l.i 0 l.good _ (omega arith) l.invariant.1)
 
 returns : tie.Need-returns invariant-loop decreases-loop
 returns c =
-    let s = c.before.before in
-    let l = c.before.loop in
-    all_end (λ x. ltb x s.args.limit) s.args.column.now l.i l.good _ (omega arith) l.invariant.1
+    let l = c.loop-i in
+    all_end (λ x. ltb x c.args.limit) c.args.column.now l.i l.good _ (omega arith) l.invariant.1
 
-pub below-spec : {M : Type 1} → statement M
-below-spec =
+pub below_spec : {M : Type 1} → statement M
+below_spec =
     tie.close
-    (tie.spec invariant-loop decreases-loop (λ c. search rules) (λ c. search rules) (λ c. search rules) cast-good (λ c. search rules)
-    (λ c. search rules) loop-again returns)
+    (tie.spec invariant-loop decreases-loop (λ c. search rules) (λ c. search rules) (λ c. search rules) cast-good
+    (λ c. search rules) (λ c. search rules) loop-again returns)

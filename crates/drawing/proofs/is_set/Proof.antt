@@ -9,5 +9,6 @@ use Rattle.drawing.proofs.is_set.Tie as tie
 returns : tie.Need-returns
 returns c = ap (λ x. eqb x 1) (bit_shifted c.args.word c.args.b)
 
-pub is-set-spec : {M : Type 1} → statement M
-is-set-spec = tie.close (tie.spec (λ c. search rules) returns)
+pub is_set_spec : {M : Type 1} → statement M
+is_set_spec = tie.close
+    (tie.spec (λ c. search rules) returns)

@@ -4,11 +4,12 @@ use borrow.Author.Rules.{rules}
 use Rattle.drawing.proofs.window_right.Statement.{statement}
 use Rattle.drawing.proofs.window_right.Tie as tie
 
-none-twice-requires : tie.Need-none-twice-requires
+none-twice-requires : tie.Need-none_twice-requires
 none-twice-requires c κs = unmarked 1024
 
 returns : tie.Need-returns
-returns c = c.before.none-twice.ensures
+returns c = c.none_twice.ensures
 
-pub window-right-spec : {M : Type 1} → statement M
-window-right-spec = tie.close (tie.spec (λ c. search rules) none-twice-requires returns)
+pub window_right_spec : {M : Type 1} → statement M
+window_right_spec = tie.close
+    (tie.spec (λ c. search rules) none-twice-requires returns)

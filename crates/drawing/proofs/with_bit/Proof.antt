@@ -7,7 +7,7 @@ use Rattle.drawing.proofs.Marks.{one_shifted, bit_room}
 use Rattle.drawing.proofs.with_bit.Statement.{statement}
 use Rattle.drawing.proofs.with_bit.Tie as tie
 
-add-result : tie.Need-overflow-add-result
+add-result : tie.Need-overflow_add-result
 add-result c =
     let a = c.args in
     record { fits = rw (one_shifted a.b c.requires.0) (bit_room 64 a.word a.b c.ranges.word.fits c.requires.0 c.requires.1) }
@@ -15,5 +15,6 @@ add-result c =
 returns : tie.Need-returns
 returns c = ap (λ x. c.args.word + x) (one_shifted c.args.b c.requires.0)
 
-pub with-bit-spec : {M : Type 1} → statement M
-with-bit-spec = tie.close (tie.spec (λ c. search rules) add-result returns)
+pub with_bit_spec : {M : Type 1} → statement M
+with_bit_spec = tie.close
+    (tie.spec (λ c. search rules) add-result returns)

@@ -11,36 +11,34 @@ use borrow.Author.Rules.{rules}
 use Rattle.funds.proofs.by_number.Statement.{statement}
 use Rattle.funds.proofs.by_number.Tie as tie
 
-abbrev invariant-loop : tie.invariant-loop
+abbrev invariant-loop : tie.invariant-loop-k
 invariant-loop order given out₀ k₀ out k =
     (k ≤ length order) × (length out ≡ length out₀) × (out ≡ take k (numbered order given) ++ drop k out₀)
 
-abbrev decreases-loop : tie.decreases-loop
+abbrev decreases-loop : tie.decreases-loop-k
 decreases-loop order given out₀ k₀ out k = length order - k
 
-loop-again : tie.Need-loop-preserved invariant-loop decreases-loop
+loop-again : tie.Need-loop-k-preserved invariant-loop decreases-loop
 loop-again c =
-    let s = c.before.before.before.before.before.before in
-    let l = c.before.before.loop in
-    let wanted = numbered s.args.order.now s.args.given.now in
-    let n = length_numbered s.args.order.now s.args.given.now in
-    let h : l.k < length s.args.order.now = search rules in (
+    let l = c.loop-k in
+    let wanted = numbered c.args.order.now c.args.given.now in
+    let n = length_numbered c.args.order.now c.args.given.now in
+    let h : l.k < length c.args.order.now = search rules in (
       search rules,
       simp length-set l.invariant.1,
       rw l.invariant.2
-          (copy_more wanted s.args.out.now l.k c.share_in.result (omega arith) (omega (arith, s.requires.1))
-          (c.share_in.ensures ∙ sym (share_wanted s.args.order.now s.args.given.now l.k h))),
+          (copy_more wanted c.args.out.now l.k c.share_in.result (omega arith) (omega (arith, c.requires.1))
+          (c.share_in.ensures ∙ sym (share_wanted c.args.order.now c.args.given.now l.k h))),
     )
 
 returns : tie.Need-returns invariant-loop decreases-loop
 returns c =
-    let s = c.before.before.before.before.before in
-    let l = c.before.loop in
-    let n = length_numbered s.args.order.now s.args.given.now in
-    l.invariant.2 ∙ copy_end (numbered s.args.order.now s.args.given.now) s.args.out.now l.k (omega arith)
+    let l = c.loop-k in
+    let n = length_numbered c.args.order.now c.args.given.now in
+    l.invariant.2 ∙ copy_end (numbered c.args.order.now c.args.given.now) c.args.out.now l.k (omega arith)
 
-pub by-number-spec : {M : Type 1} → statement M
-by-number-spec =
+pub by_number_spec : {M : Type 1} → statement M
+by_number_spec =
     tie.close
-    (tie.spec invariant-loop decreases-loop (λ c. search rules) (λ c κs. search rules) (λ c. search rules) (λ c. search rules)
-    (λ c. search rules) (λ c. search rules) loop-again (λ c. search rules) returns)
+    (tie.spec invariant-loop decreases-loop (λ c. search rules) (λ c κs. search rules) (λ c. search rules)
+    (λ c. search rules) (λ c. search rules) (λ c. search rules) loop-again (λ c. search rules) returns)

@@ -7,16 +7,17 @@ use borrow.Author.Rules.{rules}
 use Rattle.funds.proofs.cover.Statement.{statement}
 use Rattle.funds.proofs.cover.Tie as tie
 
-returns : tie.Need-returns
+returns : tie.Need-returns-then-uncovered-ne0
 returns c =
-    let a = c.before.before.before.before.args in
-    uncovered_refused a.averages.now a.bases.now a.funds a.out.now (omega (arith, c.before.uncovered.ensures))
+    let a = c.args in
+    uncovered_refused a.averages.now a.bases.now a.funds a.out.now (omega (arith, c.uncovered.ensures))
 
-returns-2 : tie.Need-returns-2
+returns-2 : tie.Need-returns
 returns-2 c =
-    let a = c.before.before.before.before.before.before.args in
-    ap (answered 0) c.share-out.ensures
-    ∙ covered_done a.averages.now a.bases.now a.funds a.out.now (omega (arith, c.before.before.before.uncovered.ensures))
+    let a = c.args in
+    ap (answered 0) c.share_out.ensures
+    ∙ covered_done a.averages.now a.bases.now a.funds a.out.now (omega (arith, c.uncovered.ensures))
 
-pub cover-spec : {M : Type 1} → statement M
-cover-spec = tie.close (tie.spec (λ c κs. search rules) returns (λ c κs. search rules) returns-2)
+pub cover_spec : {M : Type 1} → statement M
+cover_spec = tie.close
+    (tie.spec (λ c κs. search rules) returns (λ c κs. search rules) returns-2)

@@ -11,12 +11,12 @@ use Rattle.funds.proofs.cover_from.Tie as tie
 
 returns : tie.Need-returns
 returns c =
-    let s = c.before.before.before.before.before.before.before.before.before in
-    let w = bases_of s.args.averages.now s.args.tenths in
-    let b = c.before.before.before.before.before.bases-of in
+    let w = bases_of c.args.averages.now c.args.tenths in
+    let b = c.bases_of in
     c.cover.ensures
-    ∙ ap (λ bs. covered_answer s.args.averages.now bs s.args.funds s.args.out.now)
-    (b.ensures ∙ over_all w s.args.bases.now (s.requires.places ∙ sym (length_bases s.args.averages.now s.args.tenths)))
+    ∙ ap (λ bs. covered_answer c.args.averages.now bs c.args.funds c.args.out.now)
+    (b.ensures ∙ over_all w c.args.bases.now (c.requires.places ∙ sym (length_bases c.args.averages.now c.args.tenths)))
 
-pub cover-from-spec : {M : Type 1} → statement M
-cover-from-spec = tie.close (tie.spec (λ c κs. search rules) (λ c κs. search rules) (λ c. search rules) returns)
+pub cover_from_spec : {M : Type 1} → statement M
+cover_from_spec = tie.close
+    (tie.spec (λ c κs. search rules) (λ c κs. search rules) (λ c. search rules) returns)

@@ -12,38 +12,37 @@ abbrev start : tie.After-rank → tie.Start
 start c = c.before.before.before.before.before.before.before
 
 -- the order is that of the definition
-order : (c : tie.After-rank) → c.rank.new.1.0 ≡ order_of (start c).args.averages.now
+order : (c : tie.After-rank) → c.rank.new.order ≡ order_of (start c).args.averages.now
 order c =
     let s = start c in
-    ranked s.args.averages.now c.rank.new.1.0 (c.rank.auto.1.0 ∙ s.pre.places) c.rank.ensures
+    ranked s.args.averages.now c.rank.new.order (c.rank.auto.order ∙ s.requires.places) c.rank.ensures
 
 allot-requires : tie.Need-allot-requires
 allot-requires c κs =
-    let r = c.before.before.before.before in
+    let r = c.before.before.before in
     let a = (start r).args in
     can_allot a.averages.now a.bases.now a.order.now a.given.now a.out.now a.funds (start r).requires
-    r.rank.new.1.0 (order r)
+    r.rank.new.order (order r)
 
-by-number-requires : tie.Need-by-number-requires
+by-number-requires : tie.Need-by_number-requires
 by-number-requires c κs =
-    let r = c.before.before.before.before.before.before.before.before.before.before in
-    let t = c.before.before.before.before.before.allot in
+    let r = c.before.before.before.before.before.before.before in
+    let t = c.allot in
     let a = (start r).args in (
       places_kept a.averages.now a.bases.now a.order.now a.given.now a.out.now a.funds (start r).requires
-          r.rank.new.1.0 (order r) t.new.1.1.1.0 t.ensures,
+          r.rank.new.order (order r) t.new.given t.ensures,
       order_room a.averages.now a.bases.now a.order.now a.given.now a.out.now a.funds (start r).requires
-          r.rank.new.1.0 (order r),
+          r.rank.new.order (order r),
     )
 
 returns : tie.Need-returns
 returns c =
-    let b = c.before.before.before in
-    let r = b.before.before.before.before.before.before.before.before.before.before in
-    let t = b.before.before.before.before.before.allot in
+    let r = c.before.before.before.before.before.before.before.before.before.before in
+    let t = c.allot in
     let a = (start r).args in
     given_shares a.averages.now a.bases.now a.order.now a.given.now a.out.now a.funds (start r).requires
-    r.rank.new.1.0 (order r) t.new.1.1.1.0 c.before.before.by_number.new.1.1.0 t.ensures
-    c.before.before.by_number.ensures
+    r.rank.new.order (order r) t.new.given c.by_number.new.out t.ensures
+    c.by_number.ensures
 
 pub give_spec : {M : Type 1} → statement M
 give_spec =

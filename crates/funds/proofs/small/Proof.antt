@@ -12,27 +12,25 @@ use borrow.Author.Rules.{rules}
 use Rattle.funds.proofs.small.Statement.{statement}
 use Rattle.funds.proofs.small.Tie as tie
 
-abbrev invariant-loop : tie.invariant-loop
+abbrev invariant-loop : tie.invariant-loop-i
 invariant-loop column good₀ i₀ good i =
     (i ≤ length column) × (good && all (λ x. leb x most_amount) (drop i column) ≡ all (λ x. leb x most_amount) column)
 
-abbrev decreases-loop : tie.decreases-loop
+abbrev decreases-loop : tie.decreases-loop-i
 decreases-loop column good₀ i₀ good i = length column - i
 
-loop-again : tie.Need-loop-preserved invariant-loop decreases-loop
+loop-again : tie.Need-loop-i-preserved invariant-loop decreases-loop
 loop-again c =
-    let s = c.before.before.before in
-    let l = c.before.before.loop in
-    (search rules, all_more (λ x. leb x most_amount) s.args.column.now l.i 0 l.good _ (omega arith) l.invariant.1)
+    let l = c.loop-i in
+    (search rules, all_more (λ x. leb x most_amount) c.args.column.now l.i 0 l.good _ (omega arith) l.invariant.1)
 
 returns : tie.Need-returns invariant-loop decreases-loop
 returns c =
-    let s = c.before.before in
-    let l = c.before.loop in
-    all_end (λ x. leb x most_amount) s.args.column.now l.i l.good _ (omega arith) l.invariant.1
+    let l = c.loop-i in
+    all_end (λ x. leb x most_amount) c.args.column.now l.i l.good _ (omega arith) l.invariant.1
 
 pub small_spec : {M : Type 1} → statement M
 small_spec =
     tie.close
-    (tie.spec invariant-loop decreases-loop (λ c. search rules) (λ c. search rules) (λ c. search rules) (λ c. search rules)
-    (λ c. search rules) loop-again returns)
+    (tie.spec invariant-loop decreases-loop (λ c. search rules) (λ c. search rules) (λ c. search rules)
+    (λ c. search rules) (λ c. search rules) loop-again returns)

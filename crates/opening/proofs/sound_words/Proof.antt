@@ -4,7 +4,7 @@ use borrow.Author.Rules.{rules}
 use Rattle.opening.proofs.sound_words.Statement.{statement}
 use Rattle.opening.proofs.sound_words.Tie as tie
 
-sound-in-requires : tie.Need-sound-in-requires
+sound-in-requires : tie.Need-sound_in-requires
 sound-in-requires c κs = (
   c.before.before.before.before.before.before.before.before.before.before.requires,
   record {
@@ -16,11 +16,10 @@ sound-in-requires c κs = (
 )
 
 returns : tie.Need-returns
-returns c = c.before.before.before.before.before.before.before.before.before.sound-in.ensures
+returns c = c.before.before.before.before.before.before.before.before.before.sound_in.ensures
 
-pub sound-words-spec : {M : Type 1} → statement M
-sound-words-spec =
+pub sound_words_spec : {M : Type 1} → statement M
+sound_words_spec =
     tie.close
-    (tie.spec
-    (λ c. search rules) (λ c. search rules) (λ c. search rules) (λ c. search rules) (λ c. search rules) (λ c. search rules)
-    (λ c. search rules) (λ c. search rules) (λ c. search rules) sound-in-requires returns)
+    (tie.spec (λ c. search rules) (λ c. search rules) (λ c. search rules) (λ c. search rules) (λ c. search rules)
+    (λ c. search rules) (λ c. search rules) (λ c. search rules) (λ c. search rules) sound-in-requires returns)

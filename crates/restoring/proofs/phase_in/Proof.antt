@@ -6,14 +6,15 @@ use borrow.Author.Rules.{rules}
 use Rattle.restoring.proofs.phase_in.Statement.{statement}
 use Rattle.restoring.proofs.phase_in.Tie as tie
 
-returns : tie.Need-returns
+returns : tie.Need-returns-then-w-eq0
 returns c = search rules
 
-returns-2 : tie.Need-returns-2
+returns-2 : tie.Need-returns-then-w-eq1
 returns-2 c = search rules
 
-returns-3 : tie.Need-returns-3
-returns-3 c = phase_other c.before.before.args.w c.before.if1.false c.if2.false
+returns-3 : tie.Need-returns
+returns-3 c = phase_other c.before.before.args.w c.before.if-w-eq0.false c.if-w-eq1.false
 
-pub phase-in-spec : {M : Type 1} → statement M
-phase-in-spec = tie.close (tie.spec returns returns-2 returns-3)
+pub phase_in_spec : {M : Type 1} → statement M
+phase_in_spec = tie.close
+    (tie.spec returns returns-2 returns-3)

@@ -8,24 +8,25 @@ use borrow.Author.Rules.{rules}
 use Rattle.restoring.proofs.signed_in.Statement.{statement}
 use Rattle.restoring.proofs.signed_in.Tie as tie
 
-cast-result : tie.Need-overflow-cast-result
+cast-result : tie.Need-overflow_cast-result
 cast-result c = search rules
 
-returns : tie.Need-returns
+returns : tie.Need-returns-then-w-lt2147483648
 returns c = signed_low c.before.args.w (omega arith)
 
-sub-result : tie.Need-overflow-sub-result
+sub-result : tie.Need-overflow_sub-result
 sub-result c = search rules
 
-cast-result-2 : tie.Need-overflow-cast-result-2
+cast-result-2 : tie.Need-overflow_cast-result-2
 cast-result-2 c = search rules
 
-sub-result-2 : tie.Need-overflow-sub-result-2
+sub-result-2 : tie.Need-overflow_sub-result-2
 sub-result-2 c = (complement w32 (4294967295 - c.before.args.w) (omega arith)).fits
 
-returns-2 : tie.Need-returns-2
+returns-2 : tie.Need-returns
 returns-2 c = (complement w32 (4294967295 - c.before.args.w) (omega arith)).value ∙ signed_high c.before.args.w (omega arith)
 
-pub signed-in-spec : {M : Type 1} → statement M
-signed-in-spec =
-    tie.close (tie.spec cast-result returns sub-result cast-result-2 sub-result-2 returns-2)
+pub signed_in_spec : {M : Type 1} → statement M
+signed_in_spec =
+    tie.close
+    (tie.spec cast-result returns sub-result cast-result-2 sub-result-2 returns-2)

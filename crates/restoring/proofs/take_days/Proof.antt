@@ -11,17 +11,17 @@ use Rattle.snapshots.specs.Words.{day_in}
 use Rattle.restoring.proofs.take_days.Statement.{statement}
 use Rattle.restoring.proofs.take_days.Tie as tie
 
-abbrev invariant-loop : tie.invariant-loop
+abbrev invariant-loop : tie.invariant-loop-i
 invariant-loop words column₀ i₀ column i =
     (i ≤ length words) × (length column ≡ length column₀) × (take i column ≡ map day_in (take i words))
 
-abbrev decreases-loop : tie.decreases-loop
+abbrev decreases-loop : tie.decreases-loop-i
 decreases-loop words column₀ i₀ column i = length words - i
 
-loop-again : tie.Need-loop-preserved invariant-loop decreases-loop
+loop-again : tie.Need-loop-i-preserved invariant-loop decreases-loop
 loop-again c =
     let a = c.before.before.before.args in
-    let l = c.before.before.loop in (
+    let l = c.before.before.loop-i in (
       search rules,
       simp length-set l.invariant.1,
       fill_more day_in 0 a.words.now l.column l.i (omega arith) (omega arith) l.invariant.2,
@@ -30,14 +30,14 @@ loop-again c =
 returns : tie.Need-returns invariant-loop decreases-loop
 returns c =
     let ws = c.before.before.args.words.now in
-    let l = c.before.loop in
+    let l = c.before.loop-i in
     let e : length l.column ≤ l.i = omega arith in
     let f : length ws ≤ l.i = omega arith in
     sym (take_all l.i l.column e) ∙ l.invariant.2 ∙ ap (map day_in) (take_all l.i ws f)
 
-pub take-days-spec : {M : Type 1} → statement M
-take-days-spec =
+pub take_days_spec : {M : Type 1} → statement M
+take_days_spec =
     tie.close
-    (tie.spec invariant-loop decreases-loop (λ c. search rules) (λ c. search rules) (λ c. search rules) (λ c. search rules)
-    (λ c. search rules) (λ c. search rules) (λ c. search rules) (λ c. search rules) loop-again (λ c. search rules)
-    returns)
+    (tie.spec invariant-loop decreases-loop (λ c. search rules) (λ c. search rules) (λ c. search rules)
+    (λ c. search rules) (λ c. search rules) (λ c. search rules) (λ c. search rules) (λ c. search rules) loop-again
+    (λ c. search rules) returns)

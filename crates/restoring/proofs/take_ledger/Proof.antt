@@ -11,7 +11,7 @@ take32-requires c κs =
     let s = c.before.before.before.before.before.before.before.before.before.before.before.before.before.before.before.before.before.before.before.before.before.before.before in
     part_length 4535 2048 s.args.words.now (omega (arith, s.requires.long)) ∙ sym s.requires.lengths.lots
 
-take-days-requires : tie.Need-take-days-requires
+take-days-requires : tie.Need-take_days-requires
 take-days-requires c κs =
     let s = c.before.before.before.before.before.before.before.before.before.before.before.before.before.before.before.before.before.before.before.before.before.before.before.before.before.before.before.before in
     part_length 2487 2048 s.args.words.now (omega (arith, s.requires.long)) ∙ sym s.requires.lengths.days
@@ -19,18 +19,18 @@ take-days-requires c κs =
 returns : tie.Need-returns
 returns c =
     record {
-      first = c.before.before.before.before.before.before.before.before.before.before.before.before.before.before.before.before.before.before.before.before.before.before.take-field.ensures;
-      second = c.before.before.before.before.before.before.before.before.before.before.before.before.before.before.before.before.before.take-field2.ensures;
-      third = c.before.before.before.before.before.before.before.before.before.before.before.before.take-field3.ensures;
+      first = c.before.before.before.before.before.before.before.before.before.before.before.before.before.before.before.before.before.before.before.before.before.before.take_field.ensures;
+      second = c.before.before.before.before.before.before.before.before.before.before.before.before.before.before.before.before.before.take_field-2.ensures;
+      third = c.before.before.before.before.before.before.before.before.before.before.before.before.take_field-3.ensures;
       fourth = c.before.before.before.before.before.before.before.take32.ensures;
-      fifth = c.before.before.take-days.ensures;
+      fifth = c.before.before.take_days.ensures;
     }
 
-pub take-ledger-spec : {M : Type 1} → statement M
-take-ledger-spec =
+pub take_ledger_spec : {M : Type 1} → statement M
+take_ledger_spec =
     tie.close
     (tie.spec (λ c. search rules) (λ c. search rules) (λ c. search rules) (λ c κs. search rules) (λ c. search rules)
     (λ c. search rules) (λ c. search rules) (λ c κs. search rules) (λ c. search rules) (λ c. search rules)
     (λ c. search rules) (λ c κs. search rules) (λ c. search rules) (λ c. search rules) (λ c. search rules)
-    take32-requires (λ c. search rules) (λ c. search rules) (λ c. search rules) take-days-requires (λ c. search rules)
-    (λ c. search rules) (λ c. search rules) (λ c. search rules) (λ c. search rules) returns)
+    take32-requires (λ c. search rules) (λ c. search rules) (λ c. search rules) take-days-requires
+    (λ c. search rules) (λ c. search rules) (λ c. search rules) (λ c. search rules) (λ c. search rules) returns)

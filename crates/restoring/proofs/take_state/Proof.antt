@@ -8,8 +8,8 @@ use borrow.Author.Rules.{rules}
 use Rattle.restoring.proofs.take_state.Statement.{statement}
 use Rattle.restoring.proofs.take_state.Tie as tie
 
-cast-state-of-2 : tie.Need-overflow-cast-state-of-2
-cast-state-of-2 c = omega (arith, c.before.shared-slice-known5.given 5)
+cast-state-of-2 : tie.Need-overflow_cast-entries
+cast-state-of-2 c = omega (arith, c.before.shared_slice_known-5-1.given 5)
 
 returns : tie.Need-returns
 returns c =
@@ -17,12 +17,12 @@ returns c =
     let f = k.before.before.before in
     let ws = c.before.before.before.before.before.before.before.before.before.before.before.before.before.args.words.now in
     record {
-      fit = ap (λ b. b && ltb (get_or ws 3 0) 65536 && ltb (get_or ws 4 0) 3) k.all-below.ensures;
-      state = c.state-of.ensures ∙ rw (c.before.phase-in.ensures, f.take-field.ensures);
+      fit = ap (λ b. b && ltb (get_or ws 3 0) 65536 && ltb (get_or ws 4 0) 3) k.all_below-small.ensures;
+      state = c.state_of-state.ensures ∙ rw (c.before.phase_in-p.ensures, f.take_field.ensures);
     }
 
-pub take-state-spec : {M : Type 1} → statement M
-take-state-spec =
+pub take_state_spec : {M : Type 1} → statement M
+take_state_spec =
     tie.close
     (tie.spec (λ c. search rules) (λ c. search rules) (λ c. search rules) (λ c. search rules) (λ c κs. search rules)
     (λ c. search rules) (λ c. search rules) (λ c. search rules) (λ c κs. search rules) (λ c. search rules)

@@ -11,47 +11,39 @@ use borrow.Author.Rules.{rules}
 use Rattle.saving.proofs.low_word.Statement.{statement}
 use Rattle.saving.proofs.low_word.Tie as tie
 
-debit-requires : tie.Need-debit-requires
+debit-requires : tie.Need-debit-o-requires
 debit-requires c κs = search rules
 
-credit-requires : tie.Need-credit-requires
+credit-requires : tie.Need-credit-d-requires
 credit-requires c κs = search rules
 
-cast-result : tie.Need-overflow-cast-result
+cast-result : tie.Need-overflow_cast-result
 cast-result c = search rules
 
-returns : tie.Need-returns
+returns : tie.Need-returns-then-o-eq0
 returns c =
     let n = c.before.before.before.args.c in
     let b = to_z-of_z w64 n c.before.before.before.ranges.c in
-    ap (λ x. x % word_size) (c.credit.ensures ∙ ap due_of b)
-    ∙ due_low n (sym (ap owed_of b) ∙ sym c.before.before.debit.ensures ∙ c.before.if1.true)
+    ap (λ x. x % word_size) (c.credit-d.ensures ∙ ap due_of b)
+    ∙ due_low n (sym (ap owed_of b) ∙ sym c.before.before.debit-o.ensures ∙ c.before.if-o-eq0.true)
 
-sub-result : tie.Need-overflow-sub-result
+sub-result : tie.Need-overflow_sub-result
 sub-result c = search rules
 
-cast-result-2 : tie.Need-overflow-cast-result-2
+cast-result-2 : tie.Need-overflow_cast-result-2
 cast-result-2 c = search rules
 
-sub-result-2 : tie.Need-overflow-sub-result-2
+sub-result-2 : tie.Need-overflow_sub-result-2
 sub-result-2 c = search rules
 
-returns-2 : tie.Need-returns-2
+returns-2 : tie.Need-returns
 returns-2 c =
     let n = c.before.before.args.c in
     let b = to_z-of_z w64 n c.before.before.ranges.c in
-    let o = c.before.debit.ensures ∙ ap owed_of b in
-    rw o (owed_low n (λ e. c.if1.false (o ∙ e)))
+    let o = c.before.debit-o.ensures ∙ ap owed_of b in
+    rw o (owed_low n (λ e. c.if-o-eq0.false (o ∙ e)))
 
-pub low-word-spec : {M : Type 1} → statement M
-low-word-spec =
+pub low_word_spec : {M : Type 1} → statement M
+low_word_spec =
     tie.close
-    (tie.spec
-    debit-requires
-    credit-requires
-    cast-result
-    returns
-    sub-result
-    cast-result-2
-    sub-result-2
-    returns-2)
+    (tie.spec debit-requires credit-requires cast-result returns sub-result cast-result-2 sub-result-2 returns-2)

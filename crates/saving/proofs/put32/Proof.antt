@@ -9,51 +9,51 @@ use Rattle.saving.proofs.Loops.{put_more, put_end, put_start}
 use Rattle.saving.proofs.put32.Statement.{statement}
 use Rattle.saving.proofs.put32.Tie as tie
 
-abbrev invariant-loop : tie.invariant-loop
+abbrev invariant-loop : tie.invariant-loop-i
 invariant-loop column out₀ at i₀ out i =
     (i ≤ length column) × (length out ≡ length out₀) × (sets out₀ at column ≡ sets out (at + i) (drop i column))
 
-abbrev decreases-loop : tie.decreases-loop
+abbrev decreases-loop : tie.decreases-loop-i
 decreases-loop column out₀ at i₀ out i = length column - i
 
-loop-holds : tie.Need-loop-init invariant-loop decreases-loop
+loop-holds : tie.Need-loop-i-init invariant-loop decreases-loop
 loop-holds c = (search rules, search rules, put_start c.args.column.now c.args.out.now c.args.at)
 
-shared-slice-read-out : tie.Need-shared-slice-read-out invariant-loop decreases-loop
+shared-slice-read-out : tie.Need-bounds-column-i invariant-loop decreases-loop
 shared-slice-read-out c = search rules
 
-add-out : tie.Need-overflow-add-out invariant-loop decreases-loop
+add-out : tie.Need-overflow_add-out invariant-loop decreases-loop
 add-out c = search rules
 
-slice-write-out : tie.Need-slice-write-out invariant-loop decreases-loop
+slice-write-out : tie.Need-bounds-out-at invariant-loop decreases-loop
 slice-write-out c = search rules
 
-add-i : tie.Need-overflow-add-i invariant-loop decreases-loop
+add-i : tie.Need-overflow_add-i invariant-loop decreases-loop
 add-i c = search rules
 
-loop-less : tie.Need-loop-smaller invariant-loop decreases-loop
+loop-less : tie.Need-loop-i-smaller invariant-loop decreases-loop
 loop-less c = search rules
 
-loop-again : tie.Need-loop-preserved invariant-loop decreases-loop
+loop-again : tie.Need-loop-i-preserved invariant-loop decreases-loop
 loop-again c =
     let a = c.before.before.before.args in
-    let l = c.before.before.loop in (
+    let l = c.before.before.loop-i in (
       search rules,
       simp length-set l.invariant.1,
       put_more a.column.now (sets a.out.now a.at a.column.now) l.out a.at l.i _ (omega arith) refl l.invariant.2,
     )
 
-same_length : tie.Need-same-length invariant-loop decreases-loop
+same_length : tie.Need-shape_of-out invariant-loop decreases-loop
 same_length c = search rules
 
 returns : tie.Need-returns invariant-loop decreases-loop
 returns c =
     let a = c.before.before.args in
-    let l = c.before.loop in
+    let l = c.before.loop-i in
     put_end a.column.now _ l.out a.at l.i (omega arith) l.invariant.2
 
-pub put32-spec : {M : Type 1} → statement M
-put32-spec =
+pub put32_spec : {M : Type 1} → statement M
+put32_spec =
     tie.close
-    (tie.spec invariant-loop decreases-loop loop-holds (λ c. search rules) shared-slice-read-out add-out (λ c. search rules)
-    slice-write-out add-i loop-less loop-again same_length returns)
+    (tie.spec invariant-loop decreases-loop loop-holds (λ c. search rules) shared-slice-read-out add-out
+    (λ c. search rules) slice-write-out add-i loop-less loop-again same_length returns)

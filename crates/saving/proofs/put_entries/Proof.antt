@@ -11,15 +11,15 @@ use Rattle.saving.proofs.Loops.{put_more, put_end, put_start}
 use Rattle.saving.proofs.put_entries.Statement.{statement}
 use Rattle.saving.proofs.put_entries.Tie as tie
 
-abbrev invariant-loop : tie.invariant-loop
+abbrev invariant-loop : tie.invariant-loop-i
 invariant-loop issues froms tos days out₀ at i₀ out i =
     (i ≤ length issues) × (length out ≡ length out₀)
     × (sets out₀ at (entry_words issues froms tos days) ≡ sets out (at + i) (drop i (entry_words issues froms tos days)))
 
-abbrev decreases-loop : tie.decreases-loop
+abbrev decreases-loop : tie.decreases-loop-i
 decreases-loop issues froms tos days out₀ at i₀ out i = length issues - i
 
-loop-holds : tie.Need-loop-init invariant-loop decreases-loop
+loop-holds : tie.Need-loop-i-init invariant-loop decreases-loop
 loop-holds c =
     let a = c.before.before.before.before.before.args in (
       search rules,
@@ -27,32 +27,32 @@ loop-holds c =
       put_start (entry_words a.issues.now a.froms.now a.tos.now a.days.now) a.out.now a.at,
     )
 
-entry-word-requires : tie.Need-entry-word-requires invariant-loop decreases-loop
+entry-word-requires : tie.Need-entry_word-requires invariant-loop decreases-loop
 entry-word-requires c κs =
-    c.before.before.before.before.before.before.before.before.before.before.before.requires.range c.before.before.before.before.before.loop.i
+    c.before.before.before.before.before.before.before.before.before.before.before.requires.range c.before.before.before.before.before.loop-i.i
 
-loop-again : tie.Need-loop-preserved invariant-loop decreases-loop
+loop-again : tie.Need-loop-i-preserved invariant-loop decreases-loop
 loop-again c =
     let p = c.before.before.before.before.before.before in
     let a = p.before.before.before.before.before.before.args in
-    let l = p.loop in
+    let l = p.loop-i in
     let ws = entry_words a.issues.now a.froms.now a.tos.now a.days.now in
     let n = entries_length a.issues.now a.froms.now a.tos.now a.days.now in (
       search rules,
       simp length-set l.invariant.1,
       put_more ws (sets a.out.now a.at ws) l.out a.at l.i _ (omega (arith, n))
-          (c.entry-word.ensures ∙ sym (entries_at a.issues.now a.froms.now a.tos.now a.days.now l.i (omega arith))) l.invariant.2,
+          (c.entry_word.ensures ∙ sym (entries_at a.issues.now a.froms.now a.tos.now a.days.now l.i (omega arith))) l.invariant.2,
     )
 
 returns : tie.Need-returns invariant-loop decreases-loop
 returns c =
     let a = c.before.before.before.before.before.before.before.args in
-    let l = c.before.loop in
+    let l = c.before.loop-i in
     let ws = entry_words a.issues.now a.froms.now a.tos.now a.days.now in
     put_end ws _ l.out a.at l.i (omega (arith, entries_length a.issues.now a.froms.now a.tos.now a.days.now)) l.invariant.2
 
-pub put-entries-spec : {M : Type 1} → statement M
-put-entries-spec =
+pub put_entries_spec : {M : Type 1} → statement M
+put_entries_spec =
     tie.close
     (tie.spec invariant-loop decreases-loop loop-holds (λ c. search rules) (λ c. search rules) (λ c. search rules)
     (λ c. search rules) (λ c. search rules) entry-word-requires (λ c. search rules) (λ c. search rules)

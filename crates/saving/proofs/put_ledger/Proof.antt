@@ -18,5 +18,6 @@ returns c =
     ∙ ap (λ l. sets l 4535 a.lots.now) e.put_entries.ensures
     ∙ stored_joined ledger_widths cs a.out.now 2487 (ledger_widths_lem _ _ _ _ _ s.requires.lengths)
 
-pub put-ledger-spec : {M : Type 1} → statement M
-put-ledger-spec = tie.close (tie.spec (λ c κs. search rules) (λ c κs. search rules) (λ c. search rules) returns)
+pub put_ledger_spec : {M : Type 1} → statement M
+put_ledger_spec = tie.close
+    (tie.spec (λ c κs. search rules) (λ c κs. search rules) (λ c. search rules) returns)

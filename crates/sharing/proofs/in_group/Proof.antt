@@ -5,14 +5,15 @@ use borrow.Author.Tests.{lt-ltb, le-ltb}
 use Rattle.sharing.proofs.in_group.Statement.{statement}
 use Rattle.sharing.proofs.in_group.Tie as tie
 
-returns : tie.Need-returns
-returns c = simp (le-ltb _ _ (let h : c.before.args.size ≤ 0 = omega arith in h))
+returns : tie.Need-returns-then-size-eq0
+returns c = simp (le-ltb _ _ (let h : c.args.size ≤ 0 = omega arith in h))
 
-returns-2 : tie.Need-returns-2
-returns-2 c = simp (c.if2.true, lt-ltb _ _ (let h : 0 < c.before.before.args.size = omega arith in h))
+returns-2 : tie.Need-returns-then-facing
+returns-2 c = simp (c.if-facing.true, lt-ltb _ _ (let h : 0 < c.args.size = omega arith in h))
 
-returns-3 : tie.Need-returns-3
-returns-3 c = simp (c.if2.false, lt-ltb _ _ (let h : 0 < c.before.before.args.size = omega arith in h))
+returns-3 : tie.Need-returns
+returns-3 c = simp (c.if-facing.false, lt-ltb _ _ (let h : 0 < c.args.size = omega arith in h))
 
-pub in-group-spec : {M : Type 1} → statement M
-in-group-spec = tie.close (tie.spec returns returns-2 returns-3)
+pub in_group_spec : {M : Type 1} → statement M
+in_group_spec = tie.close
+    (tie.spec returns returns-2 returns-3)

@@ -10,16 +10,13 @@ use Rattle.sharing.proofs.share.Tie as tie
 returns : tie.Need-returns
 unfolding shared_out
 returns c =
-    let second = c.before.before in
-    let first = second.before.before.before.before in
-    let cleared = first.before.before.before.before in
-    let a = cleared.before.before.before.before.before.before.args in
+    let a = c.args in
     let group : Bool → Allotment → Allotment = λ facing x. allot_group facing a.failing a.sizes.now a.parties.now a.draw.now x in
     ap (λ x. x.shares)
-    (second.allot2.ensures
-    ∙ ap (group false) (first.allot.ensures ∙ ap (λ o. group true (allotment a.fail o)) cleared.clear.ensures))
+    (c.allot.ensures
+    ∙ ap (group false) (c.allot-left.ensures ∙ ap (λ o. group true (allotment a.fail o)) c.clear.ensures))
 
-pub share-spec : {M : Type 1} → statement M
-share-spec =
+pub share_spec : {M : Type 1} → statement M
+share_spec =
     tie.close
     (tie.spec (λ c κs. search rules) (λ c κs. search rules) (λ c κs. search rules) (λ c. search rules) returns)

@@ -7,12 +7,13 @@ use Rattle.trust.proofs.Asks.{below_most}
 use Rattle.trust.proofs.few.Statement.{statement}
 use Rattle.trust.proofs.few.Tie as tie
 
-returns : tie.Need-returns
-returns c = simp (lt-leb _ _ c.if1.true)
+returns : tie.Need-returns-then-subs-gt-MOST_REPORTS
+returns c = simp (lt-leb _ _ c.if-subs-gt-MOST_REPORTS.true)
 
-returns-2 : tie.Need-returns-2
+returns-2 : tie.Need-returns
 returns-2 c =
-    simp (le-leb _ _ c.before.if1.false) (c.below.ensures ∙ below_most last_sub c.before.before.before.args.subs.now)
+    simp (le-leb _ _ c.if-subs-gt-MOST_REPORTS.false) (c.below.ensures ∙ below_most last_sub c.args.subs.now)
 
-pub few-spec : {M : Type 1} → statement M
-few-spec = tie.close (tie.spec returns (λ c κs. search rules) returns-2)
+pub few_spec : {M : Type 1} → statement M
+few_spec = tie.close
+    (tie.spec returns (λ c κs. search rules) returns-2)

@@ -11,44 +11,42 @@ use Rattle.journal.proofs.noting.finish.Statement.{statement}
 use Rattle.journal.proofs.noting.finish.Tie as tie
 
 -- with zeros and number there is as much room as before
-roomy : (q : tie.After-clear) → record_words ≤ length (set q.clear.new.0 0 q.before.before.before.args.number)
+roomy : (q : tie.After-clear) → record_words ≤ length (set q.clear.new.out 0 q.args.number)
 roomy q =
-    let s = q.before.before.before in
     omega (
       arith,
-      length-set q.clear.new.0 0 s.args.number,
+      length-set q.clear.new.out 0 q.args.number,
       ap length q.clear.ensures,
-      length-sets s.args.out.now (s.args.count + 1) (replicate (summed_words - (s.args.count + 1)) 0),
-      s.requires.room,
+      length-sets q.args.out.now (q.args.count + 1) (replicate (summed_words - (q.args.count + 1)) 0),
+      q.requires.room,
     )
 
-slice-reshare-prefix-checksum : tie.Need-slice-reshare-prefix-checksum
+slice-reshare-prefix-checksum : tie.Need-slice_bounds-checksum-end
 slice-reshare-prefix-checksum c = omega (arith, roomy c.before.before)
 
-summed : (q : tie.After-clear) → length (take summed_words (set q.clear.new.0 0 q.before.before.before.args.number)) ≡ summed_words
-summed q = length-take-le summed_words (set q.clear.new.0 0 q.before.before.before.args.number) (omega (arith, roomy q))
+summed : (q : tie.After-clear) → length (take summed_words (set q.clear.new.out 0 q.args.number)) ≡ summed_words
+summed q = length-take-le summed_words (set q.clear.new.out 0 q.args.number) (omega (arith, roomy q))
 
-slice-aggregate-checksum : tie.Need-slice-aggregate-checksum
-slice-aggregate-checksum c = sym (summed c.before.before.before)
+slice-aggregate-checksum : tie.Need-slice_bounds-checksum-end-2
+slice-aggregate-checksum c = sym (summed c.before.before)
 
-checksum-requires : tie.Need-checksum-requires
-checksum-requires c κs = omega (arith, summed c.before.before.before)
+checksum-requires : tie.Need-checksum-sum-requires
+checksum-requires c κs = omega (arith, summed c.before.before)
 
-below : (q : tie.After-clear) → summed_words < length (set q.clear.new.0 0 q.before.before.before.args.number)
+below : (q : tie.After-clear) → summed_words < length (set q.clear.new.out 0 q.args.number)
 below q = omega (arith, roomy q)
 
-slice-write-out-2 : tie.Need-slice-write-out-2
-slice-write-out-2 c = below c.before.before.before.before
+slice-write-out-2 : tie.Need-bounds-out-34
+slice-write-out-2 c = below c.before.before.before
 
 returns : tie.Need-returns
 returns c =
-    let q = c.before.before.before.before in
-    let s = q.before.before.before in
-    laid s.args.number s.args.count c.checksum.result s.args.out.now q.clear.new.0 s.requires.words s.requires.room
-    q.clear.ensures c.checksum.ensures
+    laid c.args.number c.args.count c.checksum-sum.result c.args.out.now c.clear.new.out c.requires.words c.requires.room
+    c.clear.ensures c.checksum-sum.ensures
 
 pub finish_spec : {M : Type 1} → statement M
 finish_spec =
     tie.close
-    (tie.spec (λ c. search rules) (λ c κs. search rules) (λ c. search rules) slice-reshare-prefix-checksum slice-aggregate-checksum
-    checksum-requires (λ c. search rules) slice-write-out-2 (λ c. search rules) (λ c. search rules) (λ c. search rules) returns)
+    (tie.spec (λ c. search rules) (λ c κs. search rules) (λ c. search rules) slice-reshare-prefix-checksum
+    slice-aggregate-checksum checksum-requires (λ c. search rules) slice-write-out-2 (λ c. search rules)
+    (λ c. search rules) (λ c. search rules) returns)
