@@ -12,7 +12,7 @@ use Rattle.rules.specs.declared.Instruction.{Instruction}
 use Rattle.rules.specs.Book.{with_lifts}
 use Rattle.rules.specs.Calls.{Ask, Commit}
 use Rattle.rules.specs.Run.{call_of}
-use Rattle.book.specs.States.{Columns, columns}
+use Rattle.book.specs.States.{Columns, columns, shared_columns, lifting_columns}
 use Rattle.running.proofs.Fed.{gave}
 use Rattle.desk.specs.Fields.{instruction_of}
 use Rattle.host.specs.declared.DayTurned.{DayTurned}
@@ -65,7 +65,7 @@ module _ (κs : Lfts 2) (a : Dens κs ask-kinds.ps) (n : ℕ) (e : AtExit (ended
   ask_columns =
       let u = a.1 in
       let v = e.1 in
-      columns (both u.0 v.0) (both u.1.0 v.1.0) (both u.1.1.0 v.1.1.0) (both u.1.1.1.0 v.1.1.1.0)
+      shared_columns (both u.0 v.0) (both u.1.0 v.1.0) (both u.1.1.0 v.1.1.0) (both u.1.1.1.0 v.1.1.1.0)
       (both u.1.1.1.1.0 v.1.1.1.1.0) (both u.1.1.1.1.1.0 v.1.1.1.1.1.0) (both u.1.1.1.1.1.1.0 v.1.1.1.1.1.1.0)
       (both u.1.1.1.1.1.1.1.0 v.1.1.1.1.1.1.1.0) (both u.1.1.1.1.1.1.1.1.0 v.1.1.1.1.1.1.1.1.0)
 
@@ -85,7 +85,7 @@ module _ (κs : Lfts 5) (a : Dens κs commit-kinds.ps) (n : ℕ) (e : AtExit (en
   commit_columns =
       let u = a.1.1 in
       let v = e.1.1 in
-      columns (both u.0 v.0) (both u.1.0 v.1.0) (both u.1.1.0 v.1.1.0) (both u.1.1.1.0 v.1.1.1.0)
+      lifting_columns (both u.0 v.0) (both u.1.0 v.1.0) (both u.1.1.0 v.1.1.0) (both u.1.1.1.0 v.1.1.1.0)
       (both u.1.1.1.1.0 v.1.1.1.1.0) (both u.1.1.1.1.1.0 v.1.1.1.1.1.0) (both u.1.1.1.1.1.1.0 v.1.1.1.1.1.1.0)
       (both u.1.1.1.1.1.1.1.0 v.1.1.1.1.1.1.1.0) (both u.1.1.1.1.1.1.1.1.0 v.1.1.1.1.1.1.1.1.0)
 
@@ -132,7 +132,7 @@ module _ (κs : Lfts 2) (a : Dens κs ask-by-kinds.ps) (n : ℕ) (e : AtExit (en
   ask_by_columns =
       let u = a.1.1 in
       let v = e.1.1 in
-      columns (both u.0 v.0) (both u.1.0 v.1.0) (both u.1.1.0 v.1.1.0) (both u.1.1.1.0 v.1.1.1.0)
+      shared_columns (both u.0 v.0) (both u.1.0 v.1.0) (both u.1.1.0 v.1.1.0) (both u.1.1.1.0 v.1.1.1.0)
       (both u.1.1.1.1.0 v.1.1.1.1.0) (both u.1.1.1.1.1.0 v.1.1.1.1.1.0) (both u.1.1.1.1.1.1.0 v.1.1.1.1.1.1.0)
       (both u.1.1.1.1.1.1.1.0 v.1.1.1.1.1.1.1.0) (both u.1.1.1.1.1.1.1.1.0 v.1.1.1.1.1.1.1.1.0)
 
@@ -152,7 +152,7 @@ module _ (κs : Lfts 5) (a : Dens κs commit-by-kinds.ps) (n : ℕ) (e : AtExit 
   commit_by_columns =
       let u = a.1.1.1 in
       let v = e.1.1.1 in
-      columns (both u.0 v.0) (both u.1.0 v.1.0) (both u.1.1.0 v.1.1.0) (both u.1.1.1.0 v.1.1.1.0)
+      lifting_columns (both u.0 v.0) (both u.1.0 v.1.0) (both u.1.1.0 v.1.1.0) (both u.1.1.1.0 v.1.1.1.0)
       (both u.1.1.1.1.0 v.1.1.1.1.0) (both u.1.1.1.1.1.0 v.1.1.1.1.1.0) (both u.1.1.1.1.1.1.0 v.1.1.1.1.1.1.0)
       (both u.1.1.1.1.1.1.1.0 v.1.1.1.1.1.1.1.0) (both u.1.1.1.1.1.1.1.1.0 v.1.1.1.1.1.1.1.1.0)
 

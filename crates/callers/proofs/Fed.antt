@@ -22,7 +22,7 @@ use Rattle.rules.specs.Tally.{Tallied, Demand3}
 use Rattle.laws.proofs.Basics.{by_test, cond_true, cond_false}
 use Rattle.laws.proofs.Answers.{Numbered, by_answer}
 use Rattle.tally.proofs.Made.{Made, Step, as_called, leaves, demand3_of, made_reached}
-use Rattle.book.specs.States.{Column, Columns}
+use Rattle.book.specs.States.{Column, SharedColumn, Columns}
 use Rattle.answers.specs.declared.Turn.{Turn}
 use Rattle.answers.specs.Turns.{beside}
 use Rattle.running.proofs.Fed.{gave, gave_answer}
@@ -44,7 +44,7 @@ numbers r = record { refusal = r.refusal; count = r.count; cancelled = r.cancell
 -- a call made through one of these functions on the book in the lent columns, and what that gave, as its contract says;
 -- a kind that is none is fed as a call that was refused
 pub data ByHost : Book → Call → Answer → Type 0 where
-  told : (kind : ℕ) (x : Instruction) (quotes out : Column ℕ) (h : DayState) (r : DayTurned) (c : Columns) → DayCalled kind x quotes out h r c →
+  told : (kind : ℕ) (x : Instruction) (quotes : SharedColumn ℕ) (out : Column ℕ) (h : DayState) (r : DayTurned) (c : Columns) → DayCalled kind x quotes out h r c →
       ByHost (book_at h c) (call_of x quotes.entry.now out.entry.now)
       (gave (call_of x quotes.entry.now out.entry.now) (numbers r) (c.after (state_in r.state)) out.exit.now)
   asks : (phase : ℕ) (b : Book) (issue unit n : ℕ) (ticket : List ℕ) → AskIs (day_asked phase b issue unit) n ticket →
@@ -52,7 +52,7 @@ pub data ByHost : Book → Call → Answer → Type 0 where
   commits : (phase : ℕ) (b : Book) (ticket : List ℕ) (out lifts : Column ℕ) (n : ℕ) (count : Place) → DayCommitted phase b ticket out lifts n count →
       ByHost b (Commit (ticket_in ticket) out.entry.now)
       (record { refusal = n; count = count.exit.now; cancelled = 0; book = with_lifts b lifts.exit.now; out = out.exit.now })
-  told_by : (w : Caller) (kind : ℕ) (x : Instruction) (quotes out : Column ℕ) (h : DayState) (r : DayTurned) (c : Columns) →
+  told_by : (w : Caller) (kind : ℕ) (x : Instruction) (quotes : SharedColumn ℕ) (out : Column ℕ) (h : DayState) (r : DayTurned) (c : Columns) →
       DayCalledBy w kind x quotes out h r c →
       ByHost (book_at h c) (call_of x quotes.entry.now out.entry.now)
       (gave (call_of x quotes.entry.now out.entry.now) (numbers r) (c.after (state_in r.state)) out.exit.now)
@@ -252,7 +252,7 @@ module _ {s : Tallied} (m : Made ByHost s) where
     hosts_committed t out = same_made phase s.book (Commit t out) in_range
 
 -- and the number that a call leaves is that of its book's phase
-pub phase_left : (kind : ℕ) (x : Instruction) (quotes out : Column ℕ) (h : DayState) (r : DayTurned) (c : Columns) → h.phase ≤ 2 →
+pub phase_left : (kind : ℕ) (x : Instruction) (quotes : SharedColumn ℕ) (out : Column ℕ) (h : DayState) (r : DayTurned) (c : Columns) → h.phase ≤ 2 →
     DayCalled kind x quotes out h r c → r.state.phase ≡ number_of (c.after (state_in r.state)).state.phase
 phase_left kind x quotes out h r c p t =
     t.stage ∙ cond_true (leb h.phase 2) _ _ (le-leb h.phase 2 p) ∙ ap (λ b. number_of b.state.phase) (sym t.book)

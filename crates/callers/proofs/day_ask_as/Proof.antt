@@ -20,17 +20,17 @@ at s t =
 abbrev book : tie.Start → Book
 book s = at s (state_in s.args.state)
 
-abbrev start : tie.After-is-operator → tie.Start
+abbrev start : tie.After-is_operator → tie.Start
 start c = c.before.before.before.before.before.before.before.before
 
-returns : tie.Need-returns
+returns : tie.Need-returns-then-is_operator
 returns c =
     let o = c.before.before.before in
     let s = start o in
     let a = s.args in
-    rw (← operator_ask a.w a.state.phase (book s) (sym o.is-operator.ensures ∙ c.before.before.if1.true) a.issue a.unit) c.day-ask.ensures
+    rw (← operator_ask a.w a.state.phase (book s) (sym o.is_operator.ensures ∙ c.before.before.if-is_operator.true) a.issue a.unit) c.day_ask.ensures
 
-returns-2 : tie.Need-returns-2
+returns-2 : tie.Need-returns
 returns-2 c =
     let u = c.before.before in
     let f = u.before in
@@ -40,9 +40,11 @@ returns-2 c =
     let s = start e.before in
     let a = s.args in
     rw
-    (← ap no_ticket u.unless-unsound.ensures
-    ∙ ask_without a.w (sym e.before.is-operator.ensures ∙ e.if1.false) a.state.phase (book s) a.issue a.unit f.refuse.result _ (p.settling.ensures ∙ ap is_settling q.phase-of.ensures) f.refuse.ensures)
-    c.ticket-out.ensures
+    (← ap no_ticket u.unless_unsound-no.ensures
+    ∙ ask_without a.w (sym e.before.is_operator.ensures ∙ e.if-is_operator.false) a.state.phase (book s) a.issue a.unit f.refuse.result _ (p.settling-settling.ensures ∙ ap is_settling q.phase_of.ensures) f.refuse.ensures)
+    c.ticket_out.ensures
 
-pub day-ask-as-spec : {M : Type 1} → statement M
-day-ask-as-spec = tie.close (tie.spec (λ c κs. search rules) (λ c κs. search rules) returns (λ c κs. search rules) (λ c κs. search rules) (λ c κs. search rules) (λ c κs. search rules) (λ c κs. search rules) returns-2)
+pub day_ask_as_spec : {M : Type 1} → statement M
+day_ask_as_spec = tie.close
+    (tie.spec (λ c κs. search rules) (λ c κs. search rules) returns (λ c κs. search rules) (λ c κs. search rules)
+    (λ c κs. search rules) (λ c κs. search rules) (λ c κs. search rules) returns-2)

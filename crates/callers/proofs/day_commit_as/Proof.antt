@@ -21,41 +21,41 @@ at s t =
 abbrev book : tie.Start → Book
 book s = at s (state_in s.args.state)
 
-abbrev start : tie.After-is-operator → tie.Start
+abbrev start : tie.After-is_operator → tie.Start
 start c = c.before.before.before.before.before.before.before.before.before
 
-returns : tie.Need-returns
+returns : tie.Need-returns-then-is_operator
 returns c =
     let k = c.before.before.before.before in
     let t = k.before.before.before.before in
     let o = t.before in
     let s = start o in
     let a = s.args in
-    rw (← operator_made a.w a.state.phase (book s) (sym o.is-operator.ensures ∙ t.if1.true) (Commit (ticket_in a.ticket.now) a.out.now)) k.day-commit.ensures
+    rw (← operator_made a.w a.state.phase (book s) (sym o.is_operator.ensures ∙ t.if-is_operator.true) (Commit (ticket_in a.ticket.now) a.out.now)) k.day_commit.ensures
 
-returns-2 : tie.Need-returns-2
+returns-2 : tie.Need-returns-then-out-lt-OUTPUT_WORDS
 returns-2 c =
     let e = c.before in
     let s = start e.before in
     let a = s.args in
-    commit_short_by a.w (sym e.before.is-operator.ensures ∙ e.if1.false) a.state.phase (book s) (ticket_in a.ticket.now) a.out.now c.if2.true
+    commit_short_by a.w (sym e.before.is_operator.ensures ∙ e.if-is_operator.false) a.state.phase (book s) (ticket_in a.ticket.now) a.out.now c.if-out-lt-OUTPUT_WORDS.true
 
-returns-3 : tie.Need-returns-3
+returns-3 : tie.Need-returns
 returns-3 c =
-    let f = c.before.before in
-    let p = f.before.before in
+    let f = c.before in
+    let p = f.before.before.before in
     let q = p.before in
     let r = q.before in
     let e = r.before in
     let s = start e.before in
     let a = s.args in
-    rw c.unless-unsound.ensures
-    (commit_without a.w (sym e.before.is-operator.ensures ∙ e.if1.false) a.state.phase (book s) (ticket_in a.ticket.now) a.out.now r.if2.false
-    p.settling.result f.refuse.result (p.settling.ensures ∙ ap is_settling q.phase-of.ensures) f.refuse.ensures)
+    rw c.unless_unsound.ensures
+    (commit_without a.w (sym e.before.is_operator.ensures ∙ e.if-is_operator.false) a.state.phase (book s) (ticket_in a.ticket.now) a.out.now r.if-out-lt-OUTPUT_WORDS.false
+    p.settling-settling.result f.refuse.result (p.settling-settling.ensures ∙ ap is_settling q.phase_of.ensures) f.refuse.ensures)
 
-pub day-commit-as-spec : {M : Type 1} → statement M
-day-commit-as-spec =
+pub day_commit_as_spec : {M : Type 1} → statement M
+day_commit_as_spec =
     tie.close
-    (tie.spec (λ c κs. search rules) (λ c κs. search rules) (λ c. search rules) (λ c. search rules) returns returns-2
-    (λ c κs. search rules) (λ c κs. search rules) (λ c. search rules) (λ c κs. search rules) (λ c κs. search rules)
-    (λ c. search rules) returns-3)
+    (tie.spec (λ c κs. search rules) (λ c κs. search rules) (λ c. search rules) (λ c. search rules) returns
+    returns-2 (λ c κs. search rules) (λ c κs. search rules) (λ c. search rules) (λ c κs. search rules)
+    (λ c κs. search rules) (λ c. search rules) returns-3)

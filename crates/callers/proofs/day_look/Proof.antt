@@ -24,31 +24,31 @@ at s t =
 abbrev book : tie.Start → Book
 book s = at s (state_in s.args.state)
 
-abbrev start : tie.After-state-in → tie.Start
+abbrev start : tie.After-state_in-s → tie.Start
 start c = c.before.before.before.before.before.before.before.before
 
-abbrev here : tie.After-state-in → Book
-here c = at (start c) c.state-in.result
+abbrev here : tie.After-state_in-s → Book
+here c = at (start c) c.state_in-s.result
 
-good : (c : tie.Else1) → let i = c.before.before in sound_at (start i).args.state.phase (here i) ≡ true
-good c = sym c.before.sound_at.ensures ∙ not-false _ c.if1.false
+good : (c : tie.Else-not-sound_at) → let i = c.before.before in sound_at (start i).args.state.phase (here i) ≡ true
+good c = sym c.before.sound_at.ensures ∙ c.if-not-sound_at.false
 
-same : (c : tie.After-state-in) →
+same : (c : tie.After-state_in-s) →
     let a = (start c).args in
     day_look a.w a.state.phase (here c) a.issue a.account a.k ≡ day_look a.w a.state.phase (book (start c)) a.issue a.account a.k
 same c =
     let a = (start c).args in
-    ap (λ t. day_look a.w a.state.phase (at (start c) t) a.issue a.account a.k) c.state-in.ensures
+    ap (λ t. day_look a.w a.state.phase (at (start c) t) a.issue a.account a.k) c.state_in-s.ensures
 
-returns : tie.Need-returns
+returns : tie.Need-returns-then-not-sound_at
 returns c =
     let t = c.before in
     let i = t.before.before in
     let a = (start i).args in
-    c.seen-out.ensures
-    ∙ ap seen_in (look_unsound a.w a.state.phase (here i) a.issue a.account a.k (sym t.before.sound_at.ensures ∙ not-true _ t.if1.true) ∙ same i)
+    c.seen_out.ensures
+    ∙ ap seen_in (look_unsound a.w a.state.phase (here i) a.issue a.account a.k (sym t.before.sound_at.ensures ∙ t.if-not-sound_at.true) ∙ same i)
 
-look-in-requires : tie.Need-look-in-requires
+look-in-requires : tie.Need-look_in-requires
 look-in-requires c κs =
     let i = c.before.before in
     let b = here i in
@@ -61,14 +61,16 @@ look-in-requires c κs =
       ledger = l.ledger;
     }
 
-returns-2 : tie.Need-returns-2
+returns-2 : tie.Need-returns
 returns-2 c =
     let l = c.before in
     let e = l.before in
     let i = e.before.before in
     let a = (start i).args in
-    c.seen-out2.ensures
+    c.seen_out-2.ensures
     ∙ ap seen_in (look_told a.w a.state.phase (here i) a.issue a.account a.k (seen_answer l.look_in.result) (good e) l.look_in.ensures ∙ same i)
 
-pub day-look-spec : {M : Type 1} → statement M
-day-look-spec = tie.close (tie.spec (λ c κs. search rules) (λ c κs. search rules) (λ c κs. search rules) returns look-in-requires (λ c κs. search rules) returns-2)
+pub day_look_spec : {M : Type 1} → statement M
+day_look_spec = tie.close
+    (tie.spec (λ c κs. search rules) (λ c κs. search rules) (λ c κs. search rules) returns look-in-requires
+    (λ c κs. search rules) returns-2)

@@ -22,19 +22,19 @@ at s t =
 abbrev book : tie.Start → Book
 book s = at s (state_in s.args.state)
 
-abbrev start : tie.After-is-operator → tie.Start
+abbrev start : tie.After-is_operator → tie.Start
 start c = c.before.before.before.before.before.before.before.before.before.before
 
-returns : tie.Need-returns
+returns : tie.Need-returns-then-is_operator
 returns c =
     let t = c.before.before.before.before in
     let o = t.before in
     let s = start o in
     let a = s.args in
-    c.day-simulate.ensures
-    ∙ operator_simulated a.w a.state.phase (book s) (sym o.is-operator.ensures ∙ t.if1.true) a.settles.now a.inventories.now a.size
+    c.day_simulate.ensures
+    ∙ operator_simulated a.w a.state.phase (book s) (sym o.is_operator.ensures ∙ t.if-is_operator.true) a.settles.now a.inventories.now a.size
 
-returns-2 : tie.Need-returns-2
+returns-2 : tie.Need-returns
 returns-2 c =
     let r = c.before in
     let g = r.before.before in
@@ -42,12 +42,14 @@ returns-2 c =
     let e = i.before in
     let s = start e.before in
     let a = s.args in
-    simulation_without a.w (sym e.before.is-operator.ensures ∙ e.if1.false) a.state.phase (book s) a.settles.now a.inventories.now a.size _
+    simulation_without a.w (sym e.before.is_operator.ensures ∙ e.if-is_operator.false) a.state.phase (book s) a.settles.now a.inventories.now a.size _
     (c.early.ensures
     ∙ ap early_number
     (r.refusal.ensures
     ∙ ap (λ x. first_no (simulation_asks x a.settles.now a.inventories.now a.size))
-    (g.sound_at.ensures ∙ ap (λ u. sound_at a.state.phase (at s u)) i.state-in.ensures)))
+    (g.sound_at-good.ensures ∙ ap (λ u. sound_at a.state.phase (at s u)) i.state_in-s.ensures)))
 
-pub day-simulate-as-spec : {M : Type 1} → statement M
-day-simulate-as-spec = tie.close (tie.spec (λ c κs. search rules) (λ c κs. search rules) returns (λ c κs. search rules) (λ c κs. search rules) (λ c κs. search rules) (λ c κs. search rules) returns-2)
+pub day_simulate_as_spec : {M : Type 1} → statement M
+day_simulate_as_spec = tie.close
+    (tie.spec (λ c κs. search rules) (λ c κs. search rules) returns (λ c κs. search rules) (λ c κs. search rules)
+    (λ c κs. search rules) (λ c κs. search rules) returns-2)

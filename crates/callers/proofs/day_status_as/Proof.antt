@@ -21,17 +21,17 @@ at s t =
 abbrev book : tie.Start → Book
 book s = at s (state_in s.args.state)
 
-abbrev start : tie.After-is-operator → tie.Start
+abbrev start : tie.After-is_operator → tie.Start
 start c = c.before.before.before.before.before.before.before.before
 
-returns : tie.Need-returns
+returns : tie.Need-returns-then-is_operator
 returns c =
     let o = c.before.before.before in
     let s = start o in
     let a = s.args in
-    rw (← operator_status_at a.w a.state.phase (book s) (sym o.is-operator.ensures ∙ c.before.before.if1.true) a.issue a.k) c.day-status.ensures
+    rw (← operator_status_at a.w a.state.phase (book s) (sym o.is_operator.ensures ∙ c.before.before.if-is_operator.true) a.issue a.k) c.day_status.ensures
 
-returns-2 : tie.Need-returns-2
+returns-2 : tie.Need-returns
 returns-2 c =
     let u = c.before.before in
     let f = u.before in
@@ -41,9 +41,11 @@ returns-2 c =
     let s = start e.before in
     let a = s.args in
     rw
-    (← ap status_refused u.unless-unsound.ensures
-    ∙ status_without a.w (sym e.before.is-operator.ensures ∙ e.if1.false) a.state.phase (book s) a.issue a.k f.refuse.result _ (ap not (p.taking.ensures ∙ ap is_taking q.phase-of.ensures)) f.refuse.ensures)
+    (← ap status_refused u.unless_unsound-no.ensures
+    ∙ status_without a.w (sym e.before.is_operator.ensures ∙ e.if-is_operator.false) a.state.phase (book s) a.issue a.k f.refuse.result _ (ap not (p.taking-taking.ensures ∙ ap is_taking q.phase_of.ensures)) f.refuse.ensures)
     c.plain.ensures
 
-pub day-status-as-spec : {M : Type 1} → statement M
-day-status-as-spec = tie.close (tie.spec (λ c κs. search rules) (λ c κs. search rules) returns (λ c κs. search rules) (λ c κs. search rules) (λ c κs. search rules) (λ c κs. search rules) (λ c κs. search rules) returns-2)
+pub day_status_as_spec : {M : Type 1} → statement M
+day_status_as_spec = tie.close
+    (tie.spec (λ c κs. search rules) (λ c κs. search rules) returns (λ c κs. search rules) (λ c κs. search rules)
+    (λ c κs. search rules) (λ c κs. search rules) (λ c κs. search rules) returns-2)

@@ -5,14 +5,15 @@ use Rattle.callers.proofs.AskingBy.{others_27}
 use Rattle.callers.proofs.early.Statement.{statement}
 use Rattle.callers.proofs.early.Tie as tie
 
-returns : tie.Need-returns
-returns c = sym (ap early_number c.match.keys1)
+returns : tie.Need-returns-in-2
+returns c = sym (ap early_number c.in-2.is)
 
-returns-2 : tie.Need-returns-2
-returns-2 c = sym (ap early_number c.match.keys2)
+returns-2 : tie.Need-returns-in-5
+returns-2 c = sym (ap early_number c.in-5.is)
 
-returns-3 : tie.Need-returns-3
-returns-3 c = others_27 c.before.args.no c.match.rest.0.1 c.match.rest.1
+returns-3 : tie.Need-returns-in_default
+returns-3 c = others_27 c.before.args.no c.in_default.in_default-own.rest.0.1 c.in_default.in_default-own.rest.1
 
-pub early-spec : {M : Type 1} → statement M
-early-spec = tie.close (tie.spec returns returns-2 returns-3)
+pub early_spec : {M : Type 1} → statement M
+early_spec = tie.close
+    (tie.spec returns returns-2 returns-3)

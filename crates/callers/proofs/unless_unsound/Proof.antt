@@ -18,22 +18,23 @@ at s t =
 abbrev book : tie.Start → Book
 book s = at s (state_in s.args.state)
 
-abbrev start : tie.After-state-in → tie.Start
+abbrev start : tie.After-state_in-s → tie.Start
 start c = c.before.before.before.before.before.before.before.before
 
-returns : tie.Need-returns
+returns : tie.Need-returns-then-sound_at
 returns c =
     let i = c.before.before in
     let s = start i in
     sym (cond_true (sound_at s.args.state.phase (book s)) _ _
-    (sym (ap (λ u. sound_at s.args.state.phase (at s u)) i.state-in.ensures) ∙ sym c.before.sound_at.ensures ∙ c.if1.true))
+    (sym (ap (λ u. sound_at s.args.state.phase (at s u)) i.state_in-s.ensures) ∙ sym c.before.sound_at.ensures ∙ c.if-sound_at.true))
 
-returns-2 : tie.Need-returns-2
+returns-2 : tie.Need-returns
 returns-2 c =
     let i = c.before.before in
     let s = start i in
     sym (cond_false (sound_at s.args.state.phase (book s)) _ _
-    (sym (ap (λ u. sound_at s.args.state.phase (at s u)) i.state-in.ensures) ∙ sym c.before.sound_at.ensures ∙ c.if1.false))
+    (sym (ap (λ u. sound_at s.args.state.phase (at s u)) i.state_in-s.ensures) ∙ sym c.before.sound_at.ensures ∙ c.if-sound_at.false))
 
-pub unless-unsound-spec : {M : Type 1} → statement M
-unless-unsound-spec = tie.close (tie.spec (λ c κs. search rules) (λ c κs. search rules) returns returns-2)
+pub unless_unsound_spec : {M : Type 1} → statement M
+unless_unsound_spec = tie.close
+    (tie.spec (λ c κs. search rules) (λ c κs. search rules) returns returns-2)

@@ -4,8 +4,9 @@ use borrow.Author.Rules.{rules}
 use Rattle.host.proofs.phase_of.Statement.{statement}
 use Rattle.host.proofs.phase_of.Tie as tie
 
-returns-3 : tie.Need-returns-3
-returns-3 c = others c.before.args.n c.match.rest.0.1 c.match.rest.1
+returns-3 : tie.Need-returns-in_default
+returns-3 c = others c.before.args.n c.in_default.in_default-own.rest.0.1 c.in_default.in_default-own.rest.1
 
-pub phase-of-spec : {M : Type 1} → statement M
-phase-of-spec = tie.close (tie.spec (λ c. search rules) (λ c. search rules) returns-3)
+pub phase_of_spec : {M : Type 1} → statement M
+phase_of_spec = tie.close
+    (tie.spec (λ c. search rules) (λ c. search rules) returns-3)

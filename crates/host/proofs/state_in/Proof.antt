@@ -4,7 +4,8 @@ use Rattle.host.proofs.state_in.Statement.{statement}
 use Rattle.host.proofs.state_in.Tie as tie
 
 returns : tie.Need-returns
-returns c = rw c.before.phase-of.ensures at c.state-of.ensures
+returns c = rw c.before.phase_of.ensures at c.state_of.ensures
 
-pub state-in-spec : {M : Type 1} → statement M
-state-in-spec = tie.close (tie.spec (λ c κs. search rules) (λ c κs. search rules) returns)
+pub state_in_spec : {M : Type 1} → statement M
+state_in_spec = tie.close
+    (tie.spec (λ c κs. search rules) (λ c κs. search rules) returns)

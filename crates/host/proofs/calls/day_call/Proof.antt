@@ -4,7 +4,6 @@ use mathlib.Core.Bool.{true}
 use mathlib.Core.List.{List}
 use Prim.Native.Nat.{ℕ}
 use borrow.Author.Rules.{rules}
-use borrow.Author.Tests.{not-true, not-false}
 use Rattle.rules.specs.declared.Book.{Book}
 use Rattle.rules.specs.declared.Instruction.{Instruction}
 use Rattle.rules.specs.declared.State.{State}
@@ -43,77 +42,77 @@ moved s x y t u r after words e f p =
 abbrev asked : tie.Start → Instruction
 asked s = instruction_of s.args.kind s.args.a s.args.b s.args.c s.args.d
 
-abbrev start : tie.After-is-kind → tie.Start
+abbrev start : tie.After-is_kind → tie.Start
 start c = c.before.before.before.before.before.before.before.before.before.before
 
-kinded : (c : tie.Else1) → is_kind (start c.before).args.kind ≡ true
-kinded c = sym c.before.is-kind.ensures ∙ not-false _ c.if1.false
+kinded : (c : tie.Else-not-is_kind) → is_kind (start c.before).args.kind ≡ true
+kinded c = sym c.before.is_kind.ensures ∙ c.if-not-is_kind.false
 
-abbrev first : tie.After-instruction-of → tie.Start
+abbrev first : tie.After-instruction_of-x → tie.Start
 first c = start c.before.before
 
-returns : tie.Need-returns
+returns : tie.Need-returns-then-not-is_kind
 returns c =
     let t = c.before in
     let s = start t.before in
     let a = s.args in
     rw c.refused.ensures
     (no_kind a.kind a.state (at s (state_in a.state)) (asked s) a.quotes.now a.out.now refl
-    (sym t.before.is-kind.ensures ∙ not-true _ t.if1.true))
+    (sym t.before.is_kind.ensures ∙ t.if-not-is_kind.true))
 
-returns-2 : tie.Need-returns-2
+returns-2 : tie.Need-returns-then-no-ne0
 returns-2 c =
     let t = c.before in
     let o = t.before in
-    let i = o.before.before in
+    let i = o.before in
     let s = first i in
     let a = s.args in
-    rw c.refused2.ensures
-    (moved s _ (asked s) _ (state_in a.state) (refused_by o.output-asks.result a.state) _ _ i.instruction-of.ensures refl
-    (too_short a.kind a.state (at s (state_in a.state)) i.instruction-of.result a.quotes.now a.out.now refl (kinded i.before)
-    o.output-asks.result o.output-asks.ensures t.if2.true))
+    rw c.refused-then-no-ne0.ensures
+    (moved s _ (asked s) _ (state_in a.state) (refused_by o.output_asks-no.result a.state) _ _ i.instruction_of-x.ensures refl
+    (too_short a.kind a.state (at s (state_in a.state)) i.instruction_of-x.result a.quotes.now a.out.now refl (kinded i.before)
+    o.output_asks-no.result o.output_asks-no.ensures t.if-no-ne0.true))
 
 -- what is known where question 2 is asked
-abbrev opened : tie.After-state-in → tie.After-instruction-of
-opened c = c.before.before.before.before
+abbrev opened : tie.After-state_in-s → tie.After-instruction_of-x
+opened c = c.before.before.before
 
-room : (c : tie.After-state-in) → HasRoom (call_of (opened c).instruction-of.result (first (opened c)).args.quotes.now (first (opened c)).args.out.now)
+room : (c : tie.After-state_in-s) → HasRoom (call_of (opened c).instruction_of-x.result (first (opened c)).args.quotes.now (first (opened c)).args.out.now)
 room c =
     let i = opened c in
     let a = (first i).args in
     let o = c.before.before in
-    sym (room_of i.instruction-of.result a.quotes.now a.out.now) ∙ sym o.output-asks.ensures ∙ c.before.if2.false
+    sym (room_of i.instruction_of-x.result a.quotes.now a.out.now) ∙ sym o.output_asks-no.ensures ∙ c.before.if-no-ne0.false
 
-abbrev stated : tie.After-sound-at → tie.After-state-in
-stated c = c.before.before.before.before.before.before.before.before.before.before
+abbrev stated : tie.After-sound_at → tie.After-state_in-s
+stated c = c.before
 
-returns-3 : tie.Need-returns-3
+returns-3 : tie.Need-returns-then-not-sound_at
 returns-3 c =
     let t = c.before in
     let k = stated t.before in
     let i = opened k in
     let s = first i in
     let a = s.args in
-    rw c.refused3.ensures
-    (moved s _ (asked s) _ (state_in a.state) (refused_by 2 a.state) _ _ i.instruction-of.ensures refl
-    (unsound a.kind a.state (at s (state_in a.state)) i.instruction-of.result a.quotes.now a.out.now refl (kinded i.before) (room k)
-    (sym (ap (λ u. sound_at a.state.phase (at s u)) k.state-in.ensures) ∙ sym t.before.sound_at.ensures ∙ not-true _ t.if3.true)))
+    rw c.refused-then-not-sound_at.ensures
+    (moved s _ (asked s) _ (state_in a.state) (refused_by 2 a.state) _ _ i.instruction_of-x.ensures refl
+    (unsound a.kind a.state (at s (state_in a.state)) i.instruction_of-x.result a.quotes.now a.out.now refl (kinded i.before) (room k)
+    (sym (ap (λ u. sound_at a.state.phase (at s u)) k.state_in-s.ensures) ∙ sym t.before.sound_at.ensures ∙ t.if-not-sound_at.true)))
 
-good : (c : tie.Else3) →
+good : (c : tie.Else-not-sound_at) →
     let k = stated c.before in
     let s = first (opened k) in
-    sound_at s.args.state.phase (at s k.state-in.result) ≡ true
-good c = sym c.before.sound_at.ensures ∙ not-false _ c.if3.false
+    sound_at s.args.state.phase (at s k.state_in-s.result) ≡ true
+good c = sym c.before.sound_at.ensures ∙ c.if-not-sound_at.false
 
 answer-requires : tie.Need-answer-requires
 answer-requires c κs =
     let e = c.before.before.before.before.before.before.before.before.before.before in
     let k = stated e.before in
     let s = first (opened k) in
-    let b = at s k.state-in.result in
+    let b = at s k.state_in-s.result in
     (record { lengths = sound_lengths s.args.state.phase b (good e); sound = sound_book s.args.state.phase b (good e) }, room k)
 
-returns-4 : tie.Need-returns-4
+returns-4 : tie.Need-returns
 returns-4 c =
     let r = c.before.before.before.before.before.before.before.before.before.before.before.before.before.before.before.before.before.before.before in
     let e = r.before.before.before.before.before.before.before.before.before.before.before in
@@ -122,16 +121,17 @@ returns-4 c =
     let s = first i in
     let a = s.args in
     rw c.turned.ensures
-    (moved s _ (asked s) _ (state_in a.state) (turned_of r.answer.result) _ _ i.instruction-of.ensures k.state-in.ensures
-    (answered a.kind a.state (at s k.state-in.result) i.instruction-of.result a.quotes.now a.out.now _ _ _ _ _ _ _ _ _
+    (moved s _ (asked s) _ (state_in a.state) (turned_of r.answer.result) _ _ i.instruction_of-x.ensures k.state_in-s.ensures
+    (answered a.kind a.state (at s k.state_in-s.result) i.instruction_of-x.result a.quotes.now a.out.now _ _ _ _ _ _ _ _ _
     r.answer.result _ (kinded i.before) (good e) r.answer.ensures))
 
-pub day-call-spec : {M : Type 1} → statement M
-day-call-spec =
+pub day_call_spec : {M : Type 1} → statement M
+day_call_spec =
     tie.close
     (tie.spec (λ c κs. search rules) (λ c κs. search rules) returns (λ c κs. search rules) (λ c κs. search rules)
-    (λ c κs. search rules) (λ c. search rules) returns-2 (λ c κs. search rules) (λ c κs. search rules) (λ c κs. search rules)
-    (λ c. search rules) (λ c. search rules) (λ c. search rules) (λ c. search rules) (λ c. search rules) (λ c. search rules)
-    (λ c. search rules) (λ c. search rules) (λ c. search rules) (λ c. search rules) returns-3 answer-requires
-    (λ c κs. search rules) (λ c. search rules) (λ c. search rules) (λ c. search rules) (λ c. search rules) (λ c. search rules)
-    (λ c. search rules) (λ c. search rules) (λ c. search rules) (λ c. search rules) (λ c. search rules) returns-4)
+    (λ c. search rules) (λ c. search rules) returns-2 (λ c κs. search rules) (λ c κs. search rules)
+    (λ c. search rules) (λ c. search rules) (λ c. search rules) (λ c. search rules) (λ c. search rules)
+    (λ c. search rules) (λ c. search rules) (λ c. search rules) (λ c. search rules) (λ c. search rules)
+    (λ c. search rules) returns-3 answer-requires (λ c κs. search rules) (λ c. search rules) (λ c. search rules)
+    (λ c. search rules) (λ c. search rules) (λ c. search rules) (λ c. search rules) (λ c. search rules)
+    (λ c. search rules) (λ c. search rules) (λ c. search rules) returns-4)

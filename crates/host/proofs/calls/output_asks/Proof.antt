@@ -12,23 +12,23 @@ use Rattle.host.proofs.calls.output_asks.Statement.{statement}
 use Rattle.host.proofs.calls.output_asks.Tie as tie
 
 -- the output is short where it was not found long
-short : (c : tie.Else1) → leb output_words (length c.before.args.out.now) ≡ false
-short c = lt-leb output_words (length c.before.args.out.now) c.if1.false
+short : (c : tie.Else-out-ge-OUTPUT_WORDS) → leb output_words (length c.args.out.now) ≡ false
+short c = lt-leb output_words (length c.args.out.now) c.if-out-ge-OUTPUT_WORDS.false
 
-returns : tie.Need-returns
-returns c = sym (has_room c.before.args.x [] c.before.args.out.now c.if1.true)
+returns : tie.Need-returns-then-out-ge-OUTPUT_WORDS
+returns c = sym (has_room c.args.x [] c.args.out.now c.if-out-ge-OUTPUT_WORDS.true)
 
-returns-3 : tie.Need-returns-3
-returns-3 c = rw (c.enum-told2.given.1, short c.before.before)
+returns-3 : tie.Need-returns-in-Deliver
+returns-3 c = rw (c.in-Deliver.is, short c.before)
 
-returns-4 : tie.Need-returns-4
-returns-4 c = rw (c.enum-told3.given.1, short c.before.before)
+returns-4 : tie.Need-returns-in-Resolve
+returns-4 c = rw (c.in-Resolve.is, short c.before)
 
-returns-7 : tie.Need-returns-7
-returns-7 c = rw (c.enum-told6.given.1, short c.before.before)
+returns-7 : tie.Need-returns-in-Cutoff
+returns-7 c = rw (c.in-Cutoff.is, short c.before)
 
-pub output-asks-spec : {M : Type 1} → statement M
-output-asks-spec =
+pub output_asks_spec : {M : Type 1} → statement M
+output_asks_spec =
     tie.close
     (tie.spec returns (λ c. search rules) (λ c. search rules) (λ c. search rules) (λ c. search rules)
     (λ c. search rules) (λ c. search rules) (λ c. search rules) (λ c. search rules) (λ c. search rules)

@@ -6,5 +6,6 @@ use Rattle.host.proofs.calls.turned.Tie as tie
 returns : tie.Need-returns
 returns c = rw c.number_of.ensures
 
-pub turned-spec : {M : Type 1} → statement M
-turned-spec = tie.close (tie.spec (λ c κs. search rules) returns)
+pub turned_spec : {M : Type 1} → statement M
+turned_spec = tie.close
+    (tie.spec (λ c κs. search rules) returns)

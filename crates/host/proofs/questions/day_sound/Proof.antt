@@ -14,21 +14,22 @@ at s t =
     let a = s.args in
     book_of t a.nets.now a.delivered.now a.lifts.now a.charges.now a.issues.now a.froms.now a.tos.now a.lots.now a.days.now
 
-abbrev start : tie.After-state-in → tie.Start
+abbrev start : tie.After-state_in-s → tie.Start
 start c = c.before.before.before.before.before.before.before.before
 
-told : (c : tie.After-sound-at) →
+told : (c : tie.After-sound_at) →
     let s = start c.before in
     sound_at s.args.state.phase (at s (state_in s.args.state)) ≡ c.sound_at.result
 told c =
     let s = start c.before in
-    sym (c.sound_at.ensures ∙ ap (λ t. sound_at s.args.state.phase (at s t)) c.before.state-in.ensures)
+    sym (c.sound_at.ensures ∙ ap (λ t. sound_at s.args.state.phase (at s t)) c.before.state_in-s.ensures)
 
-returns : tie.Need-returns
-returns c = rw (told c.before ∙ c.if1.true)
+returns : tie.Need-returns-then-sound_at
+returns c = rw (told c.before ∙ c.if-sound_at.true)
 
-returns-2 : tie.Need-returns-2
-returns-2 c = rw (told c.before ∙ c.if1.false)
+returns-2 : tie.Need-returns
+returns-2 c = rw (told c.before ∙ c.if-sound_at.false)
 
-pub day-sound-spec : {M : Type 1} → statement M
-day-sound-spec = tie.close (tie.spec (λ c κs. search rules) (λ c κs. search rules) returns returns-2)
+pub day_sound_spec : {M : Type 1} → statement M
+day_sound_spec = tie.close
+    (tie.spec (λ c κs. search rules) (λ c κs. search rules) returns returns-2)
