@@ -8,11 +8,11 @@ use Rattle.rules.specs.Handover.{handovers, partials}
 use Rattle.rules.specs.Lifts.{lift}
 use Rattle.rules.specs.Fails.{lacks, fails}
 use Rattle.rules.specs.Ledger.{entry}
-use Rattle.rules.specs.Book.{lift_conditions, lifts_sound, cells_even, conditions, sound, order_in, with_turn}
+use Rattle.rules.specs.Book.{lift_conditions, lifts_sound, cells_even, conditions, sound, order_in}
 use Rattle.rules.specs.Questions.{quotes_right}
-use Rattle.rules.specs.Calls.{Call, Trade, Close, Deliver, Commit, Cutoff, Resolve, PairOff, Roll, Mark, Turn, no_ticket, unit_refused, called, issue_partials, issue_fails}
+use Rattle.rules.specs.Calls.{Call, Trade, Close, Deliver, Commit, Cutoff, PairOff, Roll, Mark, Turn, no_ticket, unit_refused, called, issue_partials, issue_fails}
 use Rattle.rules.specs.Access.{called_by, asked_by, unit_by, seen, none_seen, look_refused, look}
-use Rattle.rules.specs.Days.{quotes_p9, Case, case, Holds, both_hold}
+use Rattle.rules.specs.Days.{Case, case, Holds, both_hold}
 use Rattle.rules.specs.AccessCases.{by}
 use Rattle.days.specs.Books.{lent, ticket7, traded1, traded2, traded3, closed, delivered1, delivered2, cut, rolled1}
 use Rattle.days.specs.Days.{numbers}

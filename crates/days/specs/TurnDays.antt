@@ -1,5 +1,5 @@
 -- Days with full units dealt in turn, on whole books; cases on lists are in `rules` (TurnCases).
-use Rattle.std.specs.Prelude.{refl, List, [], ◌∷◌, ◌++◌, ℕ, replicate}
+use Rattle.std.specs.Prelude.{refl, List, [], ◌∷◌, ◌++◌, replicate}
 use Rattle.rules.specs.declared.Book.{Book}
 use Rattle.rules.specs.Measures.{value_of, charge_of}
 use Rattle.rules.specs.Units.{units}

@@ -1,7 +1,7 @@
 -- Naming the first day of the new order changes nothing else of a book. It is sound or not whatever day is named; fails,
 -- charges and marks stand as they did; and a roll does the same whatever day is named, the one that brings that day too.
-use mathlib.Core.Path.{◌≡◌, refl, ap, ◌∙◌}
-use mathlib.Core.Bool.{Bool, true, false}
+use mathlib.Core.Path.{◌≡◌, refl, ap}
+use mathlib.Core.Bool.{Bool, false}
 use mathlib.Core.List.{List, [], ◌∷◌}
 use Prim.Native.Nat.{ℕ, zero, suc}
 use lib.IntN.{ℤ}

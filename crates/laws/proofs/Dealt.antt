@@ -2,13 +2,13 @@
 -- by place they have the same lots, so what a delivered total covers, the stock and the number of units are the same in
 -- both orders, lifted or not: the orders differ in accounts alone.
 use mathlib.Core.Path.{◌≡◌, refl, sym, ap, ◌∙◌}
-use mathlib.Core.Bool.{true, false, cond}
+use mathlib.Core.Bool.{cond}
 use mathlib.Core.List.{List, [], ◌∷◌, ◌++◌, map, map-append}
-use Prim.Native.Nat.{ℕ, zero, suc, ◌+◌, ◌-◌, ◌*◌, ◌/◌, ◌≤◌, ◌<◌, min}
+use Prim.Native.Nat.{ℕ, zero, suc, ◌+◌, ◌-◌, ◌*◌, ◌/◌, ◌≤◌, min}
 use native.Mathlib.Omega.{arith}
 use lib.Dec.{leb, ltb, lit<}
 use lib.ListN.{length, take, drop, replicate, length-map}
-use borrow.Author.Tests.{ltb-true, ltb-false, le-ltb}
+use borrow.Author.Tests.{ltb-true, ltb-false}
 use Rattle.rules.specs.Measures.{total, sum, unit_lots}
 use Rattle.rules.specs.Units.{AccountLots, account_lots, largest_first, receivers, fulls, smalls, units, of_account, sum_lots}
 use Rattle.rules.specs.Handover.{covered, stock, first_unit}

@@ -10,7 +10,6 @@ use lib.IntN.{ℤ}
 use lib.ListN.{length, get_or, set, drop, replicate, length-set, length-drop}
 use lib.Seq.{drop-set-add, drop-set-lt, get_or-set_other, get_or-set_same}
 use borrow.Author.Tests.{eqb-true, eqb-false}
-use Rattle.rules.specs.Measures.{unit_lots}
 use Rattle.rules.specs.Units.{AccountLots}
 use Rattle.rules.specs.Lifts.{Lift, lift_of, lift, lifted}
 use Rattle.rules.specs.Book.{block, row, lift_cell, lift_number, count_at, places_in, lifts_at, units_by, order_in}

@@ -1,5 +1,5 @@
 -- Who may call, who may look: cases on lists, each by computing what the definitions give.
-use Rattle.std.specs.Prelude.{refl, Bool, true, false, List, [], ◌∷◌, map, ℕ, drop, replicate, set, pos, negsuc}
+use Rattle.std.specs.Prelude.{refl, true, false, List, [], ◌∷◌, map, ℕ, drop, replicate, set, pos, negsuc}
 use Rattle.rules.specs.declared.Caller.{Caller}
 use Rattle.rules.specs.declared.Entry.{Entry}
 use Rattle.rules.specs.declared.Phase.TheVariants.{Taking, Settling, Cut}
@@ -7,7 +7,7 @@ use Rattle.rules.specs.Units.{account_lots}
 use Rattle.rules.specs.Ledger.{entry}
 use Rattle.rules.specs.Book.{fresh}
 use Rattle.rules.specs.Questions.{Question, ask, first_no, ask_sound, ask_issue}
-use Rattle.rules.specs.Calls.{Call, Trade, Close, Deliver, Ask, Commit, Cutoff, Resolve, PairOff, Roll, Mark, Turn, trade_asks, close_asks, deliver_asks, resolve_asks, mark_asks, turn_asks, ticket_for}
+use Rattle.rules.specs.Calls.{Trade, Close, Deliver, Ask, Commit, Cutoff, Resolve, PairOff, Roll, Mark, Turn, trade_asks, close_asks, deliver_asks, mark_asks, turn_asks, ticket_for}
 use Rattle.rules.specs.Access.{owns, has_right, may_read, with_right, asks_by, entries_at, first_seen, seen, none_seen, look_asks}
 use Rattle.rules.specs.Days.{fail, only_mark, marked_nets, Case, case, Holds}
 

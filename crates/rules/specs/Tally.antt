@@ -3,7 +3,7 @@ use Rattle.std.specs.Prelude.{◌≡◌, Bool, true, false, cond, ◌&&◌, List
 use Rattle.rules.specs.declared.Book.{Book}
 use Rattle.rules.specs.declared.Ticket.{Ticket}
 use Rattle.rules.specs.Measures.{issue_count, account_count, unit_lots, total, sum}
-use Rattle.rules.specs.Units.{AccountLots, account_lots, sum_lots, of_account, units_of_nets}
+use Rattle.rules.specs.Units.{AccountLots, account_lots, sum_lots, of_account}
 use Rattle.rules.specs.Lifts.{Lift, lift_of, lifted}
 use Rattle.rules.specs.Ledger.{is_from, is_to, lots_of}
 use Rattle.rules.specs.Book.{tabulate, units_by, in_force, ledger_of, fresh}

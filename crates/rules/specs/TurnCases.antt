@@ -1,5 +1,5 @@
 -- Full units dealt in turn: cases on lists, each by computing what the definitions give.
-use Rattle.std.specs.Prelude.{refl, Bool, true, false, List, [], ◌∷◌, map, ℕ, ℤ, pos, negsuc}
+use Rattle.std.specs.Prelude.{refl, true, false, List, [], ◌∷◌, ℕ, ℤ, pos, negsuc}
 use Rattle.rules.specs.declared.Instruction.TheVariants as instruction
 use Rattle.rules.specs.declared.Read.TheVariants.{Instr, Refused}
 use Rattle.rules.specs.Measures.{unit_lots}

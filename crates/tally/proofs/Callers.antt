@@ -1,7 +1,6 @@
 -- Demand 3 with callers: whoever makes the calls, with whatever owners, both changing from call to call. A call whose caller
 -- has the right is the call itself, and another leaves book and tally.
 use mathlib.Core.Path.{◌≡◌, refl, ◌∙◌}
-use mathlib.Core.List.{List}
 use Prim.Native.Nat.{ℕ, zero, suc, ◌<◌}
 use native.Mathlib.Omega.{arith}
 use Rattle.rules.specs.declared.Book.{Book}

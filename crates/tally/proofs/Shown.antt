@@ -11,8 +11,8 @@ use borrow.Author.Tests.{leb-true, leb-false}
 use Rattle.rules.specs.declared.Phase.{Phase}
 use Rattle.rules.specs.declared.Phase.TheVariants.{Taking, Settling, Cut}
 use Rattle.rules.specs.Measures.{unit_lots, sum}
-use Rattle.rules.specs.Units.{AccountLots, prepend, sum_lots, units_of_nets}
-use Rattle.rules.specs.Handover.{stock, handed, partials}
+use Rattle.rules.specs.Units.{AccountLots, prepend, sum_lots}
+use Rattle.rules.specs.Handover.{handed, partials}
 use Rattle.rules.specs.Lifts.{lifted}
 use Rattle.rules.specs.Book.{is_settling, row, net_at, delivered_total, lifts_at, order_in, order_of, dealt_today, units_by, in_force}
 use Rattle.rules.specs.Tally.{Tallied, Demand3, StockHeld, InTurn, nets_today, units_today, in_issue}

@@ -1,7 +1,7 @@
 -- What is written is read back: each field of a head lies apart from the others.
 use mathlib.Core.Path.{◌≡◌, refl}
 use mathlib.Core.List.{List, [], ◌∷◌, ◌++◌}
-use Prim.Native.Nat.{ℕ, ◌+◌, ◌<◌, ◌^◌}
+use Prim.Native.Nat.{ℕ, ◌<◌, ◌^◌}
 use native.Mathlib.Omega.{arith}
 use lib.ListN.{length}
 use Rattle.rules.specs.Records.{kind_bits, issue_bits, from_bits, to_bits, lots_bits, of_field, head_word, lots_word, Rec, words, record_in, records_in}

@@ -1,5 +1,5 @@
 -- Each product is at most that of the limits, so it fits; how large both parts are together is a law.
-use Prim.Native.Nat.{◌+◌, ◌≤◌}
+use Prim.Native.Nat.{◌≤◌}
 use native.Mathlib.Nat.{mul-le-mul}
 use native.Mathlib.Omega.{arith}
 use Rattle.rules.specs.Measures.{most_price, value_of}
