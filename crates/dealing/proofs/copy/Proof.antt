@@ -17,14 +17,14 @@ decreases-loop words n out₀ j₀ out j = n - j
 
 loop-again : tie.Need-loop-j-preserved invariant-loop decreases-loop
 loop-again c =
-    let a = c.before.before.before.args in
-    let l = c.before.before.loop-j in
+    let a = c.args in
+    let l = c.loop-j in
     (search rules, simp length-set l.invariant.1, copy_more a.words.now l.out l.j (omega arith) (omega arith) l.invariant.2)
 
 returns : tie.Need-returns invariant-loop decreases-loop
 returns c =
-    let a = c.before.before.args in
-    let l = c.before.loop-j in
+    let a = c.args in
+    let l = c.loop-j in
     let e : l.j ≡ a.n = omega arith in
     rw e at l.invariant.2
 

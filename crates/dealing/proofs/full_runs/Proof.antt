@@ -21,21 +21,18 @@ loop-holds c = (omega arith, omega arith)
 
 returns : tie.Need-returns-then-runs-m-lt-UNIT_WORD invariant-loop decreases-loop
 returns c =
-    let s = c.before.before.before.before in
-    let l = c.before.before.before.loop-m in
-    omega (arith, l.invariant.1, number_small s.args.runs.now s.args.n l.m s.requires (omega arith) (omega arith))
+    let l = c.loop-m in
+    omega (arith, l.invariant.1, number_small c.args.runs.now c.args.n l.m c.requires (omega arith) (omega arith))
 
 loop-again : tie.Need-loop-m-preserved invariant-loop decreases-loop
 loop-again c =
-    let s = c.before.before.before.before in
-    let l = c.before.before.before.loop-m in
-    (omega arith, omega (arith, l.invariant.1, number_full s.args.runs.now s.args.n l.m s.requires (omega arith) (omega arith)))
+    let l = c.loop-m in
+    (omega arith, omega (arith, l.invariant.1, number_full c.args.runs.now c.args.n l.m c.requires (omega arith) (omega arith)))
 
 returns-2 : tie.Need-returns invariant-loop decreases-loop
 returns-2 c =
-    let s = c.before.before in
-    let l = c.before.loop-m in
-    omega (arith, l.invariant.1, number_end s.args.runs.now s.args.n l.m s.requires (omega arith))
+    let l = c.loop-m in
+    omega (arith, l.invariant.1, number_end c.args.runs.now c.args.n l.m c.requires (omega arith))
 
 pub full_runs_spec : {M : Type 1} → statement M
 full_runs_spec =

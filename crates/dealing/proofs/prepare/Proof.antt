@@ -8,24 +8,22 @@ use Rattle.dealing.proofs.prepare.Tie as tie
 
 lift-all-requires : tie.Need-lift_all-lifted-requires
 lift-all-requires c κs =
-    let s = c in
     let f = c.rank-ranks in
     let k = c.copy in
-    can_lift_all s.args.nets.now s.args.lifts.now s.args.i k.new.out f.result.n s.requires.order
-    (copy_ranked s.args.nets.now s.args.i f.new.keys k.new.out f.result.n k.ensures f.ensures.order)
-    (omega (arith, s.requires.wide, k.auto.out))
+    can_lift_all c.args.nets.now c.args.lifts.now c.args.i k.new.out f.result.n c.requires.order
+    (copy_ranked c.args.nets.now c.args.i f.new.keys k.new.out f.result.n k.ensures f.ensures.order)
+    (omega (arith, c.requires.wide, k.auto.out))
 
 returns : tie.Need-returns
 returns c =
-    let s = c in
     let f = c.rank-ranks in
     let k = c.copy in
     let g = c.lift_all-lifted in
     record {
       ranks = f.ensures;
-      lifted = prepared s.args.nets.now s.args.lifts.now s.args.i k.new.out f.result.n s.requires.order
-          (copy_ranked s.args.nets.now s.args.i f.new.keys k.new.out f.result.n k.ensures f.ensures.order)
-          g.new.runs g.result (omega (arith, s.requires.wide, k.auto.out, g.auto.runs)) g.ensures;
+      lifted = prepared c.args.nets.now c.args.lifts.now c.args.i k.new.out f.result.n c.requires.order
+          (copy_ranked c.args.nets.now c.args.i f.new.keys k.new.out f.result.n k.ensures f.ensures.order)
+          g.new.runs g.result (omega (arith, c.requires.wide, k.auto.out, g.auto.runs)) g.ensures;
     }
 
 pub prepare_spec : {M : Type 1} → statement M

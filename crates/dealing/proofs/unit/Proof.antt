@@ -8,24 +8,21 @@ use Rattle.dealing.proofs.unit.Tie as tie
 
 returns : tie.Need-returns-then-number-k
 returns c =
-    let s = c in
     let f = c.rank-p in
-    none_found s.args.nets.now s.args.lifts.now s.args.i s.args.k s.requires f.new.keys f.result f.ensures
+    none_found c.args.nets.now c.args.lifts.now c.args.i c.args.k c.requires f.new.keys f.result f.ensures
     (omega (arith, c.number.ensures))
 
 units-from-requires : tie.Need-units_from-requires
 units-from-requires c κs =
-    let s = c in
     let f = c.rank-p in
-    one_there s.args.nets.now s.args.lifts.now s.args.i s.args.k s.requires f.new.keys f.result f.ensures _ refl
+    one_there c.args.nets.now c.args.lifts.now c.args.i c.args.k c.requires f.new.keys f.result f.ensures _ refl
     (omega (arith, c.number.ensures))
 
 returns-2 : tie.Need-returns
 returns-2 c =
-    let s = c in
     let f = c.rank-p in
     let u = c.units_from in
-    one_found s.args.nets.now s.args.lifts.now s.args.i s.args.k s.requires f.new.keys f.result f.ensures
+    one_found c.args.nets.now c.args.lifts.now c.args.i c.args.k c.requires f.new.keys f.result f.ensures
     u.new.out u.auto.out (omega (arith, c.number.ensures)) u.ensures
 
 pub unit_spec : {M : Type 1} → statement M

@@ -7,14 +7,12 @@ use Rattle.dealing.proofs.units_from.Tie as tie
 
 window-requires : tie.Need-window-requires
 window-requires c κs =
-    let s = c in
-    can_deal_out s.args.keys.now s.args.p s.args.lifts.now s.args.i s.args.k s.args.out.now s.requires
+    can_deal_out c.args.keys.now c.args.p c.args.lifts.now c.args.i c.args.k c.args.out.now c.requires
 
 returns : tie.Need-returns
 returns c =
-    let s = c in
     let w = c.window in
-    dealt_out s.args.keys.now s.args.p s.args.lifts.now s.args.i s.args.k (length s.args.out.now)
+    dealt_out c.args.keys.now c.args.p c.args.lifts.now c.args.i c.args.k (length c.args.out.now)
     w.new.out w.ensures
 
 pub units_from_spec : {M : Type 1} → statement M

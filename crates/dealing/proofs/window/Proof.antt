@@ -27,45 +27,42 @@ loop-holds c = (refl, omega arith, refl)
 
 deal-out-requires : tie.Need-deal_out-requires invariant-loop decreases-loop
 deal-out-requires c κs =
-    let s = c in
     let l = c.loop-done in
     let g = c.before_lifts-s in
     let x = c.least-x in
-    let ws = s.args.words.now in
-    let us = dealt_runs s.args.runs.now s.args.n s.args.m in
-    let p = span_part (places_in (get_or ws 0 0) (drop 2 ws)) us (s.args.k + l.done) g.result.base g.result.len x.result s.requires.places
-    (omega (arith, x.ensures)) (omega (arith, x.ensures, g.ensures.one, l.invariant.0)) (omega (arith, x.ensures, s.requires.there, l.invariant.0)) g.ensures.places in
-    (s.requires.ready, omega (arith, p.0, length-take (l.done + x.result - l.done) (drop l.done l.out)))
+    let ws = c.args.words.now in
+    let us = dealt_runs c.args.runs.now c.args.n c.args.m in
+    let p = span_part (places_in (get_or ws 0 0) (drop 2 ws)) us (c.args.k + l.done) g.result.base g.result.len x.result c.requires.places
+    (omega (arith, x.ensures)) (omega (arith, x.ensures, g.ensures.one, l.invariant.0)) (omega (arith, x.ensures, c.requires.there, l.invariant.0)) g.ensures.places in
+    (c.requires.ready, omega (arith, p.0, length-take (l.done + x.result - l.done) (drop l.done l.out)))
 
 loop-again : tie.Need-loop-done-preserved invariant-loop decreases-loop
 unfolding lifted_runs
 loop-again c =
-    let s = c in
     let l = c.loop-done in
     let g = c.before_lifts-s in
     let x = c.least-x in
     let f = c.deal_out in
-    let ws = s.args.words.now in
-    let us = dealt_runs s.args.runs.now s.args.n s.args.m in
+    let ws = c.args.words.now in
+    let us = dealt_runs c.args.runs.now c.args.n c.args.m in
     let ys = f.new.out in
-    let p = span_part (places_in (get_or ws 0 0) (drop 2 ws)) us (s.args.k + l.done) g.result.base g.result.len x.result s.requires.places
-    (omega (arith, x.ensures)) (omega (arith, x.ensures, g.ensures.one, l.invariant.0)) (omega (arith, x.ensures, s.requires.there, l.invariant.0)) g.ensures.places in
+    let p = span_part (places_in (get_or ws 0 0) (drop 2 ws)) us (c.args.k + l.done) g.result.base g.result.len x.result c.requires.places
+    (omega (arith, x.ensures)) (omega (arith, x.ensures, g.ensures.one, l.invariant.0)) (omega (arith, x.ensures, c.requires.there, l.invariant.0)) g.ensures.places in
     let n : length (take (l.done + x.result - l.done) (drop l.done l.out)) ≡ x.result =
     length-take (l.done + x.result - l.done) (drop l.done l.out) ∙ rw length-drop (omega (arith, x.ensures, l.invariant.0)) in
     let m : length ys ≡ x.result = f.auto.out ∙ n in (
       same_len_mid l.done (l.done + x.result - l.done) l.out ys f.auto.out ∙ l.invariant.0,
       omega (arith, x.ensures, l.invariant.0),
-      window_next (places_in (get_or ws 0 0) (drop 2 ws)) us l.out ys s.args.k l.done x.result g.result.base (l.done + x.result - l.done) (omega (arith, l.invariant.0)) m l.invariant.2
+      window_next (places_in (get_or ws 0 0) (drop 2 ws)) us l.out ys c.args.k l.done x.result g.result.base (l.done + x.result - l.done) (omega (arith, l.invariant.0)) m l.invariant.2
           (rw n at f.ensures) p.1,
     )
 
 returns : tie.Need-returns invariant-loop decreases-loop
 returns c =
-    let s = c in
     let l = c.loop-done in
-    let us = lifted_runs s.args.runs.now s.args.n s.args.m s.args.words.now in
-    let e : l.done ≡ length s.args.out.now = omega (arith, l.invariant.0) in
-    ap (map part_of) (sym (take_all l.done l.out (omega (arith, l.invariant.0)))) ∙ l.invariant.2 ∙ ap (λ i. take i (drop s.args.k us)) e
+    let us = lifted_runs c.args.runs.now c.args.n c.args.m c.args.words.now in
+    let e : l.done ≡ length c.args.out.now = omega (arith, l.invariant.0) in
+    ap (map part_of) (sym (take_all l.done l.out (omega (arith, l.invariant.0)))) ∙ l.invariant.2 ∙ ap (λ i. take i (drop c.args.k us)) e
 
 pub window_spec : {M : Type 1} → statement M
 window_spec =

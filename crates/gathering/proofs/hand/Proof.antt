@@ -23,34 +23,31 @@ loop-holds : tie.Need-loop-j-init invariant-loop decreases-loop
 loop-holds c = (omega arith, refl, seeking_starts _ _, c.requires.plain)
 
 mul-runs : tie.Need-overflow_mul-runs invariant-loop decreases-loop
-mul-runs c = omega (arith, c.before.slice_known-1.given c.before.before.before.loop-j.j)
+mul-runs c = omega (arith, c.slice_known-1.given c.loop-j.j)
 
 returns : tie.Need-returns-then-left-held invariant-loop decreases-loop
 returns c =
-    let s = c.before.before.before.before in
-    let l = c.before.before.before.loop-j in
-    hand_stops s.args.runs.now l.runs s.args.n l.j s.args.d l.left (omega (arith, s.requires.there)) l.invariant.2 l.invariant.3
+    let l = c.loop-j in
+    hand_stops c.args.runs.now l.runs c.args.n l.j c.args.d l.left (omega (arith, c.requires.there)) l.invariant.2 l.invariant.3
     (omega arith) (omega arith) _ refl
 
 loop-again : tie.Need-loop-j-preserved invariant-loop decreases-loop
 loop-again c =
-    let s = c.before.before.before.before in
-    let l = c.before.before.before.loop-j in
-    let n = s.args.n in
-    let e = runs_at_lem l.runs n l.j (omega (arith, s.requires.there)) (omega arith) in (
+    let l = c.loop-j in
+    let n = c.args.n in
+    let e = runs_at_lem l.runs n l.j (omega (arith, c.requires.there)) (omega arith) in (
       omega arith,
       l.invariant.1,
       rw add-one
-          (seeking_more (runs_in s.args.runs.now n) (part_of (get_or l.runs l.j 0)) (drop (suc l.j) (runs_in l.runs n)) s.args.d
+          (seeking_more (runs_in c.args.runs.now n) (part_of (get_or l.runs l.j 0)) (drop (suc l.j) (runs_in l.runs n)) c.args.d
           l.left (omega arith) (rw e at l.invariant.2)),
       rw add-one (rw e at l.invariant.3).1,
     )
 
 returns-2 : tie.Need-returns invariant-loop decreases-loop
 returns-2 c =
-    let s = c.before.before in
-    let l = c.before.loop-j in
-    hand_ends s.args.runs.now l.runs s.args.n l.j s.args.d l.left (omega (arith, s.requires.there)) l.invariant.2 l.invariant.3
+    let l = c.loop-j in
+    hand_ends c.args.runs.now l.runs c.args.n l.j c.args.d l.left (omega (arith, c.requires.there)) l.invariant.2 l.invariant.3
     (omega arith)
 
 pub hand_spec : {M : Type 1} → statement M

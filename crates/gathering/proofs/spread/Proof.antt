@@ -23,15 +23,14 @@ loop-holds : tie.Need-loop-j-init invariant-loop decreases-loop
 loop-holds c = (refl, omega arith, c.requires.accounts, c.requires.small, refl)
 
 mul-runs : tie.Need-overflow_mul-runs invariant-loop decreases-loop
-mul-runs c = omega (arith, c.before.before.before.before.loop-j.invariant.3 (get_or c.before.before.before.before.loop-j.runs c.before.before.before.before.loop-j.j 0 % 64))
+mul-runs c = omega (arith, c.loop-j.invariant.3 (get_or c.loop-j.runs c.loop-j.j 0 % 64))
 
 add-runs : tie.Need-overflow_add-runs invariant-loop decreases-loop
-add-runs c = omega (arith, c.before.before.before.before.loop-j.invariant.3 (get_or c.before.before.before.before.loop-j.runs c.before.before.before.before.loop-j.j 0 % 64))
+add-runs c = omega (arith, c.loop-j.invariant.3 (get_or c.loop-j.runs c.loop-j.j 0 % 64))
 
 loop-again : tie.Need-loop-j-preserved-then-key-ge-UNIT_WORD invariant-loop decreases-loop
 loop-again c =
-    let s = c.before.before.before.before.before in
-    let l = c.before.before.before.before.loop-j in
+    let l = c.loop-j in
     let k = get_or l.runs l.j 0 in (
       simp length-set l.invariant.0,
       omega arith,
@@ -42,12 +41,12 @@ loop-again c =
 
 loop-again-2 : tie.Need-loop-j-preserved invariant-loop decreases-loop
 loop-again-2 c =
-    let l = c.before.before.before.loop-j in
+    let l = c.loop-j in
     (l.invariant.0, omega arith, l.invariant.2, l.invariant.3, spread_small l.runs l.full l.j (omega arith) _ l.invariant.4 (omega arith))
 
 returns : tie.Need-returns invariant-loop decreases-loop
 returns c =
-    let l = c.before.loop-j in
+    let l = c.loop-j in
     let e : l.j ≡ length l.runs = omega arith in
     sym (l.invariant.4 ∙ spread_end l.runs l.full l.j e)
 

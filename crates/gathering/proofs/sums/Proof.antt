@@ -28,25 +28,22 @@ loop-holds c = (omega arith, c.requires.accounts, c.requires.ready.plain, (λ a.
 
 mul-full : tie.Need-overflow_mul-full invariant-loop decreases-loop
 mul-full c =
-    let s = c.before.before.before.before in
-    let l = c.before.before.before.loop-j in
-    let rs = s.args.runs.now in
+    let l = c.loop-j in
+    let rs = c.args.runs.now in
     let k = get_or rs l.j 0 % 64 in
-    omega (arith, sum_fits rs l.full l.j (omega arith) l.invariant.1 l.invariant.2 (fulls_of rs) l.invariant.3, s.requires.ready.small k)
+    omega (arith, sum_fits rs l.full l.j (omega arith) l.invariant.1 l.invariant.2 (fulls_of rs) l.invariant.3, c.requires.ready.small k)
 
 add-full : tie.Need-overflow_add-full invariant-loop decreases-loop
 add-full c =
-    let s = c.before.before.before.before in
-    let l = c.before.before.before.loop-j in
-    let rs = s.args.runs.now in
+    let l = c.loop-j in
+    let rs = c.args.runs.now in
     let k = get_or rs l.j 0 % 64 in
-    omega (arith, sum_fits rs l.full l.j (omega arith) l.invariant.1 l.invariant.2 (fulls_of rs) l.invariant.3, s.requires.ready.small k)
+    omega (arith, sum_fits rs l.full l.j (omega arith) l.invariant.1 l.invariant.2 (fulls_of rs) l.invariant.3, c.requires.ready.small k)
 
 loop-again : tie.Need-loop-j-preserved invariant-loop decreases-loop
 loop-again c =
-    let s = c.before.before.before.before in
-    let l = c.before.before.before.loop-j in
-    let rs = s.args.runs.now in (
+    let l = c.loop-j in
+    let rs = c.args.runs.now in (
       omega arith,
       simp length-set l.invariant.1,
       plain_next rs l.full l.j (omega arith) l.invariant.1 l.invariant.2 (fulls_of rs) l.invariant.3,
@@ -55,8 +52,8 @@ loop-again c =
 
 returns : tie.Need-returns invariant-loop decreases-loop
 returns c =
-    let rs = c.before.before.args.runs.now in
-    let l = c.before.loop-j in
+    let rs = c.args.runs.now in
+    let l = c.loop-j in
     let e : l.j ≡ length rs = omega arith in
     λ a. omega (arith, l.invariant.3 a, ap (λ ws. full_lots unit_lots a (map part_of ws)) (ap (λ j. drop j rs) e ∙ drop-length rs))
 

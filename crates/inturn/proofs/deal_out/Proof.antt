@@ -24,36 +24,33 @@ loop-holds c = (refl, omega arith, c.seat-d.ensures.1, sym c.seat-d.ensures.0)
 
 step-requires : tie.Need-step-s-requires invariant-loop decreases-loop
 step-requires c κs =
-    let s = c.before.before.before.before.before in
-    let l = c.before.loop-j in
-    let rs = s.args.runs.now in
+    let l = c.loop-j in
+    let rs = c.args.runs.now in
     record {
-      ready = s.requires.0;
+      ready = c.requires.0;
       seated = l.invariant.2;
-      more = out_left l.out l.j s.args.k (dealt_from rs s.args.n s.args.m l.d) (dealt_runs rs s.args.n s.args.m)
-          (omega (arith, l.invariant.0)) l.invariant.3 (omega (arith, l.invariant.0, s.requires.1));
+      more = out_left l.out l.j c.args.k (dealt_from rs c.args.n c.args.m l.d) (dealt_runs rs c.args.n c.args.m)
+          (omega (arith, l.invariant.0)) l.invariant.3 (omega (arith, l.invariant.0, c.requires.1));
     }
 
 loop-again : tie.Need-loop-j-preserved invariant-loop decreases-loop
 loop-again c =
-    let s = c.before.before.before.before.before.before.before in
-    let l = c.before.before.before.loop-j in
-    let f = c.before.step-s in
-    let rs = s.args.runs.now in (
+    let l = c.loop-j in
+    let f = c.step-s in
+    let rs = c.args.runs.now in (
       simp length-set l.invariant.0,
       omega arith,
       f.ensures.seated,
-      out_next l.out l.j f.result.word (dealt_from rs s.args.n s.args.m l.d) (dealt_from rs s.args.n s.args.m f.result.next) _
+      out_next l.out l.j f.result.word (dealt_from rs c.args.n c.args.m l.d) (dealt_from rs c.args.n c.args.m f.result.next) _
           (omega (arith, l.invariant.0)) l.invariant.3 f.ensures.list,
     )
 
 returns : tie.Need-returns invariant-loop decreases-loop
 returns c =
-    let s = c.before.before.before.before.before in
-    let l = c.before.loop-j in
-    let rs = s.args.runs.now in
+    let l = c.loop-j in
+    let rs = c.args.runs.now in
     let e : l.j ≡ length l.out = omega (arith, l.invariant.0) in
-    rw l.invariant.0 at (out_end l.out l.j (dealt_from rs s.args.n s.args.m l.d) _ e l.invariant.3)
+    rw l.invariant.0 at (out_end l.out l.j (dealt_from rs c.args.n c.args.m l.d) _ e l.invariant.3)
 
 pub deal_out_spec : {M : Type 1} → statement M
 deal_out_spec =

@@ -21,26 +21,24 @@ loop-holds c = (omega arith, (λ s l. refl))
 
 returns : tie.Need-returns-then-r-runs invariant-loop decreases-loop
 returns c =
-    let s = c.before.before.before.before in
-    let l = c.before.before.before.loop-w in
+    let l = c.loop-w in
     record {
       few = l.invariant.0;
       rest = l.invariant.1;
-      all = narrow_all s.args.runs.now s.args.n l.w (l.w - 1) s.args.r s.requires (omega arith) l.invariant.0 (omega arith);
+      all = narrow_all c.args.runs.now c.args.n l.w (l.w - 1) c.args.r c.requires (omega arith) l.invariant.0 (omega arith);
       some = λ h. omega arith;
     }
 
 loop-again : tie.Need-loop-w-preserved invariant-loop decreases-loop
 loop-again c =
-    let s = c.before.before.before.before in
-    let l = c.before.before.before.loop-w in (
+    let l = c.loop-w in (
       omega arith,
-      (λ t g. l.invariant.1 t g ∙ narrow_less s.args.runs.now l.w (l.w - 1) s.args.r (omega arith) (omega (arith, s.requires.there)) (omega arith) t g),
+      (λ t g. l.invariant.1 t g ∙ narrow_less c.args.runs.now l.w (l.w - 1) c.args.r (omega arith) (omega (arith, c.requires.there)) (omega arith) t g),
     )
 
 returns-2 : tie.Need-returns invariant-loop decreases-loop
 returns-2 c =
-    let l = c.before.loop-w in
+    let l = c.loop-w in
     let z : l.w ≡ 0 = omega arith in
     record { few = l.invariant.0; rest = l.invariant.1; all = rw z refl; some = λ h. absurd (omega arith) }
 

@@ -23,11 +23,10 @@ decreases-loop runs n m k left₀ r₀ w₀ left r w = left + w
 
 loop-holds : tie.Need-loop-w-init invariant-loop decreases-loop
 loop-holds c =
-    let s = c.before.before in
     let f = c.narrow-w in (
       f.ensures.few,
       f.ensures.some,
-      seat_start s.args.runs.now s.args.n s.args.m s.requires s.args.k f.result f.ensures,
+      seat_start c.args.runs.now c.args.n c.args.m c.requires c.args.k f.result f.ensures,
       omega arith,
       omega arith,
       f.ensures,
@@ -35,89 +34,82 @@ loop-holds c =
     )
 
 cast-v : tie.Need-overflow_cast-v invariant-loop decreases-loop
-cast-v c = omega (arith, c.before.loop-w.invariant.0, c.before.before.before.before.requires.fulls, c.before.before.before.before.requires.few)
+cast-v c = omega (arith, c.loop-w.invariant.0, c.requires.fulls, c.requires.few)
 
 sub-c-2 : tie.Need-overflow_sub-c-in-loop-w invariant-loop decreases-loop
-sub-c-2 c = omega (arith, c.before.before.loop-w.invariant.1 (omega arith))
+sub-c-2 c = omega (arith, c.loop-w.invariant.1 (omega arith))
 
 mul-b : tie.Need-overflow_mul-b invariant-loop decreases-loop
 mul-b c =
-    let s = c.before.before.before.before.before in
-    let l = c.before.before.loop-w in
+    let l = c.loop-w in
     let o : 0 < l.w = omega arith in
-    let q = get_or s.args.runs.now (l.w - 1) 0 / 6400000 in
-    omega (arith, block_fits s.args.runs.now s.args.n s.args.m s.requires l.w l.invariant.0 o (q - l.r) (omega (arith, s.requires.small (l.w - 1) (omega (arith, l.invariant.0)))))
+    let q = get_or c.args.runs.now (l.w - 1) 0 / 6400000 in
+    omega (arith, block_fits c.args.runs.now c.args.n c.args.m c.requires l.w l.invariant.0 o (q - l.r) (omega (arith, c.requires.small (l.w - 1) (omega (arith, l.invariant.0)))))
 
 add-t18 : tie.Need-overflow_add-result invariant-loop decreases-loop
 add-t18 c =
-    let s = c.before.before.before.before.before.before in
-    let l = c.before.before.before.loop-w in
+    let l = c.loop-w in
     let o : 0 < l.w = omega arith in
-    let q = get_or s.args.runs.now (l.w - 1) 0 / 6400000 in
-    omega (arith, (block_in s.args.runs.now s.args.n s.args.m s.requires l.w l.invariant.0 o (q - l.r) l.r l.left (omega (arith, l.invariant.1 o)) (omega arith)).0, s.requires.small (l.w - 1) (omega (arith, l.invariant.0)))
+    let q = get_or c.args.runs.now (l.w - 1) 0 / 6400000 in
+    omega (arith, (block_in c.args.runs.now c.args.n c.args.m c.requires l.w l.invariant.0 o (q - l.r) l.r l.left (omega (arith, l.invariant.1 o)) (omega arith)).0, c.requires.small (l.w - 1) (omega (arith, l.invariant.0)))
 
 cast-t20 : tie.Need-overflow_cast-result invariant-loop decreases-loop
 cast-t20 c =
-    let l = c.before.before.before.loop-w in
+    let l = c.loop-w in
     let o : 0 < l.w = omega arith in
     omega (arith, mod-lt l.left o)
 
 returns : tie.Need-returns-then-left-b invariant-loop decreases-loop
 unfolding dealt_from
 returns c =
-    let s = c.before.before.before.before.before.before in
-    let l = c.before.before.before.loop-w in
+    let l = c.loop-w in
     let o : 0 < l.w = omega arith in
-    let q = get_or s.args.runs.now (l.w - 1) 0 / 6400000 in
-    let b = block_in s.args.runs.now s.args.n s.args.m s.requires l.w l.invariant.0 o (q - l.r) l.r l.left (omega (arith, l.invariant.1 o)) (omega arith) in (
+    let q = get_or c.args.runs.now (l.w - 1) 0 / 6400000 in
+    let b = block_in c.args.runs.now c.args.n c.args.m c.requires l.w l.invariant.0 o (q - l.r) l.r l.left (omega (arith, l.invariant.1 o)) (omega arith) in (
       l.invariant.2 ∙ b.1,
-      record { few = l.invariant.0; within = λ h. mod-lt l.left o; some = λ h. omega (arith, b.0, s.requires.small (l.w - 1) (omega (arith, l.invariant.0))) },
-      seat_in s.args.runs.now s.args.n s.args.m s.requires l.w o l.r l.invariant.5 (l.left / l.w) l.left s.args.k l.invariant.4 refl
+      record { few = l.invariant.0; within = λ h. mod-lt l.left o; some = λ h. omega (arith, b.0, c.requires.small (l.w - 1) (omega (arith, l.invariant.0))) },
+      seat_in c.args.runs.now c.args.n c.args.m c.requires l.w o l.r l.invariant.5 (l.left / l.w) l.left c.args.k l.invariant.4 refl
           (omega (arith, b.0, l.invariant.1 o)),
     )
 
 add_r : tie.Need-overflow_add-r invariant-loop decreases-loop
 add_r c =
-    let s = c.before.before.before.before.before.before in
-    let l = c.before.before.before.loop-w in
+    let l = c.loop-w in
     let o : 0 < l.w = omega arith in
-    let q = get_or s.args.runs.now (l.w - 1) 0 / 6400000 in
-    omega (arith, s.requires.small (l.w - 1) (omega (arith, l.invariant.0)), l.invariant.1 o)
+    let q = get_or c.args.runs.now (l.w - 1) 0 / 6400000 in
+    omega (arith, c.requires.small (l.w - 1) (omega (arith, l.invariant.0)), l.invariant.1 o)
 
 loop-less : tie.Need-loop-w-smaller invariant-loop decreases-loop
 loop-less c =
-    let s = c.before.before.before.before.before.before.before in
-    let l = c.before.before.before.before.loop-w in
+    let l = c.loop-w in
     let o : 0 < l.w = omega arith in
-    let q = get_or s.args.runs.now (l.w - 1) 0 / 6400000 in
-    omega (arith, block_some s.args.runs.now s.args.n s.args.m s.requires l.w l.invariant.0 o (q - l.r) (omega (arith, l.invariant.1 o)), c.narrow-w-in-loop-w.ensures.few)
+    let q = get_or c.args.runs.now (l.w - 1) 0 / 6400000 in
+    omega (arith, block_some c.args.runs.now c.args.n c.args.m c.requires l.w l.invariant.0 o (q - l.r) (omega (arith, l.invariant.1 o)), c.narrow-w-in-loop-w.ensures.few)
 
 loop-again : tie.Need-loop-w-preserved invariant-loop decreases-loop
 loop-again c =
-    let s = c.before.before.before.before.before.before.before in
-    let l = c.before.before.before.before.loop-w in
+    let l = c.loop-w in
     let o : 0 < l.w = omega arith in
-    let q = get_or s.args.runs.now (l.w - 1) 0 / 6400000 in
+    let q = get_or c.args.runs.now (l.w - 1) 0 / 6400000 in
     let f = c.narrow-w-in-loop-w in (
       omega (arith, f.ensures.few, l.invariant.0),
       f.ensures.some,
-      l.invariant.2 ∙ block_over s.args.runs.now s.args.n s.args.m s.requires l.w l.invariant.0 o (q - l.r) l.r f.result l.left (omega (arith, l.invariant.1 o)) (omega (arith, l.invariant.1 o)) (omega arith) f.ensures,
+      l.invariant.2 ∙ block_over c.args.runs.now c.args.n c.args.m c.requires l.w l.invariant.0 o (q - l.r) l.r f.result l.left (omega (arith, l.invariant.1 o)) (omega (arith, l.invariant.1 o)) (omega arith) f.ensures,
       omega (arith, l.invariant.3),
-      omega (arith, l.invariant.4, front_block s.args.runs.now s.args.n s.args.m s.requires l.w o l.r l.invariant.5 (q - l.r) (omega (arith, l.invariant.1 o))),
-      narrowed_on s.args.runs.now s.args.m l.r l.w (l.r + (q - l.r)) f.result l.invariant.5 f.ensures (omega arith),
-      omega (arith, l.invariant.1 o, s.requires.small (l.w - 1) (omega (arith, l.invariant.0))),
+      omega (arith, l.invariant.4, front_block c.args.runs.now c.args.n c.args.m c.requires l.w o l.r l.invariant.5 (q - l.r) (omega (arith, l.invariant.1 o))),
+      narrowed_on c.args.runs.now c.args.m l.r l.w (l.r + (q - l.r)) f.result l.invariant.5 f.ensures (omega arith),
+      omega (arith, l.invariant.1 o, c.requires.small (l.w - 1) (omega (arith, l.invariant.0))),
     )
 
 narrow-requires-2 : tie.Need-narrow-w-requires-in-loop-w invariant-loop decreases-loop
 narrow-requires-2 c κs =
-    let s = c.before.before.before.before.before.before in
-    let l = c.before.before.before.loop-w in
-    falling_less s.args.runs.now s.args.m l.w s.requires.falling l.invariant.0
+    let l = c.loop-w in
+    falling_less c.args.runs.now c.args.m l.w c.requires.falling l.invariant.0
 
 returns-2 : tie.Need-returns invariant-loop decreases-loop
 unfolding dealt_from
 returns-2 c =
-    let l = c.before.loop-w in (
+    let l = c.loop-w in (
       l.invariant.2,
       record { few = l.invariant.0; within = λ h. absurd (omega arith); some = λ h. absurd (omega arith) },
       record { place = l.invariant.4; narrowed = l.invariant.5; most = l.invariant.6 },

@@ -7,56 +7,46 @@ use Rattle.inturn.proofs.step.Tie as tie
 
 add-t14 : tie.Need-overflow_add-next
 add-t14 c =
-    let s = c.before.before in
-    omega (arith, small_there s.args.runs.now s.args.n s.args.m s.args.d s.requires (omega arith), s.requires.ready.few)
+    omega (arith, small_there c.args.runs.now c.args.n c.args.m c.args.d c.requires (omega arith), c.requires.ready.few)
 
 add-t14-2 : tie.Need-overflow_add-result
 add-t14-2 c =
-    let s = c.before.before in
-    omega (arith, small_there s.args.runs.now s.args.n s.args.m s.args.d s.requires (omega arith), s.requires.ready.few)
+    omega (arith, small_there c.args.runs.now c.args.n c.args.m c.args.d c.requires (omega arith), c.requires.ready.few)
 
 mul-t15 : tie.Need-offset_bounds-runs-m
 mul-t15 c =
-    let s = c.before.before in
-    omega (arith, small_there s.args.runs.now s.args.n s.args.m s.args.d s.requires (omega arith), s.requires.ready.few)
+    omega (arith, small_there c.args.runs.now c.args.n c.args.m c.args.d c.requires (omega arith), c.requires.ready.few)
 
 shared-slice-read-t17 : tie.Need-bounds-runs-m
 shared-slice-read-t17 c =
-    let s = c.before.before.before in
-    omega (arith, small_there s.args.runs.now s.args.n s.args.m s.args.d s.requires (omega arith), s.requires.ready.held)
+    omega (arith, small_there c.args.runs.now c.args.n c.args.m c.args.d c.requires (omega arith), c.requires.ready.held)
 
 returns : tie.Need-returns-then-w-eq0
 returns c =
-    let s = c.before.before.before in
-    step_to_small s.args.runs.now s.args.n s.args.m s.args.d s.requires (omega arith)
+    step_to_small c.args.runs.now c.args.n c.args.m c.args.d c.requires (omega arith)
 
 mul-word : tie.Need-offset_bounds-runs-at
 mul-word c =
-    let s = c.before.before in
-    omega (arith, s.requires.seated.within (omega arith), s.requires.seated.few, s.requires.ready.fulls, s.requires.ready.few)
+    omega (arith, c.requires.seated.within (omega arith), c.requires.seated.few, c.requires.ready.fulls, c.requires.ready.few)
 
 shared-slice-read-word : tie.Need-bounds-runs-at
 shared-slice-read-word c =
-    let s = c.before.before.before in
-    omega (arith, s.requires.seated.within (omega arith), s.requires.seated.few, s.requires.ready.fulls, s.requires.ready.held)
+    omega (arith, c.requires.seated.within (omega arith), c.requires.seated.few, c.requires.ready.fulls, c.requires.ready.held)
 
 add-word : tie.Need-overflow_add-word
 add-word c = omega arith
 
 add-if2 : tie.Need-overflow_add-at
 add-if2 c =
-    let s = c.before.before.before in
-    omega (arith, s.requires.seated.within (omega arith), s.requires.seated.few, s.requires.ready.fulls, s.requires.ready.few)
+    omega (arith, c.requires.seated.within (omega arith), c.requires.seated.few, c.requires.ready.fulls, c.requires.ready.few)
 
 add-t22 : tie.Need-overflow_add-next-then-at-w
 add-t22 c =
-    let s = c.before.before.before.before in
-    omega (arith, s.requires.seated.within (omega arith), s.requires.seated.few, s.requires.ready.fulls, s.requires.ready.few)
+    omega (arith, c.requires.seated.within (omega arith), c.requires.seated.few, c.requires.ready.fulls, c.requires.ready.few)
 
 returns-2 : tie.Need-returns-then-at-w
 returns-2 c =
-    let s = c.before.before.before.before in
-    step_within s.args.runs.now s.args.n s.args.m s.args.d s.requires (omega arith)
+    step_within c.args.runs.now c.args.n c.args.m c.args.d c.requires (omega arith)
 
 add-narrow : tie.Need-overflow_add-r
 add-narrow c =
@@ -70,13 +60,11 @@ narrow-requires c κs =
 
 add-t21 : tie.Need-overflow_add-next-2
 add-t21 c =
-    let s = c.before.before.before.before.before in
-    omega (arith, s.requires.seated.some (omega arith))
+    omega (arith, c.requires.seated.some (omega arith))
 
 returns-3 : tie.Need-returns
 returns-3 c =
-    let s = c.before.before.before.before.before in
-    step_over s.args.runs.now s.args.n s.args.m s.args.d s.requires c.narrow-v.result (omega arith) (omega arith) c.narrow-v.ensures
+    step_over c.args.runs.now c.args.n c.args.m c.args.d c.requires c.narrow-v.result (omega arith) (omega arith) c.narrow-v.ensures
 
 pub step_spec : {M : Type 1} → statement M
 step_spec =

@@ -20,20 +20,19 @@ unfolding units_in
 loop-holds c = search rules
 
 add-c : tie.Need-overflow_add-c invariant-loop decreases-loop
-add-c c = omega (arith, c.shared_slice_known-1.given c.before.before.loop-j.j)
+add-c c = omega (arith, c.shared_slice_known-1.given c.loop-j.j)
 
 loop-again : tie.Need-loop-j-preserved invariant-loop decreases-loop
 loop-again c =
-    let a = c.before.before.before.before.args in
-    let l = c.before.before.before.loop-j in
+    let a = c.args in
+    let l = c.loop-j in
     (search rules, omega (arith, l.invariant.1, number_more a.runs.now l.j (search rules)))
 
 returns-2 : tie.Need-returns invariant-loop decreases-loop
 returns-2 c =
-    let s = c.before.before in
-    let l = c.before.loop-j in
-    let e : l.j ≡ s.args.n = omega arith in
-    absurd (omega (arith, s.requires.there, l.invariant.1, ap (λ j. length (units_in s.args.runs.now j)) e))
+    let l = c.loop-j in
+    let e : l.j ≡ c.args.n = omega arith in
+    absurd (omega (arith, c.requires.there, l.invariant.1, ap (λ j. length (units_in c.args.runs.now j)) e))
 
 pub find_spec : {M : Type 1} → statement M
 find_spec =

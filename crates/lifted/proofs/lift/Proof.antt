@@ -12,24 +12,22 @@ returns c = record { few = omega arith; units = lift_same _ _ _ (search rules); 
 
 put-in-requires : tie.Need-put_in-requires
 put-in-requires c κs =
-    let s = c.before.before.before.before.before.before.before in
-    let o = c.before.before.before.take_out-word in
-    let us = units_in s.args.runs.now s.args.n in
+    let o = c.take_out-word in
+    let us = units_in c.args.runs.now c.args.n in
     record {
-      held = omega (arith, o.auto.runs, s.requires.held);
-      there = omega (arith, s.requires.back, s.requires.there, out_length us (units_in o.new.runs s.args.n) s.args.old s.requires.there o.ensures.rest);
+      held = omega (arith, o.auto.runs, c.requires.held);
+      there = omega (arith, c.requires.back, c.requires.there, out_length us (units_in o.new.runs c.args.n) c.args.old c.requires.there o.ensures.rest);
     }
 
 returns-2 : tie.Need-returns
 returns-2 c =
-    let s = c.before.before.before.before.before.before.before.before.before.before in
-    let o = c.before.before.before.before.before.before.take_out-word in
-    let p = c.before.before.put_in in
-    let n = s.args.n in
+    let o = c.take_out-word in
+    let p = c.put_in in
+    let n = c.args.n in
     record {
       few = omega arith;
-      units = out_and_in (units_in s.args.runs.now n) (units_in o.new.runs n) (units_of_run (part_of o.result)) (units_in p.new.runs (n + 2))
-          s.args.old s.args.new s.requires.back s.requires.there o.ensures.rest o.ensures.unit p.ensures.units;
+      units = out_and_in (units_in c.args.runs.now n) (units_in o.new.runs n) (units_of_run (part_of o.result)) (units_in p.new.runs (n + 2))
+          c.args.old c.args.new c.requires.back c.requires.there o.ensures.rest o.ensures.unit p.ensures.units;
       plain = λ ps. p.ensures.plain o.ensures.one (o.ensures.plain ps);
     }
 

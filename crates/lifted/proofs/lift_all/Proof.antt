@@ -27,10 +27,9 @@ loop-holds c = (refl, omega arith, omega arith, refl, c.requires.places, (λ ps.
 
 lift-requires : tie.Need-lift-r-requires invariant-loop decreases-loop
 lift-requires c κs =
-    let s = c in
     let l = c.loop-left in
-    let m = next_among s.args.words.now l.i l.left (units_in l.runs l.r) (omega arith) l.invariant.4 in
-    record { held = omega (arith, s.requires.held, s.requires.few, l.invariant.0); back = m.back; there = m.there }
+    let m = next_among c.args.words.now l.i l.left (units_in l.runs l.r) (omega arith) l.invariant.4 in
+    record { held = omega (arith, c.requires.held, c.requires.few, l.invariant.0); back = m.back; there = m.there }
 
 loop-again : tie.Need-loop-left-preserved invariant-loop decreases-loop
 loop-again c =

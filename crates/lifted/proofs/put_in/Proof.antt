@@ -18,20 +18,18 @@ shift-requires c κs = (omega arith, simp length-set (omega (arith, c.requires.h
 
 shift-requires-2 : tie.Need-shift-requires-2
 shift-requires-2 c κs =
-    let s = c in
-    (omega arith, omega (arith, simp length-set at c.shift.auto.keys, s.requires.held))
+    (omega arith, omega (arith, simp length-set at c.shift.auto.keys, c.requires.held))
 
 same_length : tie.Need-shape_of-runs
 same_length c = c.shift-2.auto.keys ∙ simp length-set at c.shift.auto.keys
 
 returns : tie.Need-returns
 returns c =
-    let s = c in
     let f = c.find-s in
     let h = c.shift in
     let t = c.shift-2 in
-    put s.args.runs.now s.args.n f.result.run f.result.passed s.args.k (omega (arith, s.requires.held)) f.ensures.below
-    f.ensures.within f.ensures.place s.args.word _ _ h.new.keys t.new.keys (omega (arith, s.requires.held)) refl refl
+    put c.args.runs.now c.args.n f.result.run f.result.passed c.args.k (omega (arith, c.requires.held)) f.ensures.below
+    f.ensures.within f.ensures.place c.args.word _ _ h.new.keys t.new.keys (omega (arith, c.requires.held)) refl refl
     h.ensures t.ensures
 
 pub put_in_spec : {M : Type 1} → statement M

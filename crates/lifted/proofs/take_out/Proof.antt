@@ -7,9 +7,8 @@ use Rattle.lifted.proofs.take_out.Tie as tie
 
 returns : tie.Need-returns
 returns c =
-    let s = c in
     let f = c.find-s in
-    taken s.args.runs.now s.args.n f.result.run f.result.passed s.args.k s.requires.held f.ensures.below
+    taken c.args.runs.now c.args.n f.result.run f.result.passed c.args.k c.requires.held f.ensures.below
     f.ensures.within f.ensures.place c.piece-word.result _ c.piece-word.ensures refl
 
 pub take_out_spec : {M : Type 1} → statement M

@@ -25,8 +25,8 @@ loop-holds c = (search rules, refl, (λ j h. refl), refl)
 
 loop-again : tie.Need-loop-i-preserved invariant-loop decreases-loop
 loop-again c =
-    let a = c.before.before.before.args in
-    let l = c.before.before.loop-i in
+    let a = c.args in
+    let l = c.loop-i in
     let k = get_or l.keys l.i 0 in (
       search rules,
       simp length-set l.invariant.1,
@@ -37,8 +37,8 @@ loop-again c =
 
 returns : tie.Need-returns invariant-loop decreases-loop
 returns c =
-    let a = c.before.before.args in
-    let l = c.before.loop-i in
+    let a = c.args in
+    let l = c.loop-i in
     let e : l.i ≡ a.n = omega arith in
     rw e at l.invariant.3 ∙ full_keys (take a.n a.keys.now)
 

@@ -12,16 +12,14 @@ use Rattle.ordering.proofs.order.Tie as tie
 
 rank-requires-2 : tie.Need-rank-m-requires
 rank-requires-2 c κs =
-    let b = c in
-    let f = b.fulls in
-    let r = b.rank-n in
-    let s = b in
-    let rs = b.rests.new.out in
-    let n : 64 ≤ length f.new.keys - r.result = omega (arith, f.auto.keys, r.auto.keys, r.ensures.few, s.requires) in (
+    let f = c.fulls in
+    let r = c.rank-n in
+    let rs = c.rests.new.out in
+    let n : 64 ≤ length f.new.keys - r.result = omega (arith, f.auto.keys, r.auto.keys, r.ensures.few, c.requires) in (
       record {
-        accounts = omega (arith, b.rests.auto.out, s.requires, ap length b.rests.ensures, length-map s.args.dues.now small_lots);
+        accounts = omega (arith, c.rests.auto.out, c.requires, ap length c.rests.ensures, length-map c.args.dues.now small_lots);
         held = simp (length-take, length-drop) (omega arith);
-        small = rest_small s.args.dues.now rs b.rests.ensures;
+        small = rest_small c.args.dues.now rs c.rests.ensures;
       },
       omega arith,
     )
@@ -32,11 +30,10 @@ returns c =
     let f = c.fulls in
     let rs = c.rests in
     let s = c.rank-m in
-    let a = c in
-    let n : r.result ≤ length f.new.keys = omega (arith, f.auto.keys, r.auto.keys, r.ensures.few, a.requires) in
-    let m : s.result ≤ length s.new.keys = omega (arith, s.auto.keys, s.ensures.few, simp (length-take, length-drop) at s.auto.keys, f.auto.keys, r.auto.keys, r.ensures.few, a.requires) in
-    let o = ordered a.args.dues.now rs.new.out r.new.keys f.new.keys s.new.keys r.result s.result (length f.new.keys - r.result) n m r.ensures.order f.ensures rs.ensures s.ensures.order in
-    (search rules, o, ordered_only a.args.dues.now _ _ o)
+    let n : r.result ≤ length f.new.keys = omega (arith, f.auto.keys, r.auto.keys, r.ensures.few, c.requires) in
+    let m : s.result ≤ length s.new.keys = omega (arith, s.auto.keys, s.ensures.few, simp (length-take, length-drop) at s.auto.keys, f.auto.keys, r.auto.keys, r.ensures.few, c.requires) in
+    let o = ordered c.args.dues.now rs.new.out r.new.keys f.new.keys s.new.keys r.result s.result (length f.new.keys - r.result) n m r.ensures.order f.ensures rs.ensures s.ensures.order in
+    (search rules, o, ordered_only c.args.dues.now _ _ o)
 
 pub order_spec : {M : Type 1} → statement M
 order_spec =

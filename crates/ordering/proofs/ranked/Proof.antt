@@ -10,18 +10,16 @@ use Rattle.ordering.proofs.ranked.Tie as tie
 
 order-requires : tie.Need-order-requires
 order-requires c κs =
-    let s = c in
     let d = c.dues_of in
-    can_rank s.args.nets.now s.args.i d.new.dues _
-    (d.ensures ∙ ap (map due_of) (row_part s.args.nets.now s.args.i)) s.requires
+    can_rank c.args.nets.now c.args.i d.new.dues _
+    (d.ensures ∙ ap (map due_of) (row_part c.args.nets.now c.args.i)) c.requires
 
 returns : tie.Need-returns
 returns c =
-    let s = c in
     let d = c.dues_of in
     let o = c.order in
-    ranked_nets s.args.nets.now s.args.i d.new.dues o.new.runs o.result
-    (d.ensures ∙ ap (map due_of) (row_part s.args.nets.now s.args.i)) o.ensures.0 o.ensures.1
+    ranked_nets c.args.nets.now c.args.i d.new.dues o.new.runs o.result
+    (d.ensures ∙ ap (map due_of) (row_part c.args.nets.now c.args.i)) o.ensures.0 o.ensures.1
 
 pub ranked_spec : {M : Type 1} → statement M
 ranked_spec =

@@ -19,14 +19,14 @@ decreases-loop lots out₀ i₀ out i = length lots - i
 
 loop-again : tie.Need-loop-i-preserved invariant-loop decreases-loop
 loop-again c =
-    let a = c.before.before.before.args in
-    let l = c.before.before.loop-i in
+    let a = c.args in
+    let l = c.loop-i in
     (search rules, simp length-set l.invariant.1, fill_more small_lots a.lots.now l.out l.i (omega arith) (omega arith) l.invariant.2)
 
 returns : tie.Need-returns invariant-loop decreases-loop
 returns c =
-    let a = c.before.before.args in
-    let l = c.before.loop-i in
+    let a = c.args in
+    let l = c.loop-i in
     let e : length l.out ≤ l.i = omega arith in
     let f : length a.lots.now ≤ l.i = omega arith in
     rw (take_all l.i l.out e, take_all l.i a.lots.now f) at l.invariant.2

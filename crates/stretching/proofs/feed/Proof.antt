@@ -16,23 +16,20 @@ decreases-loop runs x y round rounds out₀ c at₀ j₀ k₀ out at j k = y - j
 
 loop-holds : tie.Need-loop-j-init invariant-loop decreases-loop
 loop-holds c =
-    let s = c in
-    feed_starts s.args.runs.now s.args.x s.args.y s.args.round s.args.rounds s.args.out.now s.args.c s.args.at.now s.requires
+    feed_starts c.args.runs.now c.args.x c.args.y c.args.round c.args.rounds c.args.out.now c.args.c c.args.at.now c.requires
 
 add-requires : tie.Need-add-k-requires invariant-loop decreases-loop
 add-requires c κs =
-    let s = c in
     let l = c.loop-j in
-    can_add s.args.runs.now s.args.x s.args.y s.args.round s.args.rounds s.args.out.now s.args.c s.args.at.now s.requires
+    can_add c.args.runs.now c.args.x c.args.y c.args.round c.args.rounds c.args.out.now c.args.c c.args.at.now c.requires
     l.out l.at l.j l.k (omega arith) l.invariant c.share.result c.share.ensures
 
 loop-again : tie.Need-loop-j-preserved invariant-loop decreases-loop
 loop-again c =
-    let s = c in
     let l = c.loop-j in
     let h = c.share in
     let a = c.add-k in
-    feed_next s.args.runs.now s.args.x s.args.y s.args.round s.args.rounds s.args.out.now s.args.c s.args.at.now s.requires
+    feed_next c.args.runs.now c.args.x c.args.y c.args.round c.args.rounds c.args.out.now c.args.c c.args.at.now c.requires
     l.out l.at l.j l.k (omega arith) l.invariant h.result h.ensures a.new.out a.new.at a.result a.auto.out a.ensures
 
 same_length : tie.Need-shape_of-out invariant-loop decreases-loop
@@ -43,9 +40,8 @@ same-length-2 c = c.loop-j.invariant.index.accounts ∙ sym c.requires.room.inde
 
 returns : tie.Need-returns invariant-loop decreases-loop
 returns c =
-    let s = c in
     let l = c.loop-j in
-    feed_ends s.args.runs.now s.args.x s.args.y s.args.round s.args.rounds s.args.out.now s.args.c s.args.at.now s.requires l.out l.at l.j l.k (omega arith) l.invariant
+    feed_ends c.args.runs.now c.args.x c.args.y c.args.round c.args.rounds c.args.out.now c.args.c c.args.at.now c.requires l.out l.at l.j l.k (omega arith) l.invariant
 
 pub feed_spec : {M : Type 1} → statement M
 feed_spec =

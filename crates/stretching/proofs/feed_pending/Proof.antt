@@ -6,21 +6,18 @@ use Rattle.stretching.proofs.feed_pending.Tie as tie
 
 feed-span-requires : tie.Need-feed_span-r-requires
 feed-span-requires c κs =
-    let s = c in
-    pending_span s.args.runs.now s.args.n s.args.m s.args.out.now s.args.c s.args.at.now s.args.gaps.now s.args.p s.requires
+    pending_span c.args.runs.now c.args.n c.args.m c.args.out.now c.args.c c.args.at.now c.args.gaps.now c.args.p c.requires
 
 take-all-requires : tie.Need-take_all-requires
 take-all-requires c κs =
-    let s = c in
     let f = c.feed_span-r in
-    pending_take s.args.runs.now s.args.n s.args.m s.args.out.now s.args.c s.args.at.now s.args.gaps.now s.args.p s.requires f.new.out f.new.at f.result f.auto.out f.ensures
+    pending_take c.args.runs.now c.args.n c.args.m c.args.out.now c.args.c c.args.at.now c.args.gaps.now c.args.p c.requires f.new.out f.new.at f.result f.auto.out f.ensures
 
 returns : tie.Need-returns
 returns c =
-    let s = c in
     let f = c.feed_span-r in
     let t = c.take_all in
-    pending_fed s.args.runs.now s.args.n s.args.m s.args.out.now s.args.c s.args.at.now s.args.gaps.now s.args.p s.requires f.new.out f.new.at f.result f.auto.out f.ensures t.new.out t.ensures
+    pending_fed c.args.runs.now c.args.n c.args.m c.args.out.now c.args.c c.args.at.now c.args.gaps.now c.args.p c.requires f.new.out f.new.at f.result f.auto.out f.ensures t.new.out t.ensures
 
 pub feed_pending_spec : {M : Type 1} → statement M
 feed_pending_spec =

@@ -8,16 +8,14 @@ use Rattle.stretching.proofs.feed_span.Tie as tie
 
 feed-requires : tie.Need-feed-requires
 feed-requires c κs =
-    let s = c in
     let d = c.seat-d in
-    feed_small s.args.runs.now s.args.n s.args.m s.args.base s.args.len s.args.out.now s.args.c s.args.at.now s.requires d.result d.ensures.2 (omega arith)
+    feed_small c.args.runs.now c.args.n c.args.m c.args.base c.args.len c.args.out.now c.args.c c.args.at.now c.requires d.result d.ensures.2 (omega arith)
 
 returns : tie.Need-returns-then-w-eq0
 returns c =
-    let s = c in
     let d = c.seat-d in
     let f = c.feed in
-    fed_small s.args.runs.now s.args.n s.args.m s.args.base s.args.len s.args.out.now s.args.c s.args.at.now s.requires d.result d.ensures.2 (omega arith)
+    fed_small c.args.runs.now c.args.n c.args.m c.args.base c.args.len c.args.out.now c.args.c c.args.at.now c.requires d.result d.ensures.2 (omega arith)
     f.new.out f.new.at f.result f.ensures
 
 sub-if2 : tie.Need-overflow_sub-w
@@ -25,97 +23,88 @@ sub-if2 c = omega (arith, c.seat-d.ensures.1.within (omega arith))
 
 feed-requires-2 : tie.Need-feed-requires-then-x-w
 feed-requires-2 c κs =
-    let s = c in
     let d = c.seat-d in
-    feed_part s.args.runs.now s.args.n s.args.m s.args.base s.args.len s.args.out.now s.args.c s.args.at.now s.requires d.result d.ensures.2 (omega arith)
+    feed_part c.args.runs.now c.args.n c.args.m c.args.base c.args.len c.args.out.now c.args.c c.args.at.now c.requires d.result d.ensures.2 (omega arith)
     (omega (arith, d.ensures.1.within (omega arith)))
 
 returns-2 : tie.Need-returns-then-x-w
 returns-2 c =
-    let s = c in
     let d = c.seat-d in
     let f = c.feed-then-x-w in
-    fed_part s.args.runs.now s.args.n s.args.m s.args.base s.args.len s.args.out.now s.args.c s.args.at.now s.requires d.result d.ensures.2 (omega arith)
+    fed_part c.args.runs.now c.args.n c.args.m c.args.base c.args.len c.args.out.now c.args.c c.args.at.now c.requires d.result d.ensures.2 (omega arith)
     (omega (arith, d.ensures.1.within (omega arith))) f.new.out f.new.at f.result f.ensures
 
 feed-requires-3 : tie.Need-feed-a-requires
 feed-requires-3 c κs =
-    let s = c in
     let d = c.seat-d in
     let o : 0 < d.result.wide = omega (arith, c.if-w-eq0.false) in
     let h = c.if-x-w.false in
     let g = c.seat-g in
-    feed_rest s.args.runs.now s.args.n s.args.m s.args.base s.args.len s.args.out.now s.args.c s.args.at.now s.requires d.result d.ensures.2
+    feed_rest c.args.runs.now c.args.n c.args.m c.args.base c.args.len c.args.out.now c.args.c c.args.at.now c.requires d.result d.ensures.2
     g.result g.ensures.2 g.ensures.1.within (d.ensures.1.within o) (omega (arith, d.ensures.1.within o, h))
 
 sub-feed : tie.Need-overflow_sub-q
 sub-feed c =
-    let s = c in
     let d = c.seat-d in
     let o : 0 < d.result.wide = omega (arith, c.if-w-eq0.false) in
     let h = c.if-x-w.false in
     let g = c.seat-g in
     omega (
       arith,
-      next_round s.args.runs.now s.args.n s.args.m s.args.base s.args.len s.args.out.now s.args.c s.args.at.now s.requires d.result d.ensures.2
+      next_round c.args.runs.now c.args.n c.args.m c.args.base c.args.len c.args.out.now c.args.c c.args.at.now c.requires d.result d.ensures.2
           g.result g.ensures.2 g.ensures.1.within (d.ensures.1.within o) (omega (arith, d.ensures.1.within o, h)),
     )
 
 sub-feed-2 : tie.Need-overflow_sub-q-2
 sub-feed-2 c =
-    let s = c.before.before.before.before.before.before.before.before.before.before.before.before.before.before in
     let d = c.seat-d in
     let o : 0 < d.result.wide = omega (arith, c.if-w-eq0.false) in
     let h = c.if-x-w.false in
     let g = c.seat-g in
     omega (
       arith,
-      next_round s.args.runs.now s.args.n s.args.m s.args.base s.args.len s.args.out.now s.args.c s.args.at.now s.requires d.result d.ensures.2
+      next_round c.args.runs.now c.args.n c.args.m c.args.base c.args.len c.args.out.now c.args.c c.args.at.now c.requires d.result d.ensures.2
           g.result g.ensures.2 g.ensures.1.within (d.ensures.1.within o) (omega (arith, d.ensures.1.within o, h)),
     )
 
 feed-requires-4 : tie.Need-feed-b-requires
 feed-requires-4 c κs =
-    let s = c in
     let d = c.seat-d in
     let o : 0 < d.result.wide = omega (arith, c.if-w-eq0.false) in
     let h = c.if-x-w.false in
     let g = c.seat-g in
     let a = c.feed-a in
-    feed_whole s.args.runs.now s.args.n s.args.m s.args.base s.args.len s.args.out.now s.args.c s.args.at.now s.requires d.result d.ensures.2
+    feed_whole c.args.runs.now c.args.n c.args.m c.args.base c.args.len c.args.out.now c.args.c c.args.at.now c.requires d.result d.ensures.2
     g.result g.ensures.2 g.ensures.1.within (d.ensures.1.within o) (omega (arith, d.ensures.1.within o, h))
     a.new.out a.new.at a.result a.auto.out a.ensures
 
 add-feed-6 : tie.Need-overflow_add-m-then-g-eq0
 add-feed-6 c =
-    let s = c.before.before.before.before.before.before.before.before.before.before.before.before.before.before.before.before.before.before.before.before.before.before.before in
     let d = c.seat-d in
     let o : 0 < d.result.wide = omega (arith, c.if-w-eq0.false) in
     let h = c.if-x-w.false in
     let g = c.seat-g in
     omega (
       arith,
-      (last_small s.args.runs.now s.args.n s.args.m s.requires.parted s.args.base s.args.len s.requires.there d.result d.ensures.2
+      (last_small c.args.runs.now c.args.n c.args.m c.requires.parted c.args.base c.args.len c.requires.there d.result d.ensures.2
           g.result g.ensures.2 g.ensures.1.within (d.ensures.1.within o) (omega (arith, d.ensures.1.within o, h)) (omega arith)).0,
-      s.requires.parted.ready.few,
+      c.requires.parted.ready.few,
     )
 
 feed-requires-5 : tie.Need-feed-requires-then-g-eq0
 feed-requires-5 c κs =
-    let s = c in
     let d = c.seat-d in
     let o : 0 < d.result.wide = omega (arith, c.if-w-eq0.false) in
     let h = c.if-x-w.false in
     let g = c.seat-g in
     let a = c.feed-a in
     let b = c.feed-b in
-    feed_last_small s.args.runs.now s.args.n s.args.m s.args.base s.args.len s.args.out.now s.args.c s.args.at.now s.requires d.result d.ensures.2
+    feed_last_small c.args.runs.now c.args.n c.args.m c.args.base c.args.len c.args.out.now c.args.c c.args.at.now c.requires d.result d.ensures.2
     g.result g.ensures.2 g.ensures.1.within (d.ensures.1.within o) (omega (arith, d.ensures.1.within o, h))
     a.new.out a.new.at a.result a.auto.out a.ensures b.new.out b.new.at b.result b.auto.out b.ensures (omega arith)
 
 returns-3 : tie.Need-returns-then-g-eq0
 returns-3 c =
-    let s = c in
     let d = c.seat-d in
     let o : 0 < d.result.wide = omega (arith, c.if-w-eq0.false) in
     let h = c.if-x-w.false in
@@ -123,27 +112,25 @@ returns-3 c =
     let a = c.feed-a in
     let b = c.feed-b in
     let f = c.feed-then-g-eq0 in
-    fed_last_small s.args.runs.now s.args.n s.args.m s.args.base s.args.len s.args.out.now s.args.c s.args.at.now s.requires d.result d.ensures.2
+    fed_last_small c.args.runs.now c.args.n c.args.m c.args.base c.args.len c.args.out.now c.args.c c.args.at.now c.requires d.result d.ensures.2
     g.result g.ensures.2 g.ensures.1.within (d.ensures.1.within o) (omega (arith, d.ensures.1.within o, h))
     a.new.out a.new.at a.result a.auto.out a.ensures b.new.out b.new.at b.result b.auto.out b.ensures (omega (arith, c.if-g-eq0.true))
     f.new.out f.new.at f.result f.ensures
 
 feed-requires-6 : tie.Need-feed-requires-2
 feed-requires-6 c κs =
-    let s = c in
     let d = c.seat-d in
     let o : 0 < d.result.wide = omega (arith, c.if-w-eq0.false) in
     let h = c.if-x-w.false in
     let g = c.seat-g in
     let a = c.feed-a in
     let b = c.feed-b in
-    feed_last_part s.args.runs.now s.args.n s.args.m s.args.base s.args.len s.args.out.now s.args.c s.args.at.now s.requires d.result d.ensures.2
+    feed_last_part c.args.runs.now c.args.n c.args.m c.args.base c.args.len c.args.out.now c.args.c c.args.at.now c.requires d.result d.ensures.2
     g.result g.ensures.2 g.ensures.1.within (d.ensures.1.within o) (omega (arith, d.ensures.1.within o, h))
     a.new.out a.new.at a.result a.auto.out a.ensures b.new.out b.new.at b.result b.auto.out b.ensures (omega arith)
 
 returns-4 : tie.Need-returns
 returns-4 c =
-    let s = c in
     let d = c.seat-d in
     let o : 0 < d.result.wide = omega (arith, c.if-w-eq0.false) in
     let h = c.if-x-w.false in
@@ -151,7 +138,7 @@ returns-4 c =
     let a = c.feed-a in
     let b = c.feed-b in
     let f = c.feed-2 in
-    fed_last_part s.args.runs.now s.args.n s.args.m s.args.base s.args.len s.args.out.now s.args.c s.args.at.now s.requires d.result d.ensures.2
+    fed_last_part c.args.runs.now c.args.n c.args.m c.args.base c.args.len c.args.out.now c.args.c c.args.at.now c.requires d.result d.ensures.2
     g.result g.ensures.2 g.ensures.1.within (d.ensures.1.within o) (omega (arith, d.ensures.1.within o, h))
     a.new.out a.new.at a.result a.auto.out a.ensures b.new.out b.new.at b.result b.auto.out b.ensures (omega (arith, c.if-g-eq0.false))
     f.new.out f.new.at f.result f.ensures

@@ -15,8 +15,7 @@ decreases-loop runs n m words k count out₀ at₀ gaps₀ c₀ q₀ p₀ out at
 
 loop-holds : tie.Need-loop-p-init invariant-loop decreases-loop
 loop-holds c =
-    let s = c in
-    waits_starts s.args.runs.now s.args.n s.args.m s.args.words.now s.args.k s.args.count s.args.out.now s.args.at.now s.requires _ refl
+    waits_starts c.args.runs.now c.args.n c.args.m c.args.words.now c.args.k c.args.count c.args.out.now c.args.at.now c.requires _ refl
 
 before-lifts-requires : tie.Need-before_lifts-s-requires invariant-loop decreases-loop
 before-lifts-requires c κs = search rules
@@ -32,65 +31,57 @@ slice-aggregate-pass c = search rules
 
 pass-requires : tie.Need-pass-r-requires invariant-loop decreases-loop
 pass-requires c κs =
-    let s = c in
     let l = c.loop-p in
     let g = c.before_lifts-s in
     let x = c.least-x in
-    can_pass s.args.runs.now s.args.n s.args.m s.args.words.now s.args.k s.args.count s.args.out.now s.args.at.now s.requires l.out l.at l.gaps l.p l.c l.q l.invariant (omega arith) g.result g.ensures x.result x.ensures
+    can_pass c.args.runs.now c.args.n c.args.m c.args.words.now c.args.k c.args.count c.args.out.now c.args.at.now c.requires l.out l.at l.gaps l.p l.c l.q l.invariant (omega arith) g.result g.ensures x.result x.ensures
 
 add-p : tie.Need-overflow_add-p invariant-loop decreases-loop
 add-p c =
-    let s = c in
     let x = c.least-x in
-    omega (arith, x.ensures, s.requires.most)
+    omega (arith, x.ensures, c.requires.most)
 
 loop-less : tie.Need-loop-p-smaller invariant-loop decreases-loop
 loop-less c =
-    let s = c in
     let l = c.loop-p in
     let g = c.before_lifts-s in
     let x = c.least-x in
-    omega (arith, x.ensures, step_on s.args.runs.now s.args.n s.args.m s.args.words.now s.args.k s.args.count s.args.out.now s.args.at.now s.requires l.out l.at l.gaps l.p l.c l.q l.invariant (omega arith) g.result g.ensures x.result x.ensures)
+    omega (arith, x.ensures, step_on c.args.runs.now c.args.n c.args.m c.args.words.now c.args.k c.args.count c.args.out.now c.args.at.now c.requires l.out l.at l.gaps l.p l.c l.q l.invariant (omega arith) g.result g.ensures x.result x.ensures)
 
 loop-again : tie.Need-loop-p-preserved invariant-loop decreases-loop
 loop-again c =
-    let s = c.before.before.before.before.before.before.before.before.before.before.before.before.before.before.before.before.before.before in
     let l = c.loop-p in
     let g = c.before_lifts-s in
     let x = c.least-x in
-    let h : l.p < s.args.count = omega arith in
+    let h : l.p < c.args.count = omega arith in
     let f = c.pass-r in
-    waits_next s.args.runs.now s.args.n s.args.m s.args.words.now s.args.k s.args.count s.args.out.now s.args.at.now s.requires l.out l.at l.gaps l.p l.c l.q l.invariant h g.result g.ensures x.result x.ensures f.new.out f.new.at f.new.gaps f.result f.ensures
+    waits_next c.args.runs.now c.args.n c.args.m c.args.words.now c.args.k c.args.count c.args.out.now c.args.at.now c.requires l.out l.at l.gaps l.p l.c l.q l.invariant h g.result g.ensures x.result x.ensures f.new.out f.new.at f.new.gaps f.result f.ensures
 
 slice-aggregate-feed-pending : tie.Need-slice_bounds-feed_pending-end invariant-loop decreases-loop
 slice-aggregate-feed-pending c = search rules
 
 feed-pending-requires : tie.Need-feed_pending-requires invariant-loop decreases-loop
 feed-pending-requires c κs =
-    let s = c in
     let l = c.loop-p in
-    can_feed s.args.runs.now s.args.n s.args.m s.args.words.now s.args.k s.args.count s.args.out.now s.args.at.now s.requires l.out l.at l.gaps l.p l.c l.q l.invariant
+    can_feed c.args.runs.now c.args.n c.args.m c.args.words.now c.args.k c.args.count c.args.out.now c.args.at.now c.requires l.out l.at l.gaps l.p l.c l.q l.invariant
 
 same_length : tie.Need-shape_of-out invariant-loop decreases-loop
 same_length c =
-    let s = c in
     let l = c.loop-p in
     let f = c.feed_pending in
-    f.auto.out ∙ l.invariant.done.whole ∙ sym s.requires.whole
+    f.auto.out ∙ l.invariant.done.whole ∙ sym c.requires.whole
 
 same-length-2 : tie.Need-shape_of-at invariant-loop decreases-loop
 same-length-2 c =
-    let s = c in
     let l = c.loop-p in
     let f = c.feed_pending in
-    f.auto.at ∙ l.invariant.done.index.accounts ∙ sym s.requires.accounts
+    f.auto.at ∙ l.invariant.done.index.accounts ∙ sym c.requires.accounts
 
 returns : tie.Need-returns invariant-loop decreases-loop
 returns c =
-    let s = c in
     let l = c.loop-p in
     let f = c.feed_pending in
-    waits_ends s.args.runs.now s.args.n s.args.m s.args.words.now s.args.k s.args.count s.args.out.now s.args.at.now s.requires l.out l.at l.gaps l.p l.c l.q l.invariant (omega arith) f.new.out f.new.at f.result f.auto.out f.ensures
+    waits_ends c.args.runs.now c.args.n c.args.m c.args.words.now c.args.k c.args.count c.args.out.now c.args.at.now c.requires l.out l.at l.gaps l.p l.c l.q l.invariant (omega arith) f.new.out f.new.at f.result f.auto.out f.ensures
 
 pub feed_waiting_spec : {M : Type 1} → statement M
 feed_waiting_spec =

@@ -20,22 +20,20 @@ returns-4 c = λ h. absurd (omega (arith, h))
 
 shared-slice-read-a : tie.Need-bounds-runs-j
 shared-slice-read-a c =
-    let s = c.before.before.before.before.before.before.before.before.before.before.before in
-    let d = c.before.before.before.seat-d in
-    let o : 0 < d.result.wide = omega (arith, c.before.if-d-eq0.false) in
-    omega (arith, d.ensures.1.within o, d.ensures.1.few, s.requires.parted.ready.falling.there)
+    let d = c.seat-d in
+    let o : 0 < d.result.wide = omega (arith, c.if-d-eq0.false) in
+    omega (arith, d.ensures.1.within o, d.ensures.1.few, c.requires.parted.ready.falling.there)
 
 returns-5 : tie.Need-returns-then-at-a-eq0
 returns-5 c = λ h. absurd (omega (arith, h))
 
 returns-6 : tie.Need-returns
 returns-6 c =
-    let s = c.before.before.before.before.before.before.before.before.before.before.before.before.before in
-    let d = c.before.before.before.before.before.seat-d in
-    let o : 0 < d.result.wide = omega (arith, c.before.before.before.if-d-eq0.false) in
+    let d = c.seat-d in
+    let o : 0 < d.result.wide = omega (arith, c.if-d-eq0.false) in
     λ h.
-    gap_is s.args.runs.now s.args.n s.args.m s.args.at.now s.args.p s.args.base s.requires
-    (omega (arith, c.before.before.before.before.before.before.before.before.before.before.if-base-eq0.false)) (omega (arith, c.before.before.before.before.before.before.before.before.if-base-p.false)) (omega (arith, c.before.before.before.before.before.before.if-p-ge-MOST_GAPS.false))
+    gap_is c.args.runs.now c.args.n c.args.m c.args.at.now c.args.p c.args.base c.requires
+    (omega (arith, c.if-base-eq0.false)) (omega (arith, c.if-base-p.false)) (omega (arith, c.if-p-ge-MOST_GAPS.false))
     d.result d.ensures.0 d.ensures.1 o (omega (arith, c.if-at-a-eq0.false))
 
 pub gap_spec : {M : Type 1} → statement M

@@ -8,34 +8,29 @@ use Rattle.stretching.proofs.pass.Tie as tie
 
 slice-write-gaps : tie.Need-bounds-gaps-g
 slice-write-gaps c =
-    let s = c in
     let g = c.gap-a in
-    omega (arith, (g.ensures (omega arith)).few, s.requires.ready.waits.held)
+    omega (arith, (g.ensures (omega arith)).few, c.requires.ready.waits.held)
 
 add-t21 : tie.Need-overflow_add-pending
 add-t21 c =
-    let s = c in
     let g = c.gap-a in
-    omega (arith, (g.ensures (omega arith)).next, s.requires.there, s.requires.ready.most)
+    omega (arith, (g.ensures (omega arith)).next, c.requires.there, c.requires.ready.most)
 
 add-t22 : tie.Need-overflow_add-pending-then-a-lt-ACCOUNT_COUNT
 add-t22 c =
-    let s = c in
     let g = c.gap-a in
-    omega (arith, (g.ensures (omega arith)).next, s.requires.there, s.requires.ready.most)
+    omega (arith, (g.ensures (omega arith)).next, c.requires.there, c.requires.ready.most)
 
 returns : tie.Need-returns-then-a-lt-ACCOUNT_COUNT
 returns c =
-    let s = c in
     let g = c.gap-a in
     let l : g.result < 64 = omega arith in
-    λ us w. pass_on s.args.runs.now s.args.n s.args.m s.args.out.now s.args.c s.args.at.now s.args.gaps.now s.args.p s.args.base s.args.len s.requires.there g.result l (g.ensures l) us w
+    λ us w. pass_on c.args.runs.now c.args.n c.args.m c.args.out.now c.args.c c.args.at.now c.args.gaps.now c.args.p c.args.base c.args.len c.requires.there g.result l (g.ensures l) us w
 
 returns-2 : tie.Need-returns
 returns-2 c =
-    let s = c in
     let f = c.feed_pending-count in
-    λ us w. pass_fed s.args.runs.now s.args.n s.args.m s.args.out.now s.args.c s.args.at.now s.args.gaps.now s.args.p s.args.base s.args.len s.requires.there f.new.out f.new.at f.result f.auto.out f.ensures us w
+    λ us w. pass_fed c.args.runs.now c.args.n c.args.m c.args.out.now c.args.c c.args.at.now c.args.gaps.now c.args.p c.args.base c.args.len c.requires.there f.new.out f.new.at f.result f.auto.out f.ensures us w
 
 pub pass_spec : {M : Type 1} → statement M
 pass_spec =

@@ -6,15 +6,14 @@ use Rattle.stretching.proofs.share.Statement.{statement}
 use Rattle.stretching.proofs.share.Tie as tie
 
 returns : tie.Need-returns-then-word-lt-UNIT_WORD
-returns c = let s = c.before in share_small s.args.word s.args.round s.args.rounds (omega arith)
+returns c = let s = c in share_small s.args.word s.args.round s.args.rounds (omega arith)
 
 returns-2 : tie.Need-returns-then-q-round
-returns-2 c = let s = c.before.before in share_none s.args.word s.args.round s.args.rounds (omega arith) (omega arith)
+returns-2 c = let s = c in share_none s.args.word s.args.round s.args.rounds (omega arith) (omega arith)
 
 returns-3 : tie.Need-returns
 returns-3 c =
-    let s = c.before.before.before in
-    share_some s.args.word s.args.round s.args.rounds c.least.result (omega arith) c.least.ensures
+    share_some c.args.word c.args.round c.args.rounds c.least.result (omega arith) c.least.ensures
 
 pub share_spec : {M : Type 1} → statement M
 share_spec =

@@ -9,39 +9,35 @@ use Rattle.stretching.proofs.start.Tie as tie
 
 feed-waiting-requires : tie.Need-feed_waiting-c-requires
 feed-waiting-requires c κs =
-    let s = c in
     let p = c.prepare-p in
     let h = c.handover-h in
-    can_wait s.args.nets.now s.args.lifts.now s.args.i s.requires.order p.new.keys p.result.ranks p.ensures.ranks s.args.d p.new.runs p.result.lifted p.ensures.lifted h.result h.ensures
-    c.number-count.result c.number-count.ensures p.new.runs _ (omega (arith, p.auto.runs, s.requires.whole)) refl (zeros 64)
+    can_wait c.args.nets.now c.args.lifts.now c.args.i c.requires.order p.new.keys p.result.ranks p.ensures.ranks c.args.d p.new.runs p.result.lifted p.ensures.lifted h.result h.ensures
+    c.number-count.result c.number-count.ensures p.new.runs _ (omega (arith, p.auto.runs, c.requires.whole)) refl (zeros 64)
 
 returns : tie.Need-returns-then-c-eq0
 returns c =
-    let s = c in
     let p = c.prepare-p in
     let h = c.handover-h in
     let w = c.feed_waiting-c in
     rw c.stand.ensures
-    (starts_none s.args.nets.now s.args.lifts.now s.args.i s.requires.order p.new.keys p.result.ranks p.ensures.ranks s.args.d p.new.runs p.result.lifted p.ensures.lifted h.result h.ensures
+    (starts_none c.args.nets.now c.args.lifts.now c.args.i c.requires.order p.new.keys p.result.ranks p.ensures.ranks c.args.d p.new.runs p.result.lifted p.ensures.lifted h.result h.ensures
     w.new.out w.result w.ensures (omega arith))
 
 sub-stand : tie.Need-overflow_sub-key
 sub-stand c =
-    let s = c in
     let p = c.prepare-p in
     let h = c.handover-h in
     let w = c.feed_waiting-c in
-    starts_fits s.args.nets.now s.args.lifts.now s.args.i s.requires.order p.new.keys p.result.ranks p.ensures.ranks s.args.d p.new.runs p.result.lifted p.ensures.lifted h.result h.ensures
+    starts_fits c.args.nets.now c.args.lifts.now c.args.i c.requires.order p.new.keys p.result.ranks p.ensures.ranks c.args.d p.new.runs p.result.lifted p.ensures.lifted h.result h.ensures
     w.new.out w.result w.ensures (omega arith)
 
 returns-2 : tie.Need-returns
 returns-2 c =
-    let s = c in
     let p = c.prepare-p in
     let h = c.handover-h in
     let w = c.feed_waiting-c in
     rw c.stand-2.ensures
-    (starts_some s.args.nets.now s.args.lifts.now s.args.i s.requires.order p.new.keys p.result.ranks p.ensures.ranks s.args.d p.new.runs p.result.lifted p.ensures.lifted h.result h.ensures
+    (starts_some c.args.nets.now c.args.lifts.now c.args.i c.requires.order p.new.keys p.result.ranks p.ensures.ranks c.args.d p.new.runs p.result.lifted p.ensures.lifted h.result h.ensures
     w.new.out w.result w.ensures (omega arith))
 
 pub start_spec : {M : Type 1} → statement M

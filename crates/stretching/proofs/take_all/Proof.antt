@@ -14,30 +14,26 @@ decreases-loop out₀ c at gaps n j₀ out j = j
 
 loop-holds : tie.Need-loop-j-init invariant-loop decreases-loop
 loop-holds c =
-    let s = c in
-    taking_starts s.args.out.now s.args.c s.args.at.now s.args.gaps.now s.args.n s.requires
+    taking_starts c.args.out.now c.args.c c.args.at.now c.args.gaps.now c.args.n c.requires
 
 take-off-requires : tie.Need-take_off-requires invariant-loop decreases-loop
 take-off-requires c κs =
-    let s = c in
     let l = c.loop-j in
-    can_take s.args.out.now s.args.c s.args.at.now s.args.gaps.now s.args.n s.requires l.out l.j (l.j - 1) (omega arith) l.invariant
+    can_take c.args.out.now c.args.c c.args.at.now c.args.gaps.now c.args.n c.requires l.out l.j (l.j - 1) (omega arith) l.invariant
 
 loop-again : tie.Need-loop-j-preserved invariant-loop decreases-loop
 loop-again c =
-    let s = c in
     let l = c.loop-j in
     let f = c.take_off in
-    taking_next s.args.out.now s.args.c s.args.at.now s.args.gaps.now s.args.n s.requires l.out l.j (l.j - 1) (omega arith) l.invariant f.new.out f.auto.out f.ensures
+    taking_next c.args.out.now c.args.c c.args.at.now c.args.gaps.now c.args.n c.requires l.out l.j (l.j - 1) (omega arith) l.invariant f.new.out f.auto.out f.ensures
 
 same_length : tie.Need-shape_of-out invariant-loop decreases-loop
 same_length c = c.loop-j.invariant.whole
 
 returns : tie.Need-returns invariant-loop decreases-loop
 returns c =
-    let s = c in
     let l = c.loop-j in
-    taking_ends s.args.out.now s.args.c s.args.at.now s.args.gaps.now s.args.n s.requires l.out l.j (omega arith) l.invariant
+    taking_ends c.args.out.now c.args.c c.args.at.now c.args.gaps.now c.args.n c.requires l.out l.j (omega arith) l.invariant
 
 pub take_all_spec : {M : Type 1} → statement M
 take_all_spec =

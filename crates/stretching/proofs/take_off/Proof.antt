@@ -10,45 +10,39 @@ use Rattle.stretching.proofs.take_off.Tie as tie
 
 mul-out : tie.Need-offset_bounds-out-p
 mul-out c =
-    let s = c.before in
-    let p = get_or s.args.at.now s.args.a 0 in
-    let e : p ≡ suc (p - 1) = omega (arith, s.requires.some) in
-    omega (arith, take_there s.args.out.now s.args.c s.args.at.now s.args.a s.requires (p - 1) e, s.requires.whole)
+    let p = get_or c.args.at.now c.args.a 0 in
+    let e : p ≡ suc (p - 1) = omega (arith, c.requires.some) in
+    omega (arith, take_there c.args.out.now c.args.c c.args.at.now c.args.a c.requires (p - 1) e, c.requires.whole)
 
 slice-read-out : tie.Need-bounds-out-p
 slice-read-out c =
-    let s = c.before.before in
-    let p = get_or s.args.at.now s.args.a 0 in
-    let e : p ≡ suc (p - 1) = omega (arith, s.requires.some) in
-    take_there s.args.out.now s.args.c s.args.at.now s.args.a s.requires (p - 1) e
+    let p = get_or c.args.at.now c.args.a 0 in
+    let e : p ≡ suc (p - 1) = omega (arith, c.requires.some) in
+    take_there c.args.out.now c.args.c c.args.at.now c.args.a c.requires (p - 1) e
 
 sub-out-2 : tie.Need-overflow_sub-out-2
 sub-out-2 c =
-    let s = c.before.before in
-    let p = get_or s.args.at.now s.args.a 0 in
-    let e : p ≡ suc (p - 1) = omega (arith, s.requires.some) in
-    omega (arith, take_full s.args.out.now s.args.c s.args.at.now s.args.a s.requires (p - 1) e)
+    let p = get_or c.args.at.now c.args.a 0 in
+    let e : p ≡ suc (p - 1) = omega (arith, c.requires.some) in
+    omega (arith, take_full c.args.out.now c.args.c c.args.at.now c.args.a c.requires (p - 1) e)
 
 mul-out-2 : tie.Need-offset_bounds-out-p-2
 mul-out-2 c =
-    let s = c.before.before in
-    let p = get_or s.args.at.now s.args.a 0 in
-    let e : p ≡ suc (p - 1) = omega (arith, s.requires.some) in
-    omega (arith, take_there s.args.out.now s.args.c s.args.at.now s.args.a s.requires (p - 1) e, s.requires.whole)
+    let p = get_or c.args.at.now c.args.a 0 in
+    let e : p ≡ suc (p - 1) = omega (arith, c.requires.some) in
+    omega (arith, take_there c.args.out.now c.args.c c.args.at.now c.args.a c.requires (p - 1) e, c.requires.whole)
 
 slice-write-out : tie.Need-bounds-out-p-2
 slice-write-out c =
-    let s = c.before.before in
-    let p = get_or s.args.at.now s.args.a 0 in
-    let e : p ≡ suc (p - 1) = omega (arith, s.requires.some) in
-    take_there s.args.out.now s.args.c s.args.at.now s.args.a s.requires (p - 1) e
+    let p = get_or c.args.at.now c.args.a 0 in
+    let e : p ≡ suc (p - 1) = omega (arith, c.requires.some) in
+    take_there c.args.out.now c.args.c c.args.at.now c.args.a c.requires (p - 1) e
 
 returns : tie.Need-returns
 returns c =
-    let s = c.before.before in
-    let p = get_or s.args.at.now s.args.a 0 in
-    let e : p ≡ suc (p - 1) = omega (arith, s.requires.some) in
-    taken s.args.out.now s.args.c s.args.at.now s.args.a s.requires (p - 1) e
+    let p = get_or c.args.at.now c.args.a 0 in
+    let e : p ≡ suc (p - 1) = omega (arith, c.requires.some) in
+    taken c.args.out.now c.args.c c.args.at.now c.args.a c.requires (p - 1) e
 
 pub take_off_spec : {M : Type 1} → statement M
 take_off_spec =

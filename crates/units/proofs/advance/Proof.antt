@@ -7,31 +7,31 @@ use Rattle.units.proofs.advance.Tie as tie
 
 returns : tie.Need-returns-then-s-eq0
 returns c =
-    let s = c.before.before.next_short-s in
-    let a = c.before.before.before.before.before.args in
+    let s = c.next_short-s in
+    let a = c.args in
     none_short a.runs.now a.n a.missing.now a.c s.result s.ensures c.if-s-eq0.true
 
 returns-2 : tie.Need-returns-then-v-eq0
 returns-2 c =
-    let s = c.before.before.before.before.before.next_short-s in
-    let a = c.before.before.before.before.before.before.before.before.args in
-    let r = c.before.before.next_run-v in
+    let s = c.next_short-s in
+    let a = c.args in
+    let r = c.next_run-v in
     none_run a.runs.now a.n a.missing.now a.c s.result s.ensures r.result r.ensures c.if-v-eq0.true
 
 returns-3 : tie.Need-returns-then-v
 returns-3 c =
-    let s = c.before.before.before.before.before.before.before.before.next_short-s in
-    let a = c.before.before.before.before.before.before.before.before.before.before.before.args in
-    let r = c.before.before.before.before.before.next_run-v in
+    let s = c.next_short-s in
+    let a = c.args in
+    let r = c.next_run-v in
     rw c.overlap.ensures
     (hand_least a.runs.now a.n a.missing.now a.c s.result s.ensures r.result r.ensures _
     (omega (arith, r.ensures.short)) (omega arith) (omega arith))
 
 returns-4 : tie.Need-returns
 returns-4 c =
-    let s = c.before.before.before.before.before.before.before.before.next_short-s in
-    let a = c.before.before.before.before.before.before.before.before.before.before.before.args in
-    let r = c.before.before.before.before.before.next_run-v in
+    let s = c.next_short-s in
+    let a = c.args in
+    let r = c.next_run-v in
     rw c.overlap-2.ensures
     (hand_least a.runs.now a.n a.missing.now a.c s.result s.ensures r.result r.ensures _
     (omega (arith, r.ensures.short)) (omega arith) (omega arith))

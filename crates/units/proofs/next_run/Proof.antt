@@ -24,37 +24,34 @@ loop-holds c = (c.requires.1.to, (λ ss. refl))
 
 returns : tie.Need-returns-then-n-j invariant-loop decreases-loop
 returns c =
-    let s = c.before.before.before in
-    let k = s.args.c in
-    let l = c.before.before.loop-y in
+    let k = c.args.c in
+    let l = c.loop-y in
     let z : l.y ≡ 0 = omega arith in
     record {
       same = λ ss. rw z at (l.invariant.1 (ahead k.from k.short k.account ss));
       none = λ q ss.
-          run_end (ahead k.from k.short k.account ss) s.args.runs.now s.args.n l.j s.requires.0 l.t 0 refl
+          run_end (ahead k.from k.short k.account ss) c.args.runs.now c.args.n l.j c.requires.0 l.t 0 refl
           (omega arith);
       short = refl;
-      range = record { from = s.requires.1.from; to = l.invariant.0; short = s.requires.1.short };
+      range = record { from = c.requires.1.from; to = l.invariant.0; short = c.requires.1.short };
     }
 
 loop-again : tie.Need-loop-y-preserved invariant-loop decreases-loop
 loop-again c =
-    let s = c.before.before.before.before in
-    let l = c.before.before.before.loop-y in (
+    let l = c.loop-y in (
       omega arith,
-      (λ ss. l.invariant.1 ss ∙ run_next ss s.args.runs.now s.args.n l.j s.requires.0 l.t l.y (omega arith) (omega arith)),
+      (λ ss. l.invariant.1 ss ∙ run_next ss c.args.runs.now c.args.n l.j c.requires.0 l.t l.y (omega arith) (omega arith)),
     )
 
 returns-2 : tie.Need-returns invariant-loop decreases-loop
 returns-2 c =
-    let s = c.before.before in
-    let k = s.args.c in
-    let l = c.before.loop-y in
+    let k = c.args.c in
+    let l = c.loop-y in
     record {
       same = λ ss. l.invariant.1 (ahead k.from k.short k.account ss);
       none = λ q ss. absurd (omega arith);
       short = refl;
-      range = record { from = s.requires.1.from; to = l.invariant.0; short = s.requires.1.short };
+      range = record { from = c.requires.1.from; to = l.invariant.0; short = c.requires.1.short };
     }
 
 pub next_run_spec : {M : Type 1} → statement M

@@ -22,36 +22,33 @@ loop-holds c = (c.requires.1.from, c.requires.1.short, (λ vs. refl))
 
 returns : tie.Need-returns-then-a-ge-ACCOUNT_COUNT invariant-loop decreases-loop
 returns c =
-    let s = c.before.before.before in
-    let k = s.args.c in
-    let l = c.before.before.loop-x in
+    let k = c.args.c in
+    let l = c.loop-x in
     let z : l.x ≡ 0 = omega arith in
     record {
       same = λ us. rw z at (l.invariant.2 (behind k.to k.lack k.run us));
       none = λ q us.
-          short_end s.args.missing.now (behind k.to k.lack k.run us) l.f 0 l.a refl
-          (omega (arith, s.requires.0.accounts));
-      range = record { from = l.invariant.0; to = s.requires.1.to; short = omega arith };
+          short_end c.args.missing.now (behind k.to k.lack k.run us) l.f 0 l.a refl
+          (omega (arith, c.requires.0.accounts));
+      range = record { from = l.invariant.0; to = c.requires.1.to; short = omega arith };
     }
 
 loop-again : tie.Need-loop-x-preserved invariant-loop decreases-loop
 loop-again c =
-    let s = c.before.before.before.before in
-    let l = c.before.before.before.loop-x in (
+    let l = c.loop-x in (
       omega arith,
-      s.requires.0.small l.a,
-      (λ vs. l.invariant.2 vs ∙ short_next s.args.missing.now vs l.f l.x l.a (omega arith) (omega arith)),
+      c.requires.0.small l.a,
+      (λ vs. l.invariant.2 vs ∙ short_next c.args.missing.now vs l.f l.x l.a (omega arith) (omega arith)),
     )
 
 returns-2 : tie.Need-returns invariant-loop decreases-loop
 returns-2 c =
-    let s = c.before.before in
-    let k = s.args.c in
-    let l = c.before.loop-x in
+    let k = c.args.c in
+    let l = c.loop-x in
     record {
       same = λ us. l.invariant.2 (behind k.to k.lack k.run us);
       none = λ q us. absurd (omega arith);
-      range = record { from = l.invariant.0; to = s.requires.1.to; short = l.invariant.1 };
+      range = record { from = l.invariant.0; to = c.requires.1.to; short = l.invariant.1 };
     }
 
 pub next_short_spec : {M : Type 1} → statement M

@@ -7,18 +7,16 @@ use Rattle.units.proofs.prepare.Tie as tie
 
 lift-all-requires : tie.Need-lift_all-requires
 lift-all-requires c κs =
-    let s = c in
     let f = c.ranked-n in
-    can_lift_all s.args.nets.now s.args.lifts.now s.args.i f.new.runs f.result s.requires.order f.ensures
-    (omega (arith, s.requires.room, f.auto.runs))
+    can_lift_all c.args.nets.now c.args.lifts.now c.args.i f.new.runs f.result c.requires.order f.ensures
+    (omega (arith, c.requires.room, f.auto.runs))
 
 returns : tie.Need-returns
 returns c =
-    let s = c in
     let f = c.ranked-n in
     let g = c.lift_all in
-    prepared s.args.nets.now s.args.lifts.now s.args.i f.new.runs f.result s.requires.order f.ensures
-    g.new.runs g.result (omega (arith, s.requires.room, f.auto.runs, g.auto.runs)) g.ensures
+    prepared c.args.nets.now c.args.lifts.now c.args.i f.new.runs f.result c.requires.order f.ensures
+    g.new.runs g.result (omega (arith, c.requires.room, f.auto.runs, g.auto.runs)) g.ensures
 
 pub prepare_spec : {M : Type 1} → statement M
 prepare_spec =

@@ -11,34 +11,30 @@ hand-requires c κs = search rules
 
 returns : tie.Need-returns-then-n-j
 returns c =
-    let s = c.before.before.before.before.before.before.before in
-    let f = c.before.before.before.before.hand-w in
+    let f = c.hand-w in
     rw c.stand.ensures
-    (begins_none s.args.runs.now f.new.runs s.args.n s.args.d f.result (omega (arith, f.auto.runs, s.requires.there)) f.ensures
+    (begins_none c.args.runs.now f.new.runs c.args.n c.args.d f.result (omega (arith, f.auto.runs, c.requires.there)) f.ensures
     (omega arith))
 
 gather-requires : tie.Need-gather-requires
 gather-requires c κs =
-    let s = c.before.before.before.before.before.before.before in
-    let f = c.before.before.before.before.hand-w in
-    can_gather s.args.runs.now f.new.runs s.args.n s.args.d f.result f.ensures s.requires.small
+    let f = c.hand-w in
+    can_gather c.args.runs.now f.new.runs c.args.n c.args.d f.result f.ensures c.requires.small
 
 sub-stand : tie.Need-overflow_sub-key
 sub-stand c =
-    let s = c.before.before.before.before.before.before.before.before.before.before.before.before in
-    let f = c.before.before.before.before.before.before.before.before.before.hand-w in
-    let g = c.before.before.before.before.gather in
-    fits_lent s.args.runs.now f.new.runs s.args.n s.args.d f.result f.ensures g.new.runs
-    (omega (arith, f.auto.runs, s.requires.there)) (omega arith) g.auto.runs g.ensures
+    let f = c.hand-w in
+    let g = c.gather in
+    fits_lent c.args.runs.now f.new.runs c.args.n c.args.d f.result f.ensures g.new.runs
+    (omega (arith, f.auto.runs, c.requires.there)) (omega arith) g.auto.runs g.ensures
 
 returns-2 : tie.Need-returns
 returns-2 c =
-    let s = c.before.before.before.before.before.before.before.before.before.before.before.before.before in
-    let f = c.before.before.before.before.before.before.before.before.before.before.hand-w in
-    let g = c.before.before.before.before.before.gather in
+    let f = c.hand-w in
+    let g = c.gather in
     rw c.stand-2.ensures
-    (begins_lent s.args.runs.now f.new.runs s.args.n s.args.d f.result f.ensures g.new.runs
-    (omega (arith, f.auto.runs, s.requires.there)) (omega arith) g.auto.runs g.ensures)
+    (begins_lent c.args.runs.now f.new.runs c.args.n c.args.d f.result f.ensures g.new.runs
+    (omega (arith, f.auto.runs, c.requires.there)) (omega arith) g.auto.runs g.ensures)
 
 pub start_spec : {M : Type 1} → statement M
 start_spec =

@@ -9,7 +9,7 @@ use Rattle.unlifting.proofs.before_lift.Tie as tie
 
 returns : tie.Need-returns-then-s-new
 returns c =
-    let a = c.before.before.before.before.args in
+    let a = c.args in
     record {
       one = omega (arith, c.least-x.ensures);
       fewer = omega (arith, c.least-x.ensures);
@@ -18,7 +18,7 @@ returns c =
 
 returns-2 : tie.Need-returns-then-s-new-2
 returns-2 c =
-    let a = c.before.before.before.before.args in
+    let a = c.args in
     record {
       one = omega arith;
       fewer = omega arith;
@@ -27,16 +27,16 @@ returns-2 c =
 
 returns-3 : tie.Need-returns-then-s-old
 returns-3 c =
-    let a = c.before.before.before.before.before.before.before.before.before.args in
+    let a = c.args in
     record {
-      one = omega (arith, c.before.least-x-then-s-old.ensures);
-      fewer = omega (arith, c.before.least-x-then-s-old.ensures);
-      places = λ t h. back_between a.old a.new (a.s.base + t) (omega arith) (omega (arith, c.before.least-x-then-s-old.ensures)) ∙ omega arith;
+      one = omega (arith, c.least-x-then-s-old.ensures);
+      fewer = omega (arith, c.least-x-then-s-old.ensures);
+      places = λ t h. back_between a.old a.new (a.s.base + t) (omega arith) (omega (arith, c.least-x-then-s-old.ensures)) ∙ omega arith;
     }
 
 returns-4 : tie.Need-returns
 returns-4 c =
-    let a = c.before.before.before.before.before.before.args in
+    let a = c.args in
     record {
       one = omega arith;
       fewer = omega arith;

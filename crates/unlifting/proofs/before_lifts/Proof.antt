@@ -20,14 +20,14 @@ decreases-loop words k s₀ j₀ s j = j
 
 loop-holds : tie.Need-loop-j-init invariant-loop decreases-loop
 loop-holds c =
-    let a = c.before.before.args in
+    let a = c.args in
     let ws = a.words.now in
     (omega arith, omega arith, (λ t h. ap (λ ls. place_of ls (a.k + t)) (places_none (get_or ws 0 0) (drop 2 ws))))
 
 loop-again : tie.Need-loop-j-preserved invariant-loop decreases-loop
 loop-again c =
-    let a = c.before.before.before.before.before.before.before.args in
-    let l = c.before.before.before.before.loop-j in
+    let a = c.args in
+    let l = c.loop-j in
     let f = c.before_lift-s in (
       f.ensures.one,
       omega arith,
@@ -37,7 +37,7 @@ loop-again c =
 
 returns : tie.Need-returns invariant-loop decreases-loop
 returns c =
-    let l = c.before.loop-j in
+    let l = c.loop-j in
     let z : l.j ≡ 0 = omega arith in
     record { one = l.invariant.0; places = rw z at l.invariant.2 }
 
