@@ -1,7 +1,6 @@
 -- Bounds are tested first; where they hold, the rest is.
 use mathlib.Core.Path.{sym, ◌∙◌}
 use borrow.Author.Rules.{rules}
-use borrow.Author.Tests.{not-true, not-false}
 use Rattle.balancing.proofs.RowLaws.{nets_out, nets_in}
 use Rattle.balancing.proofs.nets_sound.Statement.{statement}
 use Rattle.balancing.proofs.nets_sound.Tie as tie

@@ -3,7 +3,6 @@ use mathlib.Core.Path.{◌≡◌, sym, ◌∙◌}
 use mathlib.Core.Bool.{true}
 use native.Mathlib.Omega.{arith}
 use lib.Dec.{leb}
-use borrow.Author.Tests.{not-true, not-false}
 use Rattle.rules.specs.Book.{all}
 use Rattle.sizes.proofs.Answers.{is_2, is_5_length, is_5, is_7_none, is_7_large, is_7_length, is_7, is_0}
 use borrow.Author.Rules.{rules}

@@ -3,7 +3,6 @@ use mathlib.Core.Path.{◌≡◌, sym, ◌∙◌}
 use mathlib.Core.Bool.{◌&&◌}
 use native.Mathlib.Omega.{arith}
 use borrow.Author.Rules.{rules}
-use borrow.Author.Tests.{not-true, not-false}
 use Rattle.rules.specs.declared.Book.{Book}
 use Rattle.rules.specs.Book.{book_of}
 use Rattle.soundness.proofs.ScanLaws.{others, others_as, others_no, others_yes, nets_yes, count_yes}
