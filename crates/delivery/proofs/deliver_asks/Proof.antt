@@ -30,22 +30,11 @@ returns-3 c = simp (sym c.settling.ensures ∙ c.if-not-settling.false, le-leb _
 
 returns-4 : tie.Need-returns-then-not-lots_right
 returns-4 c =
-    simp (
-      sym c.settling.ensures ∙ c.if-not-settling.false,
-      le-leb _ 15 c.if-i-gt-LAST_ISSUE.false,
-      le-leb _ 63 c.if-a-gt-LAST_ACCOUNT.false,
-      sym c.lots_right.ensures ∙ c.if-not-lots_right.true,
-    )
+    simp (sym c.settling.ensures ∙ c.if-not-settling.false, le-leb _ 15 c.if-i-gt-LAST_ISSUE.false, le-leb _ 63 c.if-a-gt-LAST_ACCOUNT.false, sym c.lots_right.ensures ∙ c.if-not-lots_right.true)
 
 returns-5 : tie.Need-returns-then-not-even_in
 returns-5 c =
-    simp (
-      sym c.settling.ensures ∙ c.if-not-settling.false,
-      le-leb _ 15 c.if-i-gt-LAST_ISSUE.false,
-      le-leb _ 63 c.if-a-gt-LAST_ACCOUNT.false,
-      sym c.lots_right.ensures ∙ c.if-not-lots_right.false,
-      sym c.even_in.ensures ∙ c.if-not-even_in.true,
-    )
+    simp (sym c.settling.ensures ∙ c.if-not-settling.false, le-leb _ 15 c.if-i-gt-LAST_ISSUE.false, le-leb _ 63 c.if-a-gt-LAST_ACCOUNT.false, sym c.lots_right.ensures ∙ c.if-not-lots_right.false, sym c.even_in.ensures ∙ c.if-not-even_in.true)
 
 add-if6 : tie.Need-overflow_add-delivered
 add-if6 c =

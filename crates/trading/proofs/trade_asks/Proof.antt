@@ -73,35 +73,30 @@ returns-3 c =
 returns-4 : tie.Need-returns-then-t-gt-LAST_ACCOUNT
 returns-4 c =
     let a = c.args in
-    no5_to a.s.phase a.s.marks a.nets.now a.i a.f a.t a.x (sym c.taking.ensures ∙ c.if-not-taking.false)
-    c.if-i-gt-LAST_ISSUE.false c.if-t-gt-LAST_ACCOUNT.true
+    no5_to a.s.phase a.s.marks a.nets.now a.i a.f a.t a.x (sym c.taking.ensures ∙ c.if-not-taking.false) c.if-i-gt-LAST_ISSUE.false c.if-t-gt-LAST_ACCOUNT.true
 
 returns-5 : tie.Need-returns-then-f-t
 returns-5 c =
     let a = c.args in
-    no6 a.s.phase a.s.marks a.nets.now a.i a.f a.t a.x (sym c.taking.ensures ∙ c.if-not-taking.false)
-    c.if-i-gt-LAST_ISSUE.false c.if-f-gt-LAST_ACCOUNT.false c.if-t-gt-LAST_ACCOUNT.false c.if-f-t.true
+    no6 a.s.phase a.s.marks a.nets.now a.i a.f a.t a.x (sym c.taking.ensures ∙ c.if-not-taking.false) c.if-i-gt-LAST_ISSUE.false c.if-f-gt-LAST_ACCOUNT.false c.if-t-gt-LAST_ACCOUNT.false c.if-f-t.true
 
 returns-6 : tie.Need-returns-then-x-lt1
 returns-6 c =
     let a = c.args in
-    no7 a.s.phase a.s.marks a.nets.now a.i a.f a.t a.x (sym c.taking.ensures ∙ c.if-not-taking.false)
-    c.if-i-gt-LAST_ISSUE.false c.if-f-gt-LAST_ACCOUNT.false
+    no7 a.s.phase a.s.marks a.nets.now a.i a.f a.t a.x (sym c.taking.ensures ∙ c.if-not-taking.false) c.if-i-gt-LAST_ISSUE.false c.if-f-gt-LAST_ACCOUNT.false
     c.if-t-gt-LAST_ACCOUNT.false c.if-f-t.false c.if-x-lt1.true
 
 returns-7 : tie.Need-returns-then-x-gt-MOST_LOTS
 returns-7 c =
     let a = c.args in
-    no7_most a.s.phase a.s.marks a.nets.now a.i a.f a.t a.x
-    (sym c.taking.ensures ∙ c.if-not-taking.false) c.if-i-gt-LAST_ISSUE.false
+    no7_most a.s.phase a.s.marks a.nets.now a.i a.f a.t a.x (sym c.taking.ensures ∙ c.if-not-taking.false) c.if-i-gt-LAST_ISSUE.false
     c.if-f-gt-LAST_ACCOUNT.false c.if-t-gt-LAST_ACCOUNT.false
     c.if-f-t.false c.if-x-gt-MOST_LOTS.true
 
 returns-8 : tie.Need-returns-then-not-even_in
 returns-8 c =
     let a = c.args in
-    no19 a.s.phase a.s.marks a.nets.now a.i a.f a.t a.x
-    (sym c.taking.ensures ∙ c.if-not-taking.false) c.if-i-gt-LAST_ISSUE.false
+    no19 a.s.phase a.s.marks a.nets.now a.i a.f a.t a.x (sym c.taking.ensures ∙ c.if-not-taking.false) c.if-i-gt-LAST_ISSUE.false
     c.if-f-gt-LAST_ACCOUNT.false c.if-t-gt-LAST_ACCOUNT.false c.if-f-t.false
     c.if-x-lt1.false c.if-x-gt-MOST_LOTS.false (sym c.even_in.ensures ∙ c.if-not-even_in.true)
 
