@@ -27,85 +27,74 @@ decreases-loop days rate quotes count issues froms tos lots charges₀ k₀ char
 cast-i : tie.Need-overflow_cast-i invariant-loop decreases-loop
 cast-i c =
     let l = c.loop-k in
-    let s = c in
-    let h : l.k < s.args.entries = omega arith in
-    record { fits = omega (arith, s.requires.issue l.k h) }
+    let h : l.k < c.args.entries = omega arith in
+    record { fits = omega (arith, c.requires.issue l.k h) }
 
 mul-charge-of-2 : tie.Need-offset_bounds-quotes-i invariant-loop decreases-loop
 mul-charge-of-2 c =
     let l = c.loop-k in
-    let s = c in
-    let h : l.k < s.args.entries = omega arith in
-    record { fits = omega (arith, s.requires.issue l.k h) }
+    let h : l.k < c.args.entries = omega arith in
+    record { fits = omega (arith, c.requires.issue l.k h) }
 
 shared-slice-read-charge-of-2 : tie.Need-bounds-quotes-i invariant-loop decreases-loop
 shared-slice-read-charge-of-2 c =
     let l = c.loop-k in
-    let s = c in
-    let h : l.k < s.args.entries = omega arith in
-    omega (arith, s.requires.issue l.k h, s.requires.counted)
+    let h : l.k < c.args.entries = omega arith in
+    omega (arith, c.requires.issue l.k h, c.requires.counted)
 
 add-charge-of : tie.Need-overflow_add-i invariant-loop decreases-loop
 add-charge-of c =
     let l = c.loop-k in
-    let s = c in
-    let h : l.k < s.args.entries = omega arith in
-    omega (arith, s.requires.issue l.k h)
+    let h : l.k < c.args.entries = omega arith in
+    omega (arith, c.requires.issue l.k h)
 
 mul-charge-of-3 : tie.Need-offset_bounds-quotes-i-in-loop-k invariant-loop decreases-loop
 mul-charge-of-3 c =
     let l = c.loop-k in
-    let s = c in
-    let h : l.k < s.args.entries = omega arith in
-    record { fits = omega (arith, s.requires.issue l.k h) }
+    let h : l.k < c.args.entries = omega arith in
+    record { fits = omega (arith, c.requires.issue l.k h) }
 
 shared-slice-read-charge-of-3 : tie.Need-bounds-quotes-i-in-loop-k invariant-loop decreases-loop
 shared-slice-read-charge-of-3 c =
     let l = c.loop-k in
-    let s = c in
-    let h : l.k < s.args.entries = omega arith in
-    omega (arith, s.requires.issue l.k h, s.requires.counted)
+    let h : l.k < c.args.entries = omega arith in
+    omega (arith, c.requires.issue l.k h, c.requires.counted)
 
 charge-of-requires : tie.Need-charge_of-y-requires invariant-loop decreases-loop
 charge-of-requires c κs =
     let l = c.loop-k in
-    let s = c in
-    let h : l.k < s.args.entries = omega arith in
-    (record { lots = s.requires.most l.k h; price = s.requires.quoted (get_or s.args.issues.now l.k 0) (s.requires.issue l.k h) }, s.requires.term)
+    let h : l.k < c.args.entries = omega arith in
+    (record { lots = c.requires.most l.k h; price = c.requires.quoted (get_or c.args.issues.now l.k 0) (c.requires.issue l.k h) }, c.requires.term)
 
 cast_f : tie.Need-overflow_cast-f invariant-loop decreases-loop
 cast_f c =
     let l = c.loop-k in
-    let s = c in
-    let h : l.k < s.args.entries = omega arith in
-    record { fits = omega (arith, s.requires.from l.k h) }
+    let h : l.k < c.args.entries = omega arith in
+    record { fits = omega (arith, c.requires.from l.k h) }
 
 cast_t : tie.Need-overflow_cast-t invariant-loop decreases-loop
 cast_t c =
     let l = c.loop-k in
-    let s = c in
-    let h : l.k < s.args.entries = omega arith in
-    record { fits = omega (arith, s.requires.to l.k h) }
+    let h : l.k < c.args.entries = omega arith in
+    record { fits = omega (arith, c.requires.to l.k h) }
 
 pay-requires : tie.Need-pay-requires invariant-loop decreases-loop
 pay-requires c κs =
     let l = c.loop-k in
-    let s = c in
-    let h : l.k < s.args.entries = omega arith in
+    let h : l.k < c.args.entries = omega arith in
     record {
       accounts = l.invariant.1;
-      from = s.requires.from l.k h;
-      to = s.requires.to l.k h;
-      room = λ a. let b = l.invariant.2 a in omega (arith, c.charge_of-y.ensures.most, s.requires.count);
+      from = c.requires.from l.k h;
+      to = c.requires.to l.k h;
+      room = λ a. let b = l.invariant.2 a in omega (arith, c.charge_of-y.ensures.most, c.requires.count);
     }
 
 loop-again : tie.Need-loop-k-preserved invariant-loop decreases-loop
 loop-again c =
     let l = c.loop-k in
-    let s = c in
-    let h : l.k < s.args.entries = omega arith in
+    let h : l.k < c.args.entries = omega arith in
     let y = c.charge_of-y in
-    let a = s.args in
+    let a = c.args in
     let f = get_or a.froms.now l.k 0 in
     let t = get_or a.tos.now l.k 0 in
     let p : c.pay.new.charges ≡ paid f t y.result l.charges = c.pay.ensures in (

@@ -33,19 +33,16 @@ read_to c =
 
 lowered-requires : tie.Need-lowered-requires
 lowered-requires c κs =
-    let s = c in
-    let h = s.requires.room s.args.f in
+    let h = c.requires.room c.args.f in
     record { room = rw (read c) (omega arith) }
 
 raised-requires : tie.Need-raised-requires
 raised-requires c κs =
-    let s = c in
-    record { room = rw (read_to c, fallen c.before) (room_taken s.args.charges.now s.args.f s.args.t s.args.y s.requires.room) }
+    record { room = rw (read_to c, fallen c.before) (room_taken c.args.charges.now c.args.f c.args.t c.args.y c.requires.room) }
 
 returns : tie.Need-returns
 returns c =
-    let s = c in
-    let e = to_z-of_z w64 c.raised.result (search rules) ∙ c.raised.ensures ∙ ap (λ n. n +ℤ pos s.args.y) (read_to c.before) in
+    let e = to_z-of_z w64 c.raised.result (search rules) ∙ c.raised.ensures ∙ ap (λ n. n +ℤ pos c.args.y) (read_to c.before) in
     rw (e, fallen c.before.before)
 
 pub pay_spec : {M : Type 1} → statement M

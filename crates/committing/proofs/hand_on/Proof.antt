@@ -11,10 +11,9 @@ returns c =
 
 returns-2 : tie.Need-returns
 returns-2 c =
-    let e = c in
-    let a = e.args in
+    let a = c.args in
     let o = c.«record» in
-    handed_one a.t a.stock a.out.now o.new.part e.if-stock-t.false o.ensures
+    handed_one a.t a.stock a.out.now o.new.part c.if-stock-t.false o.ensures
 
 pub hand_on_spec : {M : Type 1} → statement M
 hand_on_spec = tie.close

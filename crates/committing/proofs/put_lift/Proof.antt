@@ -14,63 +14,51 @@ few s = omega (arith, number_at s.args.lifts.now s.args.i, s.requires.few)
 
 cast-at : tie.Need-overflow_cast-at
 cast-at c =
-    let s = c in
-    record { fits = omega (arith, few s.before) }
+    record { fits = omega (arith, few c.before) }
 
 mul_at : tie.Need-overflow_mul-at
 mul_at c =
-    let s = c in
-    record { fits = omega (arith, few s.before) }
+    record { fits = omega (arith, few c.before) }
 
 add_at : tie.Need-overflow_add-at
 add_at c =
-    let s = c in
-    record { fits = omega (arith, few s.before, s.requires.issue) }
+    record { fits = omega (arith, few c.before, c.requires.issue) }
 
 add-at-2 : tie.Need-overflow_add-at-2
 add-at-2 c =
-    let s = c in
-    record { fits = omega (arith, few s.before, s.requires.issue) }
+    record { fits = omega (arith, few c.before, c.requires.issue) }
 
 add-lifts-2 : tie.Need-overflow_add-lifts-2
 add-lifts-2 c =
-    let s = c in
-    record { fits = omega (arith, count_at_lem s.args.lifts.now s.args.i, s.requires.counted) }
+    record { fits = omega (arith, count_at_lem c.args.lifts.now c.args.i, c.requires.counted) }
 
 add-lifts-4 : tie.Need-overflow_add-lifts-4
 add-lifts-4 c =
-    let s = c in
-    record { fits = omega (arith, few s.before.before) }
+    record { fits = omega (arith, few c.before.before) }
 
 slice-write-lifts-2 : tie.Need-bounds-lifts-s-4
 slice-write-lifts-2 c =
-    let s = c in
-    rw length-set (omega (arith, s.requires.cells, s.requires.issue))
+    rw length-set (omega (arith, c.requires.cells, c.requires.issue))
 
 mul-lifts-4 : tie.Need-offset_bounds-lifts-at
 mul-lifts-4 c =
-    let s = c in
-    record { fits = omega (arith, few s.before.before, s.requires.issue) }
+    record { fits = omega (arith, few c.before.before, c.requires.issue) }
 
 slice-write-lifts-3 : tie.Need-bounds-lifts-at
 slice-write-lifts-3 c =
-    let s = c in
-    simp length-set (omega (arith, few s.before.before, s.requires.cells, s.requires.issue))
+    simp length-set (omega (arith, few c.before.before, c.requires.cells, c.requires.issue))
 
 add-lifts-5 : tie.Need-overflow_add-lifts-5
 add-lifts-5 c =
-    let s = c in
-    record { fits = omega (arith, few s.before.before, s.requires.issue) }
+    record { fits = omega (arith, few c.before.before, c.requires.issue) }
 
 mul-lifts-5 : tie.Need-offset_bounds-lifts-at-2
 mul-lifts-5 c =
-    let s = c in
-    record { fits = omega (arith, few s.before.before, s.requires.issue) }
+    record { fits = omega (arith, few c.before.before, c.requires.issue) }
 
 slice-write-lifts-4 : tie.Need-bounds-lifts-at-2
 slice-write-lifts-4 c =
-    let s = c in
-    simp length-set (omega (arith, few s.before.before, s.requires.cells, s.requires.issue))
+    simp length-set (omega (arith, few c.before.before, c.requires.cells, c.requires.issue))
 
 returns : tie.Need-returns
 returns c =

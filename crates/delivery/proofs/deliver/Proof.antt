@@ -31,31 +31,27 @@ deliver-asks-requires c κs = owed_cells _ _ _ (cells c.before.before.before)
 
 returns : tie.Need-returns-then-no-ne0
 returns r b q =
-    let c = r in
-    let s = start c.before.before in
+    let s = start r.before.before in
     let a = s.args in
     rw r.refused.ensures
     (turn_no (within s b) (Deliver a.i a.a a.x a.out.now) (room_out a.out.now s.requires.3) q a.s
-    c.deliver_asks-no.result c.deliver_asks-no.ensures c.if-no-ne0.true)
+    r.deliver_asks-no.result r.deliver_asks-no.ensures r.if-no-ne0.true)
 
 deliver-in-requires : tie.Need-deliver_in-count-requires
 deliver-in-requires c κs =
-    let k = c in
-    let s = start k.before.before.before.before.before in
+    let s = start c.before.before.before.before.before in
     let a = s.args in
     can_deliver a.s.phase a.s.marks a.nets.now a.delivered.now a.lifts.now a.i a.a a.x a.out.now (cells s)
-    (sym k.deliver_asks-no.ensures ∙ k.if-no-ne0.false) s.requires.3
+    (sym c.deliver_asks-no.ensures ∙ c.if-no-ne0.false) s.requires.3
 
 returns-2 : tie.Need-returns
 returns-2 c b q =
-    let v = c in
-    let d = v.deliver_in-count in
-    let o = v.dealt_today-dealt in
-    let k = v in
-    let s = start k.before.before.before.before.before.before.before.before.before.before.before.before in
+    let d = c.deliver_in-count in
+    let o = c.dealt_today-dealt in
+    let s = start c.before.before.before.before.before.before.before.before.before.before.before.before in
     let a = s.args in
     turn_yes (within s b) (Deliver a.i a.a a.x a.out.now) (room_out a.out.now s.requires.3) q a.s
-    k.deliver_asks-no.result d.result 0 _ _ k.deliver_asks-no.ensures k.if-no-ne0.false
+    c.deliver_asks-no.result d.result 0 _ _ c.deliver_asks-no.ensures c.if-no-ne0.false
     (delivered_to a.s o.result a.nets.now a.delivered.now _ a.lifts.now _ a.i a.a a.x a.out.now _ d.result b o.ensures d.ensures)
 
 pub deliver_spec : {M : Type 1} → statement M

@@ -10,53 +10,39 @@ use Rattle.delivery.proofs.Serving.{raised_count_lem, count_fits, can_serve, ser
 use Rattle.delivery.proofs.deliver_in.Statement.{statement}
 use Rattle.delivery.proofs.deliver_in.Tie as tie
 
-abbrev begin : tie.After-total-d → tie.Start
-begin c = c.before.before.before.before.before
-
-abbrev served : tie.After-slice_known-6-1 → tie.After-serve_in-n
-served c = c.before.before.before
-
 total-requires : tie.Need-total-d-requires
 total-requires c κs =
-    let s = c in
-    rw (row_part s.args.delivered.now s.args.i)
-    (total_small s.args.nets.now s.args.delivered.now s.args.lifts.now s.requires.sound s.args.i s.requires.issue)
+    rw (row_part c.args.delivered.now c.args.i)
+    (total_small c.args.nets.now c.args.delivered.now c.args.lifts.now c.requires.sound c.args.i c.requires.issue)
 
 add-delivered : tie.Need-overflow_add-delivered
 add-delivered c =
-    let s = begin c.before in
     omega (
       arith,
-      cell_owed s.args.nets.now s.args.delivered.now (owed_cells _ _ _ s.requires.sound) (s.args.i * 64 + s.args.a),
-      s.requires.lots,
+      cell_owed c.args.nets.now c.args.delivered.now (owed_cells _ _ _ c.requires.sound) (c.args.i * 64 + c.args.a),
+      c.requires.lots,
     )
 
 -- the issue's total
-total : (c : tie.After-total-d) → c.total-d.result ≡ delivered_total (begin c).args.delivered.now (begin c).args.i
-total c = c.total-d.ensures ∙ ap sum (row_part (begin c).args.delivered.now (begin c).args.i)
+total : (c : tie.After-total-d) → c.total-d.result ≡ delivered_total c.args.delivered.now c.args.i
+total c = c.total-d.ensures ∙ ap sum (row_part c.args.delivered.now c.args.i)
 
 serve-in-requires : tie.Need-serve_in-n-requires
 serve-in-requires c κs =
-    let t = c in
-    let s = begin t.before.before in
-    can_serve s.args.dealt s.args.nets.now s.args.delivered.now s.args.lifts.now s.args.out.now s.args.i s.args.a s.args.x s.requires _
-    (total t.before.before)
+    can_serve c.args.dealt c.args.nets.now c.args.delivered.now c.args.lifts.now c.args.out.now c.args.i c.args.a c.args.x c.requires _
+    (total c.before.before)
 
 add-lifts : tie.Need-overflow_add-lifts
 add-lifts c =
-    let s = begin (served c).before.before.before in
     omega (
       arith,
-      count_fits s.args.nets.now s.args.delivered.now s.args.lifts.now s.args.i s.requires.sound s.requires.issue,
+      count_fits c.args.nets.now c.args.delivered.now c.args.lifts.now c.args.i c.requires.sound c.requires.issue,
     )
 
 returns : tie.Need-returns
 returns c =
-    let v = served c in
-    let t = v in
-    let s = begin t.before.before.before in
-    let r = served_after _ _ _ _ _ _ _ _ (total t.before.before.before) v.serve_in-n.ensures in
-    record { column = refl; counted = raised_count_lem s.args.lifts.now s.args.i; count = r.count; output = r.output }
+    let r = served_after _ _ _ _ _ _ _ _ (total c.before.before.before.before.before.before) c.serve_in-n.ensures in
+    record { column = refl; counted = raised_count_lem c.args.lifts.now c.args.i; count = r.count; output = r.output }
 
 pub deliver_in_spec : {M : Type 1} → statement M
 deliver_in_spec =

@@ -26,11 +26,10 @@ decreases-loop runs n i c count out₀ seat₀ m₀ out seat m = count - m
 
 loop-holds : tie.Need-loop-m-init invariant-loop decreases-loop
 loop-holds c =
-    let s = c in
-    let a = s.args in (
+    let a = c.args in (
       omega arith,
       rw (c.seek-seat.ensures a.runs.now a.n, sub-zero)
-          (handing_starts a.i a.count (drop a.c (units_in a.runs.now a.n)) a.out.now s.requires.there s.requires.room),
+          (handing_starts a.i a.count (drop a.c (units_in a.runs.now a.n)) a.out.now c.requires.there c.requires.room),
     )
 
 -- the next unit stands in front of what is left
@@ -58,27 +57,25 @@ returns c =
 
 record-requires : tie.Need-record-requires invariant-loop decreases-loop
 record-requires c κs =
-    let s = c in
     let l = c.loop-m in
     let n = c.next_unit in
-    let f = unit_range s.args.runs.now s.args.n l.seat n.result n.ensures _ _ _ c.in-Unit.is in
+    let f = unit_range c.args.runs.now c.args.n l.seat n.result n.ensures _ _ _ c.in-Unit.is in
     record {
-      room = omega (arith, part_length l.out (2 * l.m), l.invariant.1.same, s.requires.room);
-      head = record { kinds = omega arith; issues = s.requires.issue; froms = omega arith; tos = f.0 };
+      room = omega (arith, part_length l.out (2 * l.m), l.invariant.1.same, c.requires.room);
+      head = record { kinds = omega arith; issues = c.requires.issue; froms = omega arith; tos = f.0 };
       lots = omega (arith, f.1);
     }
 
 loop-again : tie.Need-loop-m-preserved invariant-loop decreases-loop
 loop-again c =
-    let s = c in
     let l = c.loop-m in
     let g = c.in-Unit in
-    let w = words (handover s.args.i (account_lots g.to g.lots) ∷ []) in
-    let e : s.args.count - (l.m + 1) ≡ s.args.count - l.m - 1 = omega arith in (
+    let w = words (handover c.args.i (account_lots g.to g.lots) ∷ []) in
+    let e : c.args.count - (l.m + 1) ≡ c.args.count - l.m - 1 = omega arith in (
       omega arith,
       rw e
-          (handing_more s.args.i l.m _ _ _ _ l.out l.invariant.1 _ _ _ _ (omega arith) (found c.before.before.before.before)
-          (part_over l.out c.«record».new.part w (2 * l.m) (omega (arith, l.invariant.1.same, s.requires.room)) c.«record».ensures)),
+          (handing_more c.args.i l.m _ _ _ _ l.out l.invariant.1 _ _ _ _ (omega arith) (found c.before.before.before.before)
+          (part_over l.out c.«record».new.part w (2 * l.m) (omega (arith, l.invariant.1.same, c.requires.room)) c.«record».ensures)),
     )
 
 returns-2 : tie.Need-returns invariant-loop decreases-loop

@@ -8,9 +8,8 @@ use Rattle.handing.proofs.newly_covered.Tie as tie
 
 sub-t7 : tie.Need-overflow_sub-result
 sub-t7 c =
-    let h = c in
-    let a = h.args in
-    omega (arith, h.handover-after.ensures.covers, h.handover-before.ensures.covers, covered_grows (units_in a.runs.now a.n) a.d a.x)
+    let a = c.args in
+    omega (arith, c.handover-after.ensures.covers, c.handover-before.ensures.covers, covered_grows (units_in a.runs.now a.n) a.d a.x)
 
 pub newly_covered_spec : {M : Type 1} → statement M
 newly_covered_spec =

@@ -21,22 +21,20 @@ returns-2 c =
 
 ticket-in-requires : tie.Need-ticket_in-requires
 ticket-in-requires c κs =
-    let s = c in
     let p = c.stand_of-p.ensures in
     record {
-      order = can_order s.args.nets.now s.args.delivered.now s.args.lifts.now s.args.i s.requires (omega arith);
+      order = can_order c.args.nets.now c.args.delivered.now c.args.lifts.now c.args.i c.requires (omega arith);
       there = p.there;
       units = p.units;
     }
 
 returns-3 : tie.Need-returns
 returns-3 c =
-    let e = c in
-    let a = e.args in
+    let a = c.args in
     let p = c.stand_of-p.ensures in
     c.ticket_in.ensures
     ∙ asked_unit a.dealt a.phase a.day a.nets.now a.delivered.now a.lifts.now a.i a.k _ (p.covers a.dealt)
-    (sym e.settling.ensures ∙ e.if-not-settling.false) (omega arith)
+    (sym c.settling.ensures ∙ c.if-not-settling.false) (omega arith)
 
 pub ask_in_spec : {M : Type 1} → statement M
 ask_in_spec =

@@ -13,36 +13,20 @@ use Rattle.lifting.proofs.Committing.{not_settling, no_issue, by_ticket, Unhande
 use Rattle.lifting.proofs.commit_in.Statement.{statement}
 use Rattle.lifting.proofs.commit_in.Tie as tie
 
--- where the issue's units stand, from the start on
-abbrev begin : tie.After-stand_of-p → tie.Start
-begin c = c.before.before.before.before.before.before.before.before.before.before
-
--- the answers to 3 and 4
-settles : (c : tie.After-stand_of-p) → is_settling (begin c).args.phase ≡ true
-settles c =
-    let e = c in
-    sym e.settling.ensures ∙ e.if-not-settling.false
-
-below : (c : tie.After-stand_of-p) → (begin c).args.t.issue ≤ 15
-below c = c.if-t-gt-LAST_ISSUE.false
-
-abbrev stood : tie.After-ticket_asks-no → tie.After-stand_of-p
-stood c = c.before.before.before.before.before
-
--- and to 16, 17 and 18
+-- the answers to 16, 17 and 18
 number : (c : tie.After-ticket_asks-no) →
-    let a = (begin (stood c)).args in
+    let a = c.args in
     c.ticket_asks-no.result ≡ first_no (commit_asks a.phase a.day (order_in a.dealt a.nets.now a.lifts.now) a.delivered.now a.lifts.now a.t)
 number c =
-    let a = (begin (stood c)).args in
-    let p = (stood c).stand_of-p.ensures in
-    by_ticket a.dealt a.phase a.day a.nets.now a.delivered.now a.lifts.now a.t _ _ _ _ (settles (stood c)) (below (stood c)) (p.covers a.dealt)
+    let a = c.args in
+    let p = c.stand_of-p.ensures in
+    by_ticket a.dealt a.phase a.day a.nets.now a.delivered.now a.lifts.now a.t _ _ _ _ (sym c.settling.ensures ∙ c.if-not-settling.false) c.if-t-gt-LAST_ISSUE.false (p.covers a.dealt)
     c.ticket_in-asked.ensures (sym (number_at a.lifts.now a.t.issue)) c.ticket_asks-no.ensures
 
 -- where none is answered 'no'
-unhanded : (c : tie.Else-no-ne0) → let a = (begin (stood c.before)).args in Unhanded a.dealt a.phase a.day a.nets.now a.delivered.now a.lifts.now a.t
+unhanded : (c : tie.Else-no-ne0) → let a = c.args in Unhanded a.dealt a.phase a.day a.nets.now a.delivered.now a.lifts.now a.t
 unhanded c =
-    let a = (begin (stood c.before)).args in
+    let a = c.args in
     all_yes a.dealt a.phase a.day a.nets.now a.delivered.now a.lifts.now a.t (sym (number c.before) ∙ c.if-no-ne0.false)
 
 returns : tie.Need-returns-then-not-settling
@@ -62,47 +46,37 @@ returns-2 c =
 
 ticket-in-requires : tie.Need-ticket_in-asked-requires
 ticket-in-requires c κs =
-    let f = c in
-    let s = begin f.before.before in
     record {
-      order = can_order s.args.nets.now s.args.delivered.now s.args.lifts.now s.args.t.issue s.requires.0 (omega (arith, below f.before.before));
-      there = f.stand_of-p.ensures.there;
-      units = f.stand_of-p.ensures.units;
+      order = can_order c.args.nets.now c.args.delivered.now c.args.lifts.now c.args.t.issue c.requires.0 (omega (arith, c.if-t-gt-LAST_ISSUE.false));
+      there = c.stand_of-p.ensures.there;
+      units = c.stand_of-p.ensures.units;
     }
 
 returns-3 : tie.Need-returns-then-no-ne0
 returns-3 c =
-    let k = c in
-    let a = (begin (stood k.before.before)).args in
-    is_refused a.dealt a.phase a.day a.nets.now a.delivered.now a.lifts.now a.t a.out.now _ c.refused-then-no-ne0.result c.refused-then-no-ne0.ensures (number k.before.before) c.if-no-ne0.true
+    let a = c.args in
+    is_refused a.dealt a.phase a.day a.nets.now a.delivered.now a.lifts.now a.t a.out.now _ c.refused-then-no-ne0.result c.refused-then-no-ne0.ensures (number c.before.before) c.if-no-ne0.true
 
 hand-on-requires : tie.Need-hand_on-count-requires
 hand-on-requires c κs =
-    let e = c in
-    let f = stood e.before.before in
-    let s = begin f in
-    let a = s.args in
-    can_hand_on a.dealt a.phase a.day a.nets.now a.delivered.now a.lifts.now a.t a.out.now (unhanded e.before) s.requires.0.cells (below f)
-    s.requires.1
+    let a = c.args in
+    can_hand_on a.dealt a.phase a.day a.nets.now a.delivered.now a.lifts.now a.t a.out.now (unhanded c.before) c.requires.0.cells c.if-t-gt-LAST_ISSUE.false
+    c.requires.1
 
 put-lift-requires : tie.Need-put_lift-requires
 put-lift-requires c κs =
-    let e = c in
-    let s = begin (stood e.before.before.before.before.before.before) in
     record {
-      cells = s.requires.0.lifted;
-      issue = omega (arith, below (stood e.before.before.before.before.before.before));
-      few = (unhanded e.before.before.before.before.before).few;
-      counted = s.requires.0.counted s.args.t.issue (omega (arith, below (stood e.before.before.before.before.before.before)));
+      cells = c.requires.0.lifted;
+      issue = omega (arith, c.if-t-gt-LAST_ISSUE.false);
+      few = (unhanded c.before.before.before.before.before).few;
+      counted = c.requires.0.counted c.args.t.issue (omega (arith, c.if-t-gt-LAST_ISSUE.false));
     }
 
 returns-4 : tie.Need-returns
 returns-4 c =
-    let e = c in
-    let f = stood e.before.before.before.before.before.before.before.before.before in
-    let a = (begin f).args in
-    is_done a.dealt a.phase a.day a.nets.now a.delivered.now a.lifts.now a.t a.out.now _ _ _ _ _ _ (number e.before.before.before.before.before.before.before.before.before) e.if-no-ne0.false
-    f.stand_of-p.ensures c.hand_on-count.ensures c.put_lift.ensures
+    let a = c.args in
+    is_done a.dealt a.phase a.day a.nets.now a.delivered.now a.lifts.now a.t a.out.now _ _ _ _ _ _ (number c.before.before.before.before.before.before.before.before.before) c.if-no-ne0.false
+    c.stand_of-p.ensures c.hand_on-count.ensures c.put_lift.ensures
 
 pub commit_in_spec : {M : Type 1} → statement M
 commit_in_spec =

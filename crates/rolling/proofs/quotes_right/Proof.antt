@@ -26,8 +26,7 @@ loop-holds c = (omega arith, whole _)
 loop-again : tie.Need-loop-i-preserved invariant-loop decreases-loop
 loop-again c =
     let l = c.loop-i in
-    let s = c in
-    (omega arith, issues_more (quote_right_in s.args.quotes.now) l.i l.good _ _ (omega arith) c.quote_right-good.ensures l.invariant.1)
+    (omega arith, issues_more (quote_right_in c.args.quotes.now) l.i l.good _ _ (omega arith) c.quote_right-good.ensures l.invariant.1)
 
 returns : tie.Need-returns invariant-loop decreases-loop
 returns c =

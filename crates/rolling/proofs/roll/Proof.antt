@@ -22,46 +22,41 @@ abbrev start : tie.After-roll_asks-no → tie.Start
 start c = c.before.before.before.before.before.before.before.before
 
 -- no question is answered 'no'
-answered : (c : tie.Else-no-ne0) → let a = (start c.before).args in
+answered : (c : tie.Else-no-ne0) → let a = c.args in
     first_no (roll_asks a.s.phase a.s.day a.days a.rate a.quotes.now) ≡ 0
 answered c = sym c.roll_asks-no.ensures ∙ c.if-no-ne0.false
 
 returns : tie.Need-returns-then-no-ne0
 returns r b q =
-    let c = r in
-    let s = start c.before.before in
+    let s = start r.before.before in
     let a = s.args in
     rw r.refused.ensures
-    (turn_no (within s b) (Roll a.days a.rate a.quotes.now) refl q a.s c.roll_asks-no.result c.roll_asks-no.ensures c.if-no-ne0.true)
+    (turn_no (within s b) (Roll a.days a.rate a.quotes.now) refl q a.s r.roll_asks-no.result r.roll_asks-no.ensures r.if-no-ne0.true)
 
 roll-in-requires : tie.Need-roll_in-requires
 roll-in-requires c κs =
-    let k = c in
-    let s = start k.before.before.before.before.before in
+    let s = start c.before.before.before.before.before in
     let a = s.args in
     let l = s.requires.0 in (
-      chargeable (within s s.requires.1.rest) a.days a.rate a.quotes.now s.requires.1.sound (answered k.before.before.before.before)
+      chargeable (within s s.requires.1.rest) a.days a.rate a.quotes.now s.requires.1.sound (answered c.before.before.before.before)
           l.issue l.from l.to l.lot l.accounts,
       record { nets = l.cells.nets; delivered = l.cells.delivered; lifts = l.words },
     )
 
 next-day-requires : tie.Need-next_day-next-requires
 next-day-requires c κs =
-    let k = c in
-    let a = (start k.before.before.before.before.before.before.before.before.before.before.before.before).args in
-    not_last a.s.phase a.s.day a.days a.rate a.quotes.now (answered k.before.before.before.before.before.before.before.before.before.before.before)
+    let a = c.args in
+    not_last a.s.phase a.s.day a.days a.rate a.quotes.now (answered c.before.before.before.before.before.before.before.before.before.before.before)
 
 returns-2 : tie.Need-returns
 returns-2 r b q =
-    let c = r in
-    let d = c.roll_in.ensures in
-    let k = c in
-    let s = start k.before.before.before.before.before.before.before.before.before.before.before.before.before.before in
+    let d = r.roll_in.ensures in
+    let s = start r.before.before.before.before.before.before.before.before.before.before.before.before.before.before in
     let a = s.args in
     rw r.done.ensures
-    (turn_yes (within s b) (Roll a.days a.rate a.quotes.now) refl q _ k.roll_asks-no.result 0 0 _ _ k.roll_asks-no.ensures k.if-no-ne0.false
+    (turn_yes (within s b) (Roll a.days a.rate a.quotes.now) refl q _ r.roll_asks-no.result 0 0 _ _ r.roll_asks-no.ensures r.if-no-ne0.false
     (rolled_on a.s _ a.nets.now a.delivered.now a.lifts.now a.charges.now a.issues.now a.froms.now a.tos.now a.lots.now
-    a.days a.rate a.quotes.now _ _ _ _ b c.next_day-next.ensures (d.0.charges b.days) d.1.nets d.1.delivered d.1.lifts))
+    a.days a.rate a.quotes.now _ _ _ _ b r.next_day-next.ensures (d.0.charges b.days) d.1.nets d.1.delivered d.1.lifts))
 
 pub roll_spec : {M : Type 1} → statement M
 roll_spec =

@@ -7,19 +7,14 @@ use Rattle.rolling.proofs.roll_in.Statement.{statement}
 use Rattle.rolling.proofs.roll_in.Tie as tie
 
 returns : tie.Need-returns
-returns c =
-    let l = c in
-    let d = l in
-    let n = d in
-    let e = n in
-    let s = e in (
-      e.charge_entries.ensures,
-      record {
-        nets = n.clear_nets.ensures ∙ ap (λ k. replicate k (pos 0)) s.requires.1.nets;
-        delivered = d.clear_words.ensures ∙ ap (λ k. replicate k 0) s.requires.1.delivered;
-        lifts = l.clear_words-2.ensures ∙ ap (λ k. replicate k 0) s.requires.1.lifts;
-      },
-    )
+returns c = (
+  c.charge_entries.ensures,
+  record {
+    nets = c.clear_nets.ensures ∙ ap (λ k. replicate k (pos 0)) c.requires.1.nets;
+    delivered = c.clear_words.ensures ∙ ap (λ k. replicate k 0) c.requires.1.delivered;
+    lifts = c.clear_words-2.ensures ∙ ap (λ k. replicate k 0) c.requires.1.lifts;
+  },
+)
 
 pub roll_in_spec : {M : Type 1} → statement M
 roll_in_spec =

@@ -11,35 +11,25 @@ use Rattle.serving.proofs.Named.{served_as}
 use Rattle.serving.proofs.serve.Statement.{statement}
 use Rattle.serving.proofs.serve.Tie as tie
 
-abbrev begin : tie.After-newly_covered-p → tie.Start
-begin c = c.before.before.before.before.before.before.before
-
-abbrev ready : tie.After-newly_covered-p → tie.After-prepare-n
-ready c = c.before.before.before
-
 -- the units that are covered now
 newly : (c : tie.After-newly_covered-p) →
-    let a = (begin c).args in NewlyCovered (order_in false a.nets.now a.lifts.now a.i) a.d a.x c.newly_covered-p.result
-newly c = newly_same _ _ _ _ _ (ap lots_in (ready c).prepare-n.ensures.units) c.newly_covered-p.ensures
+    let a = c.args in NewlyCovered (order_in false a.nets.now a.lifts.now a.i) a.d a.x c.newly_covered-p.result
+newly c = newly_same _ _ _ _ _ (ap lots_in c.prepare-n.ensures.units) c.newly_covered-p.ensures
 
 hand-requires : tie.Need-hand-requires
 hand-requires c κs =
-    let k = c in
-    let s = begin k.before.before in
     record {
-      held = (ready k.before.before).prepare-n.ensures.held.there;
-      issue = s.requires.order.issue;
-      there = newly_there _ _ _ _ k.newly_covered-p.ensures;
-      room = omega (arith, newly_number _ _ _ _ (newly k.before.before), s.requires.few, s.requires.room);
+      held = c.prepare-n.ensures.held.there;
+      issue = c.requires.order.issue;
+      there = newly_there _ _ _ _ c.newly_covered-p.ensures;
+      room = omega (arith, newly_number _ _ _ _ (newly c.before.before), c.requires.few, c.requires.room);
     }
 
 returns : tie.Need-returns
 returns c =
-    let h = c in
-    let k = h in
-    let a = (begin k.before.before.before.before.before).args in
-    served_as _ _ _ _ _ _ _ _ (ready k.before.before.before.before.before).prepare-n.ensures.units
-    (served _ _ _ _ k.newly_covered-p.ensures a.i a.out.now h.hand.new.out h.hand.ensures)
+    let a = c.args in
+    served_as _ _ _ _ _ _ _ _ c.prepare-n.ensures.units
+    (served _ _ _ _ c.newly_covered-p.ensures a.i a.out.now c.hand.new.out c.hand.ensures)
 
 pub serve_spec : {M : Type 1} → statement M
 serve_spec =

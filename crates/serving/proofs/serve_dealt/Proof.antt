@@ -19,14 +19,8 @@ use Rattle.serving.proofs.Served.{newly_there, newly_number, newly_same, served,
 use Rattle.serving.proofs.serve_dealt.Statement.{statement}
 use Rattle.serving.proofs.serve_dealt.Tie as tie
 
-abbrev begin : tie.After-newly_covered-p → tie.Start
-begin c = c.before.before.before.before.before.before.before.before.before
-
-abbrev ready : tie.After-newly_covered-p → tie.After-prepare-ready
-ready c = c.before.before.before.before
-
 abbrev units : tie.After-newly_covered-p → List AccountLots
-units c = let a = (begin c).args in order_in true a.nets.now a.lifts.now a.i
+units c = let a = c.args in order_in true a.nets.now a.lifts.now a.i
 
 abbrev number : tie.After-newly_covered-p → ℕ
 number c = c.newly_covered-p.result.number
@@ -35,15 +29,15 @@ abbrev first : tie.After-newly_covered-p → ℕ
 first c = c.newly_covered-p.result.first
 
 -- the units that are covered now
-newly : (c : tie.After-newly_covered-p) → NewlyCovered (units c) (begin c).args.d (begin c).args.x c.newly_covered-p.result
+newly : (c : tie.After-newly_covered-p) → NewlyCovered (units c) c.args.d c.args.x c.newly_covered-p.result
 newly c =
-    let a = (begin c).args in
+    let a = c.args in
     newly_same _ _ _ _ _
-    (ap lots_in (ready c).prepare-ready.ensures.lifted.units ∙ sym (order_lots true a.nets.now a.lifts.now a.i))
+    (ap lots_in c.prepare-ready.ensures.lifted.units ∙ sym (order_lots true a.nets.now a.lifts.now a.i))
     c.newly_covered-p.ensures
 
 few : (c : tie.After-newly_covered-p) → number c ≤ 264
-few c = omega (arith, newly_number _ _ _ _ (newly c), (begin c).requires.few)
+few c = omega (arith, newly_number _ _ _ _ (newly c), c.requires.few)
 
 -- places for them
 abbrev places : List ℕ
@@ -60,21 +54,19 @@ slice-aggregate-units-from-2 c = sym (lent c.before.before.before)
 
 units-from-requires : tie.Need-units_from-requires
 units-from-requires c κs =
-    let k = c in
-    let s = begin k.before.before.before in
-    let us = units k.before.before.before in
+    let us = units c.before.before.before in
     record {
-      nets = s.args.nets.now;
-      order = s.requires.order;
-      ranked = (ready k.before.before.before).prepare-ready.ensures.ranks;
+      nets = c.args.nets.now;
+      order = c.requires.order;
+      ranked = c.prepare-ready.ensures.ranks;
       there =
           omega (
             arith,
-            lent k.before.before.before,
-            newly_there us s.args.d s.args.x k.newly_covered-p.result (newly k.before.before.before),
-            (newly k.before.before.before).first,
-            length-drop (first k.before.before.before) us,
-            covered_le us s.args.d,
+            lent c.before.before.before,
+            newly_there us c.args.d c.args.x c.newly_covered-p.result (newly c.before.before.before),
+            (newly c.before.before.before).first,
+            length-drop (first c.before.before.before) us,
+            covered_le us c.args.d,
           );
     }
 
@@ -88,8 +80,7 @@ put c = c.units_from.new.out
 as_dealt : (c : tie.After-units_from) → map part_of (put c) ≡ take (number (counted c)) (drop (first (counted c)) (units (counted c)))
 as_dealt c =
     let k = counted c in
-    let s = begin k in
-    c.units_from.ensures s.args.nets.now s.requires.order (ready k).prepare-ready.ensures.ranks
+    c.units_from.ensures k.args.nets.now k.requires.order k.prepare-ready.ensures.ranks
     ∙ ap (λ n. take n (drop (first k) (units k))) (lent k)
 
 put_number : (c : tie.After-dealt-2-1) → length (put c.before) ≡ number (counted c.before)
@@ -105,28 +96,22 @@ slice-aggregate-hand c = sym (width c.before)
 
 hand-requires : tie.Need-hand-requires
 hand-requires c κs =
-    let d = c in
-    let u = d in
-    let k = counted u.before.before.before in
-    let s = begin k in
+    let k = counted c.before.before.before in
     record {
-      held = omega (arith, width d.before.before, few k);
-      issue = s.requires.order.issue;
-      there = dealt_number s.args.nets.now s.args.lifts.now s.args.i (first k) (number k) (put u.before.before.before) _ (put_number d.before.before) (as_dealt u.before.before.before);
-      room = omega (arith, few k, s.requires.room);
+      held = omega (arith, width c.before.before, few k);
+      issue = k.requires.order.issue;
+      there = dealt_number k.args.nets.now k.args.lifts.now k.args.i (first k) (number k) (put c.before.before.before) _ (put_number c.before.before) (as_dealt c.before.before.before);
+      room = omega (arith, few k, k.requires.room);
     }
 
 returns : tie.Need-returns
 returns c =
-    let h = c in
-    let d = h in
-    let u = d in
-    let k = counted u.before.before.before.before.before.before in
-    let a = (begin k).args in
-    served (units k) a.d a.x k.newly_covered-p.result (newly k) a.i a.out.now h.hand.new.out
-    (h.hand.ensures
+    let k = counted c.before.before.before.before.before.before in
+    let a = k.args in
+    served (units k) a.d a.x k.newly_covered-p.result (newly k) a.i a.out.now c.hand.new.out
+    (c.hand.ensures
     ∙ ap (λ rs. over (words rs) a.out.now)
-    (dealt_records a.nets.now a.lifts.now a.i (first k) (number k) (put u.before.before.before.before.before.before) _ (put_number d.before.before.before.before.before) (as_dealt u.before.before.before.before.before.before) a.i))
+    (dealt_records a.nets.now a.lifts.now a.i (first k) (number k) (put c.before.before.before.before.before.before) _ (put_number c.before.before.before.before.before) (as_dealt c.before.before.before.before.before.before) a.i))
 
 pub serve_dealt_spec : {M : Type 1} → statement M
 serve_dealt_spec =

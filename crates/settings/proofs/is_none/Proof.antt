@@ -10,9 +10,8 @@ use Rattle.settings.proofs.is_none.Tie as tie
 
 returns : tie.Need-returns
 returns c =
-    let s = c in
-    let z = to_z-of_z w32 s.args.n s.ranges.n in
-    none_parts s.args.n c.due-d.result c.owed-o.result (c.due-d.ensures ∙ ap due_of z) (c.owed-o.ensures ∙ ap owed_of z)
+    let z = to_z-of_z w32 c.args.n c.ranges.n in
+    none_parts c.args.n c.due-d.result c.owed-o.result (c.due-d.ensures ∙ ap due_of z) (c.owed-o.ensures ∙ ap owed_of z)
 
 pub is_none_spec : {M : Type 1} → statement M
 is_none_spec = tie.close

@@ -18,35 +18,27 @@ within s b = within_use s.args.s s.args.nets.now s.args.issues.now b
 
 mark-asks-requires : tie.Need-mark_asks-no-requires
 mark-asks-requires c κs =
-    let s = c in
-    ((sound_parts (within s.before s.requires.2.rest) s.requires.2.sound).ledger.count, s.requires.0, s.requires.1)
+    ((sound_parts (within c.before c.requires.2.rest) c.requires.2.sound).ledger.count, c.requires.0, c.requires.1)
 
 returns : tie.Need-returns-then-no-ne0
 returns r b q =
-    let c = r in
-    let s = c in
-    let a = s.args in
+    let a = r.args in
     rw r.refused.ensures
-    (turn_no (within s.before.before.before.before b) (Mark a.i a.m) refl q a.s c.mark_asks-no.result
-    (c.mark_asks-no.ensures b.froms b.tos b.lots b.days) c.if-no-ne0.true)
+    (turn_no (within r.before.before.before.before b) (Mark a.i a.m) refl q a.s r.mark_asks-no.result
+    (r.mark_asks-no.ensures b.froms b.tos b.lots b.days) r.if-no-ne0.true)
 
 mark-in-requires : tie.Need-mark_in-requires
 mark-in-requires c κs =
-    let k = c in
-    let s = k in
-    let b = within s.before.before.before.before s.requires.2.rest in
-    markable b.nets (ledger_of b) s.args.i (sym (k.mark_asks-no.ensures b.froms b.tos b.lots b.days) ∙ k.if-no-ne0.false)
+    let b = within c.before.before.before.before c.requires.2.rest in
+    markable b.nets (ledger_of b) c.args.i (sym (c.mark_asks-no.ensures b.froms b.tos b.lots b.days) ∙ c.if-no-ne0.false)
 
 returns-2 : tie.Need-returns
 returns-2 r b q =
-    let c = r in
-    let k = c in
-    let s = k in
-    let a = s.args in
+    let a = r.args in
     rw r.done.ensures
-    (turn_yes (within s.before.before.before.before.before.before.before b) (Mark a.i a.m) refl q _ k.mark_asks-no.result 0 0 _ _
-    (k.mark_asks-no.ensures b.froms b.tos b.lots b.days) k.if-no-ne0.false
-    (marked_on a.s _ a.nets.now a.issues.now _ a.i a.m b c.with_marks-next.ensures c.mark_in.ensures))
+    (turn_yes (within r.before.before.before.before.before.before.before b) (Mark a.i a.m) refl q _ r.mark_asks-no.result 0 0 _ _
+    (r.mark_asks-no.ensures b.froms b.tos b.lots b.days) r.if-no-ne0.false
+    (marked_on a.s _ a.nets.now a.issues.now _ a.i a.m b r.with_marks-next.ensures r.mark_in.ensures))
 
 pub mark_spec : {M : Type 1} → statement M
 mark_spec = tie.close

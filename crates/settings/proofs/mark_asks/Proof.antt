@@ -14,28 +14,25 @@ use Rattle.settings.proofs.mark_asks.Tie as tie
 returns : tie.Need-returns-then-i-gt-LAST_ISSUE
 returns c = let a = c.args in λ fs ts xs ds. no4 a.nets.now (entries a.s.entries a.issues.now fs ts xs ds) a.i c.if-i-gt-LAST_ISSUE.true
 
-abbrev start : tie.After-no_entry-clear → tie.Start
-start c = c.before.before.before.before.before
-
 -- what the two scans found
-told : (c : tie.After-no_entry-clear) (fs ts xs ds : List ℕ) → let a = (start c).args in
+told : (c : tie.After-no_entry-clear) (fs ts xs ds : List ℕ) → let a = c.args in
     c.no_net-flat.result && c.no_entry-clear.result ≡ no_net a.nets.now a.i && no_entry (entries a.s.entries a.issues.now fs ts xs ds) a.i
 told c fs ts xs ds =
-    let a = (start c).args in
+    let a = c.args in
     let k : a.i * 64 + 64 - a.i * 64 ≡ 64 = omega arith in
     let n : c.no_net-flat.result ≡ no_net a.nets.now a.i = rw k at c.no_net-flat.ensures in
     both _ _ _ _ n (c.no_entry-clear.ensures fs ts xs ds)
 
 returns-2 : tie.Need-returns-then-not-flat-clear
 returns-2 c =
-    let a = (start c.before).args in
+    let a = c.args in
     λ fs ts xs ds.
     no20 a.nets.now (entries a.s.entries a.issues.now fs ts xs ds) a.i c.if-i-gt-LAST_ISSUE.false
     (sym (told c.before fs ts xs ds) ∙ c.if-not-flat-clear.true)
 
 returns-3 : tie.Need-returns
 returns-3 c =
-    let a = (start c.before).args in
+    let a = c.args in
     λ fs ts xs ds.
     none a.nets.now (entries a.s.entries a.issues.now fs ts xs ds) a.i c.if-i-gt-LAST_ISSUE.false
     (sym (told c.before fs ts xs ds) ∙ c.if-not-flat-clear.false)

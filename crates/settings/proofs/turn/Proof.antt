@@ -10,19 +10,16 @@ use Rattle.settings.proofs.turn.Tie as tie
 
 returns : tie.Need-returns-then-no-ne0
 returns r b q =
-    let c = r in
-    let a = c.args in
+    let a = r.args in
     rw r.refused.ensures
-    (turn_no (in_state a.s b) (NameTurn a.d) refl q a.s c.turn_asks-no.result c.turn_asks-no.ensures c.if-no-ne0.true)
+    (turn_no (in_state a.s b) (NameTurn a.d) refl q a.s r.turn_asks-no.result r.turn_asks-no.ensures r.if-no-ne0.true)
 
 returns-2 : tie.Need-returns
 returns-2 r b q =
-    let c = r in
-    let k = c in
-    let a = k.args in
+    let a = r.args in
     rw r.done.ensures
-    (turn_yes (in_state a.s b) (NameTurn a.d) refl q _ k.turn_asks-no.result 0 0 _ _ k.turn_asks-no.ensures k.if-no-ne0.false
-    (turned_on a.s _ a.d b c.with_turn-next.ensures))
+    (turn_yes (in_state a.s b) (NameTurn a.d) refl q _ r.turn_asks-no.result 0 0 _ _ r.turn_asks-no.ensures r.if-no-ne0.false
+    (turned_on a.s _ a.d b r.with_turn-next.ensures))
 
 pub turn_spec : {M : Type 1} → statement M
 turn_spec = tie.close

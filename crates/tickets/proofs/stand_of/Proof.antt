@@ -10,22 +10,19 @@ use Rattle.tickets.proofs.stand_of.Tie as tie
 
 prepare-requires : tie.Need-prepare-n-requires
 prepare-requires c κs =
-    let s = c in
-    record { order = can_order s.args.nets.now s.args.delivered.now s.args.lifts.now s.args.i s.requires.sound s.requires.issue; room = s.requires.room }
+    record { order = can_order c.args.nets.now c.args.delivered.now c.args.lifts.now c.args.i c.requires.sound c.requires.issue; room = c.requires.room }
 
 total-requires : tie.Need-total-total-requires
 total-requires c κs =
-    let s = c in
-    rw (row_part s.args.delivered.now s.args.i)
-    (total_small s.args.nets.now s.args.delivered.now s.args.lifts.now s.requires.sound s.args.i s.requires.issue)
+    rw (row_part c.args.delivered.now c.args.i)
+    (total_small c.args.nets.now c.args.delivered.now c.args.lifts.now c.requires.sound c.args.i c.requires.issue)
 
 returns : tie.Need-returns
 returns c =
-    let s = c in
     let p = c.prepare-n in
-    let t = c.total-total.ensures ∙ ap sum (row_part s.args.delivered.now s.args.i) in
+    let t = c.total-total.ensures ∙ ap sum (row_part c.args.delivered.now c.args.i) in
     let e = p.ensures.units in
-    let a = s.args in
+    let a = c.args in
     record {
       there = p.ensures.held.there;
       units = e;

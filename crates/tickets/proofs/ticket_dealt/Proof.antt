@@ -13,24 +13,21 @@ returns c =
 
 returns-2 : tie.Need-returns-in-Unit
 returns-2 c =
-    let u = c in
     let a = c.args in
     sym (ap (found_ticket a.day a.count a.i a.k) c.in-Unit.is)
-    ∙ of_found _ a.handed a.day a.count a.i a.k u.unit-found.result (omega arith) u.unit-found.ensures
+    ∙ of_found _ a.handed a.day a.count a.i a.k c.unit-found.result (omega arith) c.unit-found.ensures
 
 returns-3 : tie.Need-returns-in-Nothing
 returns-3 c =
-    let u = c in
     let a = c.args in
     sym (ap (found_ticket a.day a.count a.i a.k) c.in-Nothing.is)
-    ∙ of_found _ a.handed a.day a.count a.i a.k u.unit-found.result (omega arith) u.unit-found.ensures
+    ∙ of_found _ a.handed a.day a.count a.i a.k c.unit-found.result (omega arith) c.unit-found.ensures
 
 returns-4 : tie.Need-returns-in-Refused
 returns-4 c =
-    let u = c in
     let a = c.args in
     sym (ap (found_ticket a.day a.count a.i a.k) c.in-Refused.is)
-    ∙ of_found _ a.handed a.day a.count a.i a.k u.unit-found.result (omega arith) u.unit-found.ensures
+    ∙ of_found _ a.handed a.day a.count a.i a.k c.unit-found.result (omega arith) c.unit-found.ensures
 
 pub ticket_dealt_spec : {M : Type 1} → statement M
 ticket_dealt_spec =

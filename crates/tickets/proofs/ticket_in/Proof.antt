@@ -16,10 +16,9 @@ returns c =
 
 returns-2 : tie.Need-returns
 returns-2 c =
-    let s = c in
-    let a = s.args in
+    let a = c.args in
     c.ticket_at.ensures
-    ∙ ticket_as _ _ _ _ _ _ _ _ (s.requires.units ∙ ap (λ new. order_in new a.nets.now a.lifts.now a.i) (sym c.if-dealt.false))
+    ∙ ticket_as _ _ _ _ _ _ _ _ (c.requires.units ∙ ap (λ new. order_in new a.nets.now a.lifts.now a.i) (sym c.if-dealt.false))
     (sym (count_at_lem a.lifts.now a.i))
 
 pub ticket_in_spec : {M : Type 1} → statement M

@@ -10,19 +10,16 @@ use Rattle.trading.proofs.close.Tie as tie
 
 returns : tie.Need-returns-then-no-ne0
 returns r b q =
-    let c = r in
-    let s = c.args.s in
+    let s = r.args.s in
     rw r.refused.ensures
-    (turn_no (in_state s b) Close refl q s c.close_asks-no.result c.close_asks-no.ensures c.if-no-ne0.true)
+    (turn_no (in_state s b) Close refl q s r.close_asks-no.result r.close_asks-no.ensures r.if-no-ne0.true)
 
 returns-2 : tie.Need-returns
 returns-2 r b q =
-    let c = r in
-    let k = c in
-    let s = k.args.s in
+    let s = r.args.s in
     rw r.done.ensures
-    (turn_yes (in_state s b) Close refl q _ k.close_asks-no.result 0 0 _ _ k.close_asks-no.ensures k.if-no-ne0.false
-    (closed s _ b c.with_phase-next.ensures))
+    (turn_yes (in_state s b) Close refl q _ r.close_asks-no.result 0 0 _ _ r.close_asks-no.ensures r.if-no-ne0.false
+    (closed s _ b r.with_phase-next.ensures))
 
 pub close_spec : {M : Type 1} → statement M
 close_spec = tie.close

@@ -13,68 +13,42 @@ use borrow.Author.Rules.{rules}
 use Rattle.trading.proofs.trade_asks.Statement.{statement}
 use Rattle.trading.proofs.trade_asks.Tie as tie
 
--- at each place, the function's start
-abbrev at1 : tie.Else-not-taking → tie.Start
-at1 c = c.before.before
-
-abbrev at2 : tie.Else-i-gt-LAST_ISSUE → tie.Start
-at2 c = at1 c.before
-
-abbrev at4 : tie.Else-t-gt-LAST_ACCOUNT → tie.Start
-at4 c = at2 c.before.before
-
-abbrev at5 : tie.Else-f-t → tie.Start
-at5 c = at4 c.before
-
-abbrev at7 : tie.Else-x-gt-MOST_LOTS → tie.Start
-at7 c = at5 c.before.before
-
-abbrev at8 : tie.Else-not-even_in → tie.Start
-at8 c = at7 c.before.before
-
--- that the phase is Taking
-taking : (c : tie.Else-not-taking) → is_taking (at1 c).args.s.phase ≡ true
-taking c = sym c.taking.ensures ∙ c.if-not-taking.false
-
-named : (c : tie.Else-not-even_in) → Named (at8 c).args.s.phase (at8 c).args.s.marks (at8 c).args.i (at8 c).args.f (at8 c).args.t (at8 c).args.x
+-- what the code has found 'yes' before it looks at the nets
+named : (c : tie.Else-not-even_in) → Named c.args.s.phase c.args.s.marks c.args.i c.args.f c.args.t c.args.x
 named c =
-    let e = c in
     record {
-      taking = taking e.before.before.before.before.before.before.before.before;
-      issue = e.if-i-gt-LAST_ISSUE.false;
-      from = e.if-f-gt-LAST_ACCOUNT.false;
-      to = e.if-t-gt-LAST_ACCOUNT.false;
-      differ = e.if-f-t.false;
-      some = e.if-x-lt1.false;
-      most = e.if-x-gt-MOST_LOTS.false;
+      taking = sym c.taking.ensures ∙ c.if-not-taking.false;
+      issue = c.if-i-gt-LAST_ISSUE.false;
+      from = c.if-f-gt-LAST_ACCOUNT.false;
+      to = c.if-t-gt-LAST_ACCOUNT.false;
+      differ = c.if-f-t.false;
+      some = c.if-x-lt1.false;
+      most = c.if-x-gt-MOST_LOTS.false;
       even = sym c.even_in.ensures ∙ c.if-not-even_in.false;
     }
 
 -- a net that is read comes as its bits
-from_net : (c : tie.After-from-1) → let a = (at8 c.before).args in
+from_net : (c : tie.After-from-1) → let a = c.args in
     to_z w32 (of_z w32 (net_at a.nets.now a.i a.f)) ≡ net_at a.nets.now a.i a.f
-from_net c = let a = (at8 c.before).args in to_z-of_z w32 (net_at a.nets.now a.i a.f) (search rules)
+from_net c = let a = c.args in to_z-of_z w32 (net_at a.nets.now a.i a.f) (search rules)
 
-falls : (c : tie.After-within) → let a = (at8 c.before.before.before).args in
+falls : (c : tie.After-within) → let a = c.args in
     c.within.result ≡ within_size most_lots (net_at a.nets.now a.i a.f -ℤ pos a.x)
 falls c =
-    let a = (at8 c.before.before.before).args in
+    let a = c.args in
     let r = c.lowered in
     c.within.ensures
     ∙ ap (within_size most_lots)
     (to_z-of_z w32 r.result (search rules) ∙ r.ensures.value ∙ ap (λ n. n -ℤ pos a.x) (from_net c.before.before))
 
-abbrev at9 : tie.Else-not-within → tie.Start
-at9 c = at8 c.before.before.before.before
-
-to_net : (c : tie.After-to-1) → let a = (at9 c.before).args in
+to_net : (c : tie.After-to-1) → let a = c.args in
     to_z w32 (of_z w32 (net_at a.nets.now a.i a.t)) ≡ net_at a.nets.now a.i a.t
-to_net c = let a = (at9 c.before).args in to_z-of_z w32 (net_at a.nets.now a.i a.t) (search rules)
+to_net c = let a = c.args in to_z-of_z w32 (net_at a.nets.now a.i a.t) (search rules)
 
-rises : (c : tie.After-within-2) → let a = (at9 c.before.before.before).args in
+rises : (c : tie.After-within-2) → let a = c.args in
     c.within-2.result ≡ within_size most_lots (net_at a.nets.now a.i a.t +ℤ pos a.x)
 rises c =
-    let a = (at9 c.before.before.before).args in
+    let a = c.args in
     let r = c.raised in
     c.within-2.ensures
     ∙ ap (within_size most_lots)
@@ -88,82 +62,72 @@ returns c =
 
 returns-2 : tie.Need-returns-then-i-gt-LAST_ISSUE
 returns-2 c =
-    let a = (at1 c.before).args in
-    no4 a.s.phase a.s.marks a.nets.now a.i a.f a.t a.x (taking c.before) c.if-i-gt-LAST_ISSUE.true
+    let a = c.args in
+    no4 a.s.phase a.s.marks a.nets.now a.i a.f a.t a.x (sym c.taking.ensures ∙ c.if-not-taking.false) c.if-i-gt-LAST_ISSUE.true
 
 returns-3 : tie.Need-returns-then-f-gt-LAST_ACCOUNT
 returns-3 c =
-    let a = (at2 c.before).args in
-    no5 a.s.phase a.s.marks a.nets.now a.i a.f a.t a.x (taking c.before.before) c.if-i-gt-LAST_ISSUE.false c.if-f-gt-LAST_ACCOUNT.true
+    let a = c.args in
+    no5 a.s.phase a.s.marks a.nets.now a.i a.f a.t a.x (sym c.taking.ensures ∙ c.if-not-taking.false) c.if-i-gt-LAST_ISSUE.false c.if-f-gt-LAST_ACCOUNT.true
 
 returns-4 : tie.Need-returns-then-t-gt-LAST_ACCOUNT
 returns-4 c =
-    let a = (at2 c.before.before).args in
-    no5_to a.s.phase a.s.marks a.nets.now a.i a.f a.t a.x (taking c.before.before.before)
-    c.if-i-gt-LAST_ISSUE.false c.if-t-gt-LAST_ACCOUNT.true
+    let a = c.args in
+    no5_to a.s.phase a.s.marks a.nets.now a.i a.f a.t a.x (sym c.taking.ensures ∙ c.if-not-taking.false) c.if-i-gt-LAST_ISSUE.false c.if-t-gt-LAST_ACCOUNT.true
 
 returns-5 : tie.Need-returns-then-f-t
 returns-5 c =
-    let a = (at4 c.before).args in
-    no6 a.s.phase a.s.marks a.nets.now a.i a.f a.t a.x (taking c.before.before.before.before)
-    c.if-i-gt-LAST_ISSUE.false c.if-f-gt-LAST_ACCOUNT.false c.if-t-gt-LAST_ACCOUNT.false c.if-f-t.true
+    let a = c.args in
+    no6 a.s.phase a.s.marks a.nets.now a.i a.f a.t a.x (sym c.taking.ensures ∙ c.if-not-taking.false) c.if-i-gt-LAST_ISSUE.false c.if-f-gt-LAST_ACCOUNT.false c.if-t-gt-LAST_ACCOUNT.false c.if-f-t.true
 
 returns-6 : tie.Need-returns-then-x-lt1
 returns-6 c =
-    let a = (at5 c.before).args in
-    no7 a.s.phase a.s.marks a.nets.now a.i a.f a.t a.x (taking c.before.before.before.before.before)
-    c.if-i-gt-LAST_ISSUE.false c.if-f-gt-LAST_ACCOUNT.false
+    let a = c.args in
+    no7 a.s.phase a.s.marks a.nets.now a.i a.f a.t a.x (sym c.taking.ensures ∙ c.if-not-taking.false) c.if-i-gt-LAST_ISSUE.false c.if-f-gt-LAST_ACCOUNT.false
     c.if-t-gt-LAST_ACCOUNT.false c.if-f-t.false c.if-x-lt1.true
 
 returns-7 : tie.Need-returns-then-x-gt-MOST_LOTS
 returns-7 c =
-    let a = (at5 c.before.before).args in
-    no7_most a.s.phase a.s.marks a.nets.now a.i a.f a.t a.x
-    (taking c.before.before.before.before.before.before) c.if-i-gt-LAST_ISSUE.false
+    let a = c.args in
+    no7_most a.s.phase a.s.marks a.nets.now a.i a.f a.t a.x (sym c.taking.ensures ∙ c.if-not-taking.false) c.if-i-gt-LAST_ISSUE.false
     c.if-f-gt-LAST_ACCOUNT.false c.if-t-gt-LAST_ACCOUNT.false
     c.if-f-t.false c.if-x-gt-MOST_LOTS.true
 
 returns-8 : tie.Need-returns-then-not-even_in
 returns-8 c =
-    let e = c in
-    let a = (at7 e.before.before).args in
-    no19 a.s.phase a.s.marks a.nets.now a.i a.f a.t a.x
-    (taking e.before.before.before.before.before.before.before.before) e.if-i-gt-LAST_ISSUE.false
-    e.if-f-gt-LAST_ACCOUNT.false e.if-t-gt-LAST_ACCOUNT.false e.if-f-t.false
-    e.if-x-lt1.false e.if-x-gt-MOST_LOTS.false (sym c.even_in.ensures ∙ c.if-not-even_in.true)
+    let a = c.args in
+    no19 a.s.phase a.s.marks a.nets.now a.i a.f a.t a.x (sym c.taking.ensures ∙ c.if-not-taking.false) c.if-i-gt-LAST_ISSUE.false
+    c.if-f-gt-LAST_ACCOUNT.false c.if-t-gt-LAST_ACCOUNT.false c.if-f-t.false
+    c.if-x-lt1.false c.if-x-gt-MOST_LOTS.false (sym c.even_in.ensures ∙ c.if-not-even_in.true)
 
 lowered-requires : tie.Need-lowered-requires
 lowered-requires c κs =
-    let s = at8 c.before in
-    record { net = rw (from_net c) (s.requires.small (s.args.i * 64 + s.args.f)); lots = c.if-x-gt-MOST_LOTS.false }
+    record { net = rw (from_net c) (c.requires.small (c.args.i * 64 + c.args.f)); lots = c.if-x-gt-MOST_LOTS.false }
 
 returns-9 : tie.Need-returns-then-not-within
 returns-9 c =
-    let a = (at8 c.before.before.before.before).args in
+    let a = c.args in
     no8 a.s.phase a.s.marks a.nets.now a.i a.f a.t a.x (named c.before.before.before.before)
     (sym (falls c.before) ∙ c.if-not-within.true)
 
 raised-requires : tie.Need-raised-requires
 raised-requires c κs =
-    let s = at9 c.before in
     record {
-      net = rw (to_net c) (s.requires.small (s.args.i * 64 + s.args.t));
+      net = rw (to_net c) (c.requires.small (c.args.i * 64 + c.args.t));
       lots = c.if-x-gt-MOST_LOTS.false;
     }
 
 returns-10 : tie.Need-returns-then-not-within-2
 returns-10 c =
-    let e = c in
-    let a = (at9 e.before.before.before.before).args in
-    no8_to a.s.phase a.s.marks a.nets.now a.i a.f a.t a.x (named e.before.before.before.before.before.before.before.before)
+    let a = c.args in
+    no8_to a.s.phase a.s.marks a.nets.now a.i a.f a.t a.x (named c.before.before.before.before.before.before.before.before)
     (sym (rises c.before) ∙ c.if-not-within-2.true)
 
 returns-11 : tie.Need-returns
 returns-11 c =
-    let e = c in
-    let a = (at9 e.before.before.before.before).args in
-    none a.s.phase a.s.marks a.nets.now a.i a.f a.t a.x (named e.before.before.before.before.before.before.before.before)
-    (sym (falls e.before.before.before.before.before) ∙ e.if-not-within.false)
+    let a = c.args in
+    none a.s.phase a.s.marks a.nets.now a.i a.f a.t a.x (named c.before.before.before.before.before.before.before.before)
+    (sym (falls c.before.before.before.before.before) ∙ c.if-not-within.false)
     (sym (rises c.before) ∙ c.if-not-within-2.false)
 
 pub trade_asks_spec : {M : Type 1} → statement M

@@ -23,26 +23,23 @@ to_net c = let a = c.args in to_z-of_z w32 (net_at a.nets.now a.i a.t) (search r
 
 lowered-requires : tie.Need-lowered-requires
 lowered-requires c κs =
-    let s = c in
-    record { net = rw (from_net c) (s.requires.column.small (s.args.i * 64 + s.args.f)); lots = s.requires.lots }
+    record { net = rw (from_net c) (c.requires.column.small (c.args.i * 64 + c.args.f)); lots = c.requires.lots }
 
 raised-requires : tie.Need-raised-requires
 raised-requires c κs =
-    let s = c in
-    record { net = rw (to_net c.before) (s.requires.column.small (s.args.i * 64 + s.args.t)); lots = s.requires.lots }
+    record { net = rw (to_net c.before) (c.requires.column.small (c.args.i * 64 + c.args.t)); lots = c.requires.lots }
 
 slice-set-from-nets-2 : tie.Need-bounds-nets-to
 slice-set-from-nets-2 c = simp length-set (omega (arith, c.requires.column.cells))
 
 returns : tie.Need-returns
 returns c =
-    let s = c in
     let l = c.lowered in
     let r = c.raised in
-    let f : to_z w32 (of_z w32 l.result) ≡ net_at s.args.nets.now s.args.i s.args.f -ℤ pos s.args.x =
-    to_z-of_z w32 l.result (search rules) ∙ l.ensures.value ∙ ap (λ n. n -ℤ pos s.args.x) (from_net c.before.before) in
-    let t : to_z w32 (of_z w32 r.result) ≡ net_at s.args.nets.now s.args.i s.args.t +ℤ pos s.args.x =
-    to_z-of_z w32 r.result (search rules) ∙ r.ensures.value ∙ ap (λ n. n +ℤ pos s.args.x) (to_net c.before.before) in
+    let f : to_z w32 (of_z w32 l.result) ≡ net_at c.args.nets.now c.args.i c.args.f -ℤ pos c.args.x =
+    to_z-of_z w32 l.result (search rules) ∙ l.ensures.value ∙ ap (λ n. n -ℤ pos c.args.x) (from_net c.before.before) in
+    let t : to_z w32 (of_z w32 r.result) ≡ net_at c.args.nets.now c.args.i c.args.t +ℤ pos c.args.x =
+    to_z-of_z w32 r.result (search rules) ∙ r.ensures.value ∙ ap (λ n. n +ℤ pos c.args.x) (to_net c.before.before) in
     rw (f, t)
 
 pub trade_in_spec : {M : Type 1} → statement M
