@@ -17,35 +17,28 @@ settled-requires c κs =
 
 returns : tie.Need-returns-then-settled
 returns c =
-    let t = c in
-    let s = t in
-    let a = s.args in
+    let a = c.args in
     rw c.numbers.ensures
     (nothing_cut a.dealt a.nets.now a.delivered.now a.lifts.now a.day a.i a.n (lending a.issues a.froms a.tos a.lots a.days a.out)
-    s.requires (sym t.settled.ensures ∙ t.if-settled.true))
+    c.requires (sym c.settled.ensures ∙ c.if-settled.true))
 
 hand-stock-requires : tie.Need-hand_stock-v-requires
 hand-stock-requires c κs =
-    let s = c in
-    let a = s.args in
+    let a = c.args in
     let p = c.prepare_for-p in
-    can_hand a.dealt a.nets.now a.delivered.now a.lifts.now a.day a.i a.n (lending a.issues a.froms a.tos a.lots a.days a.out)
-    s.requires p.new.missing.missing.missing.missing.missing.0 p.new.missing.missing.missing.missing.missing.missing.0 p.result p.ensures
-
-abbrev start : tie.After-hand_stock-v → tie.Start
-start c = c.before.before.before.before.before.before.before.before.before.before.before.before.before.before.before.before.before.before
+    can_hand a.dealt a.nets.now a.delivered.now a.lifts.now a.day a.i a.n (lending a.issues a.froms a.tos a.lots a.days a.out) c.requires p.new.runs p.new.missing p.result p.ensures
 
 handed : (c : tie.After-hand_stock-v) →
-    let a = (start c).args in
+    let a = c.args in
     let p = c.prepare_for-p in
     Behind a.dealt a.nets.now a.delivered.now a.lifts.now a.day a.i a.n (lending a.issues a.froms a.tos a.lots a.days a.out)
-    p.new.missing.missing.missing.missing.missing.0 p.new.missing.missing.missing.missing.missing.missing.0 p.result c.hand_stock-v.result c.hand_stock-v.new.0
+    p.new.runs p.new.missing p.result c.hand_stock-v.result c.hand_stock-v.new.out
 handed c =
-    let s = start c in
-    let a = s.args in
+    let a = c.args in
     let p = c.prepare_for-p in
+    let v = c.hand_stock-v in
     stock_handed a.dealt a.nets.now a.delivered.now a.lifts.now a.day a.i a.n (lending a.issues a.froms a.tos a.lots a.days a.out)
-    s.pre p.new.1.1.1.1.1.0 p.new.1.1.1.1.1.1.0 p.result p.ensures c.hand_stock-v.result c.hand_stock-v.new.0 c.hand_stock-v.ensures
+    c.requires p.new.runs p.new.missing p.result p.ensures v.result v.new.out v.ensures
 
 lay-requires : tie.Need-lay-m-requires
 lay-requires c κs = (handed c.before.before.before.before.before.before.before.before.before.before).can
@@ -55,18 +48,16 @@ stocked c = c.before.before.before.before.before.before.before.before.before.bef
 
 -- the issue is cut
 cut : (c : tie.After-slice_known-13-1) →
-    let a = (start (stocked c)).args in
+    let a = c.args in
     let l = c.lay-m in
-    let v = (stocked c).hand_stock-v in
+    let v = c.hand_stock-v in
     WasCut a.dealt a.nets.now a.delivered.now a.lifts.now a.day a.i a.n (lending a.issues a.froms a.tos a.lots a.days a.out) (counts_of (a.n + l.result) (v.result + l.result))
-    (back v.result (with_out (lending a.issues a.froms a.tos a.lots a.days a.out) v.last.0)
-    (lent l.new.1.1.1.1.1.1.0 l.new.1.1.1.1.1.1.1.0 l.new.1.1.1.1.1.1.1.1.0 l.new.1.1.1.1.1.1.1.1.1.0
-    l.new.1.1.1.1.1.1.1.1.1.1.0 l.new.1.1.1.1.1.1.1.1.1.1.1.0))
+    (back v.result (with_out (lending a.issues a.froms a.tos a.lots a.days a.out) v.new.out)
+    (lent l.new.issues l.new.froms l.new.tos l.new.lots l.new.days l.new.out))
 cut c =
     let l = c.lay-m in
     (handed (stocked c)).done l.result
-    (lent l.new.1.1.1.1.1.1.0 l.new.1.1.1.1.1.1.1.0 l.new.1.1.1.1.1.1.1.1.0 l.new.1.1.1.1.1.1.1.1.1.0
-    l.new.1.1.1.1.1.1.1.1.1.1.0 l.new.1.1.1.1.1.1.1.1.1.1.1.0) l.ensures
+    (lent l.new.issues l.new.froms l.new.tos l.new.lots l.new.days l.new.out) l.ensures
 
 returns-2 : tie.Need-returns
 returns-2 c = rw c.numbers-2.ensures (cut c.before)

@@ -17,15 +17,13 @@ record-requires c κs =
 
 returns : tie.Need-returns
 returns c =
-    let e = c in
-    let s = e in
-    let a = s.args in
-    let k = e.append in
+    let a = c.args in
+    let k = c.append in
     let o = c.«record» in
     entered a.e a.n
     (lending a.issues a.froms a.tos a.lots a.days a.out)
-    (lent k.new.froms.0 k.new.froms.froms.0 k.new.froms.froms.froms.0 k.new.froms.froms.froms.froms.0 k.new.froms.froms.froms.froms.froms.0 o.new.0)
-    (omega (arith, s.requires.write.most)) k.ensures o.ensures
+    (lent k.new.issues k.new.froms k.new.tos k.new.lots k.new.days o.new.part)
+    (omega (arith, c.requires.write.most)) k.ensures o.ensures
 
 pub enter_spec : {M : Type 1} → statement M
 enter_spec =

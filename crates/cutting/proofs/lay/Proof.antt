@@ -37,23 +37,23 @@ handed_out c = c.before.before.before.before.before.before.before.before.before.
 turned : (c : tie.In-Overlap invariant-loop decreases-loop) →
     let a = c.args in
     let l = c.loop-f in
-    let g = c.f-1.given.0 in
+    let g = c.in-Overlap in
     Turn a.day a.i a.n a.runs.now a.missing.now a.p (lending a.issues a.froms a.tos a.lots a.days a.out)
-    l.cur l.done (lent l.issues l.froms l.tos l.lots l.days l.out) g.1.1.1.0 g.0 g.1.0 g.1.1.0
+    l.cur l.done (lent l.issues l.froms l.tos l.lots l.days l.out) g.rest g.f g.t g.x
 turned c =
     let s = c in
     let a = s.args in
     let l = c.loop-f in
     let v = c.advance in
     turn a.day a.i a.n a.runs.now a.missing.now a.p (lending a.issues a.froms a.tos a.lots a.days a.out)
-    l.cur l.done (lent l.issues l.froms l.tos l.lots l.days l.out) _ _ _ _ v.result s.requires l.invariant.1 v.ensures c.f-1.given.1
+    l.cur l.done (lent l.issues l.froms l.tos l.lots l.days l.out) _ _ _ _ v.result s.requires l.invariant.1 v.ensures c.in-Overlap.is
 
 returns : tie.Need-returns-in_default invariant-loop decreases-loop
 returns c =
     let a = c.args in
     let l = c.loop-f in
     let v = c.advance in
-    let e = entries_end a.day a.i a.runs.now a.p.n a.missing.now l.cur v.result v.ensures c.enum_told-1.given.1 in
+    let e = entries_end a.day a.i a.runs.now a.p.n a.missing.now l.cur v.result v.ensures c.in_default.is in
     laying_ends _ _ _ _ _ _ _ (lending a.issues a.froms a.tos a.lots a.days a.out)
     (lent l.issues l.froms l.tos l.lots l.days l.out) e (ap fail_records e) l.invariant.1
 
@@ -65,7 +65,7 @@ loop-again c =
     let t = turned (handed_out c) in
     let e = c.enter in (
       t.range.cursor,
-      t.more _ (lent e.new.1.0 e.new.1.1.0 e.new.1.1.1.0 e.new.1.1.1.1.0 e.new.1.1.1.1.1.0 e.new.1.1.1.1.1.1.0)
+      t.more _ (lent e.new.issues e.new.froms e.new.tos e.new.lots e.new.days e.new.out)
           c.fail-e.ensures e.ensures,
     )
 

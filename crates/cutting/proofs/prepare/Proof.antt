@@ -13,36 +13,29 @@ prepare-requires c κs =
     let a = s.args in
     record { order = can_order a.nets.now a.delivered.now a.lifts.now a.i s.requires.sound s.requires.issue; room = omega (arith, s.requires.held) }
 
-abbrev begin : tie.After-prepare-n → tie.Start
-begin c = c.before.before.before.before.before.before
-
 total-requires : tie.Need-total-d-requires
 total-requires c κs =
-    let s = begin c.before.before.before in
+    let s = c in
     let a = s.args in
     rw (row_part a.delivered.now a.i) (total_small a.nets.now a.delivered.now a.lifts.now s.requires.sound a.i s.requires.issue)
 
 missing-of-requires : tie.Need-missing_of-requires
 missing-of-requires c κs =
-    let s = begin c.before.before.before.before.before.before.before in
+    let s = c in
     let a = s.args in
     rw (row_part a.nets.now a.i, row_part a.delivered.now a.i)
     (owing a.nets.now a.delivered.now a.lifts.now a.i s.requires.issue s.requires.sound _ s.requires.accounts)
 
 returns : tie.Need-returns
 returns c =
-    let v = c in
-    let h = v in
-    let t = h in
-    let p = t in
-    let s = begin p in
+    let s = c in
     let a = s.args in
-    ready false a.nets.now a.delivered.now a.lifts.now a.i s.pre.issue s.pre.sound
-    v.start-p.new.0 h.missing_of.new.1.1.0 p.prepare-n.result t.total-d.result v.start-p.result
-    (rw (row_part a.delivered.now a.i) at t.total-d.ensures)
-    (rw (row_part a.nets.now a.i, row_part a.delivered.now a.i) at h.missing_of.ensures)
-    (omega (arith, h.missing_of.auto.1.1.0, s.pre.accounts)) (omega (arith, p.prepare-n.ensures.held.there, v.start-p.auto.0))
-    (rw p.prepare-n.ensures.units at v.start-p.ensures)
+    ready false a.nets.now a.delivered.now a.lifts.now a.i s.requires.issue s.requires.sound
+    c.start-p.new.runs c.missing_of.new.short c.prepare-n.result c.total-d.result c.start-p.result
+    (rw (row_part a.delivered.now a.i) at c.total-d.ensures)
+    (rw (row_part a.nets.now a.i, row_part a.delivered.now a.i) at c.missing_of.ensures)
+    (omega (arith, c.missing_of.auto.short, s.requires.accounts)) (omega (arith, c.prepare-n.ensures.held.there, c.start-p.auto.runs))
+    (rw c.prepare-n.ensures.units at c.start-p.ensures)
 
 pub prepare_spec : {M : Type 1} → statement M
 prepare_spec =

@@ -34,10 +34,10 @@ returns c =
     let m = c.missing_of in
     let v = c.start-b in
     ready true a.nets.now a.delivered.now a.lifts.now a.i s.requires.issue s.requires.sound
-    v.new.out.out.out.out.0 m.new.out.out.0 v.result.n t.result v.result.position
+    v.new.out m.new.short v.result.n t.result v.result.position
     (rw (row_part a.delivered.now a.i) at t.ensures)
     (rw (row_part a.nets.now a.i, row_part a.delivered.now a.i) at m.ensures)
-    (omega (arith, m.auto.1.1.0, s.requires.accounts)) v.ensures.there v.ensures.started
+    (omega (arith, m.auto.short, s.requires.accounts)) v.ensures.there v.ensures.started
 
 pub prepare_dealt_spec : {M : Type 1} → statement M
 prepare_dealt_spec =

@@ -7,25 +7,26 @@ use borrow.Author.Rules.{rules}
 use Rattle.pairing.proofs.pair_off_in.Statement.{statement}
 use Rattle.pairing.proofs.pair_off_in.Tie as tie
 
-returns : tie.Need-returns
+returns : tie.Need-returns-then-t-entries
 returns c =
-    let s = c.before.before.before.before.before.before.before.before.before.before in (
+    let s = c in (
       none_paired _ _ _ _ _ _ _ _ _ _ _ _ _ _ s.requires
-          (ends_in (turns_start _ _ _ _ _ _ _ _ _ _ _ _ _ _ s.requires zeros_held) c.before.next_of.ensures c.if1.true),
+          (ends_in (turns_start _ _ _ _ _ _ _ _ _ _ _ _ _ _ s.requires zeros_held) c.next_of-t.ensures c.if-t-entries.true),
       omega arith,
     )
 
-returns-2 : tie.Need-returns-2
+returns-2 : tie.Need-returns-then-f-entries
 returns-2 c =
-    let s = c.before.before.before.before.before.before.before.before.before.before.before.before.before.before.before in (
+    let s = c in (
       none_paired _ _ _ _ _ _ _ _ _ _ _ _ _ _ s.requires
-          (ends_out (turns_start _ _ _ _ _ _ _ _ _ _ _ _ _ _ s.requires zeros_held) c.before.next-of2.ensures c.if2.true),
+          (ends_out (turns_start _ _ _ _ _ _ _ _ _ _ _ _ _ _ s.requires zeros_held) c.next_of-f.ensures c.if-f-entries.true),
       omega arith,
     )
 
-pub pair-off-in-spec : {M : Type 1} → statement M
-pair-off-in-spec =
+pub pair_off_in_spec : {M : Type 1} → statement M
+pair_off_in_spec =
     tie.close
-    (tie.spec (λ c κs. search rules) (λ c. search rules) (λ c. search rules) (λ c. search rules) returns (λ c κs. search rules)
-    (λ c. search rules) (λ c. search rules) (λ c. search rules) (λ c. search rules) returns-2 (λ c κs. search rules)
-    (λ c. search rules) (λ c. search rules) (λ c. search rules) (λ c. search rules) (λ c. search rules) (λ c. search rules))
+    (tie.spec (λ c κs. search rules) (λ c. search rules) (λ c. search rules) (λ c. search rules) returns
+    (λ c κs. search rules) (λ c. search rules) (λ c. search rules) (λ c. search rules) (λ c. search rules) returns-2
+    (λ c κs. search rules) (λ c. search rules) (λ c. search rules) (λ c. search rules) (λ c. search rules)
+    (λ c. search rules) (λ c. search rules))
