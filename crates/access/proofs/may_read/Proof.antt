@@ -4,11 +4,12 @@ use borrow.Author.Rules.{rules}
 use Rattle.access.proofs.may_read.Statement.{statement}
 use Rattle.access.proofs.may_read.Tie as tie
 
-returns : tie.Need-returns
-returns c = simp (sym c.before.is-operator.ensures ∙ c.if1.true)
+returns : tie.Need-returns-then-is_operator
+returns c = simp (sym c.before.is_operator.ensures ∙ c.if-is_operator.true)
 
-returns-2 : tie.Need-returns-2
-returns-2 c = simp (sym c.before.before.is-operator.ensures ∙ c.before.if1.false) c.is-own.ensures
+returns-2 : tie.Need-returns
+returns-2 c = simp (sym c.before.before.is_operator.ensures ∙ c.before.if-is_operator.false) c.is_own.ensures
 
-pub may-read-spec : {M : Type 1} → statement M
-may-read-spec = tie.close (tie.spec (λ c κs. search rules) returns (λ c κs. search rules) returns-2)
+pub may_read_spec : {M : Type 1} → statement M
+may_read_spec = tie.close
+    (tie.spec (λ c κs. search rules) returns (λ c κs. search rules) returns-2)

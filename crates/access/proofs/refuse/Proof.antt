@@ -3,24 +3,25 @@ use borrow.Author.Tests.{le-leb, lt-leb, not-true, not-false}
 use Rattle.access.proofs.refuse.Statement.{statement}
 use Rattle.access.proofs.refuse.Tie as tie
 
-returns : tie.Need-returns
-returns c = simp (not-true c.before.args.good c.if1.true)
+returns : tie.Need-returns-then-not-good
+returns c = simp c.if-not-good.true
 
-returns-2 : tie.Need-returns-2
-returns-2 c = simp (not-false c.before.before.args.good c.before.if1.false, lt-leb _ 15 c.if2.true)
+returns-2 : tie.Need-returns-then-i-gt-LAST_ISSUE
+returns-2 c = simp (c.before.if-not-good.false, lt-leb _ 15 c.if-i-gt-LAST_ISSUE.true)
 
-returns-3 : tie.Need-returns-3
-returns-3 c = simp (not-false c.before.before.before.args.good c.before.before.if1.false, le-leb _ 15 c.before.if2.false, lt-leb _ 63 c.if3.true)
+returns-3 : tie.Need-returns-then-f-gt-LAST_ACCOUNT
+returns-3 c = simp (c.before.before.if-not-good.false, le-leb _ 15 c.before.if-i-gt-LAST_ISSUE.false, lt-leb _ 63 c.if-f-gt-LAST_ACCOUNT.true)
 
-returns-4 : tie.Need-returns-4
+returns-4 : tie.Need-returns-then-t-gt-LAST_ACCOUNT
 returns-4 c =
     simp
-    (not-false c.before.before.before.before.args.good c.before.before.before.if1.false, le-leb _ 15 c.before.before.if2.false, le-leb _ 63 c.before.if3.false, lt-leb _ 63 c.if4.true)
+    (c.before.before.before.if-not-good.false, le-leb _ 15 c.before.before.if-i-gt-LAST_ISSUE.false, le-leb _ 63 c.before.if-f-gt-LAST_ACCOUNT.false, lt-leb _ 63 c.if-t-gt-LAST_ACCOUNT.true)
 
-returns-5 : tie.Need-returns-5
+returns-5 : tie.Need-returns
 returns-5 c =
     simp
-    (not-false c.before.before.before.before.args.good c.before.before.before.if1.false, le-leb _ 15 c.before.before.if2.false, le-leb _ 63 c.before.if3.false, le-leb _ 63 c.if4.false)
+    (c.before.before.before.if-not-good.false, le-leb _ 15 c.before.before.if-i-gt-LAST_ISSUE.false, le-leb _ 63 c.before.if-f-gt-LAST_ACCOUNT.false, le-leb _ 63 c.if-t-gt-LAST_ACCOUNT.false)
 
-pub refuse-spec : {M : Type 1} → statement M
-refuse-spec = tie.close (tie.spec returns returns-2 returns-3 returns-4 returns-5)
+pub refuse_spec : {M : Type 1} → statement M
+refuse_spec = tie.close
+    (tie.spec returns returns-2 returns-3 returns-4 returns-5)

@@ -8,15 +8,16 @@ use Rattle.access.proofs.Refusing.{front_no, turn_27}
 use Rattle.access.proofs.refuse_turn.Statement.{statement}
 use Rattle.access.proofs.refuse_turn.Tie as tie
 
-returns : tie.Need-returns
+returns : tie.Need-returns-then-no-ne0
 returns c =
     let a = c.before.before.args in
-    front_no (turn_asks a.s.turn a.s.day a.d) (ask 27 false ∷ []) _ c.before.turn-asks.ensures c.if1.true
+    front_no (turn_asks a.s.turn a.s.day a.d) (ask 27 false ∷ []) _ c.before.turn_asks-no.ensures c.if-no-ne0.true
 
-returns-2 : tie.Need-returns-2
+returns-2 : tie.Need-returns
 returns-2 c =
     let a = c.before.before.args in
-    turn_27 a.s.turn a.s.day a.d _ c.before.turn-asks.ensures c.if1.false
+    turn_27 a.s.turn a.s.day a.d _ c.before.turn_asks-no.ensures c.if-no-ne0.false
 
-pub refuse-turn-spec : {M : Type 1} → statement M
-refuse-turn-spec = tie.close (tie.spec (λ c κs. search rules) returns returns-2)
+pub refuse_turn_spec : {M : Type 1} → statement M
+refuse_turn_spec = tie.close
+    (tie.spec (λ c κs. search rules) returns returns-2)

@@ -28,10 +28,11 @@ returns c =
     let l = s.requires.1.lengths in
     run_answer (book s) _ t.answer.result a.words.now a.x
     (record { nets = l.cells.nets; delivered = l.cells.delivered; lifts = l.lifts; charges = l.charges }) s.requires.1.sound _ a.out.now _
-    p.quotes-of.ensures s.requires.1.room t.answer.ensures
+    p.quotes_of.ensures s.requires.1.room t.answer.ensures
 
-pub answer-spec : {M : Type 1} → statement M
-answer-spec =
+pub answer_spec : {M : Type 1} → statement M
+answer_spec =
     tie.close
-    (tie.spec
-    (λ c. search rules) (λ c κs. search rules) (λ c. search rules) answer-requires (λ c. search rules) (λ c. search rules) (λ c. search rules) (λ c. search rules) (λ c. search rules) (λ c. search rules) (λ c. search rules) (λ c. search rules) (λ c. search rules) (λ c. search rules) returns)
+    (tie.spec (λ c. search rules) (λ c κs. search rules) (λ c. search rules) answer-requires (λ c. search rules)
+    (λ c. search rules) (λ c. search rules) (λ c. search rules) (λ c. search rules) (λ c. search rules)
+    (λ c. search rules) (λ c. search rules) (λ c. search rules) (λ c. search rules) returns)

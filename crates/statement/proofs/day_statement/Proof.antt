@@ -4,21 +4,22 @@ use borrow.Author.Rules.{rules}
 use Rattle.statement.proofs.day_statement.Statement.{statement}
 use Rattle.statement.proofs.day_statement.Tie as tie
 
-returns : tie.Need-returns
+returns : tie.Need-returns-then-issue-gt-LAST_ISSUE
 returns c =
     let a = c.before.before.before.args in
-    above_issues a.words.now a.issue a.account c.if1.true
+    above_issues a.words.now a.issue a.account c.if-issue-gt-LAST_ISSUE.true
 
-returns-2 : tie.Need-returns-2
+returns-2 : tie.Need-returns-then-account-gt-LAST_ACCOUNT
 returns-2 c =
     let a = c.before.before.before.before.args in
-    above_accounts a.words.now a.issue a.account c.before.if1.false c.if2.true
+    above_accounts a.words.now a.issue a.account c.before.if-issue-gt-LAST_ISSUE.false c.if-account-gt-LAST_ACCOUNT.true
 
-returns-3 : tie.Need-returns-3
+returns-3 : tie.Need-returns
 returns-3 c =
     let k = c.before in
     let a = k.before.before.before.before.before.args in
-    in_range a.words.now a.issue a.account k.before.before.if1.false k.before.if2.false k.on-fresh.result k.on-fresh.ensures
+    in_range a.words.now a.issue a.account k.before.before.if-issue-gt-LAST_ISSUE.false k.before.if-account-gt-LAST_ACCOUNT.false k.on_fresh-c.result k.on_fresh-c.ensures
 
-pub day-statement-spec : {M : Type 1} → statement M
-day-statement-spec = tie.close (tie.spec returns returns-2 (λ c κs. search rules) returns-3)
+pub day_statement_spec : {M : Type 1} → statement M
+day_statement_spec = tie.close
+    (tie.spec returns returns-2 (λ c κs. search rules) returns-3)

@@ -24,15 +24,15 @@ stands s =
     ready_stands a.s a.nets.now a.delivered.now a.lifts.now a.charges.now a.issues.now a.froms.now a.tos.now a.lots.now a.days.now a.out.now s.requires.1
 
 -- a net that is read comes as its bits
-net_bits : (c : tie.After-net) → let a = c.before.before.before.before.before.before.before.before.before.before.args in
+net_bits : (c : tie.After-net-1) → let a = c.before.before.before.before.before.before.before.before.before.before.args in
     to_z w32 (of_z w32 (net_at a.nets.now a.issue a.account)) ≡ net_at a.nets.now a.issue a.account
 net_bits c = let a = c.before.before.before.before.before.before.before.before.before.before.args in to_z-of_z w32 (net_at a.nets.now a.issue a.account) (search rules)
 
 -- where the net was read, behind the answer
-abbrev net-read : tie.After-answer → tie.After-net
+abbrev net-read : tie.After-answer-t → tie.After-net-1
 net-read t = t.before.before.before.before.before.before.before.before.before.before.before.before
 
-added-requires : tie.Need-added-requires
+added-requires : tie.Need-added-statement-requires
 added-requires c κs =
     let n = net-read c.before.before.before.before.before.before.before.before.before.before.before.before.before.before.before.before.before.before.before in
     let s = n.before.before.before.before.before.before.before.before.before.before in
@@ -44,14 +44,13 @@ returns c =
     let n = net-read t in
     let s = n.before.before.before.before.before.before.before.before.before.before in
     let a = s.args in
-    stepped a.words.now a.x a.issue a.account a.c (book s) (stands s) s.pre.2 t.answer.result _ _ (net_bits n) _
-    c.added.ensures.0 c.added.ensures.1 t.answer.ensures
+    stepped a.words.now a.x a.issue a.account a.c (book s) (stands s) s.pre.2 t.answer-t.result _ _ (net_bits n) _
+    c.added-statement.ensures.0 c.added-statement.ensures.1 t.answer-t.ensures
 
 pub turn_spec : {M : Type 1} → statement M
 turn_spec =
     tie.close
-    (tie.spec
-    (λ c. search rules) (λ c. search rules) (λ c. search rules) (λ c. search rules) (λ c. search rules) (λ c. search rules)
-    (λ c κs. search rules) added-requires
-    (λ c. search rules) (λ c. search rules) (λ c. search rules) (λ c. search rules) (λ c. search rules) (λ c. search rules)
-    (λ c. search rules) (λ c. search rules) (λ c. search rules) (λ c. search rules) returns)
+    (tie.spec (λ c. search rules) (λ c. search rules) (λ c. search rules) (λ c. search rules) (λ c. search rules)
+    (λ c. search rules) (λ c κs. search rules) added-requires (λ c. search rules) (λ c. search rules)
+    (λ c. search rules) (λ c. search rules) (λ c. search rules) (λ c. search rules) (λ c. search rules)
+    (λ c. search rules) (λ c. search rules) (λ c. search rules) returns)
