@@ -6,5 +6,6 @@ use Rattle.snapshot.proofs.numbers_of.Tie as tie
 returns : tie.Need-returns
 returns c = rw c.number_of.ensures
 
-pub numbers-of-spec : {M : Type 1} → statement M
-numbers-of-spec = tie.close (tie.spec (λ c κs. search rules) returns)
+pub numbers_of_spec : {M : Type 1} → statement M
+numbers_of_spec = tie.close
+    (tie.spec (λ c κs. search rules) returns)
