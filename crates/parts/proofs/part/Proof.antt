@@ -7,10 +7,11 @@ use Rattle.parts.proofs.part.Tie as tie
 
 returns : tie.Need-returns
 returns c =
-    let t = c.before.before.before.before.before.before.before.run_on in
+    let t = c.before.before.before.before.before.before.before.run_on-r in
     record { used = t.result.used; start = omega arith; end = refl; index = omega arith; failed = refl; went = t.ensures }
 
-pub part-spec : {M : Type 1} → statement M
-part-spec =
+pub part_spec : {M : Type 1} → statement M
+part_spec =
     tie.close
-    (tie.spec (λ c κs. search rules) (λ c. search rules) (λ c. search rules) (λ c. search rules) (λ c. search rules) returns)
+    (tie.spec (λ c κs. search rules) (λ c. search rules) (λ c. search rules) (λ c. search rules) (λ c. search rules)
+    returns)

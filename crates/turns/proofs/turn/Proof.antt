@@ -15,16 +15,16 @@ book s =
     book_of a.s a.nets.now a.delivered.now a.lifts.now a.charges.now a.issues.now a.froms.now a.tos.now a.lots.now a.days.now
 
 -- where the instruction was answered
-abbrev begin : tie.After-answer → tie.Start
+abbrev begin : tie.After-answer-t → tie.Start
 begin c = c.before.before.before.before.before.before.before.before.before.before.before.before.before.before.before.before.before.before.before.before.before.before.before.before.before
 
-answer-requires : tie.Need-answer-requires
+answer-requires : tie.Need-answer-t-requires
 answer-requires c κs =
     let s = c.before.before.before.before.before.before.before.before.before.before.before.before.before.before.before.before.before.before.before.before.before.before.before.before in
     let r = s.requires.1 in
     (record { lengths = r.lengths; sound = r.sound }, has_room s.args.x _ s.args.out.now r.room)
 
-line-requires : tie.Need-line-requires
+line-requires : tie.Need-line-end-requires
 line-requires c κs = (begin c.before.before.before.before.before.before.before.before.before.before.before.before.before.before.before.before.before.before.before.before.before).requires.2
 
 returns : tie.Need-returns
@@ -33,20 +33,20 @@ returns c =
     let p = t.before.before.before.before.before.before.before.before.before.before.before.before.before in
     let s = begin t in
     let a = s.args in
-    let l = s.pre.1.lengths in
-    let i = run_answer (book s) _ t.answer.result a.words.now _ a.out.now a.x p.quotes-of.ensures s.pre.1.room _ t.answer.ensures in
+    let l = s.requires.1.lengths in
+    let i = run_answer (book s) _ t.answer-t.result a.words.now _ a.out.now a.x p.quotes_of.ensures s.requires.1.room _ t.answer-t.ensures in
     record {
       printed = added_as 72 72 _ _ _ _ _ _ (omega arith)
-          (same_line a.index _ _ _ _ _ _ c.before.before.before.name_of.ensures i.refusal i.count) c.before.before.line.ensures;
+          (same_line a.index _ _ _ _ _ _ c.before.before.before.name_of.ensures i.refusal i.count) c.before.before.line-end.ensures;
       book = i.book;
-      sound = answer_sound (book s) _ t.answer.result a.x a.words.now
-          (record { nets = l.cells.nets; delivered = l.cells.delivered; lifts = l.lifts; charges = l.charges }) s.pre.1.sound i;
+      sound = answer_sound (book s) _ t.answer-t.result a.x a.words.now
+          (record { nets = l.cells.nets; delivered = l.cells.delivered; lifts = l.lifts; charges = l.charges }) s.requires.1.sound i;
     }
 
 pub turn_spec : {M : Type 1} → statement M
 turn_spec =
     tie.close
     (tie.spec (λ c. search rules) (λ c κs. search rules) (λ c. search rules) answer-requires (λ c κs. search rules)
-    line-requires (λ c. search rules) (λ c. search rules) (λ c. search rules) (λ c. search rules) (λ c. search rules)
+    line-requires (λ c. search rules) (λ c. search rules) (λ c. search rules) (λ c. search rules)
     (λ c. search rules) (λ c. search rules) (λ c. search rules) (λ c. search rules) (λ c. search rules)
-    (λ c. search rules) returns)
+    (λ c. search rules) (λ c. search rules) returns)
