@@ -84,8 +84,8 @@ module _ (size : ℕ) where
       rw e (gone_behind (spent s u.account) us (each_map (Gone s) (Gone (spent s u.account)) (λ v p. (p.0, k v.account ∙ p.1)) us ps.1) a ∙ k a)
 
   -- a full unit in front takes what its account has left
-  front : (s : ℕ → ℕ) (b : ℕ) (us : List AccountLots) → behind s (account_lots b size ∷ us) ≡ behind (spent s b) us
-  front s b us = let full : leb size size ≡ true = le-leb size size (omega arith) in rw full refl
+  behind_full : (s : ℕ → ℕ) (b : ℕ) (us : List AccountLots) → behind s (account_lots b size ∷ us) ≡ behind (spent s b) us
+  behind_full s b us = let full : leb size size ≡ true = le-leb size size (omega arith) in rw full refl
 
   -- who gets a unit in a round got one in each round before
   later : (r t : ℕ) → r ≤ t → (s : ℕ → ℕ) (vs : List AccountLots) → Every (Gone (behind s (round size r vs))) (round size t vs)
@@ -100,7 +100,7 @@ module _ (size : ℕ) where
       simp (e, f, full)
       ((
         (refl, behind_none (spent s b) (round size r vs) b (simp (eq-eqb b b refl))),
-        subst (λ g. Every (Gone g) (round size t vs)) (sym (front s b (round size r vs))) (later r t h (spent s b) vs),
+        subst (λ g. Every (Gone g) (round size t vs)) (sym (behind_full s b (round size r vs))) (later r t h (spent s b) vs),
       )))
       (λ f. simp (e, f, full) (later r t h (spent s b) vs)))
       (λ e. simp (e, le-ltb t (v.lots / size) (omega (arith, ltb-false r (v.lots / size) e))) (later r t h s vs))
