@@ -1,7 +1,7 @@
 -- An issue's units, dealt out of its runs and then lifted.
 use mathlib.Core.Path.{◌≡◌, refl, sym, ap, ◌∙◌}
 use mathlib.Core.Bool.{Bool, true, false}
-use mathlib.Core.List.{List, [], ◌∷◌, ◌++◌, map, append-nil}
+use mathlib.Core.List.{List, [], ◌∷◌, map}
 use Prim.Native.Nat.{ℕ, suc, ◌+◌, ◌-◌, ◌*◌, ◌/◌, ◌%◌, ◌≤◌, ◌<◌}
 use native.Mathlib.Omega.{arith}
 use native.Mathlib.Numerals.{add-one}
@@ -14,8 +14,7 @@ use Rattle.rules.specs.Measures.{Every, unit_lots}
 use Rattle.rules.specs.declared.Found.TheVariants.{Unit, Nothing}
 use Rattle.rules.specs.Units.{AccountLots, account_lots, units, units_of_nets, sum_lots}
 use Rattle.rules.specs.Dealt.{dealt}
-use Rattle.rules.specs.Lifts.{Among, lifted}
-use Rattle.rules.specs.Book.{row, block, dues_of, places_in, lifts_at, order_in}
+use Rattle.rules.specs.Book.{row, dues_of, lifts_at, order_in}
 use Rattle.laws.proofs.Basics.{by_test, each_take, each_drop, put_pos}
 use Rattle.laws.proofs.Units.{UnitSized, Small}
 use Rattle.laws.proofs.Lifts.{length_lifted}

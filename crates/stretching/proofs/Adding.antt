@@ -1,24 +1,24 @@
 -- A run more: last, or into its account's stretch; the index stays right.
 use mathlib.Core.Path.{◌≡◌, refl, sym, ap, ◌∙◌}
-use mathlib.Core.Bool.{true, false, false≢true}
+use mathlib.Core.Bool.{true, false}
 use mathlib.Core.List.{List, [], ◌∷◌, ◌++◌, map, map-append, append-nil}
 use Prim.Native.Nat.{ℕ, zero, suc, ◌+◌, ◌-◌, ◌*◌, ◌/◌, ◌%◌, ◌≤◌, ◌<◌}
 use native.Mathlib.Omega.{arith}
 use native.Mathlib.Numerals.{add-one}
-use lib.Dec.{leb, ltb, eqb, lit<}
-use lib.ListN.{length, take, drop, get_or, set, replicate, length-set, length-map, length-take, get_or-map}
+use lib.Dec.{leb, eqb, lit<}
+use lib.ListN.{length, take, get_or, set, replicate, length-set, length-map, length-take, get_or-map}
 use lib.Seq.{take-suc-set, take-set-le, take-set-lt, get_or-set_same, get_or-set_other, get_or-take, take-take, length-take-le}
 use borrow.Author.Tests.{le-leb, lt-leb, leb-true, leb-false, eqb-true, eqb-false, eq-eqb, ne_eqb}
 use Rattle.rules.specs.Measures.{Every, unit_lots, total}
 use Rattle.rules.specs.Units.{AccountLots, account_lots, of_account}
 use Rattle.rules.specs.Fails.{is_full_of, stretches}
-use Rattle.laws.proofs.Basics.{by_test, and_left, and_right, and_both, each_append, put_pos, total_append}
+use Rattle.laws.proofs.Basics.{by_test, and_left, and_both, each_append, put_pos, total_append}
 use Rattle.laws.proofs.Fails.{additive_account}
 use Rattle.laws.proofs.Stretches.{total_stretches}
 use Rattle.laws.proofs.DealtStretches.{join_last, join_new, join_small, join_at, stretches_last, run_last, stretches_front}
 use Rattle.runs.specs.Runs.{part_of, runs_in, units_of_run, Plain}
 use Rattle.units.proofs.Begins.{run_account}
-use Rattle.stretching.specs.Adding.{StretchesOf, NoneOf, FirstOf, Indexed, Fits, Room, Joined, CanAdd, Added}
+use Rattle.stretching.specs.Adding.{StretchesOf, NoneOf, FirstOf, Indexed, Fits, CanAdd, Added}
 
 -- what the stores ask, and what they do
 record CanJoin (out : List ℕ) (c : ℕ) (at : List ℕ) (word : ℕ) : Type 0 where

@@ -1,20 +1,20 @@
 -- Runs one after the other: what each has of some rounds, behind the stretches of the units before it.
 use mathlib.Core.Path.{◌≡◌, refl, sym, ap, subst, ◌∙◌}
-use mathlib.Core.Bool.{true, false, cond}
-use mathlib.Core.List.{List, [], ◌∷◌, ◌++◌, map, append-nil, append_assoc}
-use Prim.Native.Nat.{ℕ, zero, suc, ◌+◌, ◌-◌, ◌*◌, ◌/◌, ◌%◌, ◌≤◌, ◌<◌, min}
+use mathlib.Core.Bool.{true}
+use mathlib.Core.List.{List, [], ◌++◌, map, append-nil, append_assoc}
+use Prim.Native.Nat.{ℕ, suc, ◌+◌, ◌-◌, ◌*◌, ◌/◌, ◌%◌, ◌≤◌, ◌<◌, min}
 use native.Mathlib.Omega.{arith}
 use native.Mathlib.Numerals.{add-one}
 use lib.Dec.{leb}
-use lib.ListN.{length, take, drop, get_or, drop_of_length-le}
-use borrow.Author.Tests.{le-leb, lt-leb, leb-true, leb-false}
-use Rattle.rules.specs.Measures.{Every, unit_lots}
+use lib.ListN.{length, drop, get_or}
+use borrow.Author.Tests.{le-leb, lt-leb}
+use Rattle.rules.specs.Measures.{unit_lots}
 use Rattle.rules.specs.Units.{AccountLots, account_lots}
 use Rattle.rules.specs.Fails.{stretches}
 use Rattle.laws.proofs.Basics.{either, each_drop}
-use Rattle.runs.specs.Runs.{part_of, runs_in, units_of_run, units_of_runs, Plain, PlainIn}
+use Rattle.runs.specs.Runs.{part_of, runs_in, units_of_run, units_of_runs, Plain}
 use Rattle.runs.proofs.Loops.{runs_at_lem, runs_end}
-use Rattle.stretching.specs.Adding.{StretchesOf, Indexed, Fits, Room, Joined, share_of, shares_in, CanAdd, Added, CanFeed, Fed}
+use Rattle.stretching.specs.Adding.{StretchesOf, Indexed, share_of, shares_in, CanAdd, Added, CanFeed, Fed}
 use Rattle.stretching.proofs.Adding.{fits_front}
 
 -- A run's share

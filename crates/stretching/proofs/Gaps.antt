@@ -1,19 +1,18 @@
 -- A full unit of an account that has a stretch already only makes that stretch longer, wherever it stands: so it may be
 -- fed with others and taken off again.
 use mathlib.Core.Path.{◌≡◌, refl, sym, ap, subst, ◌∙◌}
-use mathlib.Core.Bool.{true, false, cond, ◌&&◌, false≢true}
-use mathlib.Core.List.{List, [], ◌∷◌, ◌++◌, map, append-nil, append_assoc}
-use Prim.Native.Nat.{ℕ, zero, suc, ◌+◌, ◌-◌, ◌*◌, ◌/◌, ◌%◌, ◌≤◌, ◌<◌}
+use mathlib.Core.Bool.{true, false, ◌&&◌, false≢true}
+use mathlib.Core.List.{List, [], ◌∷◌, ◌++◌, append-nil, append_assoc}
+use Prim.Native.Nat.{ℕ, zero, suc, ◌+◌, ◌-◌, ◌*◌, ◌≤◌, ◌<◌}
 use native.Mathlib.Omega.{arith}
 use lib.Dec.{leb, eqb}
-use lib.ListN.{length, take, drop, get_or, set}
-use borrow.Author.Tests.{le-leb, leb-true, eqb-true, eq-eqb}
+use lib.ListN.{length, take, get_or}
+use borrow.Author.Tests.{le-leb, leb-true}
 use Rattle.rules.specs.Measures.{Every, unit_lots, total}
 use Rattle.rules.specs.Units.{AccountLots, account_lots, of_account}
 use Rattle.rules.specs.Fails.{is_full_of, stretches}
 use Rattle.laws.proofs.Basics.{by_test, and_left, and_right, and_both, each_map}
 use Rattle.laws.proofs.DealtStretches.{join_last, stretches_last}
-use Rattle.runs.specs.Runs.{part_of, runs_in}
 use Rattle.stretching.specs.Adding.{NoneOf}
 use Rattle.stretching.specs.Gaps.{Has, more, less, mores}
 

@@ -4,11 +4,10 @@ use mathlib.Core.Bool.{true, false}
 use mathlib.Core.List.{List, [], ◌∷◌, ◌++◌, map, append-nil, append_assoc}
 use Prim.Native.Nat.{ℕ, zero, suc, ◌+◌, ◌-◌, ◌*◌, ◌/◌, ◌%◌, ◌≤◌, ◌<◌, min}
 use native.Mathlib.Omega.{arith}
-use native.Mathlib.Numerals.{add-one}
 use lib.Dec.{leb, ltb, lit<}
-use lib.ListN.{length, take, drop, get_or, replicate, length-map, length-append, length-drop, take-append-drop}
-use lib.Seq.{take-take, take-add, drop-drop, take-append-le, take-append_seam, drop-append-le, drop-append-add, length-take-le}
-use borrow.Author.Tests.{le-leb, lt-leb, le-ltb, ltb-true, ltb-false}
+use lib.ListN.{length, take, drop, replicate, length-map, length-append, length-drop, take-append-drop}
+use lib.Seq.{take-take, drop-drop, take-append-le, take-append_seam, drop-append-le, drop-append-add, length-take-le}
+use borrow.Author.Tests.{le-leb, lt-leb, ltb-true, ltb-false}
 use Rattle.rules.specs.Measures.{Every, unit_lots, total}
 use Rattle.rules.specs.Units.{AccountLots, account_lots, of_account}
 use Rattle.rules.specs.Fails.{stretches}
@@ -20,9 +19,9 @@ use Rattle.laws.proofs.DealtStretches.{together, rounds_together}
 use Rattle.runs.specs.Runs.{part_of, runs_in, units_of_run, units_of_runs, Plain, PlainIn}
 use Rattle.runs.proofs.Loops.{runs_length}
 use Rattle.inturn.specs.declared.Deal.{Deal}
-use Rattle.inturn.specs.InTurn.{Narrowed, full_unit, most_rounds, CanDeal, smalls_of, dealt_runs, SeatAt}
+use Rattle.inturn.specs.InTurn.{Narrowed, full_unit, most_rounds, smalls_of, dealt_runs, SeatAt}
 use Rattle.inturn.proofs.Dealing.{each_runs, rounds_add}
-use Rattle.stretching.specs.Adding.{StretchesOf, Fits, Room, Joined, share_of, shares_in, CanFeed, Fed}
+use Rattle.stretching.specs.Adding.{Fits, Room, Joined, share_of, shares_in, CanFeed, Fed}
 use Rattle.stretching.specs.Spans.{Parted, span_in, CanFeedSpan, FedSpan}
 use Rattle.stretching.proofs.Adding.{fits_front}
 

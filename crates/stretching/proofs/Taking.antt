@@ -1,8 +1,8 @@
 -- Units taken off their stretches, and spans that are fed later.
 use mathlib.Core.Path.{◌≡◌, refl, sym, ap, subst, ◌∙◌}
-use mathlib.Core.Bool.{true, false, cond, false≢true}
+use mathlib.Core.Bool.{true, false}
 use mathlib.Core.List.{List, [], ◌∷◌, ◌++◌, map, append_assoc}
-use Prim.Native.Nat.{ℕ, zero, suc, ◌+◌, ◌-◌, ◌*◌, ◌/◌, ◌%◌, ◌≤◌, ◌<◌}
+use Prim.Native.Nat.{ℕ, zero, suc, ◌+◌, ◌-◌, ◌/◌, ◌%◌, ◌≤◌, ◌<◌}
 use native.Mathlib.Omega.{arith}
 use native.Mathlib.Numerals.{add-one}
 use lib.Dec.{leb, ltb, eqb}
@@ -17,7 +17,7 @@ use Rattle.laws.proofs.Basics.{by_test, and_left, and_right, each_map, each_appe
 use Rattle.laws.proofs.Fails.{additive_account}
 use Rattle.laws.proofs.Stretches.{total_stretches}
 use Rattle.runs.specs.Runs.{part_of, runs_in}
-use Rattle.stretching.specs.Adding.{StretchesOf, NoneOf, FirstOf, Indexed, Fits, Room, Joined}
+use Rattle.stretching.specs.Adding.{NoneOf, FirstOf, Indexed, Fits}
 use Rattle.stretching.specs.Spans.{Parted, span_in, CanFeedSpan, FedSpan}
 use Rattle.inturn.specs.declared.Deal.{Deal}
 use Rattle.inturn.specs.InTurn.{full_unit, most_rounds, smalls_of, dealt_runs, dealt_from, Seated}

@@ -1,10 +1,9 @@
 -- The invariant: the first j words are there.
-use mathlib.Core.Path.{◌≡◌, refl}
+use mathlib.Core.Path.{◌≡◌}
 use Prim.Native.Nat.{◌-◌, ◌≤◌}
 use native.Mathlib.Omega.{arith}
 use borrow.Author.Rules.{rules}
 use lib.ListN.{length, take, length-set}
-use Rattle.runs.proofs.Loops.{fill_more}
 use Rattle.dealing.proofs.Dealer.{copy_more}
 use Rattle.dealing.proofs.copy.Statement.{statement}
 use Rattle.dealing.proofs.copy.Tie as tie

@@ -1,6 +1,6 @@
 -- The invariant: unit k of all is, from the round on, the one that is left.
-use mathlib.Core.Path.{◌≡◌, refl, sym, ap, ◌∙◌}
-use Prim.Native.Nat.{ℕ, ◌+◌, ◌-◌, ◌/◌, ◌≤◌, ◌<◌}
+use mathlib.Core.Path.{◌≡◌, refl, ◌∙◌}
+use Prim.Native.Nat.{◌+◌, ◌-◌, ◌/◌, ◌≤◌, ◌<◌}
 use native.Mathlib.Omega.{arith}
 use native.Mathlib.Nat.{mod-lt}
 use borrow.Author.Rules.{rules}
@@ -9,7 +9,7 @@ use Rattle.rules.specs.Measures.{unit_lots}
 use Rattle.rules.specs.Dealt.{rounds}
 use Rattle.runs.specs.Runs.{runs_in}
 use Rattle.inturn.specs.InTurn.{Narrowed, dealt_runs, dealt_from}
-use Rattle.inturn.proofs.Dealing.{falling_less, rest_of, seat_start, below_most, block_over, block_in, block_fits, block_some, narrowed_on, front_block, seat_in}
+use Rattle.inturn.proofs.Dealing.{falling_less, rest_of, seat_start, block_over, block_in, block_fits, block_some, narrowed_on, front_block, seat_in}
 use Rattle.inturn.proofs.seat.Statement.{statement}
 use Rattle.inturn.proofs.seat.Tie as tie
 

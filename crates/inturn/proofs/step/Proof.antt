@@ -1,6 +1,5 @@
 -- The unit is a small one, or one of the round; behind the last of a round the next one begins.
 use native.Mathlib.Omega.{arith}
-use borrow.Author.Rules.{rules}
 use Rattle.inturn.proofs.Dealing.{falling_less, small_there, step_to_small, step_within, step_over}
 use Rattle.inturn.proofs.step.Statement.{statement}
 use Rattle.inturn.proofs.step.Tie as tie

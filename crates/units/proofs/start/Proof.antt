@@ -1,5 +1,4 @@
 -- The runs that wait are gathered, and the cursor stands at the first, by the contracts of `hand` and `gather`.
-use Prim.Native.Nat.{◌-◌}
 use native.Mathlib.Omega.{arith}
 use borrow.Author.Rules.{rules}
 use Rattle.units.proofs.Begins.{begins_none, can_gather, fits_lent, begins_lent}
