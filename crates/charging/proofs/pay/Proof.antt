@@ -1,6 +1,5 @@
 -- What is taken is written before the other charge is read, as the definition has it.
 use mathlib.Core.Path.{◌≡◌, ap, ◌∙◌}
-use Prim.Native.Nat.{◌+◌}
 use native.Mathlib.Omega.{arith}
 use lib.ListN.{get_or, set}
 use lib.IntN.{pos, ◌+ℤ◌, ◌-ℤ◌}

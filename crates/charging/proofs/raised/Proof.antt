@@ -1,6 +1,5 @@
 -- Both together fit, so the result does and is exact.
 use mathlib.Core.Path.{◌≡◌}
-use Prim.Native.Nat.{◌+◌, ◌-◌}
 use native.Mathlib.Omega.{arith}
 use lib.IntN.{pos, ◌+ℤ◌}
 use mir.Syntax.{w64}

@@ -1,5 +1,4 @@
 -- The four stores are those of the definition, in its order.
-use mathlib.Core.Path.{◌≡◌}
 use Prim.Native.Nat.{◌*◌, ◌<◌}
 use native.Mathlib.Omega.{arith}
 use lib.ListN.{get_or, length-set}

@@ -1,6 +1,5 @@
 -- Each return rewrites with the tests that led there.
 use mathlib.Core.Path.{◌≡◌, sym, ap, ◌∙◌}
-use mathlib.Core.Bool.{true}
 use Prim.Native.Nat.{◌+◌, ◌*◌}
 use native.Mathlib.Omega.{arith}
 use borrow.Author.Rules.{rules}
@@ -8,8 +7,8 @@ use borrow.Author.Tests.{le-leb, lt-leb, leb-true}
 use mir.ValLaws.{to_z-of_z}
 use mir.Syntax.{w32}
 use lib.Dec.{leb}
-use Rattle.rules.specs.Measures.{most_lots, between, owed_of}
-use Rattle.rules.specs.Book.{is_settling, net_at, lots_even}
+use Rattle.rules.specs.Measures.{most_lots, owed_of}
+use Rattle.rules.specs.Book.{net_at}
 use Rattle.laws.proofs.Basics.{and_right}
 use Rattle.runs.proofs.Cells.{cell_owed}
 use Rattle.delivery.proofs.deliver_asks.Statement.{statement}

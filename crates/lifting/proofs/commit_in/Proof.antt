@@ -1,10 +1,8 @@
 -- The questions are asked one after the other; where none is answered 'no', the unit is lifted.
 use mathlib.Core.Path.{◌≡◌, sym, ◌∙◌}
-use mathlib.Core.Bool.{true}
-use Prim.Native.Nat.{◌≤◌}
 use native.Mathlib.Omega.{arith}
 use borrow.Author.Rules.{rules}
-use Rattle.rules.specs.Book.{is_settling, order_in}
+use Rattle.rules.specs.Book.{order_in}
 use Rattle.rules.specs.Questions.{first_no}
 use Rattle.rules.specs.Calls.{commit_asks}
 use Rattle.runs.proofs.Cells.{can_order}

@@ -1,7 +1,5 @@
 -- Each return is the first question answered with no: those before it were answered yes.
-use mathlib.Core.Path.{◌≡◌, sym, ◌∙◌}
-use mathlib.Core.Bool.{true}
-use Rattle.rules.specs.Book.{is_cut}
+use mathlib.Core.Path.{sym, ◌∙◌}
 use Rattle.rolling.proofs.Asks.{Terms, no3, no11_term, no11_count, no11_quote, no12, none}
 use borrow.Author.Rules.{rules}
 use Rattle.rolling.proofs.roll_asks.Statement.{statement}

@@ -1,6 +1,5 @@
 -- The issue's order is prepared, and what its delivered total covers is counted.
 use mathlib.Core.Path.{ap, ◌∙◌}
-use native.Mathlib.Omega.{arith}
 use Rattle.rules.specs.Measures.{sum}
 use Rattle.runs.proofs.Cells.{row_part, can_order, total_small}
 use Rattle.tickets.proofs.Standing.{covers_either, left_either}

@@ -1,13 +1,12 @@
 -- Each return is the first question answered with no: those before it were answered yes.
 use mathlib.Core.Path.{◌≡◌, sym, ap, ◌∙◌}
-use mathlib.Core.Bool.{true}
 use Prim.Native.Nat.{◌+◌, ◌*◌}
 use lib.IntN.{pos, ◌+ℤ◌, ◌-ℤ◌}
 use mir.Syntax.{w32}
 use mir.Val.{to_z, of_z}
 use mir.ValLaws.{to_z-of_z}
 use Rattle.rules.specs.Measures.{most_lots}
-use Rattle.rules.specs.Book.{is_taking, within_size, net_at}
+use Rattle.rules.specs.Book.{within_size, net_at}
 use Rattle.trading.proofs.Asks.{Named, no3, no4, no5, no5_to, no6, no7, no7_most, no19, no8, no8_to, none}
 use borrow.Author.Rules.{rules}
 use Rattle.trading.proofs.trade_asks.Statement.{statement}
