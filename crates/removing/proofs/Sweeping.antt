@@ -3,7 +3,7 @@
 use mathlib.Core.Path.{◌≡◌, refl, sym, ap, ◌∙◌}
 use mathlib.Core.Bool.{true, false, false≢true}
 use mathlib.Core.List.{List, [], ◌∷◌, ◌++◌, map, map-append, append_assoc, append-nil}
-use Prim.Native.Nat.{ℕ, zero, suc, ◌+◌, ◌-◌, ◌≤◌, ◌<◌, min}
+use Prim.Native.Nat.{ℕ, zero, suc, ◌+◌, ◌-◌, ◌≤◌, ◌<◌}
 use native.Mathlib.Numerals.{add-one}
 use native.Mathlib.Omega.{arith}
 use lib.Dec.{eqb, leb, ltb}
@@ -15,12 +15,12 @@ use Rattle.rules.specs.Measures.{most_entries}
 use Rattle.rules.specs.Book.{is_zero, entries, column}
 use Rattle.laws.proofs.Basics.{by_test}
 use Rattle.laws.proofs.Ledger.{no_entry, entry_at_lem}
-use Rattle.ledger.specs.Columns.{EachColumn, EachPair, Held, Unused, Cleared, Kept, without_zeros}
+use Rattle.ledger.specs.Columns.{EachPair, Held, Unused, Cleared, Kept, without_zeros}
 use Rattle.ledger.proofs.Each.{each_stay, each_then, each_after, both}
 use Rattle.ledger.proofs.Entries.{entries_length}
 use Rattle.seeking.specs.Places.{NoneIn, Sought}
 use Rattle.seeking.proofs.Passing.{none_join}
-use Rattle.removing.specs.Moves.{zero_at, CanLookFor, CanMove, Moved, CanMoveAll, MovedAll, Ends, Removable}
+use Rattle.removing.specs.Moves.{zero_at, CanLookFor, Moved, CanMoveAll, MovedAll, Ends, Removable}
 use Rattle.removing.proofs.Moving.{same_at, same_behind}
 
 -- entries that are not at 0 stay

@@ -1,5 +1,5 @@
 -- Places of a column moved up, and a ledger whose entries at 0 stand in a part of it.
-use Rattle.std.specs.Prelude.{◌≡◌, Bool, List, ◌++◌, ℕ, ◌+◌, ◌-◌, ◌≤◌, ◌<◌, length, get_or, take, drop}
+use Rattle.std.specs.Prelude.{◌≡◌, Bool, List, ◌++◌, ℕ, ◌+◌, ◌-◌, ◌≤◌, length, get_or, take, drop}
 use Rattle.rules.specs.Book.{is_zero}
 use Rattle.ledger.specs.Columns.{EachColumn, EachPair, Held, Lent, Column, Shared, SharedColumn}
 use Rattle.seeking.specs.Places.{NoneIn, Passed, Sought}

@@ -1,6 +1,6 @@
 -- Places along columns: those where a test finds nothing, and the first where it finds something.
 use Rattle.std.specs.Prelude.{◌≡◌, Bool, true, false, ◌&&◌, List, ℕ, ◌≤◌, ◌<◌, eqb, length, get_or}
-use Rattle.ledger.specs.Columns.{Lent, Column, Shared, SharedColumn}
+use Rattle.ledger.specs.Columns.{Shared, SharedColumn}
 
 -- whether the entry at place k is of issue i and account a, by columns of issues and accounts
 abbrev pub is_at : List ℕ → List ℕ → ℕ → ℕ → ℕ → Bool

@@ -2,7 +2,6 @@
 use mathlib.Core.Path.{◌≡◌, sym, ◌∙◌}
 use mathlib.Core.Bool.{true}
 use borrow.Author.Rules.{rules}
-use borrow.Author.Tests.{not-true, not-false}
 use Rattle.rules.specs.Book.{is_settling}
 use Rattle.cutoff.proofs.Going.{no_phase, no_room, all_yes}
 use Rattle.cutoff.proofs.cutoff_asks.Statement.{statement}

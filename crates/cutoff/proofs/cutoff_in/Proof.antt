@@ -17,9 +17,8 @@ decreases-loop dealt nets delivered lifts day count issues₀ froms₀ tos₀ lo
 
 loop-holds : tie.Need-loop-i-init invariant-loop decreases-loop
 loop-holds c =
-    let s = c in
-    let a = s.args in
-    (omega arith, starts a.dealt a.nets.now a.delivered.now a.lifts.now a.day a.entries (lending a.issues a.froms a.tos a.lots a.days a.out) s.requires)
+    let a = c.args in
+    (omega arith, starts a.dealt a.nets.now a.delivered.now a.lifts.now a.day a.entries (lending a.issues a.froms a.tos a.lots a.days a.out) c.requires)
 
 abbrev within : tie.After-struct_known-1 invariant-loop decreases-loop → tie.In-loop-i invariant-loop decreases-loop
 within c = c.before.before.before.before.before.before.before.before.before.before.before.before.before.before.before.before.before.before.before.before
@@ -31,10 +30,9 @@ turned : (c : tie.In-loop-i invariant-loop decreases-loop) →
     Turn a.dealt a.nets.now a.delivered.now a.lifts.now a.day a.entries (lending a.issues a.froms a.tos a.lots a.days a.out) l.i l.n l.w
     (lent l.issues l.froms l.tos l.lots l.days l.out)
 turned c =
-    let s = c in
-    let a = s.args in
+    let a = c.args in
     let l = c.loop-i in
-    turn a.dealt a.nets.now a.delivered.now a.lifts.now a.day a.entries (lending a.issues a.froms a.tos a.lots a.days a.out) s.requires l.i l.n l.w
+    turn a.dealt a.nets.now a.delivered.now a.lifts.now a.day a.entries (lending a.issues a.froms a.tos a.lots a.days a.out) c.requires l.i l.n l.w
     (lent l.issues l.froms l.tos l.lots l.days l.out) l.invariant.1 c.loop-i-test.true
 
 loop-again : tie.Need-loop-i-preserved invariant-loop decreases-loop
@@ -47,11 +45,10 @@ loop-again c =
 
 returns : tie.Need-returns invariant-loop decreases-loop
 returns c =
-    let s = c in
-    let a = s.args in
+    let a = c.args in
     let l = c.loop-i in
     rw c.numbers.ensures
-    (ends a.dealt a.nets.now a.delivered.now a.lifts.now a.day a.entries (lending a.issues a.froms a.tos a.lots a.days a.out) s.requires l.i l.n l.w
+    (ends a.dealt a.nets.now a.delivered.now a.lifts.now a.day a.entries (lending a.issues a.froms a.tos a.lots a.days a.out) c.requires l.i l.n l.w
     (lent l.issues l.froms l.tos l.lots l.days l.out) l.invariant.1 (omega arith))
 
 pub cutoff_in_spec : {M : Type 1} → statement M

@@ -27,13 +27,12 @@ loop-holds c = (search rules, search rules, (λ today. omega arith))
 -- an issue's fails are few
 one : (c : tie.After-count_issue-n invariant-loop decreases-loop) → c.count_issue-n.result ≤ 126
 one c =
-    let s = c in
-    let a = s.args in
+    let a = c.args in
     let l = c.loop-i in
     omega (
       arith,
       c.count_issue-n.ensures,
-      few a.dealt a.nets.now a.delivered.now a.lifts.now l.i c.loop-i-test.true s.requires.0,
+      few a.dealt a.nets.now a.delivered.now a.lifts.now l.i c.loop-i-test.true c.requires.0,
     )
 
 loop-again : tie.Need-loop-i-preserved invariant-loop decreases-loop
@@ -54,8 +53,7 @@ loop-again c =
 -- the issues left cannot make too many
 returns : tie.Need-returns-then-n-i-le-MOST_ENTRIES invariant-loop decreases-loop
 returns c today =
-    let s = c in
-    let a = s.args in
+    let a = c.args in
     let l = c.loop-i in
     let e = ap length (entries_all a.dealt today a.nets.now a.delivered.now a.lifts.now) in
     let m = a.old + length (new_entries today (order_in a.dealt a.nets.now a.lifts.now) a.nets.now a.delivered.now) in
@@ -63,7 +61,7 @@ returns c today =
     (omega (
       arith,
       l.invariant.2 today,
-      few_on a.dealt today a.nets.now a.delivered.now a.lifts.now s.requires.0 l.i (16 - l.i) (omega arith),
+      few_on a.dealt today a.nets.now a.delivered.now a.lifts.now c.requires.0 l.i (16 - l.i) (omega arith),
       e,
       c.if-n-i-le-MOST_ENTRIES.true,
     )))

@@ -9,24 +9,21 @@ use Rattle.cutting.proofs.count_issue.Tie as tie
 
 settled-requires : tie.Need-settled-requires
 settled-requires c κs =
-    let s = c in
-    (record { nets = s.requires.0.cells; delivered = s.requires.0.both }, s.requires.1)
+    (record { nets = c.requires.0.cells; delivered = c.requires.0.both }, c.requires.1)
 
 returns : tie.Need-returns-then-settled
 returns c =
-    let s = c in
-    let a = s.args in
+    let a = c.args in
     let e = sym c.settled.ensures ∙ c.if-settled.true in
-    sym (ap length (no_fails a.dealt a.nets.now a.delivered.now a.lifts.now a.i s.requires.1 s.requires.0 e))
+    sym (ap length (no_fails a.dealt a.nets.now a.delivered.now a.lifts.now a.i c.requires.1 c.requires.0 e))
 
 count-requires : tie.Need-count-requires
 count-requires c κs =
-    let s = c in
-    let a = s.args in
+    let a = c.args in
     let y = c.prepare_for-p.ensures in (
       y.advance,
       y.range,
-      omega (arith, ap length y.fails, few a.dealt a.nets.now a.delivered.now a.lifts.now a.i s.requires.1 s.requires.0),
+      omega (arith, ap length y.fails, few a.dealt a.nets.now a.delivered.now a.lifts.now a.i c.requires.1 c.requires.0),
     )
 
 returns-2 : tie.Need-returns

@@ -12,8 +12,7 @@ use Rattle.cutting.proofs.cut_issue.Tie as tie
 
 settled-requires : tie.Need-settled-requires
 settled-requires c κs =
-    let s = c in
-    (record { nets = s.requires.sound.cells; delivered = s.requires.sound.both }, s.requires.issue)
+    (record { nets = c.requires.sound.cells; delivered = c.requires.sound.both }, c.requires.issue)
 
 returns : tie.Need-returns-then-settled
 returns c =

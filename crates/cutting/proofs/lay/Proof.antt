@@ -27,8 +27,7 @@ decreases-loop runs missing i day n issues₀ froms₀ tos₀ lots₀ days₀ ou
 
 loop-holds : tie.Need-loop-f-init invariant-loop decreases-loop
 loop-holds c =
-    let s = c in
-    (s.requires.range, simp add-zero (laying_starts _ _ _ _ s.requires.write))
+    (c.requires.range, simp add-zero (laying_starts _ _ _ _ c.requires.write))
 
 -- the overlap that was handed out, from here and from the start
 abbrev handed_out : tie.After-slice_known-in-loop-f-6-1 invariant-loop decreases-loop → tie.In-Overlap invariant-loop decreases-loop
@@ -41,12 +40,11 @@ turned : (c : tie.In-Overlap invariant-loop decreases-loop) →
     Turn a.day a.i a.n a.runs.now a.missing.now a.p (lending a.issues a.froms a.tos a.lots a.days a.out)
     l.cur l.done (lent l.issues l.froms l.tos l.lots l.days l.out) g.rest g.f g.t g.x
 turned c =
-    let s = c in
-    let a = s.args in
+    let a = c.args in
     let l = c.loop-f in
     let v = c.advance in
     turn a.day a.i a.n a.runs.now a.missing.now a.p (lending a.issues a.froms a.tos a.lots a.days a.out)
-    l.cur l.done (lent l.issues l.froms l.tos l.lots l.days l.out) _ _ _ _ v.result s.requires l.invariant.1 v.ensures c.in-Overlap.is
+    l.cur l.done (lent l.issues l.froms l.tos l.lots l.days l.out) _ _ _ _ v.result c.requires l.invariant.1 v.ensures c.in-Overlap.is
 
 returns : tie.Need-returns-in_default invariant-loop decreases-loop
 returns c =

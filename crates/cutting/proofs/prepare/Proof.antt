@@ -9,32 +9,28 @@ use Rattle.cutting.proofs.prepare.Tie as tie
 
 prepare-requires : tie.Need-prepare-n-requires
 prepare-requires c κs =
-    let s = c in
-    let a = s.args in
-    record { order = can_order a.nets.now a.delivered.now a.lifts.now a.i s.requires.sound s.requires.issue; room = omega (arith, s.requires.held) }
+    let a = c.args in
+    record { order = can_order a.nets.now a.delivered.now a.lifts.now a.i c.requires.sound c.requires.issue; room = omega (arith, c.requires.held) }
 
 total-requires : tie.Need-total-d-requires
 total-requires c κs =
-    let s = c in
-    let a = s.args in
-    rw (row_part a.delivered.now a.i) (total_small a.nets.now a.delivered.now a.lifts.now s.requires.sound a.i s.requires.issue)
+    let a = c.args in
+    rw (row_part a.delivered.now a.i) (total_small a.nets.now a.delivered.now a.lifts.now c.requires.sound a.i c.requires.issue)
 
 missing-of-requires : tie.Need-missing_of-requires
 missing-of-requires c κs =
-    let s = c in
-    let a = s.args in
+    let a = c.args in
     rw (row_part a.nets.now a.i, row_part a.delivered.now a.i)
-    (owing a.nets.now a.delivered.now a.lifts.now a.i s.requires.issue s.requires.sound _ s.requires.accounts)
+    (owing a.nets.now a.delivered.now a.lifts.now a.i c.requires.issue c.requires.sound _ c.requires.accounts)
 
 returns : tie.Need-returns
 returns c =
-    let s = c in
-    let a = s.args in
-    ready false a.nets.now a.delivered.now a.lifts.now a.i s.requires.issue s.requires.sound
+    let a = c.args in
+    ready false a.nets.now a.delivered.now a.lifts.now a.i c.requires.issue c.requires.sound
     c.start-p.new.runs c.missing_of.new.short c.prepare-n.result c.total-d.result c.start-p.result
     (rw (row_part a.delivered.now a.i) at c.total-d.ensures)
     (rw (row_part a.nets.now a.i, row_part a.delivered.now a.i) at c.missing_of.ensures)
-    (omega (arith, c.missing_of.auto.short, s.requires.accounts)) (omega (arith, c.prepare-n.ensures.held.there, c.start-p.auto.runs))
+    (omega (arith, c.missing_of.auto.short, c.requires.accounts)) (omega (arith, c.prepare-n.ensures.held.there, c.start-p.auto.runs))
     (rw c.prepare-n.ensures.units at c.start-p.ensures)
 
 pub prepare_spec : {M : Type 1} → statement M

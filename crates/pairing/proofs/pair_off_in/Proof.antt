@@ -8,20 +8,18 @@ use Rattle.pairing.proofs.pair_off_in.Statement.{statement}
 use Rattle.pairing.proofs.pair_off_in.Tie as tie
 
 returns : tie.Need-returns-then-t-entries
-returns c =
-    let s = c in (
-      none_paired _ _ _ _ _ _ _ _ _ _ _ _ _ _ s.requires
-          (ends_in (turns_start _ _ _ _ _ _ _ _ _ _ _ _ _ _ s.requires zeros_held) c.next_of-t.ensures c.if-t-entries.true),
-      omega arith,
-    )
+returns c = (
+  none_paired _ _ _ _ _ _ _ _ _ _ _ _ _ _ c.requires
+      (ends_in (turns_start _ _ _ _ _ _ _ _ _ _ _ _ _ _ c.requires zeros_held) c.next_of-t.ensures c.if-t-entries.true),
+  omega arith,
+)
 
 returns-2 : tie.Need-returns-then-f-entries
-returns-2 c =
-    let s = c in (
-      none_paired _ _ _ _ _ _ _ _ _ _ _ _ _ _ s.requires
-          (ends_out (turns_start _ _ _ _ _ _ _ _ _ _ _ _ _ _ s.requires zeros_held) c.next_of-f.ensures c.if-f-entries.true),
-      omega arith,
-    )
+returns-2 c = (
+  none_paired _ _ _ _ _ _ _ _ _ _ _ _ _ _ c.requires
+      (ends_out (turns_start _ _ _ _ _ _ _ _ _ _ _ _ _ _ c.requires zeros_held) c.next_of-f.ensures c.if-f-entries.true),
+  omega arith,
+)
 
 pub pair_off_in_spec : {M : Type 1} → statement M
 pair_off_in_spec =

@@ -1,7 +1,6 @@
 -- `removing::pass_zeros` meets its contract. The loop's invariant: none stands before place k.
 use Prim.Native.Nat.{◌-◌}
 use native.Mathlib.Omega.{arith}
-use borrow.Author.Tests.{not-false}
 use borrow.Author.Rules.{rules}
 use Rattle.seeking.specs.Places.{Passed}
 use Rattle.seeking.proofs.Passing.{passed_start, passed_more}

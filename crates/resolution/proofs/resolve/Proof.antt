@@ -1,5 +1,4 @@
 -- With no 'no' the entries are met in place.
-use Rattle.rules.specs.declared.Book.{Book}
 use Rattle.rules.specs.Calls.{Resolve}
 use Rattle.laws.proofs.Sound.{sound_parts}
 use Rattle.resolution.proofs.Books.{book_resolvable}

@@ -1,6 +1,6 @@
 -- `resolution::resolve_in` meets its contract. The loop's invariant is one pass over the ledger, at place k; entries
 -- before the first that is met stay as they were.
-use Prim.Native.Nat.{◌-◌, ◌<◌}
+use Prim.Native.Nat.{◌-◌}
 use native.Mathlib.Omega.{arith}
 use borrow.Author.Rules.{rules}
 use Rattle.rules.specs.Book.{entries}

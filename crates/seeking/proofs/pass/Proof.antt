@@ -1,7 +1,6 @@
 -- `seeking::pass` meets its contract. The loop's invariant: none stands before place k.
 use Prim.Native.Nat.{◌-◌}
 use native.Mathlib.Omega.{arith}
-use borrow.Author.Tests.{not-true, not-false}
 use borrow.Author.Rules.{rules}
 use Rattle.seeking.specs.Places.{is_at, Passed}
 use Rattle.seeking.proofs.Passing.{passed_start, passed_more}
