@@ -32,28 +32,28 @@ abbrev start : tie.At-loop-left invariant-loop decreases-loop → tie.Start inva
 start c = c.before.before.before.before.before.before.before.before.before.before
 
 -- the loop, where an instruction was found
-abbrev at-loop : tie.In-Instr-2 invariant-loop decreases-loop → tie.At-loop-left invariant-loop decreases-loop
-at-loop f = f.before.before.before.before.before
+abbrev at-loop : tie.In-Instr invariant-loop decreases-loop → tie.At-loop-left invariant-loop decreases-loop
+at-loop f = f.before.before.before.before
 
 -- an instruction is left
-some_left : (f : tie.In-Instr-2 invariant-loop decreases-loop) → 0 < (at-loop f).loop.left
-some_left f = f.before.before.before.before.loop-left-test.true
+some_left : (f : tie.In-Instr invariant-loop decreases-loop) → 0 < (at-loop f).loop-left.left
+some_left f = f.loop-left-test.true
 
 -- the words from here on begin with it
-begins : (f : tie.In-Instr-2 invariant-loop decreases-loop) → let l = at-loop f in
-    read_of (list.drop l.loop.at (start l).args.words.now) ≡ Instr f.x-1.given.0.0 f.x-1.given.0.1.0
+begins : (f : tie.In-Instr invariant-loop decreases-loop) → let l = at-loop f in
+    read_of (list.drop l.loop-left.at (start l).args.words.now) ≡ Instr f.in-Instr.x f.in-Instr.n
 begins f =
     let l = at-loop f in
-    ap read_of (sym (rest_part (start l).args.words.now l.loop.at)) ∙ sym (same_read _ _ f.before.before.read.ensures) ∙ f.x-1.given.1
+    ap read_of (sym (rest_part (start l).args.words.now l.loop-left.at)) ∙ sym (same_read _ _ f.read.ensures) ∙ f.in-Instr.is
 
 -- and have it whole
-sized : (f : tie.In-Instr-2 invariant-loop decreases-loop) → let l = at-loop f in let n = f.x-1.given.0.1.0 in
-    (l.loop.at + n ≤ list.length (start l).args.words.now) × (n ≤ 33)
+sized : (f : tie.In-Instr invariant-loop decreases-loop) → let l = at-loop f in let n = f.in-Instr.n in
+    (l.loop-left.at + n ≤ list.length (start l).args.words.now) × (n ≤ 33)
 sized f =
     let l = at-loop f in
     let ws = (start l).args.words.now in
-    let z = read_sized (list.drop l.loop.at ws) f.x-1.given.0.0 f.x-1.given.0.1.0 (begins f) in
-    (omega (arith, z.1, list.length-drop l.loop.at ws, l.loop.inv.1), read_few (list.drop l.loop.at ws) f.x-1.given.0.0 f.x-1.given.0.1.0 (begins f))
+    let z = read_sized (list.drop l.loop-left.at ws) f.in-Instr.x f.in-Instr.n (begins f) in
+    (omega (arith, z.1, list.length-drop l.loop-left.at ws, l.loop-left.invariant.1), read_few (list.drop l.loop-left.at ws) f.in-Instr.x f.in-Instr.n (begins f))
 
 loop-holds : tie.Need-loop-left-init invariant-loop decreases-loop
 loop-holds c =
@@ -63,29 +63,29 @@ loop-holds c =
 
 returns : tie.Need-returns-in_default invariant-loop decreases-loop
 returns c =
-    let l = c.before.before.before.before.before in
+    let l = c.before.before.before.before in
     let a = (start l).args in
     ends_refused a.issue a.account _ a.words.now l.loop-left.c _ _ l.loop-left.left l.loop-left.invariant.3 _
-    (ap read_of (sym (rest_part a.words.now l.loop-left.at)) ∙ sym (same_read _ _ c.before.before.read.ensures) ∙ c.enum_told-1.given.1)
+    (ap read_of (sym (rest_part a.words.now l.loop-left.at)) ∙ sym (same_read _ _ c.read.ensures) ∙ c.in_default.is)
 
 turn-requires : tie.Need-turn-t-requires invariant-loop decreases-loop
 turn-requires c κs =
-    let f = c.before.before.before.before.before.before.before.before.before.before.before.before in
+    let f = c.before.before.before.before.before.before.before.before.before.before.before in
     let l = at-loop f in (
-      record { count = f.x-1.given.0.1.0; read = sym (same_read _ _ f.before.before.read.ensures) ∙ f.x-1.given.1 },
-      l.loop.inv.0,
-      (start l).pre.1,
-      one_more l.loop.left l.loop.c (some_left f) l.loop.inv.3.room,
+      record { count = f.in-Instr.n; read = sym (same_read _ _ f.read.ensures) ∙ f.in-Instr.is },
+      l.loop-left.invariant.0,
+      (start l).requires.1,
+      one_more l.loop-left.left l.loop-left.c (some_left f) l.loop-left.invariant.3.room,
     )
 
 -- the instruction that was found, behind its turn
-abbrev found : tie.After-state-1 invariant-loop decreases-loop → tie.In-Instr-2 invariant-loop decreases-loop
-found c = c.before.before.before.before.before.before.before.before.before.before.before.before.before.before.before.before.before.before.before.before.before.before.before.before.before.before.before.before.before.before.before.before.before
+abbrev found : tie.After-state-1 invariant-loop decreases-loop → tie.In-Instr invariant-loop decreases-loop
+found c = c.before.before.before.before.before.before.before.before.before.before.before.before.before.before.before.before.before.before.before.before.before.before.before.before.before.before.before.before.before.before.before.before
 
 add_at : tie.Need-overflow_add-at invariant-loop decreases-loop
 add_at c =
     let f = found c in
-    record { fits = omega (arith, (sized f).1, some_left f, (at-loop f).loop.inv.2) }
+    record { fits = omega (arith, (sized f).1, some_left f, (at-loop f).loop-left.invariant.2) }
 
 sub-left : tie.Need-overflow_sub-left invariant-loop decreases-loop
 sub-left c = omega (arith, some_left (found c))
@@ -98,33 +98,33 @@ loop-again c =
     let f = found c in
     let l = at-loop f in
     let a = (start l).args in
-    let t = c.before.before.before.before.before.before.before.before.before.before.before.before.before.before.before.before.before.before.before.before.turn-t in
-    let e = rw (rest_part a.words.now l.loop.at) at t.ensures in
-    let q = l.loop.inv.0.lengths in (
+    let t = c.turn-t in
+    let e = rw (rest_part a.words.now l.loop-left.at) at t.ensures in
+    let q = l.loop-left.invariant.0.lengths in (
       record {
         lengths = record {
           cells = record {
-            nets = omega (arith, c.before.before.before.before.before.before.before.before.before.before.before.before.before.before.before.before.before.before.before.nets-1.given, q.cells.nets);
-            delivered = omega (arith, c.before.before.before.before.before.before.before.before.before.before.before.before.before.before.before.before.before.before.delivered-1.given, q.cells.delivered);
+            nets = omega (arith, c.nets-1.given, q.cells.nets);
+            delivered = omega (arith, c.delivered-1.given, q.cells.delivered);
           };
-          lifts = omega (arith, c.before.before.before.before.before.before.before.before.before.before.before.before.before.before.before.before.lifts-1.given, q.lifts);
-          charges = omega (arith, c.before.before.before.before.before.before.before.before.before.before.before.before.before.before.charges-1.given, q.charges);
+          lifts = omega (arith, c.lifts-1.given, q.lifts);
+          charges = omega (arith, c.charges-1.given, q.charges);
           ledger = record {
-            issues = omega (arith, c.before.before.before.before.before.before.before.before.before.before.before.before.before.issues-1.given, q.ledger.issues);
-            froms = omega (arith, c.before.before.before.before.before.before.before.before.before.before.before.froms-1.given, q.ledger.froms);
-            tos = omega (arith, c.before.before.before.before.before.before.before.before.before.tos-1.given, q.ledger.tos);
-            lots = omega (arith, c.before.before.before.before.before.before.before.lots-1.given, q.ledger.lots);
-            days = omega (arith, c.before.before.before.before.before.days-1.given, q.ledger.days);
+            issues = omega (arith, c.issues-1.given, q.ledger.issues);
+            froms = omega (arith, c.froms-1.given, q.ledger.froms);
+            tos = omega (arith, c.tos-1.given, q.ledger.tos);
+            lots = omega (arith, c.lots-1.given, q.ledger.lots);
+            days = omega (arith, c.days-1.given, q.ledger.days);
           };
         };
         sound = t.ensures.sound;
-        room = omega (arith, c.before.before.before.out-1.given, l.loop.inv.0.room);
+        room = omega (arith, c.out-1.given, l.loop-left.invariant.0.room);
       },
       (sized f).0,
-      omega (arith, (sized f).1, some_left f, l.loop.inv.2),
-      again_at a.issue a.account _ a.words.now l.loop.c _ l.loop.at l.loop.left (some_left f) l.loop.inv.3
-          f.x.given.0.0 f.x.given.0.1.0 (begins f) t.result.statement _ e.counted e.grown e.book,
-      omega (arith, c.before.before.before.out-1.given, l.loop.inv.4),
+      omega (arith, (sized f).1, some_left f, l.loop-left.invariant.2),
+      again_at a.issue a.account _ a.words.now l.loop-left.c _ l.loop-left.at l.loop-left.left (some_left f) l.loop-left.invariant.3
+          f.in-Instr.x f.in-Instr.n (begins f) t.result.statement _ e.counted e.grown e.book,
+      omega (arith, c.out-1.given, l.loop-left.invariant.4),
     )
 
 returns-2 : tie.Need-returns invariant-loop decreases-loop

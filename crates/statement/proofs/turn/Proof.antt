@@ -36,7 +36,7 @@ added-requires : tie.Need-added-statement-requires
 added-requires c κs =
     let n = net-read c.before.before.before.before.before.before.before.before.before.before.before.before.before.before.before.before.before.before.before in
     let s = n.before.before.before.before.before.before.before.before.before.before in
-    (s.pre.3, rw (net_bits n) (owed_most (book s) (stands s) s.args.issue s.args.account))
+    (s.requires.3, rw (net_bits n) (owed_most (book s) (stands s) s.args.issue s.args.account))
 
 returns : tie.Need-returns
 returns c =
@@ -44,7 +44,7 @@ returns c =
     let n = net-read t in
     let s = n.before.before.before.before.before.before.before.before.before.before in
     let a = s.args in
-    stepped a.words.now a.x a.issue a.account a.c (book s) (stands s) s.pre.2 t.answer-t.result _ _ (net_bits n) _
+    stepped a.words.now a.x a.issue a.account a.c (book s) (stands s) s.requires.2 t.answer-t.result _ _ (net_bits n) _
     c.added-statement.ensures.0 c.added-statement.ensures.1 t.answer-t.ensures
 
 pub turn_spec : {M : Type 1} → statement M

@@ -1,6 +1,7 @@
 -- The reader answers by what the first word is taken as; after a head, by what is wrong of the words that follow.
 use mathlib.Core.Path.{◌≡◌, sym, ap, ◌∙◌}
 use Prim.Native.Nat.{ℕ}
+use native.Mathlib.Omega.{arith}
 use borrow.Author.Rules.{rules}
 use lib.ListN.{get_or, drop}
 use Rattle.rules.specs.declared.Word.{Word}
@@ -29,14 +30,6 @@ headed b =
     let x = b.in-Head in
     ap (λ (r : ℕ). read_answer (read_as r x.x x.count)) b.wrong-refusal.ensures ∙ taken b.before.before _ x.is
 
-returns-2 : tie.Need-returns-then-refusal-ne0
-returns-2 c =
-    let x = c.in-Head in
-    ap read_answer (read_refused _ x.count x.x c.if-refusal-ne0.true) ∙ headed c.before
-
-returns-3 : tie.Need-returns-else-refusal-ne0
-returns-3 c = rw c.if-refusal-ne0.false at (headed c.before)
-
 returns-4 : tie.Need-returns-in-After
 returns-4 c = taken c.before _ c.in-After.is
 
@@ -47,4 +40,8 @@ pub read_spec : {M : Type 1} → statement M
 read_spec =
     tie.close
     (tie.spec returns (λ c. search rules) (λ c κs. search rules) (λ c κs. search rules) (λ c. search rules)
-    (λ c κs. search rules) returns-2 (λ c. search rules) (λ c. search rules) returns-3 returns-4 returns-5)
+    (λ c κs. search rules)
+    -- a refusal, and an instruction
+    (λ c. ap read_answer (read_refused _ c.in-Head.count c.in-Head.x (λ h. absurd (omega arith))) ∙ headed c.before)
+    (λ c. search rules) (λ c. search rules)
+    (λ c. let e : c.wrong-refusal.result ≡ 0 = omega arith in rw e at (headed c.before)) returns-4 returns-5)
