@@ -9,9 +9,9 @@ ghost use Rattle.rules.specs.Text.{closing_text};
 ghost use Rattle.playing.specs.Playing.{most_reads, Buffers, Played};
 ghost use Rattle.dayrun.specs.Day.{Closed, Whole};
 
-use libc::STDERR_FILENO;
 use playing::{End, Sent, play, show};
 use rules::OUTPUT_WORDS;
+use std::io::Read;
 
 // so many bytes are read at once, their words, and the bytes of their lines
 const READ_BYTES: usize = 16384;
@@ -21,28 +21,25 @@ const READ_WORDS: usize = 4096;
 const TEXT_BYTES: usize = 327680;
 
 // Writes the lines of the ledger and the charges of the book in which a run ended.
-fn finish(text: &mut [u8], e: End) -> Sent
+fn finish<P: Print + Eprint>(rt: &P, text: &mut [u8], e: End) -> Sent
     requires { (length text.old ≡ 327680) × Played e × (e.over ≡ true) × (e.sent.written ≡ true) }
     ensures { result.count ≡ e.sent.count + length (closing_text e.book) }
 {
     let book = e.book;
     let length = report::closing(text, book);
     let sent = e.sent;
-    show(sent, &text[..length])
+    show(rt, sent, &text[..length])
 }
 
 // Says that the tape could not be read to its end: a read failed, or all reads were made.
-fn say_unread(over: bool, failed: bool, reads: u64)
+fn say_unread<E: Eprint>(rt: &E, over: bool, failed: bool, reads: u64)
     requires { (over ≡ false) × (failed ≡ false → reads ≡ most_reads) }
 {
-    io::write_all(
-        STDERR_FILENO,
-        b"dayrun: the tape could not be read to its end\n",
-    );
+    let _ = rt.eprintln("dayrun: the tape could not be read to its end");
 }
 
 // Behind a run: the lines of the ledger and the charges, if it was over and all its lines are written.
-fn close(text: &mut [u8], e: End) -> Sent
+fn close<P: Print + Eprint>(rt: &P, text: &mut [u8], e: End) -> Sent
     requires { (length text.old ≡ 327680) × Played e }
     ensures { Closed e result }
 {
@@ -55,10 +52,10 @@ fn close(text: &mut [u8], e: End) -> Sent
         return none;
     }
     if !e.over {
-        say_unread(e.over, e.failed, e.reads);
+        say_unread(rt, e.over, e.failed, e.reads);
         return none;
     }
-    finish(text, e)
+    finish(rt, text, e)
 }
 
 // A day: how its run ended, and what was written behind the run's lines.
@@ -69,19 +66,34 @@ struct Outcome {
 }
 
 // Runs the tape, then writes the lines of the ledger and the charges.
-fn day(bytes: &mut [u8], words: &mut [u32], text: &mut [u8], out: &mut [u32]) -> Outcome
+fn day<P: Print + Eprint, R: Read>(
+    rt: &P,
+    reader: &mut R,
+    bytes: &mut [u8],
+    words: &mut [u32],
+    text: &mut [u8],
+    out: &mut [u32],
+) -> Outcome
     requires { Buffers bytes.old words.old text.old out.old }
     ensures { Whole result }
 {
-    let run = play(bytes, words, text, out);
-    let closing = close(text, run);
+    let run = play(rt, reader, bytes, words, text, out);
+    let closing = close(rt, text, run);
     Outcome { run, closing }
 }
 
-fn main() {
+fn main(rt: HostRuntime) {
+    let mut reader = rt.reader();
     let mut bytes = [0u8; READ_BYTES];
     let mut words = [0u32; READ_WORDS];
     let mut text = [0u8; TEXT_BYTES];
     let mut out = [0u32; OUTPUT_WORDS];
-    day(&mut bytes, &mut words, &mut text, &mut out);
+    day(
+        &rt,
+        &mut reader,
+        &mut bytes,
+        &mut words,
+        &mut text,
+        &mut out,
+    );
 }

@@ -4,20 +4,27 @@
 ghost use Rattle.std.specs.Prelude.{◌≡◌, true, false, ◌+◌, ◌<◌, ◌^◌, length};
 ghost use Rattle.playing.specs.Playing.{Buffers, Standing, Stepped, Shown, Played};
 
-use libc::{STDERR_FILENO, STDOUT_FILENO};
 use parts::Place;
 use rules::Book;
+use std::io::Read;
 
 // The most reads of a run: the loop has to end, and the bytes printed are counted in 64 bits.
 const MOST_READS: u64 = 35_184_372_088_831;
 
 // One part of a run: the words that one read adds to those not used yet.
-fn step(p: Place, bytes: &mut [u8], words: &mut [u32], text: &mut [u8], out: &mut [u32]) -> Place
+fn step<R: Read>(
+    reader: &mut R,
+    p: Place,
+    bytes: &mut [u8],
+    words: &mut [u32],
+    text: &mut [u8],
+    out: &mut [u32],
+) -> Place
     requires { Buffers bytes.old words.old text.old out.old × Standing p × (p.over ≡ false) × (p.failed ≡ false) × (p.index + 4096 < 2 ^ 64) }
     ensures { Stepped p bytes.old bytes.new text.new result × Standing result × Buffers bytes.new words.new text.new out.new }
 {
     let start = p.start;
-    let w = input::next(bytes, words, start, p.end);
+    let w = input::next(reader, bytes, words, start, p.end);
     let n = w.count;
     parts::part(p, w, &words[..n], text, out)
 }
@@ -30,19 +37,19 @@ pub struct Sent {
 }
 
 // Says that lines could not be written.
-fn say_unwritten(written: bool)
+fn say_unwritten<E: Eprint>(rt: &E, written: bool)
     requires { written ≡ false }
 {
-    io::write_all(STDERR_FILENO, b"dayrun: the lines could not be written\n");
+    let _ = rt.eprintln("dayrun: the lines could not be written");
 }
 
 // What a write answered: its bytes are handed over, and it took them or not.
-fn taken(written: bool, sent: u64, text: &[u8]) -> Sent
+fn taken<E: Eprint>(rt: &E, written: bool, sent: u64, text: &[u8]) -> Sent
     requires { sent + length text.now < 2 ^ 64 }
     ensures { (result.written ≡ written) × (result.count ≡ sent + length text.now) }
 {
     if !written {
-        say_unwritten(written);
+        say_unwritten(rt, written);
     }
     let count = sent + text.len() as u64;
     Sent { written, count }
@@ -50,11 +57,11 @@ fn taken(written: bool, sent: u64, text: &[u8]) -> Sent
 
 // Writes bytes that stand at this place of what is to be printed, where all before them were written.
 // That `taken` is given what the write answered cannot be proved: an answer of C has no name in a contract.
-pub fn show(s: Sent, text: &[u8]) -> Sent
+pub fn show<P: Print + Eprint>(rt: &P, s: Sent, text: &[u8]) -> Sent
     requires { (s.written ≡ true) × Shown s.count text.now × (s.count + length text.now < 2 ^ 64) }
     ensures { result.count ≡ s.count + length text.now }
 {
-    taken(io::write_all(STDOUT_FILENO, text), s.count, text)
+    taken(rt, rt.write_all(text).is_ok(), s.count, text)
 }
 
 // How a run ended: whether it was over, whether its last read failed, how many reads it made, what was
@@ -69,7 +76,14 @@ pub struct End {
 }
 
 // Runs the tape to its end, part by part, and writes its lines. A read or a write that fails ends the run.
-pub fn play(bytes: &mut [u8], words: &mut [u32], text: &mut [u8], out: &mut [u32]) -> End
+pub fn play<P: Print + Eprint, R: Read>(
+    rt: &P,
+    reader: &mut R,
+    bytes: &mut [u8],
+    words: &mut [u32],
+    text: &mut [u8],
+    out: &mut [u32],
+) -> End
     requires { Buffers bytes.old words.old text.old out.old }
     ensures { Played result × Buffers bytes.new words.new text.new out.new }
 {
@@ -90,9 +104,9 @@ pub fn play(bytes: &mut [u8], words: &mut [u32], text: &mut [u8], out: &mut [u32
     let mut reads: u64 = 0;
     while sent.written & !p.over & !p.failed & (reads < MOST_READS) {
         reads += 1;
-        p = step(p, bytes, words, text, out);
+        p = step(reader, p, bytes, words, text, out);
         let length = p.printed;
-        sent = show(sent, &text[..length]);
+        sent = show(rt, sent, &text[..length]);
     }
     let last = p.book;
     End {
