@@ -18,7 +18,7 @@ mkdir -p build
 sources=$(scripts/proved.sh sources)
 # rt run proves the program, with all that it depends on, links it and runs it: on no tape at all, of which
 # nothing is printed.
-rt run dayrun </dev/null 2>&1 >/dev/null | PROGRESS_LATER=$(to_make) scripts/progress.sh build/dayrun.log dayrun
+(cd crates/dayrun && rt run </dev/null 2>&1 >/dev/null) | PROGRESS_LATER=$(to_make) scripts/progress.sh build/dayrun.log dayrun
 scripts/proved.sh take "$sources"
 make --no-print-directory libraries
 cargo build --quiet --release --offline -p tape

@@ -120,7 +120,7 @@ show() { # LINE
         begun[$name]=1
         printf 'proving %d of %d: %s\n' "${#begun[@]}" "$crates" "$name"
         ;;
-    'rt: '*' proved')
+    'rt: '*' proved' | 'rt: '*' is kept: '*)
         name=${line#rt: } name=${name%% *}
         proved=$((proved + 1)) left=$((left - $(to_prove "$name")))
         note "proved $name"
