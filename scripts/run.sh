@@ -17,7 +17,7 @@ trap 'exit 143' TERM
 try_day() {
     copy=$(mktemp -d)
     tar --exclude='*/out' -cf - crates crates.txt | tar -xf - -C "$copy"
-    (cd "$copy" && exec rt try dayrun) <"$day.tape" >"$copy/printed" 2>"$copy/log" &&
+    (cd "$copy/crates/dayrun" && exec rt try) <"$day.tape" >"$copy/printed" 2>"$copy/log" &&
         cmp "$copy/printed" "$day.expected" >>"$copy/log" || { cat "$copy/log" >&2; exit 1; }
     rm -rf "$copy"
     copy=''
