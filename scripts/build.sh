@@ -16,9 +16,9 @@ to_make() {
 
 mkdir -p build
 sources=$(scripts/proved.sh sources)
-# rt run proves the program, with all that it depends on, links it and runs it: on no tape at all, of which
-# nothing is printed.
-(cd crates/dayrun && rt run </dev/null 2>&1 >/dev/null) | PROGRESS_LATER=$(to_make) scripts/progress.sh build/dayrun.log dayrun
+PROGRESS_LATER=$(to_make) scripts/check.sh build/check.log
+# rt run links the program that was proved and runs it: on no tape at all, of which nothing is printed.
+(cd crates/dayrun && exec rt run) </dev/null >/dev/null 2>build/dayrun.log || { cat build/dayrun.log >&2; exit 1; }
 scripts/proved.sh take "$sources"
 make --no-print-directory libraries
 cargo build --quiet --release --offline -p tape

@@ -8,7 +8,7 @@ cd "$(dirname "$0")/.."
 name=$1
 mkdir -p build target/staticlib
 start=$SECONDS
-(cd "crates/${name}_c" && rt lib 2>&1) | scripts/progress.sh "build/$name.log" "${name}_c" || {
+(cd "crates/${name}_c" && exec rt lib) 2>&1 | scripts/progress.sh "build/$name.log" "${name}_c" || {
     echo "the library $name is not proved: build/$name.log has what the prover says" >&2
     exit 1
 }

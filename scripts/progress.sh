@@ -105,13 +105,21 @@ show() { # LINE
     case $line in
     [0-9]*' passed, '[0-9]*' failed') ;;
     'library '*': modules '* | 'crate '*': modules '* | 'statements '* | 'logic='* | 'logic /'* | 'axioms '* | 'linked target='*) ;;
-    'fn '*': proved' | 'enum '*': proved' | 'struct '*': proved' | 'checked '*' of '* | '== '* | 'empty contracts: 0 found'*) ;;
+    'fn '*': proved' | 'enum '*': proved' | 'struct '*': proved' | 'impl '*': proved' | 'checked '*' of '* | 'empty contracts: 0 found'*) ;;
     *'note: no function with a body'* | 'note: finished '* | 'rt: rt check --fix-imports'* | 'rt: '*': begins with what a check kept in '*) ;;
     'rt: must-fail '*': refused, as it must be'*)
         name=${line#rt: must-fail } name=${name%%:*} name=${name%.edit}
         refused=$((refused + 1)) left=$((left - $(to_refuse "${name%%/*}")))
         note "refused $name"
         printf 'refused %d of %d: %s\n' "$refused" "$edits" "$name"
+        ;;
+    '== summary' | *': ok' | [0-9]*' of '[0-9]*' crates ok' | 'only=0 proved=0') ;;
+    '== '*)
+        # without the gate there is no other line where a crate is done
+        name=${line#== }
+        [ "$edits_too" -eq 0 ] || return 0
+        proved=$((proved + 1)) left=$((left - $(to_prove "$name")))
+        printf 'done %d of %d: %s%s\n' "$proved" "$crates" "$name" "$(to_come)"
         ;;
     'rt: chose --jobs '*' for '*)
         # without the gate there is no line where a crate is proved, but one where it is begun
@@ -120,7 +128,13 @@ show() { # LINE
         begun[$name]=1
         printf 'proving %d of %d: %s\n' "${#begun[@]}" "$crates" "$name"
         ;;
-    'rt: '*' proved' | 'rt: '*' is kept: '*)
+    'rt: '*': its tests are proved' | 'rt: '*' must-fail edits were tried by an earlier run on this machine'*) ;;
+    'rt: '*' is kept: an earlier run on this machine '*)
+        # proved before: it is only counted
+        name=${line#rt: } name=${name%% *}
+        proved=$((proved + 1)) left=$((left - $(to_prove "$name")))
+        ;;
+    'rt: '*' proved')
         name=${line#rt: } name=${name%% *}
         proved=$((proved + 1)) left=$((left - $(to_prove "$name")))
         note "proved $name"

@@ -14,25 +14,24 @@ cp host/settlement_day.h host/version.c "$home/host"
 echo 'fn main() {}' >"$home/crates/dayrun/src/main.rt"
 printf '%s\n' dayrun: desk: entries: host: trust: >"$home/crates.txt"
 for crate in desk entries host trust; do mkdir "$home/crates/$crate"; done
-for crate in callers desk entries funds host journal listing snapshot statement trust; do mkdir "$home/crates/${crate}_c"; done
+for crate in $(make --no-print-directory list); do mkdir "$home/crates/${crate}_c"; done
 
 tool() { # NAME: its script is read from standard input
     { echo '#!/bin/sh' && cat; } >"$home/bin/$1"
     chmod 755 "$home/bin/$1"
 }
 tool rt <<'END'
-crate=$(basename "$PWD")
-cd ../..
-echo "rt $* in $crate" >>called
+echo "rt $*" >>"$TEST_HOME/called"
 case $1 in
-run) mkdir -p crates/dayrun/out
-    if cmp -s crates/dayrun/src/main.rt crates/dayrun/out/from; then exit; fi
-    [ ! -e fails ] || exit 1
-    { echo '#!/bin/sh' && date +%N; } >crates/dayrun/out/dayrun
-    chmod 755 crates/dayrun/out/dayrun
-    cp crates/dayrun/src/main.rt crates/dayrun/out/from
+all) ;;
+run) mkdir -p out
+    if cmp -s src/main.rt out/from; then exit; fi
+    [ ! -e "$TEST_HOME/fails" ] || exit 1
+    { echo '#!/bin/sh' && date +%N; } >out/dayrun
+    chmod 755 out/dayrun
+    cp src/main.rt out/from
     echo "logic=proved functions=1" >&2 ;;
-lib) mkdir -p "crates/$crate/out" && : >"crates/$crate/out/lib$crate.a" ;;
+lib) mkdir -p out && : >"out/lib$(basename "$PWD").a" ;;
 try) [ ! -e "$TEST_HOME/slow" ] || sleep 20
     cat "$TEST_HOME/tapes/p5-to-p9.expected" ;;
 esac

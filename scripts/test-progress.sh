@@ -10,7 +10,9 @@ clock=$(mktemp)
 trap 'rm -f "$log" "$log.times" "$page" "$clock"' EXIT
 said='logic=proved functions=3
 == rules
+rt: tally is kept: an earlier run on this machine proved the same files over the same libraries
 rt: rules proved
+rt: rules: its tests are proved
 a.antt:5:6: error: this is not proved
 rt: laws NOT PROVED (exit 1)
 rt: must-fail rules/one.edit: refused, as it must be: a.antt:1:2: error
@@ -26,7 +28,7 @@ refuse() { # PATTERN
 }
 
 expect '^To be proved, where it was not before: [0-9]* crates, and [0-9]* wrong edits to be refused; at most about '
-expect '^proved 1 of [0-9]*: rules; at most about [0-9]* minutes to come$'
+expect '^proved 2 of [0-9]*: rules; at most about [0-9]* minutes to come$'
 expect '^refused 1 of [0-9]*: rules/one$'
 expect -Fx 'a.antt:5:6: error: this is not proved'
 expect -Fx 'rt: laws NOT PROVED (exit 1)'
@@ -34,6 +36,8 @@ expect -Fx 'rt: FAILED: laws'
 refuse ' passed, '
 refuse 'logic='
 refuse '^=='
+refuse 'is kept'
+refuse 'its tests'
 [ "$(cat "$log")" = "$said" ] || { echo 'the log is not what was said'; exit 1; }
 shown=$(cat "$log.times")
 expect '^proved rules [0-9]*$'
@@ -90,4 +94,7 @@ refuse ': proved'
 shown=$(printf 'rt: chose --jobs 2 for rules\nrt: chose --jobs 2 for rules\n' | scripts/progress.sh "$log" rules)
 expect -Fx 'proving 1 of 1: rules'
 refuse 'chose'
+shown=$(printf '== rules\nonly=0 proved=0\n== summary\nrules: ok\n1 of 1 crates ok\n' | scripts/progress.sh "$log" rules)
+expect -Fx 'done 1 of 1: rules'
+refuse 'ok$\|summary\|only='
 echo 'what is shown of the proofs: as it must be'

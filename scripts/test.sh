@@ -43,6 +43,7 @@ verdict=$(tail -n 1 build/proofs.log)
 
 step 'the wrong edits fit the text' edits_fit
 
+step 'what the libraries stand on' scripts/check.sh build/check.log
 step 'the libraries' make --no-print-directory libraries
 step 'the hosts in C' make --no-print-directory hosts
 step 'what the host of value and charge prints' scripts/test-host.sh build/measures
