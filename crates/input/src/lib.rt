@@ -105,8 +105,8 @@ fn read_once<R: Read>(reader: &mut R, room: &mut [u8]) -> isize {
     }
 }
 
-// One read fills the room behind the bytes left. That `took` is given what the read answered cannot be
-// proved: an answer of C has no name in a contract.
+// One read fills the room behind the bytes left. That `took` is given what the read answered stands in no
+// contract: what came of standard input has no name in one.
 fn receive<R: Read>(reader: &mut R, room: &mut [u8], left: usize) -> Fill
     requires { (0 < length room.old) × (left + length room.old < 2 ^ 64) }
     ensures { Received left (length room.old) result }

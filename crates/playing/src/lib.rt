@@ -56,7 +56,8 @@ fn taken<E: Eprint>(rt: &E, written: bool, sent: u64, text: &[u8]) -> Sent
 }
 
 // Writes bytes that stand at this place of what is to be printed, where all before them were written.
-// That `taken` is given what the write answered cannot be proved: an answer of C has no name in a contract.
+// That `taken` is given what the write answered stands in no contract: what went to standard output has no
+// name in one.
 pub fn show<P: Print + Eprint>(rt: &P, s: Sent, text: &[u8]) -> Sent
     requires { (s.written ≡ true) × Shown s.count text.now × (s.count + length text.now < 2 ^ 64) }
     ensures { result.count ≡ s.count + length text.now }

@@ -1,7 +1,6 @@
 -- Questions 4, 5 and 27, and then what is seen.
-use mathlib.Core.Path.{◌≡◌, sym, ◌∙◌}
+use mathlib.Core.Path.{sym, ◌∙◌}
 use borrow.Author.Rules.{rules}
-use borrow.Author.Tests.{not-true, not-false}
 use Rattle.access.proofs.Placing.{look_4, look_5, look_27, look_seen}
 use Rattle.access.proofs.look_in.Statement.{statement}
 use Rattle.access.proofs.look_in.Tie as tie

@@ -1,5 +1,5 @@
 -- Questions 3, 4 and 5, and then 27.
-use borrow.Author.Tests.{le-leb, lt-leb, not-true, not-false}
+use borrow.Author.Tests.{le-leb, lt-leb}
 use Rattle.access.proofs.refuse.Statement.{statement}
 use Rattle.access.proofs.refuse.Tie as tie
 

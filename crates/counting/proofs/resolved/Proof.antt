@@ -1,7 +1,6 @@
 -- By whose resolve it is.
 use mathlib.Core.Path.{refl}
 use native.Mathlib.Omega.{arith}
-use borrow.Author.Tests.{not-true, not-false}
 use Rattle.spans.proofs.Sums.{same_statement}
 use Rattle.counting.proofs.Numbers.{stays}
 use borrow.Author.Rules.{rules}

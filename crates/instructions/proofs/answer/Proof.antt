@@ -1,5 +1,4 @@
 -- The quotes are those of the words, and what stands in the output changes nothing: so the answer is the run's.
-use native.Mathlib.Omega.{arith}
 use Rattle.rules.specs.declared.Book.{Book}
 use Rattle.rules.specs.Book.{book_of}
 use Rattle.laws.proofs.Answers.{has_room}

@@ -1,8 +1,7 @@
 -- Invariant: the book in its columns is sound; with what the turns from here on add, the statement is the span's. No instruction has
 -- more than thirty-three words.
 use mathlib.Core.Path.{◌≡◌, refl, sym, ap, ◌∙◌}
-use mathlib.Core.List.{List}
-use Prim.Native.Nat.{ℕ, ◌+◌, ◌*◌, ◌≤◌, ◌<◌}
+use Prim.Native.Nat.{◌+◌, ◌*◌, ◌≤◌, ◌<◌}
 use native.Mathlib.Omega.{arith}
 use lib.ListN as list
 use Rattle.rules.specs.declared.Read.TheVariants.{Instr}

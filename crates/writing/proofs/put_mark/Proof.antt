@@ -3,7 +3,6 @@ use mathlib.Core.Path.{◌≡◌, refl}
 use mathlib.Core.Bool.{true, ◌&&◌}
 use native.Mathlib.Omega.{arith}
 use borrow.Author.Rules.{rules}
-use borrow.Author.Tests.{not-true, not-false}
 use Rattle.rules.specs.Records.{issue_bits, mark_bits}
 use Rattle.rules.specs.Tape.{fits}
 use Rattle.writing.proofs.Fitting.{mark_fits}

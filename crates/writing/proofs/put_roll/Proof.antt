@@ -4,7 +4,6 @@ use mathlib.Core.Bool.{true}
 use Prim.Native.Nat.{suc}
 use native.Mathlib.Omega.{arith}
 use borrow.Author.Rules.{rules}
-use borrow.Author.Tests.{not-true, not-false}
 use lib.ListN.{length, length-set, length-map}
 use lib.Seq.{length-sets}
 use Rattle.rules.specs.declared.Instruction.TheVariants.{Roll}
