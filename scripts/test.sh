@@ -1,5 +1,5 @@
 #!/usr/bin/env bash
-# The one test command. It proves every crate from nothing and then runs the tests of what was
+# The one test command. It proves every crate and then runs the tests of what was
 # built from them. The last line, and no other, is the prover's verdict, or says which test failed.
 set -euo pipefail
 cd "$(dirname "$0")/.."
