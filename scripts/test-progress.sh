@@ -89,6 +89,16 @@ shown=$(first_line 'host callers desk entries funds trust')
 expect '^To be proved, where it was not before: 0 crates, then 6 libraries; at most about '
 shown=$(first_line 'desk')
 expect '^To be proved, where it was not before: 0 crates, then 1 library; at most about a minute on '
+# The estimate goes by the text of the crates that are named, and of what they stand on.
+worth() { # NAME
+    find "crates/$1/src" "crates/$1/specs" "crates/$1/proofs" -type f -printf '%s\n' 2>/dev/null |
+        awk '{ n += $1 } END { print 8 + int(n / 1000) }'
+}
+known=$((($(worth rules) + $(worth laws)) / $(nproc)))
+known=$(((known + 59) / 60))
+if [ "$known" -le 1 ]; then known='about a minute'; else known="about $known minutes"; fi
+shown=$(printf '' | scripts/progress.sh "$log" laws)
+expect "^To be proved, where it was not before: 2 crates; at most $known on "
 shown=$(printf '%s: proved\n' 'enum status::Told' 'struct dayrun::Sent' 'fn a' | scripts/progress.sh "$log" none_of_the_crates)
 refuse ': proved'
 shown=$(printf 'rt: chose --jobs 2 for rules\nrt: chose --jobs 2 for rules\n' | scripts/progress.sh "$log" rules)
