@@ -106,6 +106,7 @@ show() { # LINE
     [0-9]*' passed, '[0-9]*' failed') ;;
     'library '*': modules '* | 'crate '*': modules '* | 'statements '* | 'logic='* | 'logic /'* | 'axioms '* | 'linked target='*) ;;
     'fn '*': proved' | 'enum '*': proved' | 'struct '*': proved' | 'impl '*': proved' | 'checked '*' of '* | 'empty contracts: 0 found'*) ;;
+    *': note: large solution'* | *': note: `rw` took the first instance'* | 'note: only the first of '*) ;;
     *'note: no function with a body'* | 'note: finished '* | 'rt: rt check --fix-imports'* | 'rt: '*': begins with what a check kept in '*) ;;
     'rt: must-fail '*': refused, as it must be'*)
         name=${line#rt: must-fail } name=${name%%:*} name=${name%.edit}
