@@ -1,21 +1,19 @@
 -- Seeking an account's k-th entry: what the loop has passed, and what it finds.
 use mathlib.Core.Path.{◌≡◌, refl, sym, ap, ◌∙◌}
-use mathlib.Core.Bool.{Bool, true, false, cond}
+use mathlib.Core.Bool.{Bool, true, false}
 use mathlib.Core.List.{List, [], ◌∷◌}
-use Prim.Native.Nat.{ℕ, zero, suc, ◌+◌, ◌-◌, ◌≤◌, ◌<◌}
+use Prim.Native.Nat.{ℕ, suc, ◌+◌, ◌-◌, ◌≤◌, ◌<◌}
 use native.Mathlib.Omega.{arith}
-use lib.IntN.{ℤ}
 use lib.ListN.{get_or, drop}
 use lib.Seq.{drop-nil}
 use borrow.Author.Tests.{le-leb, lt-leb}
-use Rattle.rules.specs.declared.Entry.{Entry}
 use Rattle.rules.specs.Ledger.{entry}
 use Rattle.rules.specs.Book.{entries, net_at}
-use Rattle.laws.proofs.Basics.{by_test}
 use Rattle.ledger.proofs.Left.{left_next}
 use Rattle.rules.specs.declared.Caller.{Caller}
 use Rattle.rules.specs.Questions.{ask, first_no, ask_issue, ask_account}
 use Rattle.rules.specs.Access.{with_right, entries_at, charge_at, LookAnswer, seen, none_seen, look_refused, first_seen, look_answer, may_read}
+use Rattle.columns.specs.declared.SharedColumns.{SharedColumns}
 use Rattle.access.specs.Places.{either_end, entries_from, Placed, seen_of, look_of}
 
 -- the entries after the first k are those from place n on after the first `left`
@@ -54,17 +52,6 @@ module _ (count : ℕ) (is fs ts : List ℕ) (i a k : ℕ) where
           rest = λ xs ds. s.rest xs ds ∙ ap (λ l. drop left (entries_at l i a)) (left_next n count is fs ts xs ds h) ∙ (simp t);
         }
 
-    -- by the number of the entry: 1 where it is one of them, else 0
-    pub seek_here : (h : ℕ) → n < count → h ≡ cond test 1 0 → left < h → Placed count is fs ts i a k n
-    seek_here h l e q =
-        by_test test (λ t. let g = simp t at e in seek_found l t (omega arith)) (λ f. absurd (let g = simp f at e in omega arith))
-
-    pub seek_more : (h : ℕ) → n < count → h ≡ cond test 1 0 → h ≤ left → Seeking count is fs ts i a k (n + 1) (left - h)
-    seek_more h l e q =
-        by_test test
-        (λ t. let g = simp t at e in rw g (seek_passed l t (λ z. omega arith)))
-        (λ f. let g = simp f at e in let z : left - 0 ≡ left = omega arith in rw (g, z) (seek_skipped l f))
-
     pub seek_ends : count ≤ n → Placed count is fs ts i a k count
     seek_ends h =
         let e : n ≡ count = omega (arith, s.most) in
@@ -77,29 +64,44 @@ module _ (count : ℕ) (is fs ts : List ℕ) (i a k : ℕ) where
 
 -- What is seen
 
-module _ (count : ℕ) (nets charges : List ℤ) (is fs ts xs ds : List ℕ) (i a k r : ℕ) (p : Placed count is fs ts i a k r) where
-  pub see_none : count ≤ r → none_seen (net_at nets i a) (charge_at charges a) ≡ seen_of count nets charges is fs ts xs ds i a k
+module _ (count : ℕ) (c : SharedColumns) (i a k r : ℕ) (p : Placed count c.issues.now c.froms.now c.tos.now i a k r) where
+  abbrev is : List ℕ
+  is = c.issues.now
+
+  abbrev fs : List ℕ
+  fs = c.froms.now
+
+  abbrev ts : List ℕ
+  ts = c.tos.now
+
+  abbrev xs : List ℕ
+  xs = c.lots.now
+
+  abbrev ds : List ℕ
+  ds = c.days.now
+
+  pub see_none : count ≤ r → none_seen (net_at c.nets.now i a) (charge_at c.charges.now a) ≡ seen_of count c i a k
   unfolding seen_of
   see_none h =
       let z : count - r ≡ 0 = omega arith in
       let e : drop k (entries_at (entries count is fs ts xs ds) i a) ≡ [] = p.rest xs ds ∙ rw z refl in
-      sym (ap (first_seen (net_at nets i a) (charge_at charges a)) e)
+      sym (ap (first_seen (net_at c.nets.now i a) (charge_at c.charges.now a)) e)
 
   pub see_one : r < count →
-      seen (net_at nets i a) (charge_at charges a) (entry (get_or is r 0) (get_or fs r 0) (get_or ts r 0) (get_or xs r 0) (get_or ds r 0))
-      ≡ seen_of count nets charges is fs ts xs ds i a k
+      seen (net_at c.nets.now i a) (charge_at c.charges.now a) (entry (get_or is r 0) (get_or fs r 0) (get_or ts r 0) (get_or xs r 0) (get_or ds r 0))
+      ≡ seen_of count c i a k
   unfolding seen_of
   see_one h =
       let e : drop k (entries_at (entries count is fs ts xs ds) i a)
       ≡ entry (get_or is r 0) (get_or fs r 0) (get_or ts r 0) (get_or xs r 0) (get_or ds r 0) ∷ entries_at (entries_from (r + 1) count is fs ts xs ds) i a =
       p.rest xs ds ∙ ap (λ l. entries_at l i a) (left_next r count is fs ts xs ds h) ∙ (simp (p.there h)) in
-      sym (ap (first_seen (net_at nets i a) (charge_at charges a)) e)
+      sym (ap (first_seen (net_at c.nets.now i a) (charge_at c.charges.now a)) e)
 
 -- Reading, by its questions
 
-module _ (w : Caller) (n : ℕ) (ns cs : List ℤ) (is fs ts xs ds : List ℕ) (i a k : ℕ) where
+module _ (w : Caller) (n : ℕ) (c : SharedColumns) (i a k : ℕ) where
   abbrev answer : LookAnswer
-  answer = look_of w n ns cs is fs ts xs ds i a k
+  answer = look_of w n c i a k
 
   pub look_4 : 15 < i → look_refused 4 ≡ answer
   unfolding look_of
@@ -113,15 +115,15 @@ module _ (w : Caller) (n : ℕ) (ns cs : List ℤ) (is fs ts xs ds : List ℕ) (
     module _ (ha : a ≤ 63) where
       -- by the answer to 27
       right_is : (right : Bool) → may_read w a ≡ right →
-          look_answer (first_no (ask 27 right ∷ [])) (seen_of n ns cs is fs ts xs ds i a k) ≡ answer
+          look_answer (first_no (ask 27 right ∷ [])) (seen_of n c i a k) ≡ answer
       unfolding look_of
       right_is right r =
           sym
-          (ap (λ (x : Bool). look_answer (first_no (with_right x (ask_issue i ∷ ask_account a ∷ []))) (seen_of n ns cs is fs ts xs ds i a k)) r
+          (ap (λ (x : Bool). look_answer (first_no (with_right x (ask_issue i ∷ ask_account a ∷ []))) (seen_of n c i a k)) r
           ∙ rw (le-leb i 15 hi, le-leb a 63 ha) refl)
 
       pub look_27 : may_read w a ≡ false → look_refused 27 ≡ answer
       look_27 r = right_is false r
 
-      pub look_seen : may_read w a ≡ true → seen_of n ns cs is fs ts xs ds i a k ≡ answer
+      pub look_seen : may_read w a ≡ true → seen_of n c i a k ≡ answer
       look_seen r = right_is true r

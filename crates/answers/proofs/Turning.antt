@@ -3,20 +3,23 @@
 use mathlib.Core.Path.{◌≡◌, refl, sym, ◌∙◌}
 use mathlib.Core.Bool.{true}
 use mathlib.Core.List.{List, [], ◌∷◌}
-use Prim.Native.Nat.{ℕ, zero, suc, ◌≤◌}
+use Prim.Native.Nat.{ℕ, ◌≤◌}
+use Rattle.std.specs.Prelude.{Ok, Err, pred}
 use lib.Dec.{leb}
 use lib.ListN.{length}
 use borrow.Author.Tests.{le-leb}
 use Rattle.rules.specs.declared.Book.{Book}
+use Rattle.rules.specs.declared.Refusal.{Refusal}
 use Rattle.rules.specs.declared.State.{State}
+use Rattle.rules.specs.Refusals.{number_of}
 use Rattle.rules.specs.Measures.{output_words}
 use Rattle.rules.specs.Book.{sound}
 use Rattle.rules.specs.Records.{words, over}
 use Rattle.rules.specs.Questions.{first_no, ask_output}
 use Rattle.rules.specs.Calls.{Call, Effect, lent_to, HasRoom, own_asks, effect, called}
 use Rattle.laws.proofs.Answers.{said_yes, own_first, refused_as, accepted_as}
-use Rattle.answers.specs.declared.Turn.{Turn}
-use Rattle.answers.specs.Turns.{turn_of, refused_turn, TurnIs, Gives, out_after}
+use Rattle.laws.proofs.Refused.{some_number}
+use Rattle.answers.specs.Turns.{turn_of, Given, TurnIs, Gives, out_after}
 
 -- an output that is long enough has room
 pub room_out : (out : List ℕ) → output_words ≤ length out → first_no (ask_output output_words out ∷ []) ≡ 0
@@ -29,21 +32,22 @@ pub record Does (e : Effect) (lent : List ℕ) (k x : ℕ) (b : Book) (words' : 
   pub book : b ≡ e.book
   pub out : words' ≡ over (words e.records) lent
 
-module _ (b : Book) (c : Call) (room : HasRoom c) (q : sound b ≡ true) (s : State) where
+module _ (b : Book) (c : Call) (room : HasRoom c) (q : sound b ≡ true) where
   -- a question is answered 'no'
-  pub turn_no : (n : ℕ) → n ≡ first_no (own_asks b c) → (n ≡ 0 → ⊥) → TurnIs (called b c) (refused_turn n s) b (lent_to c)
-  turn_no zero e h = absurd (h refl)
-  turn_no (suc n) e h =
-      rw (refused_as b c n (own_first b c room q ∙ sym e)) (record { refusal = refl; count = refl; cancelled = refl; book = refl; out = refl })
+  pub turn_no : (r : Refusal) → number_of r ≡ first_no (own_asks b c) → TurnIs (called b c) (Err r) b (lent_to c)
+  turn_no r e =
+      let k = pred (number_of r) in
+      rw (refused_as b c k (own_first b c room q ∙ sym e ∙ some_number r))
+      (record { refusal = some_number r; count = refl; cancelled = refl; book = refl; out = refl })
 
   -- none is
-  pub turn_yes : (n k x : ℕ) (b' : Book) (out : List ℕ) → n ≡ first_no (own_asks b c) → n ≡ 0 → Does (effect b c) (lent_to c) k x b' out →
-      TurnIs (called b c) (turn_of 0 k x s) b' out
-  turn_yes n k x b' out e z d =
-      rw (accepted_as b c (own_first b c room q ∙ sym e ∙ z))
+  pub turn_yes : (k x : ℕ) (s : State) (b' : Book) (out : List ℕ) → 0 ≡ first_no (own_asks b c) → Does (effect b c) (lent_to c) k x b' out →
+      TurnIs (called b c) (Ok (turn_of k x s)) b' out
+  turn_yes k x s b' out e d =
+      rw (accepted_as b c (own_first b c room q ∙ sym e))
       (record { refusal = refl; count = d.count; cancelled = d.cancelled; book = d.book; out = d.out })
 
 -- a call's turn, and what the output holds after it
-pub gives : (b : Book) (c : Call) (out : List ℕ) {r : Turn} {b' : Book} {words' out' : List ℕ} → out' ≡ out_after c out (called b c) →
+pub gives : (b : Book) (c : Call) (out : List ℕ) {r : Given} {b' : Book} {words' out' : List ℕ} → out' ≡ out_after c out (called b c) →
     TurnIs (called b c) r b' words' → Gives b c r b' out out'
 gives b c out e t = record { refusal = t.refusal; count = t.count; cancelled = t.cancelled; book = t.book; out = e }

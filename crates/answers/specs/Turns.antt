@@ -1,28 +1,45 @@
 -- What an instruction answers in place. It is lent the columns that it reads or changes: its answer is the call's, of
 -- every sound book that has them.
-use Rattle.std.specs.Prelude.{◌≡◌, true, cond, List, ℕ, ◌≤◌, length, ℤ}
+use Rattle.std.specs.Prelude.{◌≡◌, true, cond, List, ℕ, ◌≤◌, length, ℤ, Result, Ok, Err}
 use Rattle.rules.specs.declared.Book.{Book}
 use Rattle.rules.specs.declared.Instruction.{Instruction}
+use Rattle.rules.specs.declared.Refusal.{Refusal}
 use Rattle.rules.specs.declared.State.{State}
+use Rattle.rules.specs.Refusals.{number_in}
 use Rattle.rules.specs.Measures.{lift_cells, output_words}
 use Rattle.rules.specs.Book.{sound, CellLengths, LedgerLengths, book_of}
 use Rattle.rules.specs.Calls.{Call, Answer, lends, called}
 use Rattle.rules.specs.Run.{call_of}
-use Rattle.book.specs.States.{Lent, Column, SharedColumn, Columns, Shared}
+use Rattle.book.specs.States.{Lent, Column, SharedColumn, Shared}
+use Rattle.columns.specs.declared.LentColumns.{LentColumns}
+use Rattle.columns.specs.Books.{lent_book}
 use Rattle.answers.specs.declared.Turn.{Turn}
 
-abbrev pub turn_of : ℕ → ℕ → ℕ → State → Turn
-turn_of n k x s = record { refusal = n; count = k; cancelled = x; state = s }
+abbrev pub turn_of : ℕ → ℕ → State → Turn
+turn_of k x s = record { count = k; cancelled = x; state = s }
 
--- a refusal has its number, 0 for every other number, and the state as it was
-abbrev pub refused_turn : ℕ → State → Turn
-refused_turn n s = turn_of n 0 0 s
+-- what a call gives: a turn, or the refusal
+abbrev pub Given : Type 0
+Given = Result Turn Refusal
+
+-- the count, the lots cancelled and the state after it: none, none and the state as it was, where it is refused
+abbrev pub count_in : Given → ℕ
+count_in (Ok t) = t.count
+count_in (Err r) = 0
+
+abbrev pub cancelled_in : Given → ℕ
+cancelled_in (Ok t) = t.cancelled
+cancelled_in (Err r) = 0
+
+abbrev pub state_after : State → Given → State
+state_after s (Ok t) = t.state
+state_after s (Err r) = s
 
 -- number, count, lots cancelled, book and words are an answer's
-pub record TurnIs (d : Answer) (r : Turn) (b : Book) (words : List ℕ) : Type 0 where
-  pub refusal : r.refusal ≡ d.refusal
-  pub count : r.count ≡ d.count
-  pub cancelled : r.cancelled ≡ d.cancelled
+pub record TurnIs (d : Answer) (r : Given) (b : Book) (words : List ℕ) : Type 0 where
+  pub refusal : number_in r ≡ d.refusal
+  pub count : count_in r ≡ d.count
+  pub cancelled : cancelled_in r ≡ d.cancelled
   pub book : b ≡ d.book
   pub out : words ≡ d.out
 
@@ -38,13 +55,17 @@ beside c out d =
     record { refusal = d.refusal; count = d.count; cancelled = d.cancelled; book = d.book; out = out_after c out d }
 
 -- a call made on a book: number, count, lots cancelled, book and output are the call's
-abbrev pub Gives : Book → Call → Turn → Book → List ℕ → List ℕ → Type 0
+abbrev pub Gives : Book → Call → Given → Book → List ℕ → List ℕ → Type 0
 Gives b c r b' out out' = TurnIs (beside c out (called b c)) r b' out'
 
--- an instruction, with roll's quotes and an output beside it, made on the book of a state and its columns
-abbrev pub Answered : Instruction → SharedColumn ℕ → Column ℕ → State → Turn → Columns → Type 0
-Answered x quotes out s r c =
-    Gives (c.before s) (call_of x quotes.entry.now out.entry.now) r (c.after r.state) out.entry.now out.exit.now
+-- a call made on the book of a state and its columns, before and after, with the words that it leaves in what it is lent
+abbrev pub Makes : State → Call → Given → LentColumns → LentColumns → List ℕ → Type 0
+Makes s c r before after words = TurnIs (called (lent_book s before) c) r (lent_book (state_after s r) after) words
+
+-- an instruction, with roll's quotes and an output beside it, made on the book of a state and its columns, before and after
+abbrev pub Answered : Instruction → List ℕ → State → Given → LentColumns → LentColumns → List ℕ → List ℕ → Type 0
+Answered x quotes s r before after out out' =
+    Gives (lent_book s before) (call_of x quotes out) r (lent_book (state_after s r) after) out out'
 
 -- One call, on the columns that it reads or changes
 
@@ -115,9 +136,9 @@ on_marks nets issues =
     record { before = λ s. within_use s nets.entry.now issues.entry.now; after = λ s. within_use s nets.entry.now issues.entry.now }
 
 -- the answer of a call, of every sound book with what is lent
-abbrev pub Turns : Within → State → Call → Turn → List ℕ → Type 0
+abbrev pub Turns : Within → State → Call → Given → List ℕ → Type 0
 Turns w s c r words =
-    (b : Book) → sound (w.before s b) ≡ true → TurnIs (called (w.before s b) c) r (w.after r.state b) words
+    (b : Book) → sound (w.before s b) ≡ true → TurnIs (called (w.before s b) c) r (w.after (state_after s r) b) words
 
 -- what a call in place asks: some book with what is lent is sound, and the lengths are right
 pub record SomeSound (within : Book → Book) : Type 0 where

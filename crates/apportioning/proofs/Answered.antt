@@ -1,13 +1,13 @@
 -- Of an answer that is no refusal: what stands in the output sums to the funds.
-use mathlib.Core.Path.{◌≡◌, refl, sym, ap, ◌∙◌}
+use mathlib.Core.Path.{◌≡◌, refl, ◌∙◌}
 use mathlib.Core.Bool.{Bool, true, false, ◌&&◌}
 use mathlib.Core.List.{List, [], ◌∷◌}
-use Prim.Native.Nat.{ℕ, zero, suc, ◌+◌, ◌≤◌}
+use Prim.Native.Nat.{ℕ, zero, suc}
 use native.Mathlib.Omega.{arith}
 use lib.Dec.{leb, eqb}
 use lib.ListN.{length, drop, replicate}
 use borrow.Author.Tests.{leb-true, eqb-true}
-use Rattle.rules.specs.Measures.{total, sum}
+use Rattle.rules.specs.Measures.{sum}
 use Rattle.rules.specs.Records.{over}
 use Rattle.rules.specs.Questions.{ask, first_no}
 use Rattle.laws.proofs.Basics.{and_left, and_right, total_append}

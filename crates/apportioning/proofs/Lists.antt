@@ -1,12 +1,18 @@
 -- A list filled place by place, and places in a list.
 use mathlib.Core.Path.{◌≡◌, refl, sym, ap, ◌∙◌}
-use mathlib.Core.List.{List, [], ◌∷◌, ◌++◌, map, append_assoc, append-nil}
+use mathlib.Core.Bool.{Bool, true, false}
+use mathlib.Core.Logic.{◌↔◌}
+use mathlib.Core.List.{List, [], ◌∷◌, ◌++◌, append_assoc, append-nil}
 use Prim.Native.Nat.{ℕ, zero, suc, ◌+◌, ◌≤◌, ◌<◌}
 use native.Mathlib.Omega.{arith}
 use native.Mathlib.Numerals.{add-one}
+use lib.Dec.{leb}
 use lib.ListN.{length, get_or, take, drop, set, replicate, drop_of_length-le, length-replicate}
 use lib.Seq.{take-suc, drop-cons, set_at, take_all, length-take-le}
+use borrow.Author.Tests.{le-leb, leb-true}
+use Rattle.rules.specs.Book.{all}
 use Rattle.rules.specs.Records.{over}
+use Rattle.laws.proofs.Basics.{by_test, all_at, all_of}
 use Rattle.contributions.specs.Order.{amount_of}
 use Rattle.contributions.specs.Rounds.{in_order}
 
@@ -41,3 +47,10 @@ first_places n m h = sym (ap length (take_cleared n m h) ∙ length-replicate n 
 pub over_all : (wanted out₀ : List ℕ) → length out₀ ≡ length wanted → over wanted out₀ ≡ wanted
 over_all wanted out₀ e =
     let h : length out₀ ≤ length wanted = omega arith in rw (drop_of_length-le out₀ h) (append-nil wanted)
+
+-- what a test of every place answers is that of the list
+pub each_most : (most : ℕ) (xs : List ℕ) (b : Bool) → (b ≡ true) ↔ ((k : ℕ) → k < length xs → get_or xs k 0 ≤ most) →
+    b ≡ all (λ x. leb x most) xs
+each_most most xs true h = sym (all_of (λ x. leb x most) xs 0 (λ k l. le-leb _ _ (h.0 refl k l)))
+each_most most xs false h =
+    by_test (all (λ x. leb x most) xs) (λ e. h.1 (λ k l. leb-true _ _ (all_at (λ x. leb x most) xs 0 k e l)) ∙ sym e) (λ e. sym e)

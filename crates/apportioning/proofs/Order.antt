@@ -1,18 +1,18 @@
 -- The order has each participant just once, by average, largest first, equals by lower number.
 use mathlib.Core.Path.{◌≡◌, refl, sym, ap, ◌∙◌}
-use mathlib.Core.Bool.{true, false, cond}
-use mathlib.Core.List.{List, [], ◌∷◌, map}
+use mathlib.Core.Bool.{cond}
+use mathlib.Core.List.{List, [], ◌∷◌}
 use Prim.Native.Nat.{ℕ, zero, suc, ◌+◌, ◌≤◌, ◌<◌}
 use native.Mathlib.Omega.{arith}
 use native.Mathlib.Nat.{zero-add}
 use lib.Dec.{ltb, eqb}
 use lib.ListN.{length, get_or}
-use borrow.Author.Tests.{ltb-true, ltb-false, eqb-true, eqb-false, eq-eqb, ne_eqb}
+use borrow.Author.Tests.{ltb-true, ltb-false, eqb-true, eqb-false, ne_eqb}
 use Rattle.rules.specs.Measures.{total, sum}
 use Rattle.rules.specs.Book.{tabulate}
 use Rattle.laws.proofs.Basics.{by_test, Every, each_zip, each_map, each_at, total_map}
 use Rattle.laws.proofs.Orders.{sum_tab}
-use Rattle.contributions.specs.Order.{amount_of, ahead_of, behind_of, insert, order_from, order_of}
+use Rattle.contributions.specs.Order.{amount_of, behind_of, insert, order_from, order_of}
 use Rattle.contributions.specs.Rounds.{in_order}
 
 module _ (averages : List ℕ) where

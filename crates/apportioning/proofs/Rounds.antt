@@ -1,13 +1,12 @@
 -- Rounds end with the funds given, and the shares lie within one piece of a level, those earlier in the order first.
 use mathlib.Core.Path.{◌≡◌, refl, sym, ap, subst, ◌∙◌}
-use mathlib.Core.Bool.{true, false, cond}
 use mathlib.Core.List.{List, [], ◌∷◌}
 use Prim.Native.Nat.{ℕ, zero, suc, ◌+◌, ◌-◌, ◌*◌, ◌≤◌, ◌<◌, min}
 use native.Mathlib.Omega.{arith}
 use lib.Dec.{ltb, eqb}
 use lib.ListN.{length, get_or, replicate, length-replicate}
 use borrow.Author.Tests.{ltb-true, ltb-false, eqb-true, eqb-false, ne_eqb}
-use Rattle.rules.specs.Measures.{total, sum}
+use Rattle.rules.specs.Measures.{sum}
 use Rattle.laws.proofs.Basics.{by_test}
 use Rattle.contributions.specs.Bases.{piece}
 use Rattle.contributions.specs.Rounds.{gets, round, left_over, rounds, allotted}

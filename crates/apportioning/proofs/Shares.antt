@@ -1,14 +1,13 @@
 -- The theorems of the shares, by participant number: they sum to the funds, none exceeds its base, two below their base
 -- differ by at most 50, those earlier in the order come first, and the share at a number is that participant's.
-use mathlib.Core.Path.{◌≡◌, refl, sym, ap, ◌∙◌}
-use mathlib.Core.Bool.{true, false, cond}
+use mathlib.Core.Path.{◌≡◌, refl, ap, ◌∙◌}
 use mathlib.Core.List.{List, [], ◌∷◌}
-use Prim.Native.Nat.{ℕ, zero, suc, ◌+◌, ◌*◌, ◌≤◌, ◌<◌, min}
+use Prim.Native.Nat.{ℕ, zero, suc, ◌+◌, ◌≤◌, ◌<◌}
 use native.Mathlib.Omega.{arith}
 use native.Mathlib.Nat.{zero-add}
 use lib.Dec.{eqb}
 use lib.ListN.{length, get_or, length-map}
-use borrow.Author.Tests.{eqb-true, eqb-false, eq-eqb}
+use borrow.Author.Tests.{eqb-true, eq-eqb}
 use Rattle.rules.specs.Measures.{total, sum, Every}
 use Rattle.rules.specs.Units.{AccountLots, account_lots, of_account}
 use Rattle.rules.specs.Book.{tabulate}
@@ -16,11 +15,11 @@ use Rattle.laws.proofs.Basics.{by_test, each_at, length_tab, get_or_tab}
 use Rattle.laws.proofs.Orders.{by_accounts}
 use Rattle.contributions.specs.Bases.{piece}
 use Rattle.contributions.specs.Order.{amount_of, order_of}
-use Rattle.contributions.specs.Rounds.{allotted, in_order}
+use Rattle.contributions.specs.Rounds.{in_order}
 use Rattle.contributions.specs.Funds.{share_in, numbered, shares_in_order, shares_of}
 use Rattle.apportioning.proofs.Lists.{base_at}
 use Rattle.apportioning.proofs.Order.{length_order, order_below, bases_in_order, times, order_once}
-use Rattle.apportioning.proofs.Rounds.{length_allotted, Within, Ended, Done, allotted_done, within_at, ahead_at}
+use Rattle.apportioning.proofs.Rounds.{length_allotted, Within, Ended, Done, allotted_done, ahead_at}
 
 -- One number's share among those of an order
 

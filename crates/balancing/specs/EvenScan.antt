@@ -1,7 +1,7 @@
 -- The scan of marked issues: their cells, and their entries.
-use Rattle.std.specs.Prelude.{Bool, ◌&&◌, List, [], ℕ, ℤ, nat_abs}
+use Rattle.std.specs.Prelude.{Bool, true, ◌&&◌, List, [], ◌∷◌, ℕ, ℤ, nat_abs}
 use Rattle.rules.specs.Measures.{issue_count}
-use Rattle.rules.specs.Book.{tabulate, all, entries, is_even, cells_even, entry_even}
+use Rattle.rules.specs.Book.{tabulate, all, entries, is_even, lots_even, cells_even, entry_even}
 
 -- nets and delivered lots of an issue
 unfoldable pub row_even : List ℤ → List ℕ → Bool
@@ -14,3 +14,9 @@ all_cells marks ns ds = all (cells_even marks ns ds) (tabulate (λ i. i) 0 issue
 -- and the lots of their entries: accounts and days do not matter
 unfoldable pub all_lots : List ℕ → ℕ → List ℕ → List ℕ → Bool
 all_lots marks n is xs = all (entry_even marks) (entries n is [] [] xs [])
+
+-- the same of issues beside lots
+abbrev pub pairs_even : List ℕ → List ℕ → List ℕ → Bool
+pairs_even marks [] xs = true
+pairs_even marks (i ∷ is) [] = true
+pairs_even marks (i ∷ is) (x ∷ xs) = lots_even marks i x && pairs_even marks is xs

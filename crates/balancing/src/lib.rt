@@ -2,39 +2,57 @@
 // an issue is marked, entries' lots too.
 #![tactic(auto)]
 
-ghost use Rattle.std.specs.Prelude.{◌≡◌, true, ◌≤◌, ◌<◌, length, nat_abs};
+ghost use Rattle.std.specs.Prelude.{◌≡◌, ℕ, true, ◌≤◌, ◌<◌, length, nat_abs};
 ghost use Rattle.rules.specs.Measures.{most_lots};
 ghost use Rattle.rules.specs.Book.{CellLengths, all, is_zero, balanced, within_size, within_owed, is_even, lots_even, cells_even};
 ghost use Rattle.balancing.specs.Scan.{all_balanced, nets_sound, RowLengths, RowWithin};
-ghost use Rattle.balancing.specs.EvenScan.{row_even, all_cells, all_lots};
+ghost use Rattle.balancing.specs.EvenScan.{row_even, all_cells, pairs_even, all_lots};
 
-use book::{due, owed, within};
+use book::{owed, within};
 use rules::{ACCOUNT_COUNT, ISSUE_COUNT, State};
 
 // the last issue, as the ledger's column has it
 pub const LAST_ISSUE: u8 = 15;
 
-// Are all 0? At two widths.
-pub fn zeros8(xs: &[u8]) -> bool
-    ensures { result ≡ all is_zero xs.now }
-{
-    let mut good = true;
-    let mut i: usize = 0;
-    while i < xs.len() {
-        good = good & (xs[i] == 0);
-        i += 1;
-    }
-    good
+// A number of a column, of any width.
+pub trait Number: Copy {
+    ghost value: { Self → ℕ };
+
+    fn is_zero(self) -> bool
+        ensures { result ≡ is_zero (value self) };
 }
 
-pub fn zeros32(xs: &[u32]) -> bool
-    ensures { result ≡ all is_zero xs.now }
+impl Number for u8 {
+    ghost value = { λ n. n };
+
+    fn is_zero(self) -> bool {
+        self == 0
+    }
+}
+
+impl Number for u16 {
+    ghost value = { λ n. n };
+
+    fn is_zero(self) -> bool {
+        self == 0
+    }
+}
+
+impl Number for u32 {
+    ghost value = { λ n. n };
+
+    fn is_zero(self) -> bool {
+        self == 0
+    }
+}
+
+// Are all 0?
+pub fn zeros<N: Number>(xs: &[N]) -> bool
+    ensures { result ≡ all (λ n. is_zero (N.value n)) xs.now }
 {
     let mut good = true;
-    let mut i: usize = 0;
-    while i < xs.len() {
-        good = good & (xs[i] == 0);
-        i += 1;
+    for x in xs {
+        good &= x.is_zero();
     }
     good
 }
@@ -44,11 +62,8 @@ fn nets_within(nets: &[i32]) -> bool
     ensures { result ≡ all (within_size most_lots) nets.now }
 {
     let mut good = true;
-    let mut k: usize = 0;
-    while k < nets.len() {
-        let n = nets[k];
-        good = good & within(n);
-        k += 1;
+    for n in nets {
+        good &= within(*n);
     }
     good
 }
@@ -58,16 +73,12 @@ fn row_owed<'a>(net: &'a [i32], delivered: &'a [u32]) -> bool
     requires { RowLengths net.now delivered.now }
     ensures { result ≡ within_owed net.now delivered.now }
 {
-    if zeros32(delivered) {
+    if zeros(delivered) {
         return true;
     }
     let mut good = true;
-    let mut a: usize = 0;
-    while a < ACCOUNT_COUNT {
-        let n = net[a];
-        let o = owed(n);
-        good = good & (delivered[a] <= o);
-        a += 1;
+    for (n, d) in net.iter().zip(delivered) {
+        good &= *d <= owed(*n);
     }
     good
 }
@@ -78,12 +89,11 @@ fn rows_owed<'a>(nets: &'a [i32], delivered: &'a [u32]) -> bool
     ensures { result ≡ within_owed nets.now delivered.now }
 {
     let mut good = true;
-    let mut i: usize = 0;
-    while i < ISSUE_COUNT {
+    // by place, and not by chunks: a row is so defined, and the zip of two chunked columns is no plainer
+    for i in 0..ISSUE_COUNT {
         let s = i * ACCOUNT_COUNT;
         let e = s + ACCOUNT_COUNT;
-        good = good & row_owed(&nets[s..e], &delivered[s..e]);
-        i += 1;
+        good &= row_owed(&nets[s..e], &delivered[s..e]);
     }
     good
 }
@@ -94,11 +104,8 @@ fn row_balanced(net: &[i32]) -> bool
     ensures { result ≡ balanced net.now }
 {
     let mut sum: i32 = 0;
-    let mut a: usize = 0;
-    while a < ACCOUNT_COUNT {
-        let n = net[a];
-        sum += n;
-        a += 1;
+    for n in net {
+        sum += *n;
     }
     sum == 0
 }
@@ -109,12 +116,11 @@ fn rows_balanced(nets: &[i32]) -> bool
     ensures { result ≡ all_balanced nets.now }
 {
     let mut good = true;
-    let mut i: usize = 0;
-    while i < ISSUE_COUNT {
+    // by place, as a row is defined
+    for i in 0..ISSUE_COUNT {
         let s = i * ACCOUNT_COUNT;
         let e = s + ACCOUNT_COUNT;
-        good = good & row_balanced(&nets[s..e]);
-        i += 1;
+        good &= row_balanced(&nets[s..e]);
     }
     good
 }
@@ -138,34 +144,34 @@ fn none_marked(s: State) -> bool
     ensures { result ≡ all is_zero s.marks }
 {
     let marks = s.marks;
-    zeros8(&marks)
+    zeros(&marks)
 }
 
 // Is a net even?
 fn net_even(n: i32) -> bool
     ensures { result ≡ is_even (nat_abs n) }
 {
-    let d = due(n);
-    let o = owed(n);
-    (d % 2 == 0) & (o % 2 == 0)
+    n.unsigned_abs() % 2 == 0
 }
 
 // Are the nets and the delivered lots of an issue even?
+#[tactic(auto, unfolding(crate::specs::EvenScan::row_even))]
 fn row_even<'a>(net: &'a [i32], delivered: &'a [u32]) -> bool
     requires { RowLengths net.now delivered.now }
     ensures { result ≡ row_even net.now delivered.now }
 {
     let mut good = true;
-    let mut i: usize = 0;
-    while i < ACCOUNT_COUNT {
-        let n = net[i];
-        good = good & net_even(n) & (delivered[i] % 2 == 0);
-        i += 1;
+    for n in net {
+        good &= net_even(*n);
+    }
+    for d in delivered {
+        good &= *d % 2 == 0;
     }
     good
 }
 
 // Are they, if the issue is marked?
+#[tactic(auto, unfolding(rules::specs::Book::cells_even, crate::specs::EvenScan::row_even))]
 fn issue_even<'a>(s: State, nets: &'a [i32], delivered: &'a [u32], i: usize) -> bool
     requires { CellLengths nets.now delivered.now × (i < 16) }
     ensures { result ≡ cells_even s.marks nets.now delivered.now i }
@@ -187,10 +193,8 @@ pub fn cells_even<'a>(s: State, nets: &'a [i32], delivered: &'a [u32]) -> bool
         return true;
     }
     let mut good = true;
-    let mut i: usize = 0;
-    while i < ISSUE_COUNT {
-        good = good & issue_even(s, nets, delivered, i);
-        i += 1;
+    for i in 0..ISSUE_COUNT {
+        good &= issue_even(s, nets, delivered, i);
     }
     good
 }
@@ -200,25 +204,20 @@ fn even_by(marks: &[u8], i: u8, x: u32) -> bool
     requires { length marks.now ≡ 16 }
     ensures { result ≡ lots_even marks.now i x }
 {
-    if LAST_ISSUE < i {
-        return true;
-    }
-    if marks[i as usize] == 0 {
+    if LAST_ISSUE < i || marks[i as usize] == 0 {
         return true;
     }
     x % 2 == 0
 }
 
-// Are the lots of each of n entries even, if its issue is marked? The marks are lent: each entry reads one of them.
-fn lots_even<'a>(n: usize, marks: &'a [u8], issues: &'a [u8], lots: &'a [u32]) -> bool
-    requires { (length marks.now ≡ 16) × (n ≤ length issues.now) × (n ≤ length lots.now) }
-    ensures { result ≡ all_lots marks.now n issues.now lots.now }
+// Are the lots of each entry even, if its issue is marked? The marks are lent: each entry reads one of them.
+fn lots_even<'a>(marks: &'a [u8], issues: &'a [u8], lots: &'a [u32]) -> bool
+    requires { (length marks.now ≡ 16) × (length issues.now ≡ length lots.now) }
+    ensures { result ≡ pairs_even marks.now issues.now lots.now }
 {
     let mut good = true;
-    let mut k: usize = 0;
-    while k < n {
-        good = good & even_by(marks, issues[k], lots[k]);
-        k += 1;
+    for (i, x) in issues.iter().zip(lots) {
+        good &= even_by(marks, *i, *x);
     }
     good
 }
@@ -232,5 +231,6 @@ pub fn entries_even<'a>(s: State, issues: &'a [u8], lots: &'a [u32]) -> bool
         return true;
     }
     let marks = s.marks;
-    lots_even(s.entries, &marks, issues, lots)
+    let n = s.entries;
+    lots_even(&marks, &issues[..n], &lots[..n])
 }

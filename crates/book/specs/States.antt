@@ -1,22 +1,10 @@
 -- A book is a small state and its columns. A contract takes lent columns by name.
-use Rattle.std.specs.Prelude.{◌≡◌, true, List, ℕ, ◌≤◌, length, ℤ}
+use Rattle.std.specs.Prelude.{List, ℕ, ℤ}
 use Rattle.std.specs.Borrow.{Bor, MutBor}
 use denote.Triple.Both.{Both}
 use Rattle.rules.specs.declared.Book.{Book}
 use Rattle.rules.specs.declared.State.{State}
-use Rattle.rules.specs.Measures.{output_words}
-use Rattle.rules.specs.Book.{book_of, sound, Lengths}
-
--- columns of a book's lengths that are a sound book
-pub record SoundColumns (s : State) (nets : List ℤ) (delivered lifts : List ℕ) (charges : List ℤ) (issues froms tos lots days : List ℕ) : Type 0 where
-  pub lengths : Lengths nets delivered lifts charges issues froms tos lots days
-  pub sound : sound (book_of s nets delivered lifts charges issues froms tos lots days) ≡ true
-
--- and beside them an output that is long enough
-pub record Ready (s : State) (nets : List ℤ) (delivered lifts : List ℕ) (charges : List ℤ) (issues froms tos lots days out : List ℕ) : Type 0 where
-  pub lengths : Lengths nets delivered lifts charges issues froms tos lots days
-  pub sound : sound (book_of s nets delivered lifts charges issues froms tos lots days) ≡ true
-  pub room : output_words ≤ length out
+use Rattle.rules.specs.Book.{book_of}
 
 -- a column as a contract has it: lent, and before and after
 abbrev pub Lent : Type 0 → Type 0
@@ -62,15 +50,3 @@ lifting_columns nets delivered lifts charges issues froms tos lots days =
       before = λ s. book_of s nets.entry.now delivered.entry.now lifts.entry.now charges.entry.now issues.entry.now froms.entry.now tos.entry.now lots.entry.now days.entry.now;
       after = λ s. book_of s nets.exit.now delivered.exit.now lifts.exit.now charges.exit.now issues.exit.now froms.exit.now tos.exit.now lots.exit.now days.exit.now;
     }
-
-abbrev pub sound_columns : State → Lent ℤ → Lent ℕ → Lent ℕ → Lent ℤ → Lent ℕ → Lent ℕ → Lent ℕ → Lent ℕ → Lent ℕ → Type 0
-sound_columns s nets delivered lifts charges issues froms tos lots days =
-    SoundColumns s nets.now delivered.now lifts.now charges.now issues.now froms.now tos.now lots.now days.now
-
-abbrev pub ready : State → Lent ℤ → Lent ℕ → Lent ℕ → Lent ℤ → Lent ℕ → Lent ℕ → Lent ℕ → Lent ℕ → Lent ℕ → Lent ℕ → Type 0
-ready s nets delivered lifts charges issues froms tos lots days out =
-    Ready s nets.now delivered.now lifts.now charges.now issues.now froms.now tos.now lots.now days.now out.now
-
-abbrev pub ready_after : State → Column ℤ → Column ℕ → Column ℕ → Column ℤ → Column ℕ → Column ℕ → Column ℕ → Column ℕ → Column ℕ → Column ℕ → Type 0
-ready_after s nets delivered lifts charges issues froms tos lots days out =
-    ready s nets.exit delivered.exit lifts.exit charges.exit issues.exit froms.exit tos.exit lots.exit days.exit out.exit

@@ -1,11 +1,11 @@
-// The book's leaves: signed nets as lots due and lots owed, an issue's rows, the phases, and a book of
-// its state and columns.
+// The book's leaves: signed nets as lots due and lots owed, an issue's rows, the phases, the state's setters, and a
+// fresh book.
 #![tactic(auto)]
 
 ghost use Rattle.std.specs.Prelude.{◌≡◌, map, ◌<◌, length};
 ghost use Rattle.rules.specs.Measures.{most_lots, last_day, sum, due_of, owed_of};
 ghost use Rattle.rules.specs.Fails.{undelivered};
-ghost use Rattle.rules.specs.Book.{in_force, is_taking, is_settling, is_cut, within_size, lots_even, state_of, with_phase, with_entries, with_turn, with_marks, next_day, book_of, fresh as fresh_of};
+ghost use Rattle.rules.specs.Book.{in_force, is_taking, is_settling, is_cut, within_size, lots_even, state_of, with_phase, with_entries, with_turn, with_marks, next_day, fresh as fresh_of};
 ghost use Rattle.book.specs.Nets.{Small, Lowered, Raised};
 ghost use Rattle.book.specs.Rows.{Owing};
 
@@ -73,8 +73,7 @@ fn lots_even(marks: [u8; ISSUE_COUNT], i: u32, x: u32) -> bool
 pub fn even_in(s: State, i: u32, x: u32) -> bool
     ensures { result ≡ lots_even s.marks i x }
 {
-    let marks = s.marks;
-    lots_even(marks, i, x)
+    lots_even(s.marks, i, x)
 }
 
 // The lots due to each account of an issue, from its nets.
@@ -82,11 +81,8 @@ pub fn dues_of(net: &[i32], dues: &mut [u32])
     requires { length dues.old ≡ length net.now }
     ensures { dues.new ≡ map due_of net.now }
 {
-    let mut i = 0;
-    while i < net.len() {
-        let n = net[i];
-        dues[i] = due(n);
-        i += 1;
+    for (i, n) in net.iter().enumerate() {
+        dues[i] = due(*n);
     }
 }
 
@@ -96,10 +92,8 @@ pub fn total(d: &[u32]) -> u32
     ensures { result ≡ sum d.now }
 {
     let mut t: u32 = 0;
-    let mut i = 0;
-    while i < d.len() {
-        t += d[i];
-        i += 1;
+    for x in d {
+        t += *x;
     }
     t
 }
@@ -109,11 +103,8 @@ pub fn missing_of(net: &[i32], delivered: &[u32], short: &mut [u32])
     requires { Owing net.now delivered.now short.old }
     ensures { short.new ≡ undelivered (map owed_of net.now) delivered.now }
 {
-    let mut i = 0;
-    while i < net.len() {
-        let n = net[i];
-        short[i] = owed(n) - delivered[i];
-        i += 1;
+    for (i, n) in net.iter().enumerate() {
+        short[i] = owed(*n) - delivered[i];
     }
 }
 
@@ -121,33 +112,21 @@ pub fn missing_of(net: &[i32], delivered: &[u32], short: &mut [u32])
 pub fn taking(p: Phase) -> bool
     ensures { result ≡ is_taking p }
 {
-    match p {
-        Phase::Taking => true,
-        Phase::Settling => false,
-        Phase::Cut => false,
-    }
+    matches!(p, Phase::Taking)
 }
 
 // Is the phase Settling?
 pub fn settling(p: Phase) -> bool
     ensures { result ≡ is_settling p }
 {
-    match p {
-        Phase::Taking => false,
-        Phase::Settling => true,
-        Phase::Cut => false,
-    }
+    matches!(p, Phase::Settling)
 }
 
 // Is the phase Cut?
 pub fn cut(p: Phase) -> bool
     ensures { result ≡ is_cut p }
 {
-    match p {
-        Phase::Taking => false,
-        Phase::Settling => false,
-        Phase::Cut => true,
-    }
+    matches!(p, Phase::Cut)
 }
 
 // The state of these numbers. It is written by the setters below and nowhere else field by field.
@@ -169,74 +148,32 @@ pub fn state_of(
     }
 }
 
-// The book of a state and its columns.
-pub fn book_in(
-    state: State,
-    nets: [i32; CELL_COUNT],
-    delivered: [u32; CELL_COUNT],
-    lifts: [u32; LIFT_CELLS],
-    charges: [i64; ACCOUNT_COUNT],
-    issues: [u8; MOST_ENTRIES],
-    froms: [u8; MOST_ENTRIES],
-    tos: [u8; MOST_ENTRIES],
-    lots: [u32; MOST_ENTRIES],
-    days: [u16; MOST_ENTRIES],
-) -> Book
-    ensures { result ≡ book_of state nets delivered lifts charges issues froms tos lots days }
-{
-    Book {
-        state,
-        nets,
-        delivered,
-        lifts,
-        charges,
-        issues,
-        froms,
-        tos,
-        lots,
-        days,
-    }
-}
-
 // The state in another phase.
 pub fn with_phase(s: State, phase: Phase) -> State
     ensures { result ≡ with_phase s phase }
 {
-    let marks = s.marks;
-    State {
-        day: s.day,
-        phase,
-        entries: s.entries,
-        turn: s.turn,
-        marks,
-    }
+    State { phase, ..s }
 }
 
 // The state with another number of entries.
 pub fn with_entries(s: State, entries: usize) -> State
     ensures { result ≡ with_entries s entries }
 {
-    let mut next = s;
-    next.entries = entries;
-    next
+    State { entries, ..s }
 }
 
 // The state with other marks.
 pub fn with_marks(s: State, marks: [u8; ISSUE_COUNT]) -> State
     ensures { result ≡ with_marks s marks }
 {
-    let mut next = s;
-    next.marks = marks;
-    next
+    State { marks, ..s }
 }
 
 // The state with another first day on which full units are dealt in turn.
 pub fn with_turn(s: State, turn: u32) -> State
     ensures { result ≡ with_turn s turn }
 {
-    let mut next = s;
-    next.turn = turn;
-    next
+    State { turn, ..s }
 }
 
 // Are full units dealt in turn today?
@@ -251,13 +188,10 @@ pub fn next_day(s: State) -> State
     requires { s.day < last_day }
     ensures { result ≡ next_day s }
 {
-    let marks = s.marks;
     State {
         day: s.day + 1,
         phase: Phase::Taking,
-        entries: s.entries,
-        turn: s.turn,
-        marks,
+        ..s
     }
 }
 

@@ -1,3 +1,2 @@
 -- Why the scan of ledger and charges is the definition.
 pub mod LedgerLaws
-pub mod Halves

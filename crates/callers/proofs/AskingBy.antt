@@ -9,6 +9,7 @@ use lib.ListN.{length, drop}
 use borrow.Author.Tests.{le-leb, lt-leb, ne_eqb}
 use Rattle.rules.specs.declared.Book.{Book}
 use Rattle.rules.specs.declared.Caller.{Caller}
+use Rattle.rules.specs.declared.State.{State}
 use Rattle.rules.specs.declared.Ticket.{Ticket}
 use Rattle.rules.specs.Measures.{account_count, unit_lots, most_lots, output_words, between}
 use Rattle.rules.specs.Book.{all, is_taking, is_settling, delivered_total, order_of, sound}
@@ -23,6 +24,8 @@ use Rattle.desks.specs.Desk.{last_settlement, inventory_count, plan, simulated}
 use Rattle.desks.specs.Simulation.{Tried, refused, tried_answer, outcome, simulation_asks}
 use Rattle.secrecy.specs.Requests.{status_by, simulation_by}
 use Rattle.access.specs.Refusals.{without}
+use Rattle.columns.specs.declared.SharedColumns.{SharedColumns}
+use Rattle.columns.specs.Books.{shared_book}
 use Rattle.access.specs.Places.{seen_of, look_of}
 use Rattle.host.specs.States.{holds, sound_at}
 use Rattle.host.specs.Lifts.{CommitIs}
@@ -163,14 +166,16 @@ unsound_look : (w : Caller) (b : Book) (i a k : ℕ) → sound b ≡ false → l
 unfolding look
 unsound_look w b i a k e = rw e refl
 
-module _ (w : Caller) (phase : ℕ) (b : Book) (i a k : ℕ) where
+module _ (w : Caller) (phase : ℕ) (s : State) (c : SharedColumns) (i a k : ℕ) where
+  abbrev b : Book
+  b = shared_book s c
+
   pub look_unsound : sound_at phase b ≡ false → look_refused 2 ≡ day_look w phase b i a k
   look_unsound g = not_held phase b (look w b i a k) (look_refused 2) g (unsound_look w b i a k)
 
-  look_of_book : sound_at phase b ≡ true → look_of w b.state.entries b.nets b.charges b.issues b.froms b.tos b.lots b.days i a k ≡ look w b i a k
+  look_of_book : sound_at phase b ≡ true → look_of w s.entries c i a k ≡ look w b i a k
   unfolding look look_of seen_of
   look_of_book g = rw (sound_book phase b g) refl
 
-  pub look_told : (d : LookAnswer) → sound_at phase b ≡ true →
-      d ≡ look_of w b.state.entries b.nets b.charges b.issues b.froms b.tos b.lots b.days i a k → d ≡ day_look w phase b i a k
+  pub look_told : (d : LookAnswer) → sound_at phase b ≡ true → d ≡ look_of w s.entries c i a k → d ≡ day_look w phase b i a k
   look_told d g e = e ∙ look_of_book g ∙ is_held phase b g (look w b i a k) (look_refused 2)

@@ -23,9 +23,8 @@ use Rattle.laws.proofs.Basics.{by_test, cond_true, cond_false}
 use Rattle.laws.proofs.Answers.{Numbered, by_answer}
 use Rattle.tally.proofs.Made.{Made, Step, as_called, leaves, demand3_of, made_reached}
 use Rattle.book.specs.States.{Column, SharedColumn, Columns}
-use Rattle.answers.specs.declared.Turn.{Turn}
 use Rattle.answers.specs.Turns.{beside}
-use Rattle.running.proofs.Fed.{gave, gave_answer}
+use Rattle.running.proofs.Fed.{words_lent, words_called}
 use Rattle.desk.specs.Fields.{is_kind}
 use Rattle.host.specs.declared.DayState.{DayState}
 use Rattle.host.specs.declared.DayTurned.{DayTurned}
@@ -37,16 +36,17 @@ use Rattle.callers.specs.Callers.{day_made_by, day_called_by, DayCalledBy, asks_
 use Rattle.host.proofs.Calling.{refusal, of_kind, not_kind}
 use Rattle.callers.proofs.ByCaller.{made_right, called_right, operator_ask, made_without, some_number, asked_number, of_kind_by, not_kind_by}
 
--- what a host was given, as a turn
-abbrev pub numbers : DayTurned → Turn
-numbers r = record { refusal = r.refusal; count = r.count; cancelled = r.cancelled; state = state_in r.state }
+-- what a host was given, the book and the words that it left, as an answer
+abbrev pub gave : Call → DayTurned → Book → List ℕ → Answer
+gave c r b out =
+    record { refusal = r.refusal; count = r.count; cancelled = r.cancelled; book = b; out = words_lent c out }
 
 -- a call made through one of these functions on the book in the lent columns, and what that gave, as its contract says;
 -- a kind that is none is fed as a call that was refused
 pub data ByHost : Book → Call → Answer → Type 0 where
   told : (kind : ℕ) (x : Instruction) (quotes : SharedColumn ℕ) (out : Column ℕ) (h : DayState) (r : DayTurned) (c : Columns) → DayCalled kind x quotes out h r c →
       ByHost (book_at h c) (call_of x quotes.entry.now out.entry.now)
-      (gave (call_of x quotes.entry.now out.entry.now) (numbers r) (c.after (state_in r.state)) out.exit.now)
+      (gave (call_of x quotes.entry.now out.entry.now) r (c.after (state_in r.state)) out.exit.now)
   asks : (phase : ℕ) (b : Book) (issue unit n : ℕ) (ticket : List ℕ) → AskIs (day_asked phase b issue unit) n ticket →
       ByHost b (Ask issue unit) (record { refusal = n; count = 0; cancelled = 0; book = b; out = [] })
   commits : (phase : ℕ) (b : Book) (ticket : List ℕ) (out lifts : Column ℕ) (n : ℕ) (count : Place) → DayCommitted phase b ticket out lifts n count →
@@ -55,7 +55,7 @@ pub data ByHost : Book → Call → Answer → Type 0 where
   told_by : (w : Caller) (kind : ℕ) (x : Instruction) (quotes : SharedColumn ℕ) (out : Column ℕ) (h : DayState) (r : DayTurned) (c : Columns) →
       DayCalledBy w kind x quotes out h r c →
       ByHost (book_at h c) (call_of x quotes.entry.now out.entry.now)
-      (gave (call_of x quotes.entry.now out.entry.now) (numbers r) (c.after (state_in r.state)) out.exit.now)
+      (gave (call_of x quotes.entry.now out.entry.now) r (c.after (state_in r.state)) out.exit.now)
   asks_by : (w : Caller) (phase : ℕ) (b : Book) (issue unit n : ℕ) (ticket : List ℕ) → AskIs (day_asked_by w phase b issue unit) n ticket →
       ByHost b (Ask issue unit) (record { refusal = n; count = 0; cancelled = 0; book = b; out = [] })
   commits_by : (w : Caller) (phase : ℕ) (b : Book) (ticket : List ℕ) (out lifts : Column ℕ) (n : ℕ) (count : Place) →
@@ -133,12 +133,17 @@ module _ (kind : ℕ) (x : Instruction) (quotes out : List ℕ) (phase : ℕ) (b
   c = call_of x quotes out
 
   abbrev given : Answer
-  given = gave c (numbers r) after words
+  given = gave c r after words
 
-  answers : CallIs (beside c out (called b c)) phase r after words → given ≡ called b c
+  pub answers : CallIs (beside c out (called b c)) phase r after words → given ≡ called b c
   answers t =
-      gave_answer b c (numbers r) after out words
-      (record { refusal = t.refusal; count = t.count; cancelled = t.cancelled; book = t.book; out = t.out })
+      λ j. record {
+        refusal = t.refusal j;
+        count = t.count j;
+        cancelled = t.cancelled j;
+        book = t.book j;
+        out = words_called b c out words t.out j;
+      }
 
   step_made : CallIs (beside c out (day_made phase b c)) phase r after words → Step b c given
   step_made t =
@@ -177,7 +182,7 @@ module _ (w : Caller) (kind : ℕ) (x : Instruction) (quotes out : List ℕ) (ph
   abbrev made : Call
   made = call_of x quotes out
 
-  step_called_by : CallIs (beside made out (day_called_by w kind phase b made)) phase r after words → Step b made (gave made (numbers r) after words)
+  step_called_by : CallIs (beside made out (day_called_by w kind phase b made)) phase r after words → Step b made (gave made r after words)
   step_called_by t =
       by_test (has_right w made)
       (λ h. step_called kind x quotes out phase b r after words (rw (← called_right w phase b kind made h) at t))

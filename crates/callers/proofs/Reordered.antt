@@ -20,14 +20,13 @@ use Rattle.laws.proofs.Called.{Sizes}
 use Rattle.reordering.specs.Reordering.{Delivery, deliver, SameInAnyOrder}
 use Rattle.reordering.proofs.Given.{same_from_any}
 use Rattle.answers.specs.Turns.{beside}
-use Rattle.running.proofs.Fed.{gave_answer}
 use Rattle.desk.specs.Fields.{is_kind}
 use Rattle.host.specs.declared.DayTurned.{DayTurned}
 use Rattle.host.specs.States.{state_in, book_at, lengths_right, holds}
 use Rattle.host.specs.Calls.{day_made, day_called, CallIs}
 use Rattle.host.proofs.Holding.{lengths_right_lem}
 use Rattle.host.proofs.Calling.{refusal, of_kind}
-use Rattle.callers.proofs.Fed.{numbers, ByHost, told, asks, commits, told_by, asks_by, commits_by, same_made, some_no, numbered}
+use Rattle.callers.proofs.Fed.{answers, ByHost, told, asks, commits, told_by, asks_by, commits_by, same_made, some_no, numbered}
 use Rattle.callers.proofs.Contracts.{call_by_host}
 use Rattle.host.proofs.calls.day_call.Kinds as call-kinds
 use Rattle.host.proofs.calls.day_call.Reads as call-reads
@@ -42,7 +41,7 @@ RightNumbers (asks_by w phase b issue unit n ticket t) = ⊥
 RightNumbers (commits_by w phase b ticket out lifts n count t) = ⊥
 
 -- so has what a caller learns of the function, where the numbers that it gave are such
-module _ (κs : Lfts 11) (a : Dens κs call-kinds.ps) (r : DayTurned) (e : AtExit (ended_of 11 call-kinds.ps call-kinds.r) κs) where
+module _ (κs : Lfts 4) (a : Dens κs call-kinds.ps) (r : DayTurned) (e : AtExit (ended_of 4 call-kinds.ps call-kinds.r) κs) where
   pub right_numbers : (p : call-reads.Learnt κs a r e) → is_kind a.0 ≡ true → a.1.1.1.1.1.1.0.phase ≤ 2 →
       RightNumbers (call_by_host κs a r e p)
   unfolding call_by_host
@@ -79,13 +78,12 @@ right_held b l = l
 
 -- then the whole answer is the call's
 of_right : (b : Book) (c : Call) (r : Answer) (t : ByHost b c r) → RightNumbers t → lengths_right b ≡ true → r ≡ called b c
-of_right _ _ _ (told kind x quotes out h r c t) k l =
+of_right _ _ _ (told kind i quotes out h r c t) k l =
     let b = book_at h c in
-    let x = call_of x quotes.entry.now out.entry.now in
+    let x = call_of i quotes.entry.now out.entry.now in
     let e : day_called kind h.phase b x ≡ called b x = in_columns kind h.phase b x k.0 k.1 ∙ same_made 0 b x (right_held b l) in
     let w : CallIs (beside x out.entry.now (called b x)) h.phase r (c.after (state_in r.state)) out.exit.now = rw e at t in
-    gave_answer b x (numbers r) (c.after (state_in r.state)) out.entry.now out.exit.now
-    (record { refusal = w.refusal; count = w.count; cancelled = w.cancelled; book = w.book; out = w.out })
+    answers kind i quotes.entry.now out.entry.now h.phase b r (c.after (state_in r.state)) out.exit.now w
 of_right _ _ _ (asks phase b issue unit n ticket t) k l = absurd k
 of_right _ _ _ (commits phase b ticket out lifts n count t) k l = absurd k
 of_right _ _ _ (told_by w kind x quotes out h r c t) k l = absurd k

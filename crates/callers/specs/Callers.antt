@@ -10,6 +10,8 @@ use Rattle.rules.specs.Calls.{Call, Commit, Answer, AskAnswer, UnitAnswer, answe
 use Rattle.rules.specs.Access.{with_right, called_by, asked_by, unit_by, LookAnswer, seen, none_seen, look_refused, look}
 use Rattle.rules.specs.Run.{call_of}
 use Rattle.book.specs.States.{Column, SharedColumn, Columns}
+use Rattle.columns.specs.declared.LentColumns.{LentColumns}
+use Rattle.columns.specs.Books.{lent_book}
 use Rattle.answers.specs.Turns.{beside}
 use Rattle.told.specs.Status.{StatusAnswer, status_refused}
 use Rattle.desks.specs.Simulation.{Tried, refused}
@@ -31,6 +33,14 @@ day_made_by w phase b c =
 unfoldable pub day_called_by : Caller → ℕ → ℕ → Book → Call → Answer
 day_called_by w kind phase b c = cond (is_kind kind) (day_made_by w phase b c) (answer 14 b (lent_to c) (effect b c))
 
+-- of an instruction, with roll's quotes and an output beside it, made on the book of a host's numbers and columns, before and
+-- after
+abbrev pub CalledBy : Caller → ℕ → Instruction → List ℕ → DayState → DayTurned → LentColumns → LentColumns → List ℕ → List ℕ → Type 0
+CalledBy w kind x quotes h r before after out out' =
+    let call = call_of x quotes out in
+    CallIs (beside call out (day_called_by w kind h.phase (lent_book (state_in h) before) call)) h.phase r (lent_book (state_in r.state) after) out'
+
+-- the same of columns that are lent one by one
 abbrev pub DayCalledBy : Caller → ℕ → Instruction → SharedColumn ℕ → Column ℕ → DayState → DayTurned → Columns → Type 0
 DayCalledBy w kind x quotes out h r c =
     let call = call_of x quotes.entry.now out.entry.now in
@@ -44,9 +54,15 @@ asks_at phase b c = with_right false (output_asks c ++ (ask 2 (sound_at phase b)
 abbrev pub unless_unsound : ℕ → ℕ → Book → ℕ
 unless_unsound n phase b = cond (sound_at phase b) n 2
 
+-- a ticket's six numbers committed by a caller on a host's book: the lifts and the output afterwards, number and count
+abbrev pub CommittedBy : Caller → ℕ → Book → List ℕ → List ℕ → List ℕ → List ℕ → ℕ → ℕ → Type 0
+CommittedBy w phase b ticket out lifts out' number count =
+    CommitIs b (day_made_by w phase b (Commit (ticket_in ticket) out)) number count lifts out'
+
+-- the same of columns that are lent one by one
 abbrev pub DayCommittedBy : Caller → ℕ → Book → List ℕ → Column ℕ → Column ℕ → ℕ → Place → Type 0
 DayCommittedBy w phase b ticket out lifts number count =
-    CommitIs b (day_made_by w phase b (Commit (ticket_in ticket) out.entry.now)) number count.exit.now lifts.exit.now out.exit.now
+    CommittedBy w phase b ticket out.entry.now lifts.exit.now out.exit.now number count.exit.now
 
 -- the questions by a caller
 abbrev pub day_asked_by : Caller → ℕ → Book → ℕ → ℕ → AskAnswer

@@ -1,5 +1,5 @@
 // The calls and the questions on a host's book with their caller, for hosts in C. Each call is that of the library `callers`,
-// with the same contract.
+// with the same contract. C lends nine columns, so they are parameters here.
 #![tactic(auto)]
 
 ghost use Rattle.std.specs.Prelude.{◌≡◌};
@@ -12,6 +12,8 @@ ghost use Rattle.host.specs.Lifts.{AskIs};
 ghost use Rattle.callers.specs.Callers.{DayCalledBy, day_unit_by, day_status_by, day_asked_by, DayCommittedBy, day_simulation_by, day_look, seen_in};
 
 use callers::DaySeen;
+use columns::{LentColumns, SharedColumns};
+use host::lifts::OtherColumns;
 use host::{DayState, DayTurned};
 use rules::{Caller, ISSUE_COUNT};
 
@@ -40,10 +42,18 @@ pub extern "C" fn day_call_as(
 ) -> DayTurned
     ensures { DayCalledBy w kind (instruction_of kind a b c d) quotes out state result (columns nets delivered lifts charges issues froms tos lots days) }
 {
-    callers::day_call_as(
-        w, kind, a, b, c, d, quotes, state, nets, delivered, lifts, charges, issues, froms, tos,
-        lots, days, out,
-    )
+    let mut columns = LentColumns {
+        nets: &mut *nets,
+        delivered: &mut *delivered,
+        lifts: &mut *lifts,
+        charges: &mut *charges,
+        issues: &mut *issues,
+        froms: &mut *froms,
+        tos: &mut *tos,
+        lots: &mut *lots,
+        days: &mut *days,
+    };
+    callers::day_call_as(w, kind, a, b, c, d, quotes, state, &mut columns, out)
 }
 
 // The k-th unit of an issue, for a caller: the operator's alone.
@@ -66,9 +76,18 @@ pub extern "C" fn day_unit_as<'a>(
 ) -> u32
     ensures { UnitIs (day_unit_by w state.phase (book_at state (shared_columns nets delivered lifts charges issues froms tos lots days)) issue k) result answer.new }
 {
-    callers::day_unit_as(
-        w, state, nets, delivered, lifts, charges, issues, froms, tos, lots, days, issue, k, answer,
-    )
+    let columns = SharedColumns {
+        nets,
+        delivered,
+        lifts,
+        charges,
+        issues,
+        froms,
+        tos,
+        lots,
+        days,
+    };
+    callers::day_unit_as(w, state, columns, issue, k, answer)
 }
 
 // What is told of unit k of an issue, for a caller: the operator's alone.
@@ -91,9 +110,18 @@ pub extern "C" fn day_status_as<'a>(
 ) -> u32
     ensures { StatusIs (day_status_by w state.phase (book_at state (shared_columns nets delivered lifts charges issues froms tos lots days)) issue k) result answer.new }
 {
-    callers::day_status_as(
-        w, state, nets, delivered, lifts, charges, issues, froms, tos, lots, days, issue, k, answer,
-    )
+    let columns = SharedColumns {
+        nets,
+        delivered,
+        lifts,
+        charges,
+        issues,
+        froms,
+        tos,
+        lots,
+        days,
+    };
+    callers::day_status_as(w, state, columns, issue, k, answer)
 }
 
 // Asks for a unit of an issue, for a caller: the operator's alone.
@@ -116,10 +144,18 @@ pub extern "C" fn day_ask_as<'a>(
 ) -> u32
     ensures { AskIs (day_asked_by w state.phase (book_at state (shared_columns nets delivered lifts charges issues froms tos lots days)) issue unit) result ticket.new }
 {
-    callers::day_ask_as(
-        w, state, nets, delivered, lifts, charges, issues, froms, tos, lots, days, issue, unit,
-        ticket,
-    )
+    let columns = SharedColumns {
+        nets,
+        delivered,
+        lifts,
+        charges,
+        issues,
+        froms,
+        tos,
+        lots,
+        days,
+    };
+    callers::day_ask_as(w, state, columns, issue, unit, ticket)
 }
 
 // Commits a ticket, for a caller: the operator's alone.
@@ -142,10 +178,17 @@ pub extern "C" fn day_commit_as<'a>(
 ) -> u32
     ensures { DayCommittedBy w state.phase (book_at state (lifting_columns nets delivered lifts charges issues froms tos lots days)) ticket.now out lifts result count }
 {
-    callers::day_commit_as(
-        w, ticket, state, nets, delivered, lifts, charges, issues, froms, tos, lots, days, out,
-        count,
-    )
+    let columns = OtherColumns {
+        nets,
+        delivered,
+        charges,
+        issues,
+        froms,
+        tos,
+        lots,
+        days,
+    };
+    callers::day_commit_as(w, ticket, state, columns, lifts, out, count)
 }
 
 // How a simulated desk goes, for a caller: the operator's alone.
@@ -171,9 +214,7 @@ pub extern "C" fn day_simulate_as<'a>(
 ) -> u32
     ensures { tried result deliveries.new rounds.new owed.new ≡ day_simulation_by w state.phase (book_at state (shared_columns nets delivered lifts charges issues froms tos lots days)) settles.now inventories.now size }
 {
-    callers::day_simulate_as(
-        w,
-        state,
+    let columns = SharedColumns {
         nets,
         delivered,
         lifts,
@@ -183,6 +224,11 @@ pub extern "C" fn day_simulate_as<'a>(
         tos,
         lots,
         days,
+    };
+    callers::day_simulate_as(
+        w,
+        state,
+        columns,
         settles,
         inventories,
         size,
@@ -212,8 +258,16 @@ pub extern "C" fn day_look<'a>(
 ) -> DaySeen
     ensures { result ≡ seen_in (day_look w state.phase (book_at state (shared_columns nets delivered lifts charges issues froms tos lots days)) issue account k) }
 {
-    callers::day_look(
-        w, state, nets, delivered, lifts, charges, issues, froms, tos, lots, days, issue, account,
-        k,
-    )
+    let columns = SharedColumns {
+        nets,
+        delivered,
+        lifts,
+        charges,
+        issues,
+        froms,
+        tos,
+        lots,
+        days,
+    };
+    callers::day_look(w, state, columns, issue, account, k)
 }

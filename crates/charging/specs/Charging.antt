@@ -6,10 +6,6 @@ use Rattle.rules.specs.Book.{entries}
 use Rattle.measures.specs.Range.{Termed}
 use Rattle.book.specs.States.{Lent, Column, Shared, SharedColumn}
 
--- yen added to a charge, or taken from it, leave a charge of 64 bits
-pub record Room (c : ℤ) (y : ℕ) : Type 0 where
-  pub room : nat_abs c + y < 2 ^ 63
-
 -- the charges after y yen were taken from f and given to t
 abbrev pub paid : ℕ → ℕ → ℕ → List ℤ → List ℤ
 paid f t y cs =

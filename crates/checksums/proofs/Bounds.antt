@@ -1,12 +1,11 @@
--- What the loop of the checksum needs: the sums from a word on, and that they fit 64 bits.
-use mathlib.Core.Path.{◌≡◌, refl, ap}
+-- What the loop of the checksum needs: the sums of the words behind a place, and that they fit 64 bits.
+use mathlib.Core.Path.{◌≡◌, refl, sym, ap, ◌∙◌}
 use mathlib.Core.Bool.{Bool, true}
-use mathlib.Core.List.{List, [], ◌∷◌}
+use mathlib.Core.List.{List, [], ◌∷◌, ◌++◌, append_assoc, append-nil}
 use Prim.Native.Nat.{ℕ, zero, suc, ◌+◌, ◌*◌, ◌≤◌, ◌<◌}
 use native.Mathlib.Omega.{arith}
 use borrow.Author.Tests.{ltb-true, lt-ltb}
-use lib.ListN.{length, get_or, drop, length-drop}
-use lib.Seq.{drop-cons}
+use lib.ListN.{length, get_or, drop, length-append}
 use Rattle.rules.specs.Measures.{sum}
 use Rattle.rules.specs.Book.{all}
 use Rattle.laws.proofs.Basics.{and_left, and_right, all_of}
@@ -20,6 +19,10 @@ pub all_drop : (p : ℕ → Bool) (n : ℕ) (ws : List ℕ) → all p ws ≡ tru
 all_drop p zero ws h = h
 all_drop p (suc n) [] h = refl
 all_drop p (suc n) (w ∷ ws) h = all_drop p n ws (and_right (p w) (all p ws) h)
+
+all_behind : (p : ℕ → Bool) (xs ys : List ℕ) → all p (xs ++ ys) ≡ true → all p ys ≡ true
+all_behind p [] ys h = h
+all_behind p (x ∷ xs) ys h = all_behind p xs ys (and_right (p x) (all p (xs ++ ys)) h)
 
 -- the sums of words fit 64 bits
 pub sum_fits : (ws : List ℕ) → all (below word_size) ws ≡ true → sum ws ≤ word_size * length ws
@@ -38,26 +41,36 @@ weighted_fits (w ∷ ws) h k =
     let p = below word_size in
     omega (arith, sum_fits (w ∷ ws) h, weighted_fits ws (and_right (p w) (all p ws) h) (omega arith))
 
--- one word more, from the end
-pub record Turned (ws : List ℕ) (i j : ℕ) : Type 0 where
-  pub ends : sum (drop j ws) ≡ get_or ws j 0 + sum (drop i ws)
-  pub totals : weighted (drop j ws) ≡ get_or ws j 0 + sum (drop i ws) + weighted (drop i ws)
+-- added up from the end: of the words those behind some others
+pub record Summed (words others : List ℕ) (end total : ℕ) : Type 0 where
+  pub behind : List ℕ
+  pub whole : others ++ behind ≡ words
+  pub ends : end ≡ sum behind
+  pub totals : total ≡ weighted behind
 
-pub turned : (ws : List ℕ) (i j : ℕ) → i ≡ suc j → j < length ws → Turned ws i j
-turned ws i j e h =
-    let d : drop j ws ≡ get_or ws j 0 ∷ drop i ws = rw e (drop-cons ws j 0 h) in
-    record { ends = ap sum d; totals = ap weighted d }
+pub summed_none : (words : List ℕ) → Summed words words 0 0
+summed_none words = record { behind = []; whole = append-nil words; ends = refl; totals = refl }
 
--- the sums from a word on fit 64 bits
-pub record Bounded (ws : List ℕ) (j : ℕ) : Type 0 where
-  pub ends : sum (drop j ws) < 18446744073709551616
-  pub totals : weighted (drop j ws) < 18446744073709551616
-
-pub bounded : (ws : List ℕ) (j : ℕ) → length ws ≤ most_words → ((k : ℕ) → get_or ws k 0 < word_size) → Bounded ws j
-bounded ws j h g =
-    let b : all (below word_size) (drop j ws) ≡ true = all_drop (below word_size) j ws (all_words ws g) in
-    let n : length (drop j ws) ≤ most_words = omega (arith, length-drop j ws, h) in
+-- one word more
+pub summed_next : (words others fewer : List ℕ) (w end total : ℕ) → others ≡ fewer ++ (w ∷ []) → Summed words others end total →
+    Summed words fewer (end + w) (total + (end + w))
+summed_next words others fewer w end total e h =
     record {
-      ends = omega (arith, sum_fits (drop j ws) b, n);
-      totals = omega (arith, weighted_fits (drop j ws) b n, n);
+      behind = w ∷ h.behind;
+      whole = sym (append_assoc fewer (w ∷ []) h.behind) ∙ ap (λ (l : List ℕ). l ++ h.behind) (sym e) ∙ h.whole;
+      ends = omega (arith, h.ends);
+      totals = omega (arith, h.ends, h.totals);
     }
+
+-- both sums fit 64 bits
+pub summed_fits : (words others : List ℕ) (end total : ℕ) → length words ≤ most_words → ((k : ℕ) → get_or words k 0 < word_size) →
+    Summed words others end total → (end < 18446744073709551616) × (total < 18446744073709551616)
+summed_fits words others end total h g s =
+    let b : all (below word_size) s.behind ≡ true = all_behind (below word_size) others s.behind (rw s.whole (all_words words g)) in
+    let n : length s.behind ≤ most_words = omega (arith, h, ap length s.whole, length-append others s.behind) in
+    (omega (arith, s.ends, sum_fits s.behind b, n), omega (arith, s.totals, weighted_fits s.behind b n, n))
+
+-- no word is left
+pub summed_all : (words others : List ℕ) (end total : ℕ) → length others ≡ 0 → Summed words others end total → total ≡ weighted words
+summed_all words [] end total e s = s.totals ∙ ap weighted s.whole
+summed_all words (x ∷ others) end total e s = absurd (omega arith)

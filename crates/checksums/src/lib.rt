@@ -12,10 +12,8 @@ pub fn checksum(words: &[u32]) -> u64
 {
     let mut end: u64 = 0;
     let mut total: u64 = 0;
-    let mut i = words.len();
-    while 0 < i {
-        i -= 1;
-        end += words[i] as u64;
+    for word in words.iter().rev() {
+        end += *word as u64;
         total += end;
     }
     total

@@ -4,16 +4,22 @@
 ghost use Rattle.std.specs.Prelude.{◌≤◌};
 ghost use Rattle.rules.specs.Calls.{Cutoff};
 ghost use Rattle.book.specs.Cells.{SoundCells};
-ghost use Rattle.answers.specs.Turns.{Turns, on_fails, cutoff_ready};
-ghost use Rattle.cutting.specs.Write.{lending, lent_before, lent_after};
+ghost use Rattle.rules.specs.Refusals.{number_in};
+ghost use Rattle.answers.specs.Turns.{Turns};
+ghost use Rattle.ledger.specs.Within.{on_fails, cutoff_ready};
+ghost use Rattle.cutting.specs.Write.{lending};
+ghost use Rattle.ledger.specs.Columns.{Same};
 ghost use Rattle.cutoff.specs.All.{Fits, Asked, CanCutAll, WasCutAll};
 
 use answers::Turn;
 use cutting::{Counts, count_issue, cut_issue, numbers};
-use rules::{ISSUE_COUNT, MOST_ENTRIES, Phase, State};
+use ledger::Ledger;
+use rules::{ISSUE_COUNT, MOST_ENTRIES, Phase, Refusal, State};
 
 // The most fails of an issue.
 const ISSUE_FAILS: usize = 126;
+
+// `dealt`, whether full units are dealt in turn today, is a fact of the day that the definitions take.
 
 // Is there room for the entries of a cutoff of all issues behind so many old ones? Counting stops where the issues
 // that are left cannot make too many, and where there are too many already.
@@ -27,9 +33,8 @@ fn has_room<'a>(
     requires { SoundCells nets.now delivered.now lifts.now × (old ≤ 2048) }
     ensures { Fits dealt old nets.now delivered.now lifts.now result }
 {
-    let mut i: usize = 0;
     let mut n = old;
-    while i < ISSUE_COUNT {
+    for i in 0..ISSUE_COUNT {
         if n + ISSUE_FAILS * (ISSUE_COUNT - i) <= MOST_ENTRIES {
             return true;
         }
@@ -37,35 +42,34 @@ fn has_room<'a>(
             return false;
         }
         n += count_issue(dealt, nets, delivered, lifts, i);
-        i += 1;
     }
     n <= MOST_ENTRIES
 }
 
-// Questions 3 and 10 of a cutoff, of a sound book: the number of the first 'no', or 0.
+// Questions 3 and 10 of a cutoff, of a sound book: the first 'no'.
 fn cutoff_asks<'a>(
     dealt: bool,
     s: State,
     nets: &'a [i32],
     delivered: &'a [u32],
     lifts: &'a [u32],
-) -> u32
+) -> Result<(), Refusal>
     requires { SoundCells nets.now delivered.now lifts.now × (s.entries ≤ 2048) }
-    ensures { Asked dealt s.phase s.entries nets.now delivered.now lifts.now result }
+    ensures { Asked dealt s.phase s.entries nets.now delivered.now lifts.now (number_in result) }
 {
     let phase = s.phase;
     let old = s.entries;
     if !book::settling(phase) {
-        return 3;
+        return Err(Refusal::Phase);
     }
     if !has_room(dealt, old, nets, delivered, lifts) {
-        return 10;
+        return Err(Refusal::Entries);
     }
-    0
+    Ok(())
 }
 
-// The cutoff of all issues, in place: entries behind the first `entries`, records from the front of the
-// output; answers how many entries and records there are then.
+// The cutoff of all issues, in place: entries behind the first `entries` of columns that C lends whole, records from the
+// front of the output; answers how many entries and records there are then.
 fn cutoff_in<'a>(
     dealt: bool,
     nets: &'a [i32],
@@ -73,20 +77,16 @@ fn cutoff_in<'a>(
     lifts: &'a [u32],
     day: u16,
     entries: usize,
-    issues: &mut [u8],
-    froms: &mut [u8],
-    tos: &mut [u8],
-    lots: &mut [u32],
-    days: &mut [u16],
+    ledger: &mut Ledger,
     out: &mut [u32],
 ) -> Counts
-    requires { CanCutAll dealt nets.now delivered.now lifts.now day entries (lending issues froms tos lots days out) }
-    ensures { WasCutAll dealt nets.now delivered.now lifts.now day entries (lent_before issues froms tos lots days out) result (lent_after issues froms tos lots days out) }
+    requires { CanCutAll dealt nets.now delivered.now lifts.now day entries (lending ledger.old out.old) }
+    ensures done { WasCutAll dealt nets.now delivered.now lifts.now day entries (lending ledger.old out.old) result (lending ledger.new out.new) }
+    ensures same { Same ledger.old ledger.new }
 {
-    let mut i: usize = 0;
     let mut n = entries;
     let mut w: usize = 0;
-    while i < ISSUE_COUNT {
+    for i in 0..ISSUE_COUNT {
         let k = cut_issue(
             dealt,
             nets,
@@ -95,16 +95,11 @@ fn cutoff_in<'a>(
             i,
             day,
             n,
-            issues,
-            froms,
-            tos,
-            lots,
-            days,
+            ledger,
             &mut out[2 * w..],
         );
         n = k.entries;
         w += k.records;
-        i += 1;
     }
     numbers(n, w)
 }
@@ -116,29 +111,20 @@ pub fn cutoff<'a>(
     nets: &'a [i32],
     delivered: &'a [u32],
     lifts: &'a [u32],
-    issues: &mut [u8],
-    froms: &mut [u8],
-    tos: &mut [u8],
-    lots: &mut [u32],
-    days: &mut [u16],
+    ledger: &mut Ledger,
     out: &mut [u32],
-) -> Turn
-    requires { cutoff_ready s nets delivered lifts issues froms tos lots days out }
-    ensures { Turns (on_fails nets delivered lifts issues froms tos lots days) s (Cutoff out.old) result out.new }
+) -> Result<Turn, Refusal>
+    requires { cutoff_ready s nets delivered lifts ledger.old out }
+    ensures done { Turns (on_fails nets delivered lifts ledger.old ledger.new) s (Cutoff out.old) result out.new }
+    ensures same { Same ledger.old ledger.new }
 {
     let dealt = book::dealt_today(s);
-    let no = cutoff_asks(dealt, s, nets, delivered, lifts);
-    if no != 0 {
-        return answers::refused(no, s);
-    }
-    let k = cutoff_in(
-        dealt, nets, delivered, lifts, s.day, s.entries, issues, froms, tos, lots, days, out,
-    );
+    cutoff_asks(dealt, s, nets, delivered, lifts)?;
+    let k = cutoff_in(dealt, nets, delivered, lifts, s.day, s.entries, ledger, out);
     let next = book::with_entries(book::with_phase(s, Phase::Cut), k.entries);
-    Turn {
-        refusal: 0,
+    Ok(Turn {
         count: k.records,
         cancelled: 0,
         state: next,
-    }
+    })
 }

@@ -8,7 +8,7 @@ use Rattle.rules.specs.Book.{order_in}
 use Rattle.rules.specs.Calls.{fail_entry, issue_fails, issue_partials, issue_entries, issue_records}
 use Rattle.book.specs.Cells.{SoundCells}
 use Rattle.units.specs.declared.Cursor.{Cursor}
-use Rattle.units.specs.Cursor.{overlaps_from, InRange, CanAdvance}
+use Rattle.units.specs.Cursor.{overlaps_from, InRange, CanShort}
 use Rattle.cutting.specs.declared.Ready.{Ready}
 use Rattle.cutting.specs.declared.Counts.{Counts}
 use Rattle.cutting.specs.Write.{Lent, fail_records, CanWrite, Wrote}
@@ -27,6 +27,11 @@ pub record CanEnter (e : Entry) (n : ℕ) (a : Lent) : Type 0 where
 -- the entries of the overlaps from a cursor on
 unfoldable pub entries_on : ℕ → ℕ → List ℕ → ℕ → List ℕ → Cursor → List Entry
 entries_on day i runs k missing c = map (fail_entry day i) (overlaps_from runs k missing c)
+
+-- n words hold units, and the shortfalls are small
+pub record CanAdvance (runs : List ℕ) (n : ℕ) (missing : List ℕ) : Type 0 where
+  pub there : n ≤ length runs
+  pub shortfalls : CanShort missing
 
 pub record CanLay (day i : ℕ) (runs missing : List ℕ) (p : Ready) (n : ℕ) (a : Lent) : Type 0 where
   pub issue : i < 16

@@ -4,8 +4,8 @@ use Rattle.rules.specs.declared.Entry.{Entry}
 use Rattle.rules.specs.Measures.{most_entries}
 use Rattle.rules.specs.Book.{entries}
 use Rattle.rules.specs.Records.{Rec, record_of, words, over}
+use Rattle.ledger.specs.declared.Ledger.{Ledger}
 use Rattle.ledger.specs.Columns.{Held}
-use Rattle.book.specs.States as book
 
 -- what is lent: the ledger's five columns and the output
 pub record Lent : Type 0 where
@@ -19,15 +19,9 @@ pub record Lent : Type 0 where
 abbrev pub lent : List ℕ → List ℕ → List ℕ → List ℕ → List ℕ → List ℕ → Lent
 lent i f t x d o = record { issues = i; froms = f; tos = t; lots = x; days = d; out = o }
 
--- the same by name: as it is lent, and before and after
-abbrev pub lending : book.Lent ℕ → book.Lent ℕ → book.Lent ℕ → book.Lent ℕ → book.Lent ℕ → book.Lent ℕ → Lent
-lending i f t x d o = lent i.now f.now t.now x.now d.now o.now
-
-abbrev pub lent_before : book.Column ℕ → book.Column ℕ → book.Column ℕ → book.Column ℕ → book.Column ℕ → book.Column ℕ → Lent
-lent_before i f t x d o = lending i.entry f.entry t.entry x.entry d.entry o.entry
-
-abbrev pub lent_after : book.Column ℕ → book.Column ℕ → book.Column ℕ → book.Column ℕ → book.Column ℕ → book.Column ℕ → Lent
-lent_after i f t x d o = lending i.exit f.exit t.exit x.exit d.exit o.exit
+-- the same by name
+abbrev pub lending : Ledger → List ℕ → Lent
+lending l o = lent l.issues.now l.froms.now l.tos.now l.lots.now l.days.now o
 
 -- the ledger of n entries in the columns, and that they hold one
 abbrev pub ledger_in : ℕ → Lent → List Entry

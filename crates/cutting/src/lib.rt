@@ -7,45 +7,37 @@ ghost use Rattle.rules.specs.Ledger.{entry};
 ghost use Rattle.rules.specs.Book.{row, order_in, CellLengths};
 ghost use Rattle.rules.specs.Calls.{issue_fails};
 ghost use Rattle.book.specs.Cells.{SoundCells};
-ghost use Rattle.cutting.specs.Write.{lending, lent_before, lent_after, fail_records, Wrote};
+ghost use Rattle.ledger.specs.Columns.{Same};
+ghost use Rattle.cutting.specs.Write.{lending, fail_records, Wrote};
 ghost use Rattle.cutting.specs.Issue.{counts_of, all_delivered, CanEnter, CanLay, WasLaid, CanHand, WasHanded, CanReady, IsReady, CanCut, WasCut};
 
 use book::owed;
+use ledger::Ledger;
 use rules::{ACCOUNT_COUNT, Entry};
 use runs::RUN_COUNT;
-use units::{Cursor, Next};
+use units::{Cursor, Overlap};
 
 // The entry of a fail.
-fn fail(i: u8, f: u32, t: u32, x: u32, day: u16) -> Entry
-    requires { (f < 64) × (t < 64) }
-    ensures { result ≡ entry i f t x day }
+fn fail(i: u8, o: Overlap, day: u16) -> Entry
+    requires { (o.from < 64) × (o.to < 64) }
+    ensures { result ≡ entry i o.from o.to o.lots day }
 {
     Entry {
         issue: i,
-        from: f as u8,
-        to: t as u8,
-        lots: x,
+        from: o.from as u8,
+        to: o.to as u8,
+        lots: o.lots,
         day,
     }
 }
 
 // One fail: its entry behind n others, its record at the front of the lent part of the output.
-fn enter(
-    n: usize,
-    issues: &mut [u8],
-    froms: &mut [u8],
-    tos: &mut [u8],
-    lots: &mut [u32],
-    days: &mut [u16],
-    out: &mut [u32],
-    e: Entry,
-)
-    requires { CanEnter e n (lending issues froms tos lots days out) }
-    ensures { Wrote (e ∷ []) (fail_records (e ∷ [])) n (lent_before issues froms tos lots days out) (n + 1) (lent_after issues froms tos lots days out) }
+fn enter(ledger: &mut Ledger, n: usize, e: Entry, out: &mut [u32])
+    requires { CanEnter e n (lending ledger.old out.old) }
+    ensures done { Wrote (e ∷ []) (fail_records (e ∷ [])) n (lending ledger.old out.old) (n + 1) (lending ledger.new out.new) }
+    ensures same { Same ledger.old ledger.new }
 {
-    ledger::append(
-        n, issues, froms, tos, lots, days, e.issue, e.from, e.to, e.lots, e.day,
-    );
+    ledger::append(ledger, n, e);
     words::record(out, 12, e.issue as u32, e.from as u32, e.to as u32, e.lots);
 }
 
@@ -65,37 +57,22 @@ fn lay(
     i: u8,
     day: u16,
     n: usize,
-    issues: &mut [u8],
-    froms: &mut [u8],
-    tos: &mut [u8],
-    lots: &mut [u32],
-    days: &mut [u16],
+    ledger: &mut Ledger,
     out: &mut [u32],
 ) -> usize
-    requires { CanLay day i runs.now missing.now p n (lending issues froms tos lots days out) }
-    ensures { WasLaid day i runs.now missing.now p n (lent_before issues froms tos lots days out) result (lent_after issues froms tos lots days out) }
+    requires { CanLay day i runs.now missing.now p n (lending ledger.old out.old) }
+    ensures done { WasLaid day i runs.now missing.now p n (lending ledger.old out.old) result (lending ledger.new out.new) }
+    ensures same { Same ledger.old ledger.new }
 {
-    let k = p.n;
     let mut cur = p.cursor;
     let mut done: usize = 0;
-    loop {
-        let Next::Overlap(f, t, x, rest) = units::advance(runs, k, missing, cur) else {
-            return done;
-        };
-        let e = fail(i, f, t, x, day);
-        enter(
-            n + done,
-            issues,
-            froms,
-            tos,
-            lots,
-            days,
-            &mut out[2 * done..],
-            e,
-        );
+    'overlaps: while let Some((o, rest)) = units::advance(&runs[..p.n], missing, cur) {
+        let e = fail(i, o, day);
+        enter(ledger, n + done, e, &mut out[2 * done..]);
         cur = rest;
         done += 1;
     }
+    done
 }
 
 // The stock's record, if the stock is not 0, at the front of the lent part; answers how many records that is.
@@ -136,7 +113,8 @@ fn prepare(
     }
 }
 
-// The same where full units are dealt in turn.
+// The same where full units are dealt in turn. The two stay apart: they share the totals alone, and one
+// function would be a branch with both bodies.
 fn prepare_dealt(
     nets: &[i32],
     delivered: &[u32],
@@ -162,7 +140,8 @@ fn prepare_dealt(
     }
 }
 
-// The same in the order of the day.
+// The same in the order of the day: `dealt`, whether full units are dealt in turn today, is a fact of the day that the
+// definitions take. So it is below.
 fn prepare_for(
     dealt: bool,
     nets: &[i32],
@@ -187,12 +166,8 @@ fn all_delivered(net: &[i32], delivered: &[u32]) -> bool
     ensures { result ≡ all_delivered net.now delivered.now }
 {
     let mut good = true;
-    let mut i = 0;
-    while i < net.len() {
-        let n = net[i];
-        let o = owed(n);
-        good = good & (delivered[i] == o);
-        i += 1;
+    for i in 0..net.len() {
+        good = good & (delivered[i] == owed(net[i]));
     }
     good
 }
@@ -230,15 +205,12 @@ pub fn cut_issue(
     i: usize,
     day: u16,
     n: usize,
-    issues: &mut [u8],
-    froms: &mut [u8],
-    tos: &mut [u8],
-    lots: &mut [u32],
-    days: &mut [u16],
+    ledger: &mut Ledger,
     out: &mut [u32],
 ) -> Counts
-    requires { CanCut dealt nets.now delivered.now lifts.now day i n (lending issues froms tos lots days out) }
-    ensures { WasCut dealt nets.now delivered.now lifts.now day i n (lent_before issues froms tos lots days out) result (lent_after issues froms tos lots days out) }
+    requires { CanCut dealt nets.now delivered.now lifts.now day i n (lending ledger.old out.old) }
+    ensures done { WasCut dealt nets.now delivered.now lifts.now day i n (lending ledger.old out.old) result (lending ledger.new out.new) }
+    ensures same { Same ledger.old ledger.new }
 {
     if settled(nets, delivered, i) {
         return numbers(n, 0);
@@ -255,11 +227,7 @@ pub fn cut_issue(
         i as u8,
         day,
         n,
-        issues,
-        froms,
-        tos,
-        lots,
-        days,
+        ledger,
         &mut out[2 * v..],
     );
     numbers(n + m, v + m)
@@ -276,7 +244,5 @@ pub fn count_issue(dealt: bool, nets: &[i32], delivered: &[u32], lifts: &[u32], 
     let mut runs = [0u32; RUN_COUNT];
     let mut missing = [0u32; ACCOUNT_COUNT];
     let p = prepare_for(dealt, nets, delivered, lifts, i, &mut runs, &mut missing);
-    let k = p.n;
-    let c = p.cursor;
-    units::count(&runs, k, &missing, c)
+    units::count(&runs[..p.n], &missing, p.cursor)
 }

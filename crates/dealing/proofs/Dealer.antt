@@ -1,17 +1,16 @@
 -- An issue's units, dealt out of its runs and then lifted.
 use mathlib.Core.Path.{◌≡◌, refl, sym, ap, ◌∙◌}
 use mathlib.Core.Bool.{Bool, true, false}
-use mathlib.Core.List.{List, [], ◌∷◌, map}
+use mathlib.Core.List.{List, [], ◌∷◌, ◌++◌, map}
 use Prim.Native.Nat.{ℕ, suc, ◌+◌, ◌-◌, ◌*◌, ◌/◌, ◌%◌, ◌≤◌, ◌<◌}
 use native.Mathlib.Omega.{arith}
-use native.Mathlib.Numerals.{add-one}
 use lib.Dec.{leb}
-use lib.ListN.{length, take, drop, get_or, set, get_or-map, drop_of_length-le}
-use lib.Seq.{take_all, take-suc, take-suc-set, drop-cons}
+use lib.ListN.{length, take, drop, get_or, get_or-map, drop_of_length-le}
+use lib.Seq.{take_all, take_at, drop-cons, length-take-le}
 use lib.IntN.{ℤ}
 use borrow.Author.Tests.{leb-true, leb-false}
 use Rattle.rules.specs.Measures.{Every, unit_lots}
-use Rattle.rules.specs.declared.Found.TheVariants.{Unit, Nothing}
+use Rattle.std.specs.Prelude.{Some, None}
 use Rattle.rules.specs.Units.{AccountLots, account_lots, units, units_of_nets, sum_lots}
 use Rattle.rules.specs.Dealt.{dealt}
 use Rattle.rules.specs.Book.{row, dues_of, lifts_at, order_in}
@@ -20,7 +19,7 @@ use Rattle.laws.proofs.Units.{UnitSized, Small}
 use Rattle.laws.proofs.Lifts.{length_lifted}
 use Rattle.laws.proofs.Dealt.{dealt_lots, same_length}
 use Rattle.laws.proofs.SoundRows.{order_in_lem}
-use Rattle.runs.specs.Runs.{part_of, runs_in, units_of_run, units_of_runs, units_in, found_of, CanOrder, RankedNets}
+use Rattle.runs.specs.Runs.{part_of, runs_in, units_of_run, units_of_runs, units_of_words, units_in, unit_of, found_of, PlainIn, CanOrder, RankedNets}
 use Rattle.dealing.specs.declared.Ranks.{Ranks}
 use Rattle.inturn.specs.InTurn.{smalls_of, dealt_runs}
 use Rattle.dealing.specs.Dealing.{lifted_runs, full_number, IsRanked, CanDealOut, DealtOut, CanWindow}
@@ -97,37 +96,70 @@ module _ (nets : List ℤ) (lifts : List ℕ) (i : ℕ) (o : CanOrder nets lifts
         few = omega (arith, h, order_short nets lifts i o);
       }
 
--- A ranked issue
+-- A ranked issue: the words that hold it, and its words of lifts
+
+abbrev pub words_of : List ℕ → Ranks → List ℕ
+words_of keys p = take p.n keys
+
+abbrev pub lift_words : List ℕ → ℕ → List ℕ
+lift_words lifts i = take (i * 18 + 18 - i * 18) (drop (i * 18) lifts)
+
+module _ (nets : List ℤ) (i : ℕ) (keys : List ℕ) (p : Ranks) (r : IsRanked nets i keys p) where
+  words_length : length (words_of keys p) ≡ p.n
+  words_length = length-take-le p.n keys r.held
+
+  words_whole : take (length (words_of keys p)) (words_of keys p) ≡ (words_of keys p)
+  words_whole = take_all (length (words_of keys p)) (words_of keys p) (omega arith)
+
+  pub words_fulls : p.full ≡ full_number (runs_in (words_of keys p) (length (words_of keys p)))
+  words_fulls = r.fulls ∙ sym (ap (λ ws. full_number (map part_of ws)) words_whole)
+
+  words_ranked : RankedNets nets i (words_of keys p) (length (words_of keys p))
+  unfolding units_in
+  words_ranked =
+      record {
+        few = omega (arith, words_length, r.order.few);
+        units = ap (λ ws. units_of_runs (map part_of ws)) words_whole ∙ r.order.units;
+        plain = rw words_whole r.order.plain;
+        runs = ap (map part_of) words_whole ∙ r.order.runs;
+      }
+
+  pub words_plain : PlainIn (words_of keys p) (length (words_of keys p))
+  words_plain = words_ranked.plain
+
+  pub same_units : units_in (words_of keys p) (length (words_of keys p)) ≡ units_in keys p.n
+  same_units = words_ranked.units ∙ sym r.order.units
 
 module _ (keys : List ℕ) (p : Ranks) (lifts : List ℕ) (i : ℕ) where
-  pub can_deal_out : (k : ℕ) (out : List ℕ) → (c : CanDealOut keys p lifts i k out) →
-      CanWindow keys p.n p.full (take (i * 18 + 18 - i * 18) (drop (i * 18) lifts)) k out
+  pub can_deal_out : (k : ℕ) (out : List ℕ) → (c : CanDealOut keys p lifts i k out) → CanWindow (words_of keys p) (length (words_of keys p)) p.full (lift_words lifts i) k out
   can_deal_out k out c =
-      rw c.ranked.fulls
-      (can_window c.nets lifts i c.order keys p.n c.ranked.held c.ranked.order k out c.there)
+      rw (words_fulls c.nets i keys p c.ranked)
+      (can_window c.nets lifts i c.order (words_of keys p) (length (words_of keys p)) (omega arith) (words_ranked c.nets i keys p c.ranked) k out c.there)
 
   pub dealt_out : (k len : ℕ) (out : List ℕ) →
-      map part_of out ≡ take len (drop k (lifted_runs keys p.n p.full (take (i * 18 + 18 - i * 18) (drop (i * 18) lifts)))) →
+      map part_of out ≡ take len (drop k (lifted_runs (words_of keys p) (length (words_of keys p)) p.full (lift_words lifts i))) →
       DealtOut keys p lifts i k len out
   dealt_out k len out e nets o r =
-      (rw r.fulls at e) ∙ ap (λ us. take len (drop k us)) (as_lifted nets lifts i o keys p.n r.held r.order)
+      (rw (words_fulls nets i keys p r) at e)
+      ∙ ap (λ us. take len (drop k us)) (as_lifted nets lifts i o (words_of keys p) (length (words_of keys p)) (omega arith) (words_ranked nets i keys p r))
 
 module _ (nets : List ℤ) (lifts : List ℕ) (i : ℕ) (o : CanOrder nets lifts i) (keys : List ℕ) (p : Ranks) (r : IsRanked nets i keys p) where
-  pub ranked_lifted : lifted_runs keys p.n p.full (take (i * 18 + 18 - i * 18) (drop (i * 18) lifts)) ≡ order_in true nets lifts i
-  ranked_lifted = rw r.fulls (as_lifted nets lifts i o keys p.n r.held r.order)
+  pub ranked_lifted : lifted_runs (words_of keys p) (length (words_of keys p)) p.full (lift_words lifts i) ≡ order_in true nets lifts i
+  ranked_lifted = rw (words_fulls nets i keys p r) (as_lifted nets lifts i o (words_of keys p) (length (words_of keys p)) (omega arith) (words_ranked nets i keys p r))
 
-  pub ranked_length : length (dealt_runs keys p.n p.full) ≡ length (order_in true nets lifts i)
-  ranked_length = rw r.fulls (whole_length nets lifts i o keys p.n r.held r.order)
+  pub ranked_length : length (dealt_runs (words_of keys p) (length (words_of keys p)) p.full) ≡ length (order_in true nets lifts i)
+  ranked_length = rw (words_fulls nets i keys p r) (whole_length nets lifts i o (words_of keys p) (length (words_of keys p)) (omega arith) (words_ranked nets i keys p r))
 
-  pub ranked_number : length (units_in keys p.n) ≡ length (order_in true nets lifts i)
-  unfolding order_in
+  pub ranked_number : length (units_of_words (words_of keys p)) ≡ length (order_in true nets lifts i)
+  unfolding order_in units_in
   ranked_number =
       ap length r.order.units ∙ sym (length_lifted (lifts_at lifts i) (units_of_nets unit_lots (row i nets)))
       ∙ as_many nets lifts i o keys p.n r.held r.order ∙ whole_length nets lifts i o keys p.n r.held r.order
 
-  pub ranked_smalls : Every (Small unit_lots) (smalls_of keys p.n p.full)
+  pub ranked_smalls : Every (Small unit_lots) (smalls_of (words_of keys p) (length (words_of keys p)) p.full)
   ranked_smalls =
-      rw (r.fulls, small_ss (dues_of nets i) keys p.n r.held (omega (arith, r.order.few)) (small nets lifts i o keys p.n r.held r.order) r.order.runs)
+      let w = words_ranked nets i keys p r in
+      rw (words_fulls nets i keys p r, small_ss (dues_of nets i) (words_of keys p) (length (words_of keys p)) (omega arith) (omega (arith, w.few)) (small nets lifts i o (words_of keys p) (length (words_of keys p)) (omega arith) w) w.runs)
       (smalls_sorted (dues_of nets i))
 
 -- words of units are runs of one unit each
@@ -153,16 +185,16 @@ copy_ranked nets i keys runs n e p =
 -- The k-th unit
 
 module _ (nets : List ℤ) (lifts : List ℕ) (i k : ℕ) (o : CanOrder nets lifts i) (keys : List ℕ) (p : Ranks) (r : IsRanked nets i keys p) where
-  pub none_found : length (units_in keys p.n) ≤ k → Nothing ≡ found_of (drop k (order_in true nets lifts i))
+  pub none_found : length (units_of_words (take p.n keys)) ≤ k → None ≡ found_of (drop k (order_in true nets lifts i))
   none_found h =
       let g : length (order_in true nets lifts i) ≤ k = omega (arith, ranked_number nets lifts i o keys p r) in
       sym (ap found_of (drop_of_length-le (order_in true nets lifts i) g))
 
-  pub one_there : (out : List ℕ) → length out ≡ 1 → k < length (units_in keys p.n) → CanDealOut keys p lifts i k out
+  pub one_there : (out : List ℕ) → length out ≡ 1 → k < length (units_of_words (take p.n keys)) → CanDealOut keys p lifts i k out
   one_there out l h = record { nets = nets; order = o; ranked = r; there = omega (arith, ranked_number nets lifts i o keys p r) }
 
-  pub one_found : (out : List ℕ) → length out ≡ 1 → k < length (units_in keys p.n) → DealtOut keys p lifts i k 1 out →
-      Unit (get_or out 0 0 % 64) (get_or out 0 0 / 64) ≡ found_of (drop k (order_in true nets lifts i))
+  pub one_found : (out : List ℕ) → length out ≡ 1 → k < length (units_of_words (take p.n keys)) → DealtOut keys p lifts i k 1 out →
+      Some (unit_of (get_or out 0 0 % 64) (get_or out 0 0 / 64)) ≡ found_of (drop k (order_in true nets lifts i))
   one_found out l h d =
       let us = order_in true nets lifts i in
       let z = part_of 0 in
@@ -173,7 +205,6 @@ module _ (nets : List ℤ) (lifts : List ℕ) (i k : ℕ) (o : CanOrder nets lif
       ∙ ap (λ l. get_or (take 1 l) 0 z) (drop-cons us k z g) in
       ap found_of (ap (λ u. u ∷ drop (suc k) us) f) ∙ ap found_of (sym (drop-cons us k z g))
 
--- a word copied
-pub copy_more : (words out : List ℕ) (j : ℕ) → j < length words → j < length out → take j out ≡ take j words →
-    take (j + 1) (set out j (get_or words j 0)) ≡ take (j + 1) words
-copy_more words out j h g e = rw (add-one, take-suc-set out j (get_or words j 0) g, take-suc words j 0 h, e)
+-- words put in front of an array are its first
+pub copied : (keys runs part : List ℕ) (n : ℕ) → n ≤ length keys → part ≡ take n keys → take n (part ++ drop n runs) ≡ take n keys
+copied keys runs part n h e = take_at part (drop n runs) n (ap length e ∙ length-take-le n keys h) ∙ e

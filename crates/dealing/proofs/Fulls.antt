@@ -3,7 +3,6 @@ use mathlib.Core.Path.{◌≡◌, refl, sym, ap, ◌∙◌}
 use mathlib.Core.List.{List, [], ◌∷◌, ◌++◌, map, append-nil}
 use Prim.Native.Nat.{ℕ, zero, suc, ◌+◌, ◌-◌, ◌*◌, ◌/◌, ◌≤◌, ◌<◌}
 use native.Mathlib.Omega.{arith}
-use native.Mathlib.Numerals.{add-one}
 use lib.Dec.{leb, ltb}
 use lib.ListN.{length, take, drop, get_or, length-append, get_or-map}
 use lib.Seq.{take-append-add, drop-append-add, get_or-take, take-take}
@@ -21,20 +20,21 @@ use Rattle.runs.specs.Runs.{part_of, runs_in, full_of, small_lots, runs_of}
 use Rattle.inturn.specs.InTurn.{CanDeal, smalls_of, dealt_runs}
 use Rattle.dealing.specs.Dealing.{full_number}
 use Rattle.runs.proofs.Units.{with_full, full_sorted, smalls_parts, smalls_sorted}
-use Rattle.runs.proofs.Loops.{runs_length, runs_end, runs_at_lem}
+use Rattle.runs.proofs.Loops.{runs_length}
+use Rattle.runs.proofs.Words.{word_at, words_end}
 use Rattle.inturn.proofs.Dealing.{round_none, rounds_same, rounds_more}
 
 -- Runs of full units in front
 
-module _ (runs : List ℕ) (n m : ℕ) (l : n ≤ length runs) where
-  pub number_small : m < n → get_or runs m 0 < 6400000 → full_number (drop m (runs_in runs n)) ≡ 0
-  number_small h g = rw (runs_at_lem runs n m l h, lt-leb 100000 (get_or runs m 0 / 64) (omega arith))
+module _ (runs : List ℕ) (m : ℕ) where
+  pub number_small : m < length runs → get_or runs m 0 < 6400000 → full_number (drop m (map part_of runs)) ≡ 0
+  number_small h g = rw (word_at runs m h, lt-leb 100000 (get_or runs m 0 / 64) (omega arith))
 
-  pub number_full : m < n → 6400000 ≤ get_or runs m 0 → full_number (drop m (runs_in runs n)) ≡ suc (full_number (drop (m + 1) (runs_in runs n)))
-  number_full h g = rw (runs_at_lem runs n m l h, le-leb 100000 (get_or runs m 0 / 64) (omega arith), add-one)
+  pub number_full : m < length runs → 6400000 ≤ get_or runs m 0 → full_number (drop m (map part_of runs)) ≡ suc (full_number (drop (m + 1) (map part_of runs)))
+  number_full h g = rw (word_at runs m h, le-leb 100000 (get_or runs m 0 / 64) (omega arith))
 
-  pub number_end : n ≤ m → full_number (drop m (runs_in runs n)) ≡ 0
-  number_end h = ap full_number (runs_end runs n m l h)
+  pub number_end : length runs ≤ m → full_number (drop m (map part_of runs)) ≡ 0
+  number_end h = ap full_number (words_end runs m h)
 
 -- The runs of an issue, dealt, are the definition's units
 

@@ -1,4 +1,4 @@
--- Where no question of a delivery is answered 'no', the delivery in place can be made.
+-- What a sound book with what is lent gives; and where no question of a delivery is answered 'no', the delivery in place can be made.
 use mathlib.Core.Path.{◌≡◌}
 use mathlib.Core.List.{List}
 use Prim.Native.Nat.{ℕ, ◌+◌, ◌≤◌}
@@ -8,13 +8,17 @@ use lib.ListN.{length}
 use lib.IntN.{ℤ}
 use borrow.Author.Tests.{leb-true}
 use Rattle.rules.specs.declared.Phase.{Phase}
-use Rattle.rules.specs.Measures.{most_lots, output_words, owed_of}
-use Rattle.rules.specs.Book.{net_at, delivered_at}
+use Rattle.rules.specs.declared.State.{State}
+use Rattle.rules.specs.Measures.{most_lots, output_words, lift_cells, owed_of}
+use Rattle.rules.specs.Book.{net_at, delivered_at, CellLengths}
 use Rattle.rules.specs.Questions.{first_no}
 use Rattle.rules.specs.Calls.{deliver_asks}
 use Rattle.laws.proofs.Basics.{and_right}
 use Rattle.book.specs.Cells.{SoundCells}
 use Rattle.laws.proofs.Answers.{all_yes}
+use Rattle.laws.proofs.Sound.{sound_parts}
+use Rattle.runs.proofs.Cells.{sound_cells}
+use Rattle.answers.specs.Turns.{SomeSound, within_cells}
 use Rattle.delivery.specs.Deliver.{CanDeliver}
 
 pub can_deliver : (phase : Phase) (marks : List ℕ) (nets : List ℤ) (delivered lifts : List ℕ) (i a x : ℕ) (out : List ℕ) → SoundCells nets delivered lifts →
@@ -29,3 +33,10 @@ can_deliver phase marks nets delivered lifts i a x out s h long =
       owed = leb-true (delivered_at delivered i a + x) (owed_of (net_at nets i a)) y.1.1.1.1.0;
       room = long;
     }
+
+-- of some sound book with the columns that are lent
+pub ready_cells : (s : State) (nets : List ℤ) (delivered lifts : List ℕ) → CellLengths nets delivered → length lifts ≡ lift_cells →
+    SomeSound (within_cells s nets delivered lifts) → SoundCells nets delivered lifts
+ready_cells s nets delivered lifts n l some =
+    let b = within_cells s nets delivered lifts some.rest in
+    sound_cells b (sound_parts b some.sound) n.nets n.delivered l

@@ -3,6 +3,7 @@
 #![tactic(auto)]
 
 ghost use Rattle.std.specs.Prelude.{◌≡◌};
+ghost use Rattle.rules.specs.Refusals.{number_in};
 ghost use Rattle.rules.specs.Questions.{first_no};
 ghost use Rattle.rules.specs.Calls.{deliver_asks, Deliver};
 ghost use Rattle.book.specs.Cells.{OwedCells};
@@ -10,8 +11,11 @@ ghost use Rattle.answers.specs.Turns.{Turns, on_delivered, deliver_ready};
 ghost use Rattle.delivery.specs.Deliver.{CanDeliver, Delivered};
 
 use answers::Turn;
-use rules::{ACCOUNT_COUNT, LAST_ACCOUNT, LAST_ISSUE, LIFT_WORDS, State};
+use rules::{ACCOUNT_COUNT, LAST_ACCOUNT, LAST_ISSUE, LIFT_WORDS, Refusal, State};
 use serving::serve_in;
+
+// Three of the nine columns, one by one: the struct of all would lend those too that no delivery may change. `dealt`,
+// whether full units are dealt in turn today, is a fact of the day that the definitions take.
 
 // A delivery in place: the account's delivered lots rise by x, and the issue's count by 1; answers the
 // number of records written.
@@ -32,40 +36,47 @@ fn deliver_in(
     let e = s + ACCOUNT_COUNT;
     let d = book::total(&delivered[s..e]);
     let at = s + a as usize;
-    delivered[at] = delivered[at] + x;
+    delivered[at] += x;
     let n = serve_in(dealt, nets, lifts, i, d, x, out);
     let c = i as usize * LIFT_WORDS + 1;
-    lifts[c] = lifts[c] + 1;
+    lifts[c] += 1;
     n
 }
 
-// Questions 3, 4, 5, 7, 19 and 9 of a delivery: the number of the first 'no', 0 where there is none.
-fn deliver_asks<'a>(s: State, nets: &'a [i32], delivered: &'a [u32], i: u32, a: u32, x: u32) -> u32
+// Questions 3, 4, 5, 7, 19 and 9 of a delivery: the refusal of the first 'no'.
+fn deliver_asks<'a>(
+    s: State,
+    nets: &'a [i32],
+    delivered: &'a [u32],
+    i: u32,
+    a: u32,
+    x: u32,
+) -> Result<(), Refusal>
     requires { OwedCells nets.now delivered.now }
-    ensures { result ≡ first_no (deliver_asks s.phase s.marks nets.now delivered.now i a x) }
+    ensures { number_in result ≡ first_no (deliver_asks s.phase s.marks nets.now delivered.now i a x) }
 {
     let phase = s.phase;
     if !book::settling(phase) {
-        return 3;
+        return Err(Refusal::Phase);
     }
     if LAST_ISSUE < i {
-        return 4;
+        return Err(Refusal::Issue);
     }
     if LAST_ACCOUNT < a {
-        return 5;
+        return Err(Refusal::Account);
     }
     if !measures::lots_right(x) {
-        return 7;
+        return Err(Refusal::Lots);
     }
     if !book::even_in(s, i, x) {
-        return 19;
+        return Err(Refusal::OddLots);
     }
     let at = i as usize * ACCOUNT_COUNT + a as usize;
     let n = nets[at];
     if book::owed(n) < delivered[at] + x {
-        return 9;
+        return Err(Refusal::Owed);
     }
-    0
+    Ok(())
 }
 
 // deliver: the account's delivered lots and the issue's count, unless it is refused; the records go to
@@ -79,20 +90,16 @@ pub fn deliver(
     a: u32,
     x: u32,
     out: &mut [u32],
-) -> Turn
+) -> Result<Turn, Refusal>
     requires { deliver_ready s nets delivered lifts out }
     ensures { Turns (on_delivered nets delivered lifts) s (Deliver i a x out.old) result out.new }
 {
-    let no = deliver_asks(s, nets, delivered, i, a, x);
-    if no != 0 {
-        return answers::refused(no, s);
-    }
+    deliver_asks(s, nets, delivered, i, a, x)?;
     let dealt = book::dealt_today(s);
     let count = deliver_in(dealt, nets, delivered, lifts, i, a, x, out);
-    Turn {
-        refusal: 0,
+    Ok(Turn {
         count,
         cancelled: 0,
         state: s,
-    }
+    })
 }

@@ -1,5 +1,5 @@
 -- Instructions as plain numbers.
-use Rattle.std.specs.Prelude.{Bool, true, cond, List, [], ◌∷◌, ℕ, eqb}
+use Rattle.std.specs.Prelude.{Bool, true, cond, Option, Some, None, List, [], ◌∷◌, ℕ, eqb}
 use Rattle.rules.specs.declared.Instruction.{Instruction}
 use Rattle.rules.specs.declared.Instruction.TheVariants.{Trade, Deliver, Resolve, PairOff, Close, Cutoff, Roll, Mark, Turn}
 use Rattle.rules.specs.Measures.{between}
@@ -31,3 +31,7 @@ instruction_of kind a b c d =
     (cond (eqb kind 7) (Roll a b)
     (cond (eqb kind 13) (Mark a b)
     (Turn a))))))))
+
+-- and where it is asked whether there is one
+abbrev pub instruction_at : ℕ → ℕ → ℕ → ℕ → ℕ → Option Instruction
+instruction_at kind a b c d = cond (is_kind kind) (Some (instruction_of kind a b c d)) None

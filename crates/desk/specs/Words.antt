@@ -1,7 +1,6 @@
 -- The tape's answers in plain numbers.
 use Rattle.std.specs.Prelude.{◌≡◌, ◌&&◌, List, [], ◌∷◌, ℕ, replicate}
 use Rattle.rules.specs.declared.Instruction.{Instruction}
-use Rattle.rules.specs.declared.Written.{Written}
 use Rattle.rules.specs.Measures.{tape_words}
 use Rattle.rules.specs.Questions.{ask, first_no, ask_output}
 use Rattle.rules.specs.Tape.{ReadAnswer, WriteAnswer, write_answer, words_of, fields_fit}
@@ -22,6 +21,6 @@ unfoldable pub day_written : ℕ → Instruction → List ℕ → List ℕ → W
 day_written kind x quotes out =
     write_answer (first_no (ask_output tape_words out ∷ ask 15 (is_kind kind && fields_fit x quotes) ∷ [])) (words_of x quotes) out
 
--- what the writer answers
-abbrev pub written : ℕ → ℕ → Written
-written r n = record { refusal = r; count = n }
+-- number, count and lent output as an answer
+abbrev pub plainly_written : ℕ → ℕ → List ℕ → WriteAnswer
+plainly_written r n lent = record { refusal = r; count = n; out = lent }

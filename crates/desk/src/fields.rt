@@ -1,6 +1,6 @@
 // Plain numbers as instructions, and back.
 ghost use Rattle.std.specs.Prelude.{◌≡◌};
-ghost use Rattle.desk.specs.Fields.{is_kind, fields_of, instruction_of};
+ghost use Rattle.desk.specs.Fields.{is_kind, instruction_of, instruction_at, fields_of};
 
 use rules::Instruction;
 
@@ -8,10 +8,7 @@ use rules::Instruction;
 pub fn is_kind(kind: u32) -> bool
     ensures { result ≡ is_kind kind }
 {
-    if (13 <= kind) & (kind <= 14) {
-        return true;
-    }
-    (1 <= kind) & (kind <= 7)
+    matches!(kind, 1..=7 | 13..=14)
 }
 
 // The instruction of a kind of 1 to 7, 13 or 14 and its fields.
@@ -29,6 +26,16 @@ pub fn instruction_of(kind: u32, a: u32, b: u32, c: u32, d: u32) -> Instruction
         13 => Instruction::Mark(a, b),
         _ => Instruction::Turn(a),
     }
+}
+
+// The instruction of a kind and its fields, where there is one of this kind.
+pub fn instruction_at(kind: u32, a: u32, b: u32, c: u32, d: u32) -> Option<Instruction>
+    ensures { result ≡ instruction_at kind a b c d }
+{
+    if !is_kind(kind) {
+        return None;
+    }
+    Some(instruction_of(kind, a, b, c, d))
 }
 
 // The kind of an instruction and its fields, 0 where there is none.

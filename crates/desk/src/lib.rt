@@ -16,23 +16,26 @@
 pub mod fields;
 pub mod reading;
 
-ghost use Rattle.rules.specs.Calls.{amount_answer, value, charge};
+ghost use Rattle.std.specs.Prelude.{◌≡◌};
+ghost use Rattle.std.specs.Result.{result_unwrap_or};
+ghost use Rattle.rules.specs.Refusals.{number_in};
+ghost use Rattle.rules.specs.Calls.{value, charge};
 ghost use Rattle.desk.specs.Plain.{Plain};
 
-use rules::{Amount, Lots};
+use rules::{Lots, Refusal};
 
-// An amount in plain numbers: 0 with the yen, or the refusal's number with 0 yen.
-fn plain(a: Amount, yen: &mut u64) -> u32
-    ensures { Plain (amount_answer a) result yen.new }
+// An answer in plain numbers: 0 with the value in the lent place, or the refusal's number with `none` there.
+fn plain<T: Copy + Drop>(answer: Result<T, Refusal>, none: T, place: &mut T) -> u32
+    ensures { (result ≡ number_in answer) × (place.new ≡ result_unwrap_or answer none) }
 {
-    match a {
-        Amount::Yen(y) => {
-            *yen = y.0;
+    match answer {
+        Ok(value) => {
+            *place = value;
             0
         }
-        Amount::Refused(no) => {
-            *yen = 0;
-            no
+        Err(no) => {
+            *place = none;
+            no.number()
         }
     }
 }
@@ -41,7 +44,8 @@ fn plain(a: Amount, yen: &mut u64) -> u32
 pub fn day_value(lots: u32, price: u32, accrued: u32, yen: &mut u64) -> u32
     ensures { Plain (value lots price accrued) result yen.new }
 {
-    plain(measures::value(Lots(lots), price, accrued), yen)
+    let value = measures::value(Lots(lots), price, accrued).map(|y| y.0);
+    plain(value, 0, yen)
 }
 
 // The charge on lots at a price and an accrued amount over days at a rate: 0 with the yen, or 7 (lots) or 11 (the other numbers)
@@ -49,8 +53,6 @@ pub fn day_value(lots: u32, price: u32, accrued: u32, yen: &mut u64) -> u32
 pub fn day_charge(lots: u32, price: u32, days: u32, rate: u32, accrued: u32, yen: &mut u64) -> u32
     ensures { Plain (charge lots price days rate accrued) result yen.new }
 {
-    plain(
-        measures::charge(Lots(lots), price, days, rate, accrued),
-        yen,
-    )
+    let charge = measures::charge(Lots(lots), price, days, rate, accrued).map(|y| y.0);
+    plain(charge, 0, yen)
 }

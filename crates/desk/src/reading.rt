@@ -1,28 +1,34 @@
 // The tape's reader and writer on plain numbers.
 ghost use Rattle.std.specs.Prelude.{◌≡◌, replicate};
 ghost use Rattle.std.proofs.lemmas.List.Edits.{sets};
+ghost use Rattle.rules.specs.Refusals.{numbered};
 ghost use Rattle.rules.specs.Tape.{read_of, read_answer, quotes_of};
-ghost use Rattle.writing.specs.Answers.{WriteAnswerIs};
+ghost use Rattle.writing.specs.Answers.{written};
 ghost use Rattle.desk.specs.Fields.{instruction_of};
-ghost use Rattle.desk.specs.Words.{ReadIs, day_written, written};
+ghost use Rattle.desk.specs.Words.{ReadIs, day_written, plainly_written};
 
-use crate::fields::{fields, instruction_of, is_kind};
-use rules::{QUOTE_COUNT, Read, TAPE_WORDS};
+use crate::fields::{fields, instruction_at};
+use crate::plain;
+use rules::{Instruction, QUOTE_COUNT, Refusal, TAPE_WORDS};
 
 // The reader's answer in plain numbers: 0 in every place on a refusal.
-fn read_out(read: Read, instruction: &mut [u32; 5], count: &mut usize) -> u32
-    ensures { ReadIs (read_answer read) result instruction.new count.new }
+fn read_out(
+    read: Result<(Instruction, usize), Refusal>,
+    instruction: &mut [u32; 5],
+    count: &mut usize,
+) -> u32
+    ensures { ReadIs (read_answer (numbered read)) result instruction.new count.new }
 {
     match read {
-        Read::Instr(x, n) => {
+        Ok((x, n)) => {
             *instruction = fields(x);
             *count = n;
             0
         }
-        Read::Refused(no) => {
+        Err(no) => {
             *instruction = [0; 5];
             *count = 0;
-            no
+            no.number()
         }
     }
 }
@@ -42,6 +48,28 @@ pub fn day_quotes(words: &[u32], quotes: &mut [u32; QUOTE_COUNT])
     tape::quotes(words, quotes);
 }
 
+// Writes the instruction of a kind and four numbers, with the quotes of a roll.
+#[tactic(auto, unfolding(crate::specs::Words::day_written, rules::specs::Tape::write_of))]
+fn write(
+    kind: u32,
+    a: u32,
+    b: u32,
+    c: u32,
+    d: u32,
+    quotes: &[u32],
+    out: &mut [u32],
+) -> Result<usize, Refusal>
+    ensures { written result out.new ≡ day_written kind (instruction_of kind a b c d) quotes.now out.old }
+{
+    if out.len() < TAPE_WORDS {
+        return Err(Refusal::Output);
+    }
+    match instruction_at(kind, a, b, c, d) {
+        Some(x) => tape::write(x, quotes, out),
+        None => Err(Refusal::Field),
+    }
+}
+
 // Writes an instruction, with the quotes of a roll.
 pub fn day_write(
     kind: u32,
@@ -53,17 +81,7 @@ pub fn day_write(
     out: &mut [u32],
     count: &mut usize,
 ) -> u32
-    ensures { WriteAnswerIs (day_written kind (instruction_of kind a b c d) quotes.now out.old) (written result count.new) out.new }
+    ensures { plainly_written result count.new out.new ≡ day_written kind (instruction_of kind a b c d) quotes.now out.old }
 {
-    *count = 0;
-    if out.len() < TAPE_WORDS {
-        return 1;
-    }
-    if !is_kind(kind) {
-        return 15;
-    }
-    let x = instruction_of(kind, a, b, c, d);
-    let r = tape::write(x, quotes, out);
-    *count = r.count;
-    r.refusal
+    plain(write(kind, a, b, c, d, quotes, out), 0, count)
 }

@@ -21,12 +21,11 @@
 
 ghost use Rattle.std.specs.Prelude.{◌≡◌, replicate};
 ghost use Rattle.std.proofs.lemmas.List.Edits.{sets};
-ghost use Rattle.rules.specs.Calls.{amount_answer, value, charge};
+ghost use Rattle.rules.specs.Calls.{value, charge};
 ghost use Rattle.rules.specs.Tape.{read_of, read_answer, quotes_of};
-ghost use Rattle.writing.specs.Answers.{WriteAnswerIs};
 ghost use Rattle.desk.specs.Fields.{instruction_of};
 ghost use Rattle.desk.specs.Plain.{Plain};
-ghost use Rattle.desk.specs.Words.{ReadIs, day_written, written};
+ghost use Rattle.desk.specs.Words.{ReadIs, day_written, plainly_written};
 
 use desk::reading;
 use rules::QUOTE_COUNT;
@@ -83,7 +82,7 @@ pub extern "C" fn day_write(
     out: &mut [u32],
     count: &mut usize,
 ) -> u32
-    ensures { WriteAnswerIs (day_written kind (instruction_of kind a b c d) quotes.now out.old) (written result count.new) out.new }
+    ensures { plainly_written result count.new out.new ≡ day_written kind (instruction_of kind a b c d) quotes.now out.old }
 {
     reading::day_write(kind, a, b, c, d, quotes, out, count)
 }

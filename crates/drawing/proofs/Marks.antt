@@ -1,6 +1,7 @@
 -- Numbers marked off: the bits of a word, the marks of a window, a list put to them number by number.
 use mathlib.Core.Path.{◌≡◌, refl, sym, ap, ◌∙◌}
 use mathlib.Core.Bool.{Bool, true, false, false≢true}
+use mathlib.Core.Logic.{◌↔◌}
 use mathlib.Core.List.{List}
 use Prim.Native.Nat.{ℕ, zero, suc, ◌+◌, ◌-◌, ◌*◌, ◌/◌, ◌%◌, ◌^◌, ◌≤◌, ◌<◌}
 use native.Mathlib.Nat.{one-mul, pow-suc}
@@ -10,9 +11,10 @@ use lib.Dec.{lit<, ltb, eqb, eqb-zero-suc, eqb-suc-zero, eqb-suc-suc}
 use lib.ListN.{length, get_or, set, drop, replicate, length-set}
 use lib.Pow.{shl_exact, shr-shr}
 use lib.Seq.{get_or-set_same, get_or-set_other}
-use borrow.Author.Tests.{ltb-true, ltb-false, eqb-true, eqb-false}
+use borrow.Author.Tests.{ltb-true, ltb-false, lt-ltb, eqb-true, eqb-false}
 use Rattle.rules.specs.Measures.{total}
-use Rattle.laws.proofs.Basics.{by_test}
+use Rattle.rules.specs.Book.{all}
+use Rattle.laws.proofs.Basics.{by_test, all_at, all_of}
 use Rattle.reports.specs.Trust.{same, times}
 use Rattle.drawing.specs.Marks.{bit_of, mark_of, Unmarked, Marked, NoneTwice}
 use Rattle.reports.proofs.Sums.{zeros, total_at, total_end}
@@ -177,3 +179,10 @@ window_more k draw answer h t e m l =
     let b = ltb-false m (k * 65536) s in
     let q : k * 65536 + (m - k * 65536) ≡ m = omega arith in
     rw q at (t.none e (m - k * 65536) (omega arith)))
+
+-- what a test of every place answers is that of the list
+pub each_below : (limit : ℕ) (xs : List ℕ) (b : Bool) → (b ≡ true) ↔ ((k : ℕ) → k < length xs → get_or xs k 0 < limit) →
+    b ≡ all (λ x. ltb x limit) xs
+each_below limit xs true h = sym (all_of (λ x. ltb x limit) xs 0 (λ k l. lt-ltb _ _ (h.0 refl k l)))
+each_below limit xs false h =
+    by_test (all (λ x. ltb x limit) xs) (λ e. h.1 (λ k l. ltb-true _ _ (all_at (λ x. ltb x limit) xs 0 k e l)) ∙ sym e) (λ e. sym e)

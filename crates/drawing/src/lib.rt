@@ -15,13 +15,7 @@ const WINDOW_WORDS: usize = 1024;
 pub fn below(column: &[u32], limit: usize) -> bool
     ensures { result ≡ all (λ x. ltb x limit) column.now }
 {
-    let mut good = true;
-    let mut i: usize = 0;
-    while i < column.len() {
-        good = good & ((column[i] as usize) < limit);
-        i += 1;
-    }
-    good
+    column.iter().all(|x| (*x as usize) < limit)
 }
 
 // Is bit b of the word set?
@@ -66,13 +60,10 @@ fn none_twice(w: usize, draw: &[u32], marks: &mut [u64]) -> bool
     requires { Unmarked marks.old }
     ensures { NoneTwice w (length marks.old) draw.now result }
 {
-    let mut i: usize = 0;
-    while i < draw.len() {
-        let j = draw[i] as usize;
-        if !mark(w, j, marks) {
+    for j in draw {
+        if !mark(w, *j as usize, marks) {
             return false;
         }
-        i += 1;
     }
     true
 }
@@ -96,12 +87,10 @@ pub fn draw_right(n: usize, draw: &[u32]) -> bool
         return false;
     }
     let windows = n / 65_536 + 1;
-    let mut k: usize = 0;
-    while k < windows {
+    for k in 0..windows {
         if !window_right(k * 65_536, draw) {
             return false;
         }
-        k += 1;
     }
     true
 }

@@ -14,13 +14,9 @@ pub fn entry_meet(entries: &mut [Entry], i: usize, lots: u32) -> u32
     if entries.len() <= i {
         return 0;
     }
-    let was = entries[i].lots;
-    if was < lots {
-        entries[i].lots = 0;
-        return was;
-    }
-    entries[i].lots = was - lots;
-    lots
+    let least = entries[i].lots.min(lots);
+    entries[i].lots -= least;
+    least
 }
 
 // An entry by value, met in a slice of one: callers above have plain parameters.

@@ -1,19 +1,21 @@
 -- The first entry that is left, by columns: the loop's invariant, and the place in the ledger.
-use mathlib.Core.Path.{◌≡◌, refl, ap, ◌∙◌}
+use mathlib.Core.Path.{◌≡◌, refl, ap, sym, ◌∙◌}
 use mathlib.Core.Bool.{true, false, cond, ◌&&◌}
 use mathlib.Core.List.{List, [], tail}
 use Prim.Native.Nat.{ℕ, zero, suc, ◌+◌, ◌≤◌, ◌<◌}
 use native.Mathlib.Numerals.{add-one}
 use native.Mathlib.Omega.{arith}
-use lib.Dec.{eqb, leb}
-use borrow.Author.Tests.{leb-true, leb-false, eq-eqb, ne_eqb}
+use lib.Dec.{eqb, leb, ltb}
+use borrow.Author.Tests.{leb-true, leb-false, ltb-true, ltb-false, lt-ltb, le-ltb, eq-eqb, ne_eqb}
 use lib.ListN.{get_or}
 use Rattle.rules.specs.Ledger.{is_from, is_to}
 use Rattle.rules.specs.Book.{is_zero, head_or0, entries}
 use Rattle.laws.proofs.Ledger.{no_entry, entry_at_lem, length_entries}
 use Rattle.laws.proofs.Basics.{by_test, either}
-use Rattle.seeking.specs.Places.{is_at, NoneIn, Sought}
-use Rattle.falling.specs.Places.{is_left, place_of, next_in}
+use Rattle.std.specs.Prelude.{Some, None}
+use Rattle.std.proofs.lemmas.Option.{cond_some, none-some}
+use Rattle.seeking.specs.Places.{is_at, NoneIn, Passed, First}
+use Rattle.falling.specs.Places.{is_left, place_of, next_in, within}
 use Rattle.falling.proofs.Places.{place_most, place_here, place_past}
 
 module _ (n : ℕ) (is cs xs : List ℕ) (i a : ℕ) where
@@ -48,21 +50,34 @@ module _ (n : ℕ) (is cs xs : List ℕ) (i a : ℕ) where
       either (λ t. t ≡ false) (is_zero (get_or xs r 0)) refl (z r b (omega arith)) in
       omega (arith, seek_more r q (omega arith) e))
 
-  module _ (k r : ℕ) (s : k ≤ next_in n is cs xs i a) (f : Sought (is_at is cs i a) n k r) where
-    pub seek_there : r ≤ next_in n is cs xs i a
-    seek_there = seek_over k r s f.passed.none f.passed.start f.passed.most
+  module _ (k : ℕ) (s : k ≤ next_in n is cs xs i a) where
+    seek_there : {r : ℕ} → Passed (is_at is cs i a) n k r → r ≤ next_in n is cs xs i a
+    seek_there {r} p = seek_over k r s p.none p.start p.most
 
-    pub below_end : (r ≡ n → ⊥) → r < n
-    below_end h = omega (arith, f.passed.most)
+    -- there is none up to the end
+    pub seek_last : Passed (is_at is cs i a) n k n → None ≡ within n (next_in n is cs xs i a)
+    seek_last p =
+        let e : n ≡ next_in n is cs xs i a = seek_ends n (seek_there p) (omega arith) in
+        rw (le-ltb (next_in n is cs xs i a) n (omega (arith, e)))
 
-    pub seek_last : r ≡ n → r ≡ next_in n is cs xs i a
-    seek_last h = seek_ends r seek_there (omega arith)
+    module _ {r : ℕ} (f : First (is_at is cs i a) n k r) where
+      pub seek_left : (get_or xs r 0 ≡ 0 → ⊥) → Some r ≡ within n (next_in n is cs xs i a)
+      seek_left z =
+          let e : r ≡ next_in n is cs xs i a = seek_found r (seek_there f.passed) f.inside (rw (ne_eqb _ _ z) f.found) in
+          rw (← e) (rw (lt-ltb r n f.inside))
 
-    pub seek_left : (r ≡ n → ⊥) → (get_or xs r 0 ≡ 0 → ⊥) → r ≡ next_in n is cs xs i a
-    seek_left h z = seek_found r seek_there (below_end h) (rw (ne_eqb _ _ z) (f.found (below_end h)))
+      pub seek_zero : get_or xs r 0 ≡ 0 → (r + 1 ≤ n) × (r + 1 ≤ next_in n is cs xs i a)
+      seek_zero z = (omega (arith, f.inside), seek_more r (seek_there f.passed) f.inside (rw (eq-eqb _ _ z)))
 
-    pub seek_zero : (r ≡ n → ⊥) → get_or xs r 0 ≡ 0 → (r + 1 ≤ n) × (r + 1 ≤ next_in n is cs xs i a)
-    seek_zero h z = (omega (arith, below_end h), seek_more r seek_there (below_end h) (rw (eq-eqb _ _ z)))
+-- the place that is found is the first, and where none is found there is none
+pub within_some : (n k : ℕ) {m : ℕ} → Some m ≡ within n k → (m ≡ k) × (m < n)
+within_some n k {m} e =
+    let p = cond_some (ltb k n) k m (sym e) in
+    (sym p.1, omega (arith, p.1, ltb-true k n p.0))
+
+pub within_none : (n k : ℕ) → None ≡ within n k → n ≤ k
+within_none n k e =
+    by_test (ltb k n) (λ y. absurd (none-some k (rw y at e))) (λ y. ltb-false k n y)
 
 -- the place in three columns is the place in the ledger
 pub next_to : (n : ℕ) (is fs ts xs ds : List ℕ) (i a : ℕ) → next_in n is ts xs i a ≡ place_of (is_left (is_to i a)) (entries n is fs ts xs ds)

@@ -1,10 +1,12 @@
 -- Places in a ledger whose entries fall where they stand: the first that is not at 0, and two that fall.
-use Rattle.std.specs.Prelude.{◌≡◌, Bool, false, cond, List, [], ◌∷◌, ℕ, suc, ◌-◌, ◌≤◌, ◌<◌, min, length, get_or, set}
+use Rattle.std.specs.Prelude.{◌≡◌, Bool, false, cond, List, [], ◌∷◌, ℕ, suc, ◌-◌, ◌≤◌, ◌<◌, min, ltb, length, get_or, set, Option, Some, None}
 use Rattle.rules.specs.declared.Entry.{Entry}
 use Rattle.rules.specs.Measures.{most_entries}
 use Rattle.rules.specs.Ledger.{is_to}
 use Rattle.rules.specs.Book.{is_zero, entries}
-use Rattle.ledger.specs.Columns.{Whole, Lent, Column, Shared, SharedColumn}
+use Rattle.book.specs.States as book
+use Rattle.ledger.specs.declared.Ledger.{Ledger}
+use Rattle.ledger.specs.Columns.{Whole, ButLots}
 
 -- an entry that passes and is not at 0
 abbrev pub is_left : (Entry → Bool) → Entry → Bool
@@ -39,16 +41,20 @@ pub record BothFell (t f m : ℕ) (xs xs' : List ℕ) : Type 0 where
   pub smaller : m ≡ min (get_or xs t 0) (get_or xs f 0)
   pub lots : xs' ≡ set (set xs f (get_or xs f 0 - m)) t (get_or xs t 0 - m)
 
+-- place k, where it is one of n
+abbrev pub within : ℕ → ℕ → Option ℕ
+within n k = cond (ltb k n) (Some k) None
+
 -- The same by name
 
-abbrev pub can_seek : ℕ → ℕ → ℕ → ℕ → Shared → Shared → Shared → Type 0
+abbrev pub can_seek : ℕ → ℕ → ℕ → ℕ → book.Shared ℕ → book.Shared ℕ → book.Shared ℕ → Type 0
 can_seek n k i a issues accounts lots = CanSeek n k i a issues.now accounts.now lots.now
 
-abbrev pub next_of : ℕ → ℕ → ℕ → ℕ → SharedColumn → SharedColumn → SharedColumn → Type 0
-next_of n i a r issues accounts lots = r ≡ next_in n issues.entry.now accounts.entry.now lots.entry.now i a
+abbrev pub next_of : ℕ → ℕ → ℕ → Option ℕ → book.SharedColumn ℕ → book.SharedColumn ℕ → book.SharedColumn ℕ → Type 0
+next_of n i a r issues accounts lots = r ≡ within n (next_in n issues.entry.now accounts.entry.now lots.entry.now i a)
 
-abbrev pub can_fall : ℕ → ℕ → Shared → Shared → Shared → Lent → Shared → Type 0
-can_fall t f issues froms tos lots days = CanFall t f issues.now froms.now tos.now lots.now days.now
+abbrev pub can_fall : ℕ → ℕ → Ledger → Type 0
+can_fall t f l = CanFall t f l.issues.now l.froms.now l.tos.now l.lots.now l.days.now
 
-abbrev pub both_fell : ℕ → ℕ → ℕ → Column → Type 0
-both_fell t f m lots = BothFell t f m lots.entry.now lots.exit.now
+abbrev pub both_fell : ℕ → ℕ → ℕ → Ledger → Ledger → Type 0
+both_fell t f m l l' = BothFell t f m l.lots.now l'.lots.now × ButLots l l'

@@ -1,24 +1,18 @@
 // Entries that fall where they stand: the first of an account that is not at 0, two that fall together, one appended.
 #![tactic(auto)]
 
-ghost use Rattle.std.specs.Prelude.{◌≡◌, ◌++◌, ◌<◌, min};
+ghost use Rattle.std.specs.Prelude.{◌≡◌, ◌++◌, ◌<◌};
 ghost use Rattle.rules.specs.Ledger.{appended};
-ghost use Rattle.ledger.specs.Columns.{held, before, kept};
-ghost use Rattle.falling.specs.Places.{can_seek, next_of, can_fall, both_fell};
+ghost use Rattle.ledger.specs.Columns.{Same, held, entries_in, kept};
+ghost use Rattle.falling.specs.Places.{can_seek, next_of, CanSeek, next_in, within, can_fall, both_fell};
 
+use ledger::Ledger;
+use rules::Entry;
 use seeking::seek;
 
-fn smaller(x: u32, y: u32) -> u32
-    ensures { result ≡ min x y }
-{
-    if x < y {
-        return x;
-    }
-    y
-}
-
-// The place of the first entry not at 0 of issue i with account a in the column of accounts, the
-// number of entries where there is none. Before place `at` there is none.
+// The place of the first entry not at 0 of issue i with account a in the column of accounts, where there
+// is one. Before place `at` there is none. It jumps from one entry that `seek` finds to the next: no range says that.
+// The columns come whole, as C lends them; how many entries they hold is in the state.
 pub fn next_of(
     entries: usize,
     at: usize,
@@ -27,65 +21,58 @@ pub fn next_of(
     lots: &[u32],
     i: u32,
     a: u32,
-) -> usize
+) -> Option<usize>
     requires { can_seek entries at i a issues accounts lots }
     ensures { next_of entries i a result issues accounts lots }
 {
     let mut k = at;
     loop {
-        k = seek(entries, k, issues, accounts, i, a);
-        if k == entries {
-            return k;
+        let j = seek(entries, k, issues, accounts, i, a)?;
+        if lots[j] != 0 {
+            return Some(j);
         }
-        if lots[k] != 0 {
-            return k;
-        }
-        k += 1;
+        k = j + 1;
     }
+}
+
+// The first to the account, and the first from it: the same search, each over the column that its contract names.
+pub fn next_to(ledger: &Ledger, entries: usize, at: usize, i: u32, a: u32) -> Option<usize>
+    requires { CanSeek entries at i a ledger.now.issues.now ledger.now.tos.now ledger.now.lots.now }
+    ensures { result ≡ within entries (next_in entries ledger.now.issues.now ledger.now.tos.now ledger.now.lots.now i a) }
+{
+    next_of(entries, at, ledger.issues, ledger.tos, ledger.lots, i, a)
+}
+
+pub fn next_from(ledger: &Ledger, entries: usize, at: usize, i: u32, a: u32) -> Option<usize>
+    requires { CanSeek entries at i a ledger.now.issues.now ledger.now.froms.now ledger.now.lots.now }
+    ensures { result ≡ within entries (next_in entries ledger.now.issues.now ledger.now.froms.now ledger.now.lots.now i a) }
+{
+    next_of(entries, at, ledger.issues, ledger.froms, ledger.lots, i, a)
 }
 
 // The entries at places t and f fall by the smaller of their lots; answers those.
-pub fn fall_both(
-    t: usize,
-    f: usize,
-    issues: &[u8],
-    froms: &[u8],
-    tos: &[u8],
-    lots: &mut [u32],
-    days: &[u16],
-) -> u32
-    requires { can_fall t f issues froms tos lots days }
-    ensures { both_fell t f result lots }
+pub fn fall_both(ledger: &mut Ledger, t: usize, f: usize) -> u32
+    requires { can_fall t f ledger.old }
+    ensures done { both_fell t f result ledger.old ledger.new }
+    ensures same { Same ledger.old ledger.new }
 {
-    let m = smaller(lots[t], lots[f]);
-    let x = ledger::left_of(issues[t], froms[t], tos[t], lots[t], days[t], m);
-    let y = ledger::left_of(issues[f], froms[f], tos[f], lots[f], days[f], m);
-    lots[f] = y;
-    lots[t] = x;
+    let to = ledger::entry_at(ledger, t);
+    let from = ledger::entry_at(ledger, f);
+    let m = to.lots.min(from.lots);
+    ledger.lots[f] = ledger::left_of(from, m);
+    ledger.lots[t] = ledger::left_of(to, m);
     m
 }
 
-// An entry p to q of m lots, today, behind the others, where p and q differ; answers the number of
-// entries.
-pub fn append_between(
-    entries: usize,
-    issues: &mut [u8],
-    froms: &mut [u8],
-    tos: &mut [u8],
-    lots: &mut [u32],
-    days: &mut [u16],
-    i: u8,
-    p: u8,
-    q: u8,
-    m: u32,
-    today: u16,
-) -> usize
-    requires { (entries < 2048) × held entries issues froms tos lots days }
-    ensures { kept (before entries issues froms tos lots days ++ appended today i p q m) result issues froms tos lots days }
+// An entry behind the others, where its accounts differ; answers the number of entries.
+pub fn append_between(ledger: &mut Ledger, entries: usize, e: Entry) -> usize
+    requires { (entries < 2048) × held entries ledger.old }
+    ensures done { kept (entries_in entries ledger.old ++ appended e.day e.issue e.from e.to e.lots) result ledger.new }
+    ensures same { Same ledger.old ledger.new }
 {
-    if p == q {
+    if e.from == e.to {
         return entries;
     }
-    ledger::append(entries, issues, froms, tos, lots, days, i, p, q, m, today);
+    ledger::append(ledger, entries, e);
     entries + 1
 }

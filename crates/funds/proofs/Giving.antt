@@ -1,11 +1,10 @@
 -- The order, the rounds and the shares by number put together: what the code lends on is what the definition says.
-use mathlib.Core.Path.{◌≡◌, refl, sym, ap, ◌∙◌}
+use mathlib.Core.Path.{◌≡◌, sym, ap, ◌∙◌}
 use mathlib.Core.List.{List}
-use Prim.Native.Nat.{ℕ, ◌+◌, ◌≤◌}
+use Prim.Native.Nat.{ℕ, ◌≤◌}
 use native.Mathlib.Omega.{arith}
 use lib.ListN.{length, take, replicate, length-map, length-replicate}
 use lib.Seq.{take_all}
-use Rattle.rules.specs.Measures.{sum}
 use Rattle.rules.specs.Records.{over}
 use Rattle.contributions.specs.Order.{amount_of, order_of}
 use Rattle.contributions.specs.Rounds.{rounds, allotted, in_order}

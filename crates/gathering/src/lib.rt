@@ -16,28 +16,26 @@ pub struct Waiting {
     pub stock: u32,
 }
 
-// The runs that wait after a delivered total: in the run where it ends stays what is not handed.
+// The runs that wait after a delivered total: in the run where it ends stays what is not handed. The array is lent whole,
+// with how many of its words are runs, since it is changed in place and there is no heap.
 pub fn hand(runs: &mut [u32], n: usize, d: u32) -> Waiting
     requires { Held runs.old n }
     ensures { HandsOn runs.old runs.new n d result }
 {
     let mut left = d;
-    let mut j = 0;
-    while j < n {
-        let key = runs[j];
-        let held = key / ACCOUNTS;
+    for j in 0..n {
+        let held = runs[j] / ACCOUNTS;
         if left < held {
-            runs[j] = key - left / UNIT_LOTS * UNIT_WORD;
+            runs[j] -= left / UNIT_LOTS * UNIT_WORD;
             return Waiting {
                 run: j,
                 stock: left % UNIT_LOTS,
             };
         }
         left -= held;
-        j += 1;
     }
     Waiting {
-        run: j,
+        run: n,
         stock: left,
     }
 }
@@ -47,13 +45,8 @@ fn sums(runs: &[u32], full: &mut [u32])
     requires { CanSum runs.now full.old }
     ensures { SumsAre runs.now full.new }
 {
-    let mut j = 0;
-    while j < runs.len() {
-        let key = runs[j];
-        let a = (key % ACCOUNTS) as usize;
-        let x = full[a];
-        full[a] = x + key / UNIT_WORD * UNIT_LOTS;
-        j += 1;
+    for key in runs {
+        full[(*key % ACCOUNTS) as usize] += *key / UNIT_WORD * UNIT_LOTS;
     }
 }
 
@@ -62,17 +55,13 @@ fn spread(runs: &mut [u32], full: &mut [u32])
     requires { CanSpread full.old }
     ensures { map part_of runs.new ≡ laid (λ a. get_or full.old a 0) (map part_of runs.old) }
 {
-    let mut j = 0;
-    while j < runs.len() {
-        let i = j;
-        let key = runs[i];
-        j += 1;
-        if UNIT_WORD <= key {
-            let a = (key % ACCOUNTS) as usize;
-            let x = full[a];
-            runs[i] = x * ACCOUNTS + key % ACCOUNTS;
-            full[a] = 0;
+    for key in runs {
+        if *key < UNIT_WORD {
+            continue;
         }
+        let a = (*key % ACCOUNTS) as usize;
+        *key = full[a] * ACCOUNTS + *key % ACCOUNTS;
+        full[a] = 0;
     }
 }
 

@@ -3,25 +3,21 @@
 
 ghost use Rattle.std.specs.Prelude.{◌≡◌, drop};
 ghost use Rattle.rules.specs.Records.{words, over};
-ghost use Rattle.runs.specs.Runs.{units_in};
+ghost use Rattle.runs.specs.Runs.{units_of_words};
 ghost use Rattle.handing.specs.Handing.{CanHand, hand_records, CanCount, NewlyCovered};
 
-use handover::NextUnit;
-
 // Hands over `count` units from unit c on: one record each.
-pub fn hand(runs: &[u32], n: usize, i: u32, c: u32, count: usize, out: &mut [u32])
-    requires { CanHand runs.now n i c count out.old }
-    ensures { out.new ≡ over (words (hand_records i count (drop c (units_in runs.now n)))) out.old }
+pub fn hand(runs: &[u32], i: u32, c: u32, count: usize, out: &mut [u32])
+    requires { CanHand runs.now i c count out.old }
+    ensures { out.new ≡ over (words (hand_records i count (drop c (units_of_words runs.now)))) out.old }
 {
     let mut seat = handover::seek(c);
-    let mut m: usize = 0;
-    while m < count {
-        let NextUnit::Unit(to, lots, next) = handover::next_unit(runs, n, seat) else {
+    for m in 0..count {
+        let Some((unit, next)) = handover::next_unit(runs, seat) else {
             return;
         };
-        words::record(&mut out[2 * m..], 10, i, 0, to, lots);
+        words::record(&mut out[2 * m..], 10, i, 0, unit.account, unit.lots);
         seat = next;
-        m += 1;
     }
 }
 
@@ -33,12 +29,12 @@ pub struct NextUnits {
 }
 
 // The units that x more lots cover, where d cover those before them.
-pub fn newly_covered(runs: &[u32], n: usize, d: u32, x: u32) -> NextUnits
-    requires { CanCount runs.now n d x }
-    ensures { NewlyCovered (units_in runs.now n) d x result }
+pub fn newly_covered(runs: &[u32], d: u32, x: u32) -> NextUnits
+    requires { CanCount runs.now d x }
+    ensures { NewlyCovered (units_of_words runs.now) d x result }
 {
-    let before = handover::handover(runs, n, d);
-    let after = handover::handover(runs, n, d + x);
+    let before = handover::handover(runs, d);
+    let after = handover::handover(runs, d + x);
     NextUnits {
         first: before.count,
         number: (after.count - before.count) as usize,

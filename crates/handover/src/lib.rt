@@ -2,10 +2,10 @@
 #![tactic(auto)]
 
 ghost use Rattle.std.specs.Prelude.{◌≡◌, ◌≤◌, length};
-ghost use Rattle.runs.specs.Runs.{units_in, Held};
+ghost use Rattle.runs.specs.Runs.{units_of_words};
 ghost use Rattle.handover.specs.Walking.{SeatIs, NextIs, HandedIs};
 
-use rules::{ACCOUNTS, UNIT_LOTS};
+use rules::{ACCOUNTS, UNIT_LOTS, Unit};
 use runs::MOST_SMALL;
 
 // A place in front of a unit: behind so many units of the runs from `run` on.
@@ -15,58 +15,47 @@ pub struct Seat {
     pub passed: u32,
 }
 
-// The next unit: account, lots, and the place behind it; or none is left.
-#[derive(Clone, Copy, Drop)]
-pub enum NextUnit {
-    Unit(u32, u32, Seat),
-    Nothing,
-}
-
 // The place in front of unit k, k from 0.
+#[tactic(auto, unfolding(crate::specs::Walking::units_from))]
 pub fn seek(k: u32) -> Seat
     ensures { SeatIs k result }
 {
     Seat { run: 0, passed: k }
 }
 
-// The unit behind a place.
-pub fn next_unit(runs: &[u32], n: usize, s: Seat) -> NextUnit
-    requires { n ≤ length runs.now }
-    ensures { NextIs runs.now n s result }
+// The unit behind a place, and the place behind it; none where no unit is left.
+#[tactic(auto, unfolding(crate::specs::Walking::units_from))]
+pub fn next_unit(runs: &[u32], s: Seat) -> Option<(Unit, Seat)>
+    ensures { NextIs runs.now s result }
 {
-    let mut j = s.run;
-    let mut k = s.passed;
-    while j < n {
-        let key = runs[j];
-        let lots = key / ACCOUNTS;
-        let c = (lots + MOST_SMALL) / UNIT_LOTS;
-        if k < c {
-            let left = lots - k * UNIT_LOTS;
-            let next = Seat {
-                run: j,
-                passed: k + 1,
+    let mut passed = s.passed;
+    for run in s.run..runs.len() {
+        let lots = runs[run] / ACCOUNTS;
+        let count = (lots + MOST_SMALL) / UNIT_LOTS;
+        if passed < count {
+            let unit = Unit {
+                account: runs[run] % ACCOUNTS,
+                lots: (lots - passed * UNIT_LOTS).min(UNIT_LOTS),
             };
-            if left < UNIT_LOTS {
-                return NextUnit::Unit(key % ACCOUNTS, left, next);
-            }
-            return NextUnit::Unit(key % ACCOUNTS, UNIT_LOTS, next);
+            let next = Seat {
+                run,
+                passed: passed + 1,
+            };
+            return Some((unit, next));
         }
-        k -= c;
-        j += 1;
+        passed -= count;
     }
-    NextUnit::Nothing
+    None
 }
 
-// How many units n runs stand for.
-pub fn number(runs: &[u32], n: usize) -> u32
-    requires { (n ≤ length runs.now) × (n ≤ 144) }
-    ensures { result ≡ length (units_in runs.now n) }
+// How many units runs stand for.
+pub fn number(runs: &[u32]) -> u32
+    requires { length runs.now ≤ 144 }
+    ensures { result ≡ length (units_of_words runs.now) }
 {
     let mut count: u32 = 0;
-    let mut j = 0;
-    while j < n {
-        count += (runs[j] / ACCOUNTS + MOST_SMALL) / UNIT_LOTS;
-        j += 1;
+    for run in runs {
+        count += (*run / ACCOUNTS + MOST_SMALL) / UNIT_LOTS;
     }
     count
 }
@@ -79,15 +68,14 @@ pub struct Handed {
 }
 
 // What a delivered total covers of the units.
-pub fn handover(runs: &[u32], n: usize, d: u32) -> Handed
-    requires { Held runs.now n }
-    ensures { HandedIs (units_in runs.now n) d result }
+pub fn handover(runs: &[u32], d: u32) -> Handed
+    requires { length runs.now ≤ 144 }
+    ensures { HandedIs (units_of_words runs.now) d result }
 {
     let mut left = d;
     let mut count: u32 = 0;
-    let mut j = 0;
-    while j < n {
-        let lots = runs[j] / ACCOUNTS;
+    for run in runs {
+        let lots = *run / ACCOUNTS;
         if left < lots {
             return Handed {
                 count: count + left / UNIT_LOTS,
@@ -96,7 +84,6 @@ pub fn handover(runs: &[u32], n: usize, d: u32) -> Handed
         }
         left -= lots;
         count += (lots + MOST_SMALL) / UNIT_LOTS;
-        j += 1;
     }
     Handed { count, stock: left }
 }

@@ -6,8 +6,8 @@ use Prim.Native.Nat.{ℕ, ◌≤◌, ◌<◌}
 use lib.ListN.{drop}
 use borrow.Author.Tests.{le-leb, lt-leb}
 use Rattle.rules.specs.declared.Book.{Book}
-use Rattle.rules.specs.declared.Found.{Found}
-use Rattle.rules.specs.declared.Found.TheVariants as found
+use Rattle.std.specs.Prelude.{Option, Ok}
+use Rattle.rules.specs.declared.Unit.{Unit}
 use Rattle.rules.specs.Units.{AccountLots}
 use Rattle.rules.specs.Book.{sound, order_in, dealt_today}
 use Rattle.rules.specs.Calls.{unit_refused, found_answer, first_answer, unit, AskAnswer, no_ticket, asked}
@@ -23,7 +23,7 @@ use Rattle.host.specs.Questions.{day_unit, day_status, day_simulation}
 use Rattle.host.specs.Lifts.{day_asked}
 use Rattle.host.proofs.Holding.{sound_book, is_held, not_held}
 
-found_first : (us : List AccountLots) → found_answer (found_of us) ≡ first_answer us
+found_first : (us : List AccountLots) → found_answer (Ok (found_of us)) ≡ first_answer us
 found_first [] = refl
 found_first (u ∷ us) = refl
 
@@ -57,11 +57,11 @@ module _ (phase : ℕ) (b : Book) (i k : ℕ) where
     pub unit_issue : 15 < i → unit_refused 4 ≡ day_unit phase b i k
     unit_issue h = issue_of_book h ∙ is_held phase b g (unit b i k) (unit_refused 2)
 
-    unit_of_book : (r : Found) (new : Bool) → i ≤ 15 → new ≡ dealt_today b → r ≡ found_of (drop k (order_in new b.nets b.lifts i)) → found_answer r ≡ unit b i k
+    unit_of_book : (r : Option Unit) (new : Bool) → i ≤ 15 → new ≡ dealt_today b → r ≡ found_of (drop k (order_in new b.nets b.lifts i)) → found_answer (Ok r) ≡ unit b i k
     unfolding unit
     unit_of_book r new h t f = rw (sound_book phase b g, le-leb i 15 h, f, t) (found_first (drop k (order_in (dealt_today b) b.nets b.lifts i)))
 
-    pub unit_found : (r : Found) (new : Bool) → i ≤ 15 → new ≡ dealt_today b → r ≡ found_of (drop k (order_in new b.nets b.lifts i)) → found_answer r ≡ day_unit phase b i k
+    pub unit_found : (r : Option Unit) (new : Bool) → i ≤ 15 → new ≡ dealt_today b → r ≡ found_of (drop k (order_in new b.nets b.lifts i)) → found_answer (Ok r) ≡ day_unit phase b i k
     unit_found r new h t f = unit_of_book r new h t f ∙ is_held phase b g (unit b i k) (unit_refused 2)
 
     pub status_told : (d : StatusAnswer) → d ≡ status_of (dealt_today b) b.state.phase b.nets b.delivered b.lifts i k → d ≡ day_status phase b i k

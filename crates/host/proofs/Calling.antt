@@ -4,22 +4,28 @@ use mathlib.Core.Bool.{true, false, cond}
 use mathlib.Core.List.{List, [], ◌∷◌, ◌++◌}
 use Prim.Native.Nat.{ℕ, zero, suc}
 use lib.Dec.{leb}
-use lib.IntN.{ℤ}
+use Rattle.std.specs.Prelude.{Ok, Err}
 use Rattle.rules.specs.declared.Book.{Book}
 use Rattle.rules.specs.declared.Instruction.{Instruction}
 use Rattle.rules.specs.declared.Instruction.TheVariants as instruction
-use Rattle.rules.specs.Book.{book_of}
+use native.Mathlib.Omega.{arith}
+use Rattle.rules.specs.declared.Refusal.{Refusal}
+use Rattle.rules.specs.Refusals.{number_of as refusal_of}
+use Rattle.laws.proofs.Refused.{above_0}
 use Rattle.rules.specs.Questions.{Question, ask, first_no}
 use Rattle.rules.specs.Calls.{Call, Answer, Effect, answer, lent_to, lends, output_asks, HasRoom, effect, called}
 use Rattle.rules.specs.Run.{call_of}
 use Rattle.laws.proofs.Basics.{by_test, cond_true, cond_false}
 use Rattle.laws.proofs.Answers.{no_first, room, unsound_first, refused_as}
 use Rattle.answers.specs.declared.Turn.{Turn}
-use Rattle.answers.specs.Turns.{Gives, out_after, beside}
+use Rattle.answers.specs.Turns.{Given, Gives, state_after, out_after, beside}
+use Rattle.columns.specs.declared.LentColumns.{LentColumns}
+use Rattle.columns.specs.Books.{lent_book}
 use Rattle.desk.specs.Fields.{is_kind}
 use Rattle.host.specs.declared.DayState.{DayState}
+use Rattle.host.specs.declared.DayTurned.{DayTurned}
 use Rattle.host.specs.States.{phase_of, number_of, state_in, numbers_of, holds, sound_at}
-use Rattle.host.specs.Calls.{day_made, day_called, refused_by, turned_of, CallIs}
+use Rattle.host.specs.Calls.{day_made, day_called, refused_by, given_of, CallIs}
 use Rattle.host.proofs.Holding.{back_state, same_stage, is_phase, is_held, not_held}
 
 -- Question 1
@@ -93,17 +99,14 @@ as_came (instruction.Roll days rate) quotes out n b e = refl
 as_came (instruction.Mark i m) quotes out n b e = refl
 as_came (instruction.Turn d) quotes out n b e = refl
 
-module _ (kind : ℕ) (h : DayState) (b : Book) (x : Instruction) (quotes out : List ℕ) where
+module _ (h : DayState) (b : Book) (x : Instruction) (quotes out : List ℕ) where
   abbrev call : Call
   call = call_of x quotes out
 
-  abbrev told : Answer
-  told = day_called kind h.phase b call
-
   module _ (stage : b.state.phase ≡ phase_of h.phase) where
     -- a refusal leaves the numbers as they came
-    refused : (n : ℕ) → refusal (suc n) b call ≡ told → CallIs (beside call out told) h.phase (refused_by (suc n) h) b out
-    refused n e =
+    refused : (d : Answer) (n : ℕ) → refusal (suc n) b call ≡ d → CallIs (beside call out d) h.phase (refused_by (suc n) h) b out
+    refused d n e =
         rw (← e)
         (record {
           refusal = refl;
@@ -114,30 +117,46 @@ module _ (kind : ℕ) (h : DayState) (b : Book) (x : Instruction) (quotes out : 
           out = as_came x quotes out n b (effect b call);
         })
 
-    pub no_kind : is_kind kind ≡ false → CallIs (beside call out told) h.phase (refused_by 14 h) b out
-    no_kind e = refused 13 (not_kind kind h.phase b call e)
+    pub no_kind : (kind : ℕ) → is_kind kind ≡ false → CallIs (beside call out (day_called kind h.phase b call)) h.phase (refused_by 14 h) b out
+    no_kind kind e = refused _ 13 (not_kind kind h.phase b call e)
 
-    module _ (k : is_kind kind ≡ true) where
-      pub too_short : (n : ℕ) → n ≡ first_no (output_asks (call_of x [] out)) → (n ≡ 0 → ⊥) → CallIs (beside call out told) h.phase (refused_by n h) b out
-      too_short zero e ne = absurd (ne refl)
-      too_short (suc n) e ne =
-          refused n (made_short h.phase b call n (sym (room_of x quotes out) ∙ sym e) ∙ of_kind kind h.phase b call k)
+    short_by : (n : ℕ) → n ≡ first_no (output_asks (call_of x [] out)) → (n ≡ 0 → ⊥) → CallIs (beside call out (day_made h.phase b call)) h.phase (refused_by n h) b out
+    short_by zero e ne = absurd (ne refl)
+    short_by (suc n) e ne = refused _ n (made_short h.phase b call n (sym (room_of x quotes out) ∙ sym e))
 
-      pub unsound : HasRoom call → sound_at h.phase b ≡ false → CallIs (beside call out told) h.phase (refused_by 2 h) b out
-      unsound room g = refused 1 (made_unsound h.phase b call room g ∙ of_kind kind h.phase b call k)
+    pub too_short : (r : Refusal) → refusal_of r ≡ first_no (output_asks (call_of x [] out)) →
+        CallIs (beside call out (day_made h.phase b call)) h.phase (refused_by (refusal_of r) h) b out
+    too_short r e = short_by (refusal_of r) e (λ z. let o = above_0 r in omega (arith, o, z))
+
+    pub unsound : HasRoom call → sound_at h.phase b ≡ false → CallIs (beside call out (day_made h.phase b call)) h.phase (refused_by 2 h) b out
+    unsound room g = refused _ 1 (made_unsound h.phase b call room g)
+
+  -- of a kind, the call is the instruction's
+  pub called_is : (kind : ℕ) (r : DayTurned) (after : Book) (out' : List ℕ) → is_kind kind ≡ true →
+      CallIs (beside call out (day_made h.phase b call)) h.phase r after out' → CallIs (beside call out (day_called kind h.phase b call)) h.phase r after out'
+  called_is kind r after out' k w = rw (← of_kind kind h.phase b call k) w
 
   -- else the numbers are those of the state after the call
-  pub answered : (nets : List ℤ) (delivered lifts : List ℕ) (charges : List ℤ) (issues froms tos lots days : List ℕ) (t : Turn) (out' : List ℕ) →
-      is_kind kind ≡ true → sound_at h.phase b ≡ true →
-      Gives b call t (book_of t.state nets delivered lifts charges issues froms tos lots days) out out' →
-      CallIs (beside call out told) h.phase (turned_of t) (book_of (state_in (numbers_of t.state)) nets delivered lifts charges issues froms tos lots days) out'
-  answered nets delivered lifts charges issues froms tos lots days t out' k g w =
-      rw (← made_sound h.phase b call g ∙ of_kind kind h.phase b call k)
+  pub answered : (after : LentColumns) (r : Given) (out' : List ℕ) → sound_at h.phase b ≡ true →
+      Gives b call r (lent_book (state_after (state_in h) r) after) out out' →
+      CallIs (beside call out (day_made h.phase b call)) h.phase (given_of h r) (lent_book (state_in (given_of h r).state) after) out'
+  answered after (Ok t) out' g w =
+      rw (← made_sound h.phase b call g)
       (record {
         refusal = w.refusal;
         count = w.count;
         cancelled = w.cancelled;
-        book = ap (λ u. book_of u nets delivered lifts charges issues froms tos lots days) (back_state t.state) ∙ w.book;
+        book = ap (λ u. lent_book u after) (back_state t.state) ∙ w.book;
         stage = ap (λ c. number_of c.state.phase) w.book ∙ sym (cond_true (leb h.phase 2) _ _ (is_phase h.phase b g));
+        out = w.out;
+      })
+  answered after (Err r) out' g w =
+      rw (← made_sound h.phase b call g)
+      (record {
+        refusal = w.refusal;
+        count = w.count;
+        cancelled = w.cancelled;
+        book = w.book;
+        stage = same_stage h.phase ∙ ap (λ (c : Book). cond (leb h.phase 2) (number_of c.state.phase) h.phase) w.book;
         out = w.out;
       })

@@ -47,7 +47,7 @@ same_stage (suc (suc (suc n))) = rw (lt-leb (suc (suc (suc n))) 2 (omega arith))
 
 -- the nine tests as they are put together in the code
 nine : (a b l c d e f g h : Bool) →
-    ((((a && b) && (l && c)) && (d && e && f)) && g) && h ≡ all (λ c. c) (a ∷ b ∷ l ∷ c ∷ d ∷ e ∷ f ∷ g ∷ h ∷ [])
+    (((((((a && b) && l) && c) && d) && e) && f) && g) && h ≡ all (λ c. c) (a ∷ b ∷ l ∷ c ∷ d ∷ e ∷ f ∷ g ∷ h ∷ [])
 nine false b l c d e f g h = refl
 nine true false l c d e f g h = refl
 nine true true false c d e f g h = refl
@@ -58,15 +58,11 @@ nine true true true true true true false g h = refl
 nine true true true true true true true false h = refl
 nine true true true true true true true true h = sym (and_true h)
 
-abbrev pub tests : Book → Bool
-tests b =
-    ((((eqb (length b.nets) 1024 && eqb (length b.delivered) 1024)
-    && (eqb (length b.lifts) 288 && eqb (length b.charges) 64))
-    && (eqb (length b.issues) 2048 && eqb (length b.froms) 2048 && eqb (length b.tos) 2048))
-    && eqb (length b.lots) 2048)
+pub tested : (b : Book) →
+    (((((((eqb (length b.nets) 1024 && eqb (length b.delivered) 1024) && eqb (length b.lifts) 288) && eqb (length b.charges) 64)
+    && eqb (length b.issues) 2048) && eqb (length b.froms) 2048) && eqb (length b.tos) 2048) && eqb (length b.lots) 2048)
     && eqb (length b.days) 2048
-
-pub tested : (b : Book) → tests b ≡ lengths_right b
+    ≡ lengths_right b
 unfolding lengths_right
 tested b =
     nine (eqb (length b.nets) 1024) (eqb (length b.delivered) 1024) (eqb (length b.lifts) 288) (eqb (length b.charges) 64)

@@ -14,11 +14,14 @@ use Rattle.rules.specs.Book.{dealt_today, with_lifts}
 use Rattle.rules.specs.Questions.{first_no}
 use Rattle.rules.specs.Calls.{Call, Commit, HasRoom, asks, called}
 use Rattle.laws.proofs.Answers.{said_yes, short_first, own_first, refused_as, accepted_as}
-use Rattle.lifting.specs.declared.Committed.{Committed}
+use Rattle.std.specs.Prelude.{Result, Ok, Err, pred}
+use Rattle.rules.specs.declared.Refusal.{Refusal}
+use Rattle.rules.specs.Refusals.{number_of, number_in}
+use Rattle.laws.proofs.Refused.{some_number}
 use Rattle.lifting.specs.Lifting.{Commits}
 use Rattle.host.specs.States.{sound_at}
 use Rattle.host.specs.Calls.{day_made}
-use Rattle.host.specs.Lifts.{CommitIs}
+use Rattle.host.specs.Lifts.{CommitIs, CommittedIn}
 use Rattle.host.proofs.Holding.{sound_book}
 use Rattle.host.proofs.Calling.{refusal, made_short, made_unsound, made_sound}
 
@@ -40,25 +43,21 @@ module _ (phase : ℕ) (b : Book) (t : Ticket) (out : List ℕ) where
     commit_unsound g = refused 1 (made_unsound phase b commit has_room g)
 
     -- a sound book: the commit in place, in the order of the day
-    pub commit_sound : (t' : Ticket) (new : Bool) (r : Committed) (lifts out' : List ℕ) → t' ≡ t → sound_at phase b ≡ true → new ≡ dealt_today b →
-        Commits new b.state.phase b.state.day b.nets b.delivered b.lifts lifts t' out out' r →
-        CommitIs b (day_made phase b commit) r.refusal r.count lifts out'
-    commit_sound t' new r lifts out' q g e k = rw (← made_sound phase b commit g) (by_number r.refusal refl)
-      where
-        c : Commits (dealt_today b) b.state.phase b.state.day b.nets b.delivered b.lifts lifts t out out' r
-        c =
-            subst (λ (u : Ticket). Commits (dealt_today b) b.state.phase b.state.day b.nets b.delivered b.lifts lifts u out out' r) q
-            (subst (λ (o : Bool). Commits o b.state.phase b.state.day b.nets b.delivered b.lifts lifts t' out out' r) e k)
+    module _ (new : Bool) (lifts out' : List ℕ) (g : sound_at phase b ≡ true) (e : new ≡ dealt_today b) where
+      of_book : (r : Result ℕ Refusal) → Commits new b.state.phase b.state.day b.nets b.delivered b.lifts lifts t out out' r →
+          Commits (dealt_today b) b.state.phase b.state.day b.nets b.delivered b.lifts lifts t out out' r
+      of_book r k = subst (λ (o : Bool). Commits o b.state.phase b.state.day b.nets b.delivered b.lifts lifts t out out' r) e k
 
-        own : r.refusal ≡ first_no (asks b commit)
-        own = c.refusal ∙ sym (own_first b commit has_room (sound_book phase b g))
+      own : (r : Result ℕ Refusal) → Commits new b.state.phase b.state.day b.nets b.delivered b.lifts lifts t out out' r → first_no (asks b commit) ≡ number_in r
+      own r k = own_first b commit has_room (sound_book phase b g) ∙ sym (of_book r k).refusal
 
-        by_number : (n : ℕ) → r.refusal ≡ n → CommitIs b (called b commit) r.refusal r.count lifts out'
-        by_number zero e =
-            let a = c.accepts e in
-            rw (accepted_as b commit (sym own ∙ e))
-            (record { refusal = e; count = a.count; cancelled = refl; book = ap (with_lifts b) a.column; out = a.output })
-        by_number (suc n) e =
-            let a = c.refuses (λ z. omega (arith, e, z)) in
-            rw (refused_as b commit n (sym own ∙ e))
-            (record { refusal = e; count = a.count; cancelled = refl; book = ap (with_lifts b) a.column; out = a.output })
+      pub committed : (r : Result ℕ Refusal) → Commits new b.state.phase b.state.day b.nets b.delivered b.lifts lifts t out out' r →
+          CommittedIn phase b t out lifts out' r
+      committed (Ok n) k =
+          let a = (of_book (Ok n) k).change in
+          rw (← made_sound phase b commit g, accepted_as b commit (own (Ok n) k))
+          (record { refusal = refl; count = a.count; cancelled = refl; book = ap (with_lifts b) a.column; out = a.output })
+      committed (Err r) k =
+          let a = (of_book (Err r) k).change in
+          rw (← made_sound phase b commit g, refused_as b commit (pred (number_of r)) (own (Err r) k ∙ some_number r))
+          (record { refusal = some_number r; count = refl; cancelled = refl; book = ap (with_lifts b) a.column; out = a.output })

@@ -1,20 +1,23 @@
 -- The calls on a host's book, in plain numbers: of numbers and columns that can be a book's what the rules answer, any
 -- others are refused by 1 or 2.
-use Rattle.std.specs.Prelude.{◌≡◌, false, cond, List, [], ◌∷◌, ◌++◌, ℕ, leb}
+use Rattle.std.specs.Prelude.{◌≡◌, false, cond, List, [], ◌∷◌, ◌++◌, ℕ, leb, Ok, Err}
 use Rattle.std.specs.Borrow.{MutBor}
 use denote.Triple.Both.{Both}
 use Rattle.rules.specs.declared.Book.{Book}
 use Rattle.rules.specs.declared.Instruction.{Instruction}
+use Rattle.rules.specs.Refusals.{number_of}
 use Rattle.rules.specs.Questions.{ask, first_no}
 use Rattle.rules.specs.Calls.{Call, Answer, answer, lent_to, output_asks, effect, called}
 use Rattle.rules.specs.Run.{call_of}
 use Rattle.book.specs.States.{Column, SharedColumn, Columns}
+use Rattle.columns.specs.declared.LentColumns.{LentColumns}
+use Rattle.columns.specs.Books.{lent_book}
 use Rattle.answers.specs.declared.Turn.{Turn}
-use Rattle.answers.specs.Turns.{beside}
+use Rattle.answers.specs.Turns.{Given, beside}
 use Rattle.desk.specs.Fields.{is_kind}
 use Rattle.host.specs.declared.DayState.{DayState}
 use Rattle.host.specs.declared.DayTurned.{DayTurned}
-use Rattle.host.specs.States.{number_of, state_in, numbers_of, book_at, holds}
+use Rattle.host.specs.States.{number_of as stage_of, state_in, numbers_of, book_at, holds}
 
 -- a call of a host
 unfoldable pub day_made : ℕ → Book → Call → Answer
@@ -25,12 +28,16 @@ day_made phase b c =
 unfoldable pub day_called : ℕ → ℕ → Book → Call → Answer
 day_called kind phase b c = cond (is_kind kind) (day_made phase b c) (answer 14 b (lent_to c) (effect b c))
 
--- a refusal, and what a call answered, in plain numbers
+-- a refusal, what a call that is done answered, and what a call gave, in plain numbers
 abbrev pub refused_by : ℕ → DayState → DayTurned
 refused_by n h = record { refusal = n; count = 0; cancelled = 0; state = h }
 
 abbrev pub turned_of : Turn → DayTurned
-turned_of t = record { refusal = t.refusal; count = t.count; cancelled = t.cancelled; state = numbers_of t.state }
+turned_of t = record { refusal = 0; count = t.count; cancelled = t.cancelled; state = numbers_of t.state }
+
+abbrev pub given_of : DayState → Given → DayTurned
+given_of h (Ok t) = turned_of t
+given_of h (Err r) = refused_by (number_of r) h
 
 -- they are an answer's: a number that is no phase stays
 pub record CallIs (d : Answer) (phase : ℕ) (r : DayTurned) (after : Book) (words : List ℕ) : Type 0 where
@@ -38,10 +45,24 @@ pub record CallIs (d : Answer) (phase : ℕ) (r : DayTurned) (after : Book) (wor
   pub count : r.count ≡ d.count
   pub cancelled : r.cancelled ≡ d.cancelled
   pub book : after ≡ d.book
-  pub stage : r.state.phase ≡ cond (leb phase 2) (number_of d.book.state.phase) phase
+  pub stage : r.state.phase ≡ cond (leb phase 2) (stage_of d.book.state.phase) phase
   pub out : words ≡ d.out
 
--- an instruction of a kind, with roll's quotes and an output beside it, made on a host's book
+-- an instruction, with roll's quotes and an output beside it, made on the book of a host's numbers and columns, before and
+-- after
+abbrev pub Made : Instruction → List ℕ → DayState → Given → LentColumns → LentColumns → List ℕ → List ℕ → Type 0
+Made x quotes h r before after out out' =
+    let call = call_of x quotes out in
+    let t = given_of h r in
+    CallIs (beside call out (day_made h.phase (lent_book (state_in h) before) call)) h.phase t (lent_book (state_in t.state) after) out'
+
+-- one of a kind
+abbrev pub Called : ℕ → Instruction → List ℕ → DayState → DayTurned → LentColumns → LentColumns → List ℕ → List ℕ → Type 0
+Called kind x quotes h r before after out out' =
+    let call = call_of x quotes out in
+    CallIs (beside call out (day_called kind h.phase (lent_book (state_in h) before) call)) h.phase r (lent_book (state_in r.state) after) out'
+
+-- the same of columns that are lent one by one
 abbrev pub DayCalled : ℕ → Instruction → SharedColumn ℕ → Column ℕ → DayState → DayTurned → Columns → Type 0
 DayCalled kind x quotes out h r c =
     let call = call_of x quotes.entry.now out.entry.now in

@@ -1,6 +1,8 @@
 -- A host's book is a state in plain numbers and nine columns, of any length.
-use Rattle.std.specs.Prelude.{Bool, ◌&&◌, List, [], ◌∷◌, ℕ, zero, suc, leb, eqb, length}
+use Rattle.std.specs.Prelude.{◌≡◌, Bool, true, false, ◌&&◌, List, [], ◌∷◌, ℕ, zero, suc, leb, eqb, length, Result, Ok, Err}
 use Rattle.rules.specs.declared.Book.{Book}
+use Rattle.rules.specs.declared.Refusal.{Refusal}
+use Rattle.rules.specs.declared.Refusal.TheVariants.{Unsound}
 use Rattle.rules.specs.declared.Phase.{Phase}
 use Rattle.rules.specs.declared.Phase.TheVariants.{Taking, Settling, Cut}
 use Rattle.rules.specs.declared.State.{State}
@@ -54,3 +56,8 @@ holds phase b = leb phase 2 && lengths_right b
 -- question 2: else they are no sound book
 abbrev pub sound_at : ℕ → Book → Bool
 sound_at phase b = holds phase b && sound b
+
+-- the state of a host's book where it is sound, else the refusal by 2
+abbrev pub Held : DayState → Book → Result State Refusal → Type 0
+Held h b (Ok s) = (s ≡ state_in h) × (sound_at h.phase b ≡ true)
+Held h b (Err r) = (r ≡ Unsound) × (sound_at h.phase b ≡ false)

@@ -1,34 +1,31 @@
 // The nine calls of a tape on a host's book: any numbers, any columns.
 ghost use Rattle.std.specs.Prelude.{◌≡◌, []};
 ghost use Rattle.rules.specs.Questions.{first_no};
+ghost use Rattle.rules.specs.Refusals.{number_in};
 ghost use Rattle.rules.specs.Calls.{output_asks};
 ghost use Rattle.rules.specs.Run.{call_of};
-ghost use Rattle.book.specs.States.{columns};
+ghost use Rattle.columns.specs.Books.{SameColumns};
 ghost use Rattle.desk.specs.Fields.{instruction_of};
-ghost use Rattle.host.specs.Calls.{refused_by, turned_of, DayCalled};
+ghost use Rattle.host.specs.Calls.{refused_by, turned_of, Made, Called};
 
-use crate::{DayState, DayTurned, number_of, sound_at, state_in};
+use crate::{DayState, DayTurned, held, number_of};
 use answers::Turn;
+use columns::LentColumns;
 use desk::fields::{instruction_of, is_kind};
-use rules::{Instruction, OUTPUT_WORDS};
+use rules::{Instruction, OUTPUT_WORDS, Refusal};
 
-// Question 1, of deliver, cutoff and resolve: has the output at least 4,096 words? 1 where it has not.
-pub fn output_asks(x: Instruction, out: &[u32]) -> u32
-    ensures { result ≡ first_no (output_asks (call_of x [] out.now)) }
+// Question 1, of deliver, cutoff and resolve: has the output at least 4,096 words?
+pub fn output_asks(x: Instruction, out: &[u32]) -> Result<(), Refusal>
+    ensures { number_in result ≡ first_no (output_asks (call_of x [] out.now)) }
 {
     if OUTPUT_WORDS <= out.len() {
-        return 0;
+        return Ok(());
     }
     match x {
-        Instruction::Trade(_, _, _, _) => 0,
-        Instruction::Deliver(_, _, _) => 1,
-        Instruction::Resolve(_, _, _) => 1,
-        Instruction::PairOff(_, _) => 0,
-        Instruction::Close => 0,
-        Instruction::Cutoff => 1,
-        Instruction::Roll(_, _) => 0,
-        Instruction::Mark(_, _) => 0,
-        Instruction::Turn(_) => 0,
+        Instruction::Deliver(_, _, _) => Err(Refusal::Output),
+        Instruction::Resolve(_, _, _) => Err(Refusal::Output),
+        Instruction::Cutoff => Err(Refusal::Output),
+        _ => Ok(()),
     }
 }
 
@@ -44,7 +41,7 @@ pub fn refused(no: u32, state: DayState) -> DayTurned
     }
 }
 
-// What a call answered, in plain numbers.
+// What a call that is done answered, in plain numbers.
 fn turned(t: Turn) -> DayTurned
     ensures { result ≡ turned_of t }
 {
@@ -59,11 +56,27 @@ fn turned(t: Turn) -> DayTurned
         marks,
     };
     DayTurned {
-        refusal: t.refusal,
+        refusal: 0,
         count: t.count,
         cancelled: t.cancelled,
         state,
     }
+}
+
+// An instruction on a host's book: questions 1 and 2, and then the call.
+fn made(
+    x: Instruction,
+    quotes: &[u32],
+    state: DayState,
+    columns: &mut LentColumns,
+    out: &mut [u32],
+) -> Result<Turn, Refusal>
+    ensures done { Made x quotes.now state result columns.old columns.new out.old out.new }
+    ensures same { SameColumns columns.old columns.new }
+{
+    output_asks(x, out)?;
+    let s = held(state, columns::shared(columns))?;
+    running::answer(x, quotes, s, columns, out)
 }
 
 // The call of an instruction, with roll's quotes and an output beside it.
@@ -75,44 +88,18 @@ pub fn day_call(
     d: u32,
     quotes: &[u32],
     state: DayState,
-    nets: &mut [i32],
-    delivered: &mut [u32],
-    lifts: &mut [u32],
-    charges: &mut [i64],
-    issues: &mut [u8],
-    froms: &mut [u8],
-    tos: &mut [u8],
-    lots: &mut [u32],
-    days: &mut [u16],
+    columns: &mut LentColumns,
     out: &mut [u32],
 ) -> DayTurned
-    ensures { DayCalled kind (instruction_of kind a b c d) quotes out state result (columns nets delivered lifts charges issues froms tos lots days) }
+    ensures called { Called kind (instruction_of kind a b c d) quotes.now state result columns.old columns.new out.old out.new }
+    ensures same { SameColumns columns.old columns.new }
 {
     if !is_kind(kind) {
-        return refused(14, state);
+        return refused(Refusal::Word.number(), state);
     }
     let x = instruction_of(kind, a, b, c, d);
-    let no = output_asks(x, out);
-    if no != 0 {
-        return refused(no, state);
+    match made(x, quotes, state, columns, out) {
+        Ok(t) => turned(t),
+        Err(r) => refused(r.number(), state),
     }
-    let s = state_in(state);
-    if !sound_at(
-        state.phase,
-        s,
-        nets,
-        delivered,
-        lifts,
-        charges,
-        issues,
-        froms,
-        tos,
-        lots,
-        days,
-    ) {
-        return refused(2, state);
-    }
-    turned(running::answer(
-        x, quotes, s, nets, delivered, lifts, charges, issues, froms, tos, lots, days, out,
-    ))
 }

@@ -26,12 +26,15 @@ pub mod lifts;
 pub mod questions;
 
 ghost use Rattle.std.specs.Prelude.{◌≡◌};
-ghost use Rattle.book.specs.States.{shared_columns};
-ghost use Rattle.host.specs.States.{phase_of, number_of, state_in, sound_at};
+ghost use Rattle.columns.specs.Books.{shared_book};
+ghost use Rattle.host.specs.States.{phase_of, number_of, state_in, lengths_right, sound_at, Held};
 
-use rules::{ACCOUNT_COUNT, CELL_COUNT, ISSUE_COUNT, LIFT_CELLS, MOST_ENTRIES, Phase, State};
+use columns::SharedColumns;
+use rules::{
+    ACCOUNT_COUNT, CELL_COUNT, ISSUE_COUNT, LIFT_CELLS, MOST_ENTRIES, Phase, Refusal, State,
+};
 
-// A host's state: any numbers.
+// A host's state: any numbers. The C interface has its phase as a number.
 #[repr(C)]
 #[derive(Clone, Copy, Drop)]
 pub struct DayState {
@@ -43,7 +46,7 @@ pub struct DayState {
 }
 
 // What a call of a host gives: the refusal's number (0: done), the count of records (for pair-off, steps),
-// pair-off's lots cancelled, and the state after it.
+// pair-off's lots cancelled, and the state after it. It is returned by value to C, so that it is no Result.
 #[repr(C)]
 #[derive(Clone, Copy, Drop)]
 pub struct DayTurned {
@@ -83,35 +86,42 @@ pub fn state_in(h: DayState) -> State
     book::state_of(h.day, phase_of(h.phase), h.entries, h.turn, marks)
 }
 
+// Has each column the length of a book's?
+pub fn lengths_right(columns: SharedColumns) -> bool
+    ensures { (s : State) → result ≡ lengths_right (shared_book s columns.entry) }
+{
+    (columns.nets.len() == CELL_COUNT)
+        & (columns.delivered.len() == CELL_COUNT)
+        & (columns.lifts.len() == LIFT_CELLS)
+        & (columns.charges.len() == ACCOUNT_COUNT)
+        & (columns.issues.len() == MOST_ENTRIES)
+        & (columns.froms.len() == MOST_ENTRIES)
+        & (columns.tos.len() == MOST_ENTRIES)
+        & (columns.lots.len() == MOST_ENTRIES)
+        & (columns.days.len() == MOST_ENTRIES)
+}
+
 // Question 2 of a host's book, with the number of its phase: a number above 2 is no phase, and columns of other
 // lengths are no book's.
-pub fn sound_at<'a>(
-    phase: u32,
-    s: State,
-    nets: &'a [i32],
-    delivered: &'a [u32],
-    lifts: &'a [u32],
-    charges: &'a [i64],
-    issues: &'a [u8],
-    froms: &'a [u8],
-    tos: &'a [u8],
-    lots: &'a [u32],
-    days: &'a [u16],
-) -> bool
-    ensures { result ≡ sound_at phase ((shared_columns nets delivered lifts charges issues froms tos lots days).before s) }
+pub fn sound_at(phase: u32, s: State, columns: SharedColumns) -> bool
+    ensures { result ≡ sound_at phase (shared_book s columns.entry) }
 {
     if 2 < phase {
         return false;
     }
-    let cells = (nets.len() == CELL_COUNT) & (delivered.len() == CELL_COUNT);
-    let flat = (lifts.len() == LIFT_CELLS) & (charges.len() == ACCOUNT_COUNT);
-    let accounts = (issues.len() == MOST_ENTRIES)
-        & (froms.len() == MOST_ENTRIES)
-        & (tos.len() == MOST_ENTRIES);
-    if !(cells & flat & accounts & (lots.len() == MOST_ENTRIES) & (days.len() == MOST_ENTRIES)) {
+    if !lengths_right(columns) {
         return false;
     }
-    soundness::scan::sound_columns(
-        s, nets, delivered, lifts, charges, issues, froms, tos, lots, days,
-    )
+    soundness::scan::sound_columns(s, columns)
+}
+
+// The state of a host's book, if it is sound: else question 2 refuses it.
+pub fn held(state: DayState, columns: SharedColumns) -> Result<State, Refusal>
+    ensures { Held state (shared_book (state_in state) columns.entry) result }
+{
+    let s = state_in(state);
+    if sound_at(state.phase, s, columns) {
+        return Ok(s);
+    }
+    Err(Refusal::Unsound)
 }

@@ -1,190 +1,124 @@
-// The questions on a host's book, which change nothing: any numbers, any columns.
+// The questions on a host's book, which change nothing: any numbers, any columns. An answer goes to C as the refusal's
+// number, 0 where there is none, and as numbers beside it.
 ghost use Rattle.std.specs.Prelude.{◌≡◌};
 ghost use Rattle.rules.specs.Calls.{found_answer};
-ghost use Rattle.book.specs.States.{shared_columns};
+ghost use Rattle.columns.specs.Books.{shared_book};
 ghost use Rattle.told.specs.Status.{told_answer};
 ghost use Rattle.desks.specs.Simulation.{tried};
-ghost use Rattle.host.specs.States.{book_at};
+ghost use Rattle.host.specs.States.{state_in};
 ghost use Rattle.host.specs.Questions.{sound_number, UnitIs, day_unit, StatusIs, day_status, day_simulation};
 
-use crate::{DayState, sound_at, state_in};
-use rules::{Found, ISSUE_COUNT, LAST_ISSUE};
+use crate::{DayState, held, sound_at, state_in};
+use columns::SharedColumns;
+use rules::{ISSUE_COUNT, LAST_ISSUE, Refusal, Unit};
 use told::Told;
 
-// Is the book sound? 1 sound, 0 not.
-pub fn day_sound<'a>(
-    state: DayState,
-    nets: &'a [i32],
-    delivered: &'a [u32],
-    lifts: &'a [u32],
-    charges: &'a [i64],
-    issues: &'a [u8],
-    froms: &'a [u8],
-    tos: &'a [u8],
-    lots: &'a [u32],
-    days: &'a [u16],
-) -> u32
-    ensures { result ≡ sound_number state.phase (book_at state (shared_columns nets delivered lifts charges issues froms tos lots days)) }
+// Is the book sound? 1 sound, 0 not: the C interface has a number here.
+pub fn day_sound(state: DayState, columns: SharedColumns) -> u32
+    ensures { result ≡ sound_number state.phase (shared_book (state_in state) columns.entry) }
 {
-    let s = state_in(state);
-    if sound_at(
-        state.phase,
-        s,
-        nets,
-        delivered,
-        lifts,
-        charges,
-        issues,
-        froms,
-        tos,
-        lots,
-        days,
-    ) {
-        return 1;
+    match held(state, columns) {
+        Ok(_) => 1,
+        Err(_) => 0,
     }
-    0
 }
 
 // The unit question's answer in plain numbers: 1, account and lots, or three times 0.
-pub fn told(found: Found, answer: &mut [u32; 3]) -> u32
+pub fn told(found: Result<Option<Unit>, Refusal>, answer: &mut [u32; 3]) -> u32
     ensures { UnitIs (found_answer found) result answer.new }
 {
+    *answer = [0, 0, 0];
     match found {
-        Found::Unit(account, x) => {
-            *answer = [1, account, x];
+        Ok(Some(unit)) => {
+            *answer = [1, unit.account, unit.lots];
             0
         }
-        Found::Nothing => {
-            *answer = [0, 0, 0];
-            0
-        }
-        Found::Refused(no) => {
-            *answer = [0, 0, 0];
-            no
-        }
+        Ok(None) => 0,
+        Err(r) => r.number(),
     }
 }
 
-// The k-th unit of an issue, k from 0.
-pub fn day_unit<'a>(
+// The k-th unit of an issue, k from 0, if there is one.
+fn unit_at(
     state: DayState,
-    nets: &'a [i32],
-    delivered: &'a [u32],
-    lifts: &'a [u32],
-    charges: &'a [i64],
-    issues: &'a [u8],
-    froms: &'a [u8],
-    tos: &'a [u8],
-    lots: &'a [u32],
-    days: &'a [u16],
+    columns: SharedColumns,
+    issue: u32,
+    k: u32,
+) -> Result<Option<Unit>, Refusal>
+    ensures { found_answer result ≡ day_unit state.phase (shared_book (state_in state) columns.entry) issue k }
+{
+    let s = held(state, columns)?;
+    if LAST_ISSUE < issue {
+        return Err(Refusal::Issue);
+    }
+    let dealt = book::dealt_today(s);
+    let found = inquiry::unit_in(dealt, columns.nets, columns.lifts, issue as usize, k);
+    Ok(found)
+}
+
+// The same in plain numbers.
+pub fn day_unit(
+    state: DayState,
+    columns: SharedColumns,
     issue: u32,
     k: u32,
     answer: &mut [u32; 3],
 ) -> u32
-    ensures { UnitIs (day_unit state.phase (book_at state (shared_columns nets delivered lifts charges issues froms tos lots days)) issue k) result answer.new }
+    ensures { UnitIs (day_unit state.phase (shared_book (state_in state) columns.entry) issue k) result answer.new }
 {
-    let s = state_in(state);
-    if !sound_at(
-        state.phase,
-        s,
-        nets,
-        delivered,
-        lifts,
-        charges,
-        issues,
-        froms,
-        tos,
-        lots,
-        days,
-    ) {
-        return told(Found::Refused(2), answer);
-    }
-    if LAST_ISSUE < issue {
-        return told(Found::Refused(4), answer);
-    }
-    let found = inquiry::unit_in(book::dealt_today(s), nets, lifts, issue as usize, k);
-    told(found, answer)
+    told(unit_at(state, columns, issue, k), answer)
 }
 
 // What is told of a unit in plain numbers: the case and its lots, or twice 0.
-pub fn plain(told: Told, answer: &mut [u32; 2]) -> u32
+pub fn plain(told: Result<Told, Refusal>, answer: &mut [u32; 2]) -> u32
     ensures { StatusIs (told_answer told) result answer.new }
 {
+    *answer = match told {
+        Ok(Told::Handed) => [1, 0],
+        Ok(Told::Waiting(n)) => [2, n],
+        Ok(Told::PartlyFailed(x)) => [3, x],
+        Ok(Told::WhollyFailed) => [4, 0],
+        Err(_) => [0, 0],
+    };
     match told {
-        Told::Handed => {
-            *answer = [1, 0];
-            0
-        }
-        Told::Waiting(n) => {
-            *answer = [2, n];
-            0
-        }
-        Told::PartlyFailed(x) => {
-            *answer = [3, x];
-            0
-        }
-        Told::WhollyFailed => {
-            *answer = [4, 0];
-            0
-        }
-        Told::Refused(no) => {
-            *answer = [0, 0];
-            no
-        }
+        Ok(_) => 0,
+        Err(r) => r.number(),
     }
 }
 
 // What is told of unit k of an issue, k from 0.
-pub fn day_status<'a>(
+fn told_at(state: DayState, columns: SharedColumns, issue: u32, k: u32) -> Result<Told, Refusal>
+    ensures { told_answer result ≡ day_status state.phase (shared_book (state_in state) columns.entry) issue k }
+{
+    let s = held(state, columns)?;
+    let phase = s.phase;
+    status::status_in(
+        phase,
+        columns.nets,
+        columns.delivered,
+        columns.lifts,
+        issue,
+        k,
+    )
+}
+
+// The same in plain numbers.
+pub fn day_status(
     state: DayState,
-    nets: &'a [i32],
-    delivered: &'a [u32],
-    lifts: &'a [u32],
-    charges: &'a [i64],
-    issues: &'a [u8],
-    froms: &'a [u8],
-    tos: &'a [u8],
-    lots: &'a [u32],
-    days: &'a [u16],
+    columns: SharedColumns,
     issue: u32,
     k: u32,
     answer: &mut [u32; 2],
 ) -> u32
-    ensures { StatusIs (day_status state.phase (book_at state (shared_columns nets delivered lifts charges issues froms tos lots days)) issue k) result answer.new }
+    ensures { StatusIs (day_status state.phase (shared_book (state_in state) columns.entry) issue k) result answer.new }
 {
-    let s = state_in(state);
-    if !sound_at(
-        state.phase,
-        s,
-        nets,
-        delivered,
-        lifts,
-        charges,
-        issues,
-        froms,
-        tos,
-        lots,
-        days,
-    ) {
-        return plain(Told::Refused(2), answer);
-    }
-    let phase = s.phase;
-    let told = status::status_in(phase, nets, delivered, lifts, issue, k);
-    plain(told, answer)
+    plain(told_at(state, columns, issue, k), answer)
 }
 
 // How a simulated desk goes with units of this size: the refusal's number, 0 where it is done.
 pub fn day_simulate<'a>(
     state: DayState,
-    nets: &'a [i32],
-    delivered: &'a [u32],
-    lifts: &'a [u32],
-    charges: &'a [i64],
-    issues: &'a [u8],
-    froms: &'a [u8],
-    tos: &'a [u8],
-    lots: &'a [u32],
-    days: &'a [u16],
+    columns: SharedColumns,
     settles: &'a [u32],
     inventories: &'a [u32],
     size: u32,
@@ -192,33 +126,18 @@ pub fn day_simulate<'a>(
     rounds: &mut u64,
     owed: &mut [u32; ISSUE_COUNT],
 ) -> u32
-    ensures { tried result deliveries.new rounds.new owed.new ≡ day_simulation state.phase (book_at state (shared_columns nets delivered lifts charges issues froms tos lots days)) settles.now inventories.now size }
+    ensures { tried result deliveries.new rounds.new owed.new ≡ day_simulation state.phase (shared_book (state_in state) columns.entry) settles.now inventories.now size }
 {
     let s = state_in(state);
-    let good = sound_at(
-        state.phase,
-        s,
-        nets,
-        delivered,
-        lifts,
-        charges,
-        issues,
-        froms,
-        tos,
-        lots,
-        days,
-    );
-    let no = sizes::asks::refusal(good, settles, inventories, size);
-    let mut left = [0u32; ISSUE_COUNT];
-    if no != 0 {
-        *deliveries = 0;
-        *rounds = 0;
-        *owed = left;
-        return no;
+    let good = sound_at(state.phase, s, columns);
+    *deliveries = 0;
+    *rounds = 0;
+    *owed = [0; ISSUE_COUNT];
+    if let Err(r) = sizes::asks::simulation_asks(good, settles, inventories, size) {
+        return r.number();
     }
-    let t = sizes::simulate(nets, settles, inventories, size, &mut left);
+    let t = sizes::simulate(columns.nets, settles, inventories, size, owed);
     *deliveries = t.deliveries;
     *rounds = t.rounds;
-    *owed = left;
     0
 }

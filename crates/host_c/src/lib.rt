@@ -56,6 +56,8 @@ ghost use Rattle.host.specs.States.{book_at};
 ghost use Rattle.host.specs.Lifts.{AskIs, day_asked, DayCommitted};
 ghost use Rattle.host.specs.Questions.{sound_number, UnitIs, day_unit, StatusIs, day_status, day_simulation};
 
+use columns::{LentColumns, SharedColumns};
+use host::lifts::OtherColumns;
 use host::{DayState, DayTurned, calls, lifts, questions};
 use rules::ISSUE_COUNT;
 
@@ -82,10 +84,18 @@ pub extern "C" fn day_call(
 ) -> DayTurned
     ensures { DayCalled kind (instruction_of kind a b c d) quotes out state result (columns nets delivered lifts charges issues froms tos lots days) }
 {
-    calls::day_call(
-        kind, a, b, c, d, quotes, state, nets, delivered, lifts, charges, issues, froms, tos, lots,
-        days, out,
-    )
+    let mut columns = LentColumns {
+        nets,
+        delivered,
+        lifts,
+        charges,
+        issues,
+        froms,
+        tos,
+        lots,
+        days,
+    };
+    calls::day_call(kind, a, b, c, d, quotes, state, &mut columns, out)
 }
 
 // Asks for a unit of an issue.
@@ -107,9 +117,18 @@ pub extern "C" fn day_ask<'a>(
 ) -> u32
     ensures { AskIs (day_asked state.phase (book_at state (shared_columns nets delivered lifts charges issues froms tos lots days)) issue unit) result ticket.new }
 {
-    lifts::day_ask(
-        state, nets, delivered, lifts, charges, issues, froms, tos, lots, days, issue, unit, ticket,
-    )
+    let columns = SharedColumns {
+        nets,
+        delivered,
+        lifts,
+        charges,
+        issues,
+        froms,
+        tos,
+        lots,
+        days,
+    };
+    lifts::day_ask(state, columns, issue, unit, ticket)
 }
 
 // Commits a ticket: of the book only the lifts change, and the records go to the output.
@@ -131,9 +150,17 @@ pub extern "C" fn day_commit<'a>(
 ) -> u32
     ensures { DayCommitted state.phase (book_at state (lifting_columns nets delivered lifts charges issues froms tos lots days)) ticket.now out lifts result count }
 {
-    lifts::day_commit(
-        ticket, state, nets, delivered, lifts, charges, issues, froms, tos, lots, days, out, count,
-    )
+    let columns = OtherColumns {
+        nets,
+        delivered,
+        charges,
+        issues,
+        froms,
+        tos,
+        lots,
+        days,
+    };
+    lifts::day_commit(ticket, state, columns, lifts, out, count)
 }
 
 // Is the book sound? 1 sound, 0 not.
@@ -152,9 +179,18 @@ pub extern "C" fn day_sound<'a>(
 ) -> u32
     ensures { result ≡ sound_number state.phase (book_at state (shared_columns nets delivered lifts charges issues froms tos lots days)) }
 {
-    questions::day_sound(
-        state, nets, delivered, lifts, charges, issues, froms, tos, lots, days,
-    )
+    let columns = SharedColumns {
+        nets,
+        delivered,
+        lifts,
+        charges,
+        issues,
+        froms,
+        tos,
+        lots,
+        days,
+    };
+    questions::day_sound(state, columns)
 }
 
 // The k-th unit of an issue, k from 0.
@@ -176,9 +212,18 @@ pub extern "C" fn day_unit<'a>(
 ) -> u32
     ensures { UnitIs (day_unit state.phase (book_at state (shared_columns nets delivered lifts charges issues froms tos lots days)) issue k) result answer.new }
 {
-    questions::day_unit(
-        state, nets, delivered, lifts, charges, issues, froms, tos, lots, days, issue, k, answer,
-    )
+    let columns = SharedColumns {
+        nets,
+        delivered,
+        lifts,
+        charges,
+        issues,
+        froms,
+        tos,
+        lots,
+        days,
+    };
+    questions::day_unit(state, columns, issue, k, answer)
 }
 
 // What is told of unit k of an issue, k from 0.
@@ -200,9 +245,18 @@ pub extern "C" fn day_status<'a>(
 ) -> u32
     ensures { StatusIs (day_status state.phase (book_at state (shared_columns nets delivered lifts charges issues froms tos lots days)) issue k) result answer.new }
 {
-    questions::day_status(
-        state, nets, delivered, lifts, charges, issues, froms, tos, lots, days, issue, k, answer,
-    )
+    let columns = SharedColumns {
+        nets,
+        delivered,
+        lifts,
+        charges,
+        issues,
+        froms,
+        tos,
+        lots,
+        days,
+    };
+    questions::day_status(state, columns, issue, k, answer)
 }
 
 // How a simulated desk goes with units of this size: the refusal's number, 0 where it is done.
@@ -227,8 +281,7 @@ pub extern "C" fn day_simulate<'a>(
 ) -> u32
     ensures { tried result deliveries.new rounds.new owed.new ≡ day_simulation state.phase (book_at state (shared_columns nets delivered lifts charges issues froms tos lots days)) settles.now inventories.now size }
 {
-    questions::day_simulate(
-        state,
+    let columns = SharedColumns {
         nets,
         delivered,
         lifts,
@@ -238,6 +291,10 @@ pub extern "C" fn day_simulate<'a>(
         tos,
         lots,
         days,
+    };
+    questions::day_simulate(
+        state,
+        columns,
         settles,
         inventories,
         size,

@@ -1,24 +1,14 @@
 -- Bytes four at a time are words, and bytes moved to the front are those that stood further on.
-use mathlib.Core.Path.{◌≡◌, refl, sym, ap, subst, ◌∙◌}
-use mathlib.Core.Bool.{not, ◌&&◌}
+use mathlib.Core.Path.{◌≡◌, refl, sym, ap, ◌∙◌}
 use mathlib.Core.List.{List, [], ◌∷◌, ◌++◌, append_assoc, append-nil}
-use Prim.Native.Nat.{ℕ, suc, ◌+◌, ◌-◌, ◌*◌, ◌≤◌, ◌<◌}
+use Prim.Native.Nat.{ℕ, suc, ◌+◌, ◌*◌, ◌≤◌, ◌<◌}
 use native.Mathlib.Omega.{arith}
 use native.Mathlib.Numerals.{add-one}
-use borrow.Author.Tests.{le-ltb, eq-eqb, ne_eqb, eqb-true, eqb-false}
-use lib.Dec.{eqb}
-use lib.IntN.{ℤ, pos, negsuc}
-use lib.ListN.{length, get_or, set, take, drop, length-drop, length-append}
-use lib.Seq.{drop-cons, take-suc-set, length-take-le, take-append_seam, take-length, take-add}
-use lib.Signed.{lt_z}
-use mir.Syntax.{w64}
-use mir.Val.{SFits, to_z, of_z}
-use mir.ValLaws.{to_z-of_z}
-use Rattle.laws.proofs.Basics.{by_test}
-use Rattle.std.specs.Counts.{clamp_len}
-use Rattle.rules.specs.Bytes.{word_of, words_in, says_end, says_failed}
+use lib.ListN.{length, get_or, set, take, drop, length-drop}
+use lib.Seq.{drop-cons, take-suc-set, length-take-le, take-append_seam, take-add}
+use Rattle.rules.specs.Bytes.{word_of, words_in}
 use Rattle.input.specs.declared.Fill.{Fill}
-use Rattle.input.specs.Fed.{Took, Refilled}
+use Rattle.input.specs.Fed.{brought, Received, Refilled}
 
 pub words_none : (bytes : List ℕ) → length bytes < 4 → words_in bytes ≡ []
 words_none [] h = refl
@@ -63,44 +53,20 @@ decode_ends bytes words all n h q =
     ∙ ap (λ (l : List ℕ). take n words ++ l) (sym (words_none (drop (4 * n) bytes) (rw length-drop (omega arith))))
     ∙ q
 
--- bytes that were copied to the front stand there
-pub copied : (part tail all : List ℕ) (n : ℕ) → n ≡ length part → all ≡ part ++ tail → take n all ≡ part
-copied part tail all n e h = ap (take n) h ∙ ap (λ (k : ℕ). take k (part ++ tail)) e ∙ take-append_seam part tail
-
--- What a read answered
-
-clamped_le : (z : ℤ) (m : ℕ) → clamp_len z m ≤ m
-clamped_le (pos n) m = omega arith
-clamped_le (negsuc n) m = omega arith
-
--- the test of the sign, and of the bytes that came
-pub says_failed_lem : (z : ℤ) → SFits w64 z → lt_z (to_z w64 (of_z w64 z)) (pos 0) ≡ says_failed z
-says_failed_lem (pos n) f = rw (to_z-of_z w64 (pos n) f) (le-ltb n 0 (omega arith))
-says_failed_lem (negsuc n) f = rw (to_z-of_z w64 (negsuc n) f) refl
-
-pub says_end_lem : (z : ℤ) (n room : ℕ) → 0 < room → n ≡ clamp_len z room → (not (says_failed z) && eqb n 0) ≡ says_end z
-says_end_lem (pos k) n room h e =
-    by_test (eqb k 0)
-    (λ t. simp t (let z = eqb-true k 0 t in eq-eqb n 0 (omega arith)))
-    (λ t. simp t (ne_eqb n 0 (λ z. eqb-false k 0 t (omega arith))))
-says_end_lem (negsuc k) n room h e = refl
-
 -- bytes that came behind those that were kept
-pub refilled : (before shifted back : List ℕ) (start left room : ℕ) (said : ℤ) (r : Fill) → left ≤ length shifted →
-    length (take left shifted ++ back) ≡ length before → room ≡ length before - left →
-    take left shifted ≡ take left (drop start before) → Took said left room r → Refilled before (take left shifted ++ back) start left r
-refilled before shifted back start left room said r h l m k t₀ =
+pub refilled : (before shifted back : List ℕ) (start left room : ℕ) (r : Fill) → left ≤ length shifted →
+    length (take left shifted ++ back) ≡ length before → left + room ≡ length before →
+    take left shifted ≡ take left (drop start before) → Received left room r → Refilled before (take left shifted ++ back) start left r
+refilled before shifted back start left room r h l m k t =
     let after = take left shifted ++ back in
-    let t = subst (λ (j : ℕ). Took said left j r) m t₀ in
-    let n = clamp_len said (length before - left) in
-    let few = clamped_le said (length before - left) in
+    let n = brought t.said in
     let size = length-take-le left shifted h in
     let seam = ap (λ (j : ℕ). take j after) (sym size) ∙ take-append_seam (take left shifted) back in
     record {
-      said = said;
+      said = t.said;
       came = take n (drop left after);
-      took = t;
-      fits = omega (arith, t.end, few, size, length-append (take left shifted) back);
-      many = length-take-le n (drop left after) (omega (arith, length-drop left after, few));
-      filled = ap (λ (j : ℕ). take j after) t.end ∙ take-add left n after ∙ ap (λ (j : List ℕ). j ++ take n (drop left after)) (seam ∙ k);
+      took = t.took;
+      fits = omega (arith, t.took.end, t.within);
+      many = length-take-le n (drop left after) (omega (arith, length-drop left after, t.within));
+      filled = ap (λ (j : ℕ). take j after) t.took.end ∙ take-add left n after ∙ ap (λ (j : List ℕ). j ++ take n (drop left after)) (seam ∙ k);
     }

@@ -3,24 +3,40 @@
 #![tactic(auto)]
 
 ghost use Rattle.std.specs.Prelude.{◌≡◌, ◌++◌, ◌+◌, ◌-◌, ◌*◌, ◌≤◌, ◌<◌, ◌^◌, length, get_or, take, drop};
-ghost use Rattle.std.specs.Counts.{clamp_len};
 ghost use Rattle.rules.specs.Bytes.{word_of};
-ghost use Rattle.input.specs.Fed.{Decoded, Few, Took, Received, Refilled, Fed};
+ghost use Rattle.input.specs.Fed.{is_ended, is_failed, brought, Decoded, Few, Shifted, Took, Received, Refilled, Fed};
 
 use std::io::Read;
 
-// Where the bytes in the buffer end, whether the input has ended, and whether the read failed.
+// What a read says of the tape: more bytes came; it has ended; or it could not be read.
+#[derive(Clone, Copy, PartialEq, Eq, Drop)]
+pub enum Input {
+    More,
+    Ended,
+    Failed,
+}
+
+impl Input {
+    // Has the tape ended?
+    pub fn ended(self) -> bool
+        ensures { result ≡ is_ended self }
+    {
+        matches!(self, Input::Ended)
+    }
+
+    // Could it not be read?
+    pub fn failed(self) -> bool
+        ensures { result ≡ is_failed self }
+    {
+        matches!(self, Input::Failed)
+    }
+}
+
+// Where the bytes in the buffer end, and what the read said.
 #[derive(Clone, Copy, Drop)]
 pub struct Fill {
     pub end: usize,
-    pub done: bool,
-    pub failed: bool,
-}
-
-fn wide(x: u8) -> u32
-    ensures { (result ≡ x) × (result < 256) }
-{
-    x as u32
+    pub input: Input,
 }
 
 // The word of four bytes, the least first.
@@ -28,11 +44,7 @@ fn word(bytes: &[u8], at: usize) -> u32
     requires { at + 4 ≤ length bytes.now }
     ensures { result ≡ word_of (get_or bytes.now at 0) (get_or bytes.now (at + 1) 0) (get_or bytes.now (at + 2) 0) (get_or bytes.now (at + 3) 0) }
 {
-    let a = wide(bytes[at]);
-    let b = wide(bytes[at + 1]);
-    let c = wide(bytes[at + 2]);
-    let d = wide(bytes[at + 3]);
-    a + 256 * b + 65536 * c + 16777216 * d
+    u32::from_le_bytes([bytes[at], bytes[at + 1], bytes[at + 2], bytes[at + 3]])
 }
 
 // The whole words of some bytes; answers how many there are.
@@ -41,68 +53,48 @@ fn decode(bytes: &[u8], words: &mut [u32]) -> usize
     ensures { Decoded bytes.now words.new result }
 {
     let n = bytes.len() / 4;
-    let mut k = 0;
-    while k < n {
+    for k in 0..n {
         words[k] = word(bytes, 4 * k);
-        k += 1;
     }
     n
 }
 
-// The bytes of a part, copied to the front of others; answers how many.
-fn copy(part: &[u8], to: &mut [u8]) -> usize
-    requires { length part.now ≤ length to.old }
-    ensures { (result ≡ length part.now) × (to.new ≡ part.now ++ drop (length part.now) to.old) }
-{
-    let n = part.len();
-    to[..n].copy_from_slice(part);
-    n
-}
-
-// The bytes from `start` to `end`, fewer than thirty-three words and a stray, go to the front.
+// The bytes from `start` to `end` go to the front; answers how many they are.
 fn shift(buffer: &mut [u8], start: usize, end: usize) -> usize
     requires { Few start end buffer.old }
-    ensures { (result ≡ end - start) × (take (end - start) buffer.new ≡ take (end - start) (drop start buffer.old)) }
+    ensures { Shifted buffer.old buffer.new start result × (result ≡ end - start) }
 {
-    let mut kept = [0u8; 132];
-    let left = copy(&buffer[start..end], &mut kept);
-    copy(&kept[..left], buffer);
-    left
+    buffer.copy_within(start..end, 0);
+    end - start
 }
 
-// How many bytes a read that answered so brought, where there was room for so many: none if it failed.
-fn count(got: isize, room: usize) -> usize
-    ensures { result ≡ clamp_len got room }
+// What one read brought behind the bytes left: so many bytes, or none where it failed. There is room for a
+// byte, so 0 bytes are the end of the tape.
+fn took(got: Option<usize>, left: usize) -> Fill
+    requires { left + brought got < 2 ^ 64 }
+    ensures { Took got left result }
 {
-    if got < 0 {
-        return 0;
-    }
-    let n = got as usize;
-    if n < room { n } else { room }
-}
-
-// What a read answered: behind the bytes left come as many as it says. There is room for a byte, so an
-// answer of 0 is the end of the tape; a negative answer is a failure.
-fn took(got: isize, left: usize, room: &[u8]) -> Fill
-    requires { (0 < length room.now) × (left + length room.now < 2 ^ 64) }
-    ensures { Took got left (length room.now) result }
-{
-    let n = count(got, room.len());
-    let failed = got < 0;
-    let done = !failed & (n == 0);
-    Fill {
-        end: left + n,
-        done,
-        failed,
+    match got {
+        Some(0) => Fill {
+            end: left,
+            input: Input::Ended,
+        },
+        Some(n) => Fill {
+            end: left + n,
+            input: Input::More,
+        },
+        None => Fill {
+            end: left,
+            input: Input::Failed,
+        },
     }
 }
 
-// What one read answers: how many bytes it brought, or a negative number where it failed.
-fn read_once<R: Read>(reader: &mut R, room: &mut [u8]) -> isize {
-    match reader.read(room) {
-        Ok(n) => n as isize,
-        Err(_) => -1,
-    }
+// How many bytes one read brings, none where it fails.
+fn read_once<R: Read>(reader: &mut R, room: &mut [u8]) -> Option<usize>
+    ensures { brought result ≤ length room.old }
+{
+    reader.read(room).ok()
 }
 
 // One read fills the room behind the bytes left. That `took` is given what the read answered stands in no
@@ -111,7 +103,7 @@ fn receive<R: Read>(reader: &mut R, room: &mut [u8], left: usize) -> Fill
     requires { (0 < length room.old) × (left + length room.old < 2 ^ 64) }
     ensures { Received left (length room.old) result }
 {
-    took(read_once(reader, room), left, room)
+    took(read_once(reader, room), left)
 }
 
 // The bytes not yet used go to the front, and one read fills up behind them.
@@ -123,14 +115,12 @@ fn refill<R: Read>(reader: &mut R, buffer: &mut [u8], start: usize, end: usize) 
     receive(reader, &mut buffer[left..], left)
 }
 
-// The words in the buffer: how many, where their bytes end, and whether the input has ended or could not
-// be read.
+// The words in the buffer: how many, where their bytes end, and what the read said.
 #[derive(Clone, Copy, Drop)]
 pub struct Words {
     pub count: usize,
     pub end: usize,
-    pub done: bool,
-    pub failed: bool,
+    pub input: Input,
 }
 
 // The words of the bytes not yet used and of those that one more read gives.
@@ -150,7 +140,6 @@ pub fn next<R: Read>(
     Words {
         count,
         end: filled,
-        done: f.done,
-        failed: f.failed,
+        input: f.input,
     }
 }

@@ -1,35 +1,35 @@
-// The unit question of a sound book, in either order.
+// The unit question: of units in a lent array, and of a sound book in either order.
 #![tactic(auto)]
 
-ghost use Rattle.std.specs.Prelude.{◌≡◌, false, drop};
+ghost use Rattle.std.specs.Prelude.{◌≡◌, drop};
 ghost use Rattle.rules.specs.Book.{order_in};
-ghost use Rattle.runs.specs.Runs.{found_of, CanOrder};
+ghost use Rattle.runs.specs.Runs.{found_of, units_of_words, CanOrder};
 
-use handover::NextUnit;
-use rules::Found;
+use rules::Unit;
 use runs::RUN_COUNT;
 
-// The k-th unit of an issue in the order of old, from all nets and lifts.
-fn unit_of(nets: &[i32], lifts: &[u32], i: usize, k: u32) -> Found
-    requires { CanOrder nets.now lifts.now i }
-    ensures { result ≡ found_of (drop k (order_in false nets.now lifts.now i)) }
+// Unit k of the units that words stand for, k from 0, if there is one.
+pub fn unit_at(runs: &[u32], k: u32) -> Option<Unit>
+    ensures { result ≡ found_of (drop k (units_of_words runs.now)) }
 {
-    let mut runs = [0u32; RUN_COUNT];
-    let n = units::prepare(nets, lifts, i, &mut runs);
     let s = handover::seek(k);
-    let NextUnit::Unit(a, x, _) = handover::next_unit(&runs, n, s) else {
-        return Found::Nothing;
-    };
-    Found::Unit(a, x)
+    match handover::next_unit(runs, s) {
+        Some((unit, _)) => Some(unit),
+        None => None,
+    }
 }
 
-// The k-th unit of an issue, full units dealt in turn or not.
-pub fn unit_in(dealt: bool, nets: &[i32], lifts: &[u32], i: usize, k: u32) -> Found
+// The k-th unit of an issue, full units dealt in turn or not. Which it is, is a fact of the day that the definitions take
+// (`order_in`), and is told apart here.
+#[tactic(auto, unfolding(runs::specs::Runs::units_in))]
+pub fn unit_in(dealt: bool, nets: &[i32], lifts: &[u32], i: usize, k: u32) -> Option<Unit>
     requires { CanOrder nets.now lifts.now i }
     ensures { result ≡ found_of (drop k (order_in dealt nets.now lifts.now i)) }
 {
     if dealt {
         return dealing::unit(nets, lifts, i, k);
     }
-    unit_of(nets, lifts, i, k)
+    let mut runs = [0u32; RUN_COUNT];
+    let n = units::prepare(nets, lifts, i, &mut runs);
+    unit_at(&runs[..n], k)
 }

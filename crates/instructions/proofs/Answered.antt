@@ -1,5 +1,5 @@
 -- A roll's quotes are read out of its words, and what stands in the output changes no number, count or book.
-use mathlib.Core.Path.{◌≡◌, refl, ap, ◌∙◌}
+use mathlib.Core.Path.{◌≡◌, refl, sym, ap, subst, ◌∙◌}
 use mathlib.Core.Bool.{true}
 use mathlib.Core.List.{List}
 use Prim.Native.Nat.{ℕ, ◌≤◌}
@@ -9,15 +9,13 @@ use Rattle.rules.specs.declared.Book.{Book}
 use Rattle.rules.specs.declared.Instruction.{Instruction}
 use Rattle.rules.specs.declared.Instruction.TheVariants as instruction
 use Rattle.rules.specs.Measures.{output_words}
-use Rattle.rules.specs.Book.{sound}
 use Rattle.rules.specs.Calls.{Call, called}
 use Rattle.rules.specs.Tape.{quotes_of}
 use Rattle.rules.specs.Run.{call_of, any_output, answer_of}
-use Rattle.laws.proofs.Called.{Sizes, called_sound}
+use Rattle.tally.proofs.Reached.{Reached, called_reached}
 use Rattle.rereading.proofs.Rolls.{roll_quotes}
 use Rattle.rereading.proofs.Run.{answer_lent}
-use Rattle.answers.specs.declared.Turn.{Turn}
-use Rattle.answers.specs.Turns.{Gives}
+use Rattle.answers.specs.Turns.{Given, Gives}
 use Rattle.instructions.specs.Answering.{Begins, rolls_of, Quoted, AnsweredIn}
 
 -- a roll's quotes are read out of its words, and no other instruction has any
@@ -34,11 +32,11 @@ quoted ws lent quotes (instruction.PairOff i a) g h p = λ out. refl
 quoted ws lent quotes instruction.Close g h p = λ out. refl
 quoted ws lent quotes instruction.Cutoff g h p = λ out. refl
 
--- number, count and book are those of the run, which keeps the book sound
-module _ (b b' : Book) (t : Turn) (ws : List ℕ) (x : Instruction) (z : Sizes b) (h : sound b ≡ true) where
-  run_sound : b' ≡ (answer_of b x ws).book → sound b' ≡ true
+-- number, count and book are those of the run, which keeps the book sound and its columns' lengths
+module _ (b b' : Book) (t : Given) (ws : List ℕ) (x : Instruction) (h : Reached b) where
+  run_reached : b' ≡ (answer_of b x ws).book → Reached b'
   unfolding answer_of
-  run_sound e = ap sound e ∙ called_sound b (call_of x (quotes_of ws) any_output) z h
+  run_reached e = subst Reached (sym e) (called_reached b (call_of x (quotes_of ws) any_output) h)
 
   pub run_answer : (quotes out lent : List ℕ) → Quoted ws x quotes → output_words ≤ length out →
       Gives b (call_of x quotes out) t b' out lent → AnsweredIn ws x b t b'
@@ -49,5 +47,6 @@ module _ (b b' : Book) (t : Turn) (ws : List ℕ) (x : Instruction) (z : Sizes b
         refusal = i.refusal ∙ ap (λ (k : Call). (called b k).refusal) (p out) ∙ a.refusal;
         count = i.count ∙ ap (λ (k : Call). (called b k).count) (p out) ∙ a.count;
         book = e;
-        sound = run_sound e;
+        lengths = (run_reached e).lengths;
+        sound = (run_reached e).sound;
       }

@@ -1,18 +1,18 @@
 -- The answer to the instruction that some words begin with.
-use Rattle.std.specs.Prelude.{◌≡◌, Bool, true, false, List, ℕ}
+use Rattle.std.specs.Prelude.{◌≡◌, Bool, true, false, List, ℕ, Ok}
 use Rattle.rules.specs.declared.Book.{Book}
 use Rattle.rules.specs.declared.Instruction.{Instruction}
 use Rattle.rules.specs.declared.Instruction.TheVariants as instruction
-use Rattle.rules.specs.declared.Read.TheVariants.{Instr}
-use Rattle.rules.specs.Book.{sound}
+use Rattle.rules.specs.Book.{sound, Lengths}
 use Rattle.rules.specs.Tape.{read_of, quotes_of}
 use Rattle.rules.specs.Run.{call_of, answer_of}
-use Rattle.answers.specs.declared.Turn.{Turn}
+use Rattle.rules.specs.Refusals.{number_in}
+use Rattle.answers.specs.Turns.{Given, count_in}
 
 -- the words begin with an instruction
 pub record Begins (ws : List ℕ) (x : Instruction) : Type 0 where
   pub count : ℕ
-  pub read : read_of ws ≡ Instr x count
+  pub read : read_of ws ≡ Ok (x, count)
 
 -- an instruction that has quotes
 abbrev pub rolls_of : Instruction → Bool
@@ -30,9 +30,10 @@ rolls_of (instruction.Turn d) = false
 abbrev pub Quoted : List ℕ → Instruction → List ℕ → Type 0
 Quoted ws x quotes = (out : List ℕ) → call_of x quotes out ≡ call_of x (quotes_of ws) out
 
--- number, count and book are those of the run, and the book is sound
-pub record AnsweredIn (ws : List ℕ) (x : Instruction) (b : Book) (r : Turn) (b' : Book) : Type 0 where
-  pub refusal : r.refusal ≡ (answer_of b x ws).refusal
-  pub count : r.count ≡ (answer_of b x ws).count
+-- number, count and book are those of the run; the book is sound, and in columns of a book's lengths
+pub record AnsweredIn (ws : List ℕ) (x : Instruction) (b : Book) (r : Given) (b' : Book) : Type 0 where
+  pub refusal : number_in r ≡ (answer_of b x ws).refusal
+  pub count : count_in r ≡ (answer_of b x ws).count
   pub book : b' ≡ (answer_of b x ws).book
+  pub lengths : Lengths b'.nets b'.delivered b'.lifts b'.charges b'.issues b'.froms b'.tos b'.lots b'.days
   pub sound : sound b' ≡ true

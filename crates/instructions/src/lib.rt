@@ -3,27 +3,19 @@
 #![tactic(auto)]
 
 ghost use Rattle.std.specs.Prelude.{◌≡◌, length};
-ghost use Rattle.book.specs.States.{columns, ready};
+ghost use Rattle.columns.specs.Books.{lent_book, IsReady, SameColumns};
+ghost use Rattle.answers.specs.Turns.{state_after};
 ghost use Rattle.instructions.specs.Answering.{Begins, rolls_of, Quoted, AnsweredIn};
 
 use answers::Turn;
-use rules::{Instruction, QUOTE_COUNT, State};
+use columns::LentColumns;
+use rules::{Instruction, QUOTE_COUNT, Refusal, State};
 
 // Does the instruction have quotes?
 fn rolls(x: Instruction) -> bool
     ensures { result ≡ rolls_of x }
 {
-    match x {
-        Instruction::Trade(_, _, _, _) => false,
-        Instruction::Deliver(_, _, _) => false,
-        Instruction::Resolve(_, _, _) => false,
-        Instruction::PairOff(_, _) => false,
-        Instruction::Close => false,
-        Instruction::Cutoff => false,
-        Instruction::Roll(_, _) => true,
-        Instruction::Mark(_, _) => false,
-        Instruction::Turn(_) => false,
-    }
+    matches!(x, Instruction::Roll(_, _))
 }
 
 // A roll's quotes, from the words after its head.
@@ -41,23 +33,24 @@ pub fn answer(
     words: &[u32],
     x: Instruction,
     s: State,
-    nets: &mut [i32],
-    delivered: &mut [u32],
-    lifts: &mut [u32],
-    charges: &mut [i64],
-    issues: &mut [u8],
-    froms: &mut [u8],
-    tos: &mut [u8],
-    lots: &mut [u32],
-    days: &mut [u16],
+    columns: &mut LentColumns,
     out: &mut [u32],
-) -> Turn
-    requires { Begins words.now x × ready s nets delivered lifts charges issues froms tos lots days out }
-    ensures { let c = columns nets delivered lifts charges issues froms tos lots days in AnsweredIn words.now x (c.before s) result (c.after result.state) }
+) -> Result<Turn, Refusal>
+    requires { Begins words.now x × IsReady s columns.old out.old }
+    ensures done { AnsweredIn words.now x (lent_book s columns.old) result (lent_book (state_after s result) columns.new) }
+    ensures same { SameColumns columns.old columns.new }
 {
     let mut quotes = [0u32; QUOTE_COUNT];
     quotes_of(words, x, &mut quotes);
-    running::answer(
-        x, &quotes, s, nets, delivered, lifts, charges, issues, froms, tos, lots, days, out,
-    )
+    running::answer(x, &quotes, s, columns, out)
+}
+
+// The state after an answer: one that is refused leaves it as it was.
+pub fn state_after(s: State, answer: Result<Turn, Refusal>) -> State
+    ensures { result ≡ state_after s answer }
+{
+    match answer {
+        Ok(t) => t.state,
+        Err(_) => s,
+    }
 }

@@ -6,8 +6,8 @@ use native.Mathlib.Omega.{arith}
 use native.Mathlib.Nat.{suc-mul, mul_comm, mul-le-mul, div-add-mod'}
 use native.Mathlib.Numerals.{add-one}
 use lib.Dec.{ltb}
-use lib.ListN.{length, take, drop, get_or, set, length-map, length-append, length-drop, get_or-map}
-use lib.Seq.{take-suc, take-suc-set, take_all, take-append-add, drop-cons, drop-drop, drop-append-add, drop-append-le, length-take-le, get_or-take}
+use lib.ListN.{length, take, drop, get_or, length-map, length-append, length-drop, get_or-map}
+use lib.Seq.{take-take, take-suc, take_all, drop-cons, drop-drop, drop-append-add, drop-append-le, length-take-le, get_or-take}
 use borrow.Author.Tests.{lt-ltb, le-ltb, ltb-true, ltb-false}
 use Rattle.rules.specs.Measures.{Every, unit_lots}
 use Rattle.rules.specs.Units.{AccountLots, account_lots}
@@ -45,6 +45,28 @@ each_runs P runs (suc n) h ps =
     rw (runs_more runs n h)
     (each_append P (runs_in runs n) (part_of (get_or runs n 0) ∷ []) (each_runs P runs n (omega arith) (λ j l. ps j (omega arith)))
     (ps n (omega arith), tt))
+
+-- the first n runs lent as a list of their own
+pub lent_falling : (runs : List ℕ) (n : ℕ) → Falling runs n → Falling (take n runs) (length (take n runs))
+lent_falling runs n f =
+    let l = length-take-le n runs f.there in
+    record {
+      there = omega arith;
+      falls = λ i j p q. rw (get_or-take n runs j 0 (omega arith), get_or-take n runs i 0 (omega arith)) (f.falls i j p (omega arith));
+    }
+
+pub lent_narrowed : (runs : List ℕ) (n r w : ℕ) → n ≤ length runs → Narrowed (take n runs) (length (take n runs)) r w → Narrowed runs n r w
+lent_narrowed runs n r w h f =
+    let l = length-take-le n runs h in
+    let few : w ≤ n = omega (arith, f.few) in
+    let e : take (length (take n runs)) (take n runs) ≡ take n runs = take_all (length (take n runs)) (take n runs) (omega arith) in
+    let t : take w (take n runs) ≡ take w runs = take-take w n runs few in
+    record {
+      few = few;
+      rest = λ s p. rw (e, t) at (f.rest s p);
+      all = rw t at f.all;
+      some = λ p. rw (get_or-take n runs (w - 1) 0 (omega arith)) at (f.some p);
+    }
 
 -- the last run takes no part
 pub narrow_less : (runs : List ℕ) (w v r : ℕ) → w ≡ suc v → w ≤ length runs → get_or runs v 0 / 6400000 ≤ r →
@@ -317,12 +339,6 @@ module _ (runs : List ℕ) (n m : ℕ) (d : Deal) (can : CanStep runs n m d) whe
 
 -- Units put out as words
 
-pub out_next : (out : List ℕ) (j w : ℕ) (us vs all : List AccountLots) → j < length out → map part_of (take j out) ++ us ≡ all →
-    us ≡ part_of w ∷ vs → map part_of (take (j + 1) (set out j w)) ++ vs ≡ all
-out_next out j w us vs all h p e =
-    rw (add-one, take-suc-set out j w h, map-append)
-    (append_assoc (map part_of (take j out)) (part_of w ∷ []) vs ∙ ap (λ l. map part_of (take j out) ++ l) (sym e) ∙ p)
-
 pub out_left : (out : List ℕ) (j k : ℕ) (us all : List AccountLots) → j < length out → map part_of (take j out) ++ us ≡ drop k all →
     k + length out ≤ length all → 0 < length us
 out_left out j k us all h p g =
@@ -334,10 +350,3 @@ out_left out j k us all h p g =
       length-take-le j out (omega arith),
       length-drop k all,
     )
-
-pub out_end : (out : List ℕ) (j : ℕ) (us all : List AccountLots) → j ≡ length out → map part_of (take j out) ++ us ≡ all →
-    map part_of out ≡ take (length out) all
-out_end out j us all e p =
-    let q : take j out ≡ out = take_all j out (omega arith) in
-    let l : length out ≡ length (map part_of out) + 0 = omega (arith, length-map out part_of) in
-    sym (ap (take (length out)) (sym p) ∙ rw q (ap (λ i. take i (map part_of out ++ us)) l ∙ take-append-add (map part_of out) us 0 ∙ append-nil (map part_of out)))

@@ -26,30 +26,28 @@ pub struct Dealt {
     pub next: Deal,
 }
 
-// Of the first n runs, those with more than r full units.
-fn narrow(runs: &[u32], n: usize, r: u32) -> usize
-    requires { Falling runs.now n }
-    ensures { Narrowed runs.now n r result }
+// How many of the runs, those in front, have more than r full units.
+fn narrow(runs: &[u32], r: u32) -> usize
+    requires { Falling runs.now (length runs.now) }
+    ensures { Narrowed runs.now (length runs.now) r result }
 {
-    let mut w = n;
-    while 0 < w {
-        if r < runs[w - 1] / UNIT_WORD {
-            return w;
+    for last in (0..runs.len()).rev() {
+        if r < runs[last] / UNIT_WORD {
+            return last + 1;
         }
-        w -= 1;
     }
-    w
+    0
 }
 
 // The place in front of unit k, k from 0. The same runs take part in round after round until the least of
-// them has no unit left: so many rounds are passed at once.
-pub fn seat(runs: &[u32], n: usize, m: usize, k: u32) -> Deal
-    requires { CanDeal runs.now n m }
-    ensures { (drop k (dealt_runs runs.now n m) ≡ dealt_from runs.now n m result) × Seated runs.now m result × SeatAt runs.now m k result }
+// them has no unit left: so many rounds are passed at once, so no range counts the turns of the loop.
+pub fn seat(runs: &[u32], m: usize, k: u32) -> Deal
+    requires { CanDeal runs.now (length runs.now) m }
+    ensures { (drop k (dealt_runs runs.now (length runs.now) m) ≡ dealt_from runs.now (length runs.now) m result) × Seated runs.now m result × SeatAt runs.now m k result }
 {
     let mut left = k;
     let mut r: u32 = 0;
-    let mut w = narrow(runs, m, 0);
+    let mut w = narrow(&runs[..m], 0);
     while 0 < w {
         let v = w as u32;
         let c = runs[w - 1] / UNIT_WORD - r;
@@ -63,7 +61,7 @@ pub fn seat(runs: &[u32], n: usize, m: usize, k: u32) -> Deal
         }
         left -= b;
         r += c;
-        w = narrow(runs, w, r);
+        w = narrow(&runs[..w], r);
     }
     Deal {
         round: r,
@@ -73,9 +71,9 @@ pub fn seat(runs: &[u32], n: usize, m: usize, k: u32) -> Deal
 }
 
 // The unit behind a place, and the place behind it.
-fn step(runs: &[u32], n: usize, m: usize, d: Deal) -> Dealt
-    requires { CanStep runs.now n m d }
-    ensures { Stepped runs.now n m d result }
+fn step(runs: &[u32], m: usize, d: Deal) -> Dealt
+    requires { CanStep runs.now (length runs.now) m d }
+    ensures { Stepped runs.now (length runs.now) m d result }
 {
     let at = d.at;
     let w = d.wide;
@@ -100,7 +98,7 @@ fn step(runs: &[u32], n: usize, m: usize, d: Deal) -> Dealt
         };
         return Dealt { word, next };
     }
-    let v = narrow(runs, w, r + 1);
+    let v = narrow(&runs[..w], r + 1);
     let next = Deal {
         round: r + 1,
         wide: v,
@@ -110,16 +108,14 @@ fn step(runs: &[u32], n: usize, m: usize, d: Deal) -> Dealt
 }
 
 // The units from unit k on, as many as there are places lent for, a word each.
-pub fn deal_out(runs: &[u32], n: usize, m: usize, k: u32, out: &mut [u32])
-    requires { CanDeal runs.now n m × (k + length out.old ≤ length (dealt_runs runs.now n m)) }
-    ensures { map part_of out.new ≡ take (length out.old) (drop k (dealt_runs runs.now n m)) }
+pub fn deal_out(runs: &[u32], m: usize, k: u32, out: &mut [u32])
+    requires { CanDeal runs.now (length runs.now) m × (k + length out.old ≤ length (dealt_runs runs.now (length runs.now) m)) }
+    ensures { map part_of out.new ≡ take (length out.old) (drop k (dealt_runs runs.now (length runs.now) m)) }
 {
-    let mut d = seat(runs, n, m, k);
-    let mut j = 0;
-    while j < out.len() {
-        let s = step(runs, n, m, d);
-        out[j] = s.word;
+    let mut d = seat(runs, m, k);
+    for word in out {
+        let s = step(runs, m, d);
+        *word = s.word;
         d = s.next;
-        j += 1;
     }
 }

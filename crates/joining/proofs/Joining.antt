@@ -1,20 +1,19 @@
 -- Steps along the runs.
-use mathlib.Core.Path.{◌≡◌, refl, ap, ◌∙◌}
-use mathlib.Core.List.{List, [], ◌∷◌}
+use mathlib.Core.Path.{◌≡◌, ap}
+use mathlib.Core.List.{List, [], ◌∷◌, map}
 use Prim.Native.Nat.{ℕ, zero, suc, ◌+◌, ◌-◌, ◌*◌, ◌/◌, ◌%◌, ◌≤◌, ◌<◌}
 use native.Mathlib.Omega.{arith}
 use native.Mathlib.Nat.{div-mul-le_self, mul-le-mul_right}
 use lib.Dec.{leb, eqb}
-use lib.ListN.{length, get_or, set, drop, length-set}
+use lib.ListN.{length, get_or, set, drop}
 use lib.Seq.{get_or-set_same, get_or-set_other}
 use borrow.Author.Tests.{leb-true, leb-false, eqb-true, eqb-false}
 use Rattle.rules.specs.Measures.{sum}
-use Rattle.rules.specs.Units.{AccountLots}
 use Rattle.rules.specs.Book.{row, delivered_total}
 use Rattle.laws.proofs.Basics.{by_test}
 use Rattle.laws.proofs.Cells.{get_or_row}
-use Rattle.runs.specs.Runs.{runs_in}
-use Rattle.runs.proofs.Loops.{runs_at_lem, runs_end}
+use Rattle.runs.specs.Runs.{part_of}
+use Rattle.std.proofs.lemmas.List.{at_drop_more}
 use Rattle.joining.specs.Runs.{handed_of, added_at, joined_runs}
 use Rattle.simulation.proofs.Leaps.{div_grows}
 
@@ -41,21 +40,13 @@ handed_rest size lots e =
     (λ t. simp t (omega (arith, leb-true lots e t)))
     (λ t. simp t (omega (arith, leb-false lots e t, div-mul-le_self e size)))
 
-module _ (settles : List ℕ) (size i : ℕ) (runs : List ℕ) (n j : ℕ) (l : n ≤ length runs) where
-  pub join_step : (b e : ℕ) (v : List ℕ) → j < n →
-      let lots = get_or runs j 0 / 64 in
-      joined_runs settles size i (drop j (runs_in runs n)) b e v
-      ≡ joined_runs settles size i (drop (j + 1) (runs_in runs n)) (b - lots) (e - lots)
-      (added_at v i (get_or settles (get_or runs j 0 % 64) 0) (handed_of size lots e - handed_of size lots b))
-  join_step b e v h =
-      let lots = get_or runs j 0 / 64 in
-      let q : suc j ≡ j + 1 = omega arith in
-      ap (λ us. joined_runs settles size i us b e v) (runs_at_lem runs n j l h)
-      ∙ ap (λ k. joined_runs settles size i (drop k (runs_in runs n)) (b - lots) (e - lots)
-      (added_at v i (get_or settles (get_or runs j 0 % 64) 0) (handed_of size lots e - handed_of size lots b))) q
-
-  pub join_end : (b e : ℕ) (v : List ℕ) → n ≤ j → joined_runs settles size i (drop j (runs_in runs n)) b e v ≡ v
-  join_end b e v h = ap (λ us. joined_runs settles size i us b e v) (runs_end runs n j l h)
+-- a run more
+pub join_step : (settles : List ℕ) (size i : ℕ) (runs : List ℕ) (j b e : ℕ) (v : List ℕ) → j < length runs →
+    let lots = get_or runs j 0 / 64 in
+    joined_runs settles size i (map part_of (drop j runs)) b e v
+    ≡ joined_runs settles size i (map part_of (drop (j + 1) runs)) (b - lots) (e - lots)
+    (added_at v i (get_or settles (get_or runs j 0 % 64) 0) (handed_of size lots e - handed_of size lots b))
+join_step settles size i runs j b e v h = at_drop_more (λ ks. joined_runs settles size i (map part_of ks) b e v) runs j 0 h
 
 -- inventories stay small
 pub added_small : (v : List ℕ) (k g e r : ℕ) → k < length v → ((c : ℕ) → get_or v c 0 + e < 4294967296) → g + r ≤ e →
@@ -84,12 +75,3 @@ one_of (x ∷ xs) (suc c) = omega (arith, one_of xs c)
 
 pub cell_total : (l : List ℕ) (i a : ℕ) → a < 64 → get_or l (i * 64 + a) 0 ≤ delivered_total l i
 cell_total l i a h = omega (arith, one_of (row i l) a, get_or_row l i a 0 h)
-
--- joining changes no length
-pub length_joined : (settles : List ℕ) (size i : ℕ) (us : List AccountLots) (b e : ℕ) (v : List ℕ) →
-    length (joined_runs settles size i us b e v) ≡ length v
-length_joined settles size i [] b e v = refl
-length_joined settles size i (u ∷ us) b e v =
-    let k = i * 16 + get_or settles u.account 0 in
-    let x = handed_of size u.lots e - handed_of size u.lots b in
-    length_joined settles size i us (b - u.lots) (e - u.lots) (set v k (get_or v k 0 + x)) ∙ length-set v k (get_or v k 0 + x)

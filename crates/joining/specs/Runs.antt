@@ -1,5 +1,5 @@
 -- What a delivery hands on, run by run.
-use Rattle.std.specs.Prelude.{◌≡◌, cond, List, [], ◌∷◌, ℕ, ◌+◌, ◌-◌, ◌*◌, ◌/◌, ◌≤◌, ◌<◌, leb, length, get_or}
+use Rattle.std.specs.Prelude.{◌≡◌, cond, List, [], ◌∷◌, ℕ, ◌+◌, ◌-◌, ◌*◌, ◌/◌, ◌<◌, leb, length, get_or}
 use Rattle.rules.specs.Units.{AccountLots}
 use Rattle.desks.specs.Desk.{inventory_at, with_inventory}
 
@@ -17,9 +17,8 @@ joined_runs settles size i (u ∷ us) b e inventories =
     joined_runs settles size i us (b - u.lots) (e - u.lots)
     (added_at inventories i (get_or settles u.account 0) (handed_of size u.lots e - handed_of size u.lots b))
 
--- runs in a lent array, settlement accounts and inventories that a delivery can be joined to
-pub record CanJoin (runs : List ℕ) (n size : ℕ) (settles : List ℕ) (i d x : ℕ) (inventories : List ℕ) : Type 0 where
-  pub there : n ≤ length runs
+-- settlement accounts and inventories that a delivery can be joined to
+pub record CanJoin (size : ℕ) (settles : List ℕ) (i d x : ℕ) (inventories : List ℕ) : Type 0 where
   pub some : 0 < size
   pub accounts : length settles ≡ 64
   pub settled : (a : ℕ) → get_or settles a 0 < 16

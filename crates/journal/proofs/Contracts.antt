@@ -1,7 +1,7 @@
 -- From the contracts alone: what a caller learns of `day_journal_call` or `day_journal_commit`, and then of `day_journal_read`
 -- on the 36 words written and whatever follows them, is that what was written is read. The arguments a and what is lent of
 -- them at exit, e, stand in the order of the function's parameters.
-use mathlib.Core.Path.{◌≡◌, sym, ap, ◌∙◌}
+use mathlib.Core.Path.{◌≡◌, ap, ◌∙◌}
 use mathlib.Core.List.{List, ◌++◌}
 use Prim.Native.Nat.{ℕ}
 use contract.Lifetimes.{Lfts}

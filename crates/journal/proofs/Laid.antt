@@ -5,7 +5,7 @@ use Prim.Native.Nat.{ℕ, suc, ◌+◌, ◌-◌, ◌≤◌, ◌<◌, ◌/◌, �
 use native.Mathlib.Numerals.{add-one}
 use native.Mathlib.Omega.{arith}
 use lib.ListN.{length, get_or, set, take, drop, replicate, length-append, length-replicate}
-use lib.Seq.{sets, sets-eq, drop-cons, take_at, drop-set-lt, set_at, length-take-le, length-sets, append_snoc}
+use lib.Seq.{sets, sets-eq, drop-cons, take_at, drop-set-lt, set_at, length-take-le, append_snoc}
 use Rattle.rules.specs.Measures.{tape_words}
 use Rattle.rules.specs.Records.{over}
 use Rattle.checksums.specs.Sums.{word_size, weighted}

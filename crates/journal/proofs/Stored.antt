@@ -1,22 +1,21 @@
 -- What is answered to a record that is to be written.
-use mathlib.Core.Path.{◌≡◌, refl, sym, ap, ◌∙◌}
-use mathlib.Core.Bool.{true, false}
-use mathlib.Core.List.{List, [], ◌∷◌, ◌++◌}
-use Prim.Native.Nat.{ℕ, suc, ◌+◌, ◌-◌, ◌≤◌, ◌<◌}
+use mathlib.Core.Path.{◌≡◌, refl, ap, ◌∙◌}
+use mathlib.Core.Bool.{Bool, true, false, cond}
+use Rattle.std.specs.Prelude.{Some, None}
+use mathlib.Core.List.{List, ◌∷◌, ◌++◌}
+use Prim.Native.Nat.{ℕ, ◌-◌, ◌≤◌, ◌<◌}
 use native.Mathlib.Omega.{arith}
 use borrow.Author.Tests.{le-leb, lt-leb}
-use lib.ListN.{length, take, drop, length-take, length-drop, take-append-drop}
+use lib.ListN.{length, take, drop, length-drop, take-append-drop}
 use lib.Seq.{sets, length-sets}
 use Rattle.rules.specs.declared.Instruction.{Instruction}
-use Rattle.rules.specs.declared.Written.{Written}
 use Rattle.rules.specs.Measures.{tape_words}
 use Rattle.rules.specs.Records.{over}
-use Rattle.rules.specs.Tape.{words_of, fields_fit, write_of}
+use Rattle.rules.specs.Tape.{words_of, fields_fit, WriteAnswer, write_of}
 use Rattle.laws.proofs.Basics.{by_test}
 use Rattle.words.proofs.Stores.{part_length, part_over}
-use Rattle.writing.specs.Answers.{WriteAnswerIs}
 use Rattle.desk.specs.Fields.{is_kind}
-use Rattle.journals.specs.Record.{record_words, told_of, committed, ticket_words, ticket_in, commit_word, padded, closed, record_of}
+use Rattle.journals.specs.Record.{record_words, ticket_words, ticket_in, commit_word, padded, closed, record_of}
 use Rattle.journals.proofs.Parts.{words_count}
 use Rattle.journals.proofs.Back.{words_told}
 use Rattle.journal.specs.Written.{call_noted, commit_noted, NotedIs, Begun}
@@ -37,6 +36,15 @@ module _ (n : ℕ) (ticket out : List ℕ) where
   commit_done mid lent h m e =
       rw (le-leb record_words (length out) h)
       (record { reason = refl; out = over_stored n words out lent (omega arith) h (e ∙ ap (λ l. over (closed (n ∷ padded (take 7 (drop 1 l)))) l) m) })
+
+-- whether numbers have an instruction
+pub no_instruction : (b : Bool) (x : Instruction) → None ≡ cond b (Some x) None → b ≡ false
+no_instruction true x e = let z : ◌≡◌ {A = ℕ} 0 1 = cc in absurd (omega arith)
+no_instruction false x e = refl
+
+pub an_instruction : (b : Bool) (x y : Instruction) → Some y ≡ cond b (Some x) None → (b ≡ true) × (y ≡ x)
+an_instruction true x y e = (refl, cc)
+an_instruction false x y e = let z : ◌≡◌ {A = ℕ} 0 1 = cc in absurd (omega arith)
 
 -- an instruction
 module _ (n kind : ℕ) (x : Instruction) (quotes out : List ℕ) where
@@ -60,28 +68,28 @@ module _ (n kind : ℕ) (x : Instruction) (quotes out : List ℕ) where
     roomy = omega (arith, part_length out 1, h)
 
     -- by whether the fields fit
-    module _ (r : Written) (ys : List ℕ) (w : WriteAnswerIs (write_of x quotes part) r ys) where
-      fit_no : fields_fit x quotes ≡ false → (r.refusal ≡ 15) × (ys ≡ part)
+    module _ (r m : ℕ) (ys : List ℕ) (w : record { refusal = r; count = m; out = ys } ≡ write_of x quotes part) where
+      fit_no : fields_fit x quotes ≡ false → (r ≡ 15) × (ys ≡ part)
       unfolding write_of
       fit_no f =
-          let v : WriteAnswerIs (record { refusal = 15; count = 0; out = part }) r ys = rw (le-leb tape_words (length part) roomy, f) at w in
-          (v.refusal, v.out)
+          let v : record { refusal = r; count = m; out = ys } ≡ record { refusal = 15; count = 0; out = part } = rw (le-leb tape_words (length part) roomy, f) at w in
+          (ap (λ (a : WriteAnswer). a.refusal) v, ap (λ (a : WriteAnswer). a.out) v)
 
-      fit_yes : fields_fit x quotes ≡ true → (r.refusal ≡ 0) × (r.count ≡ length (words_of x quotes)) × (ys ≡ over (words_of x quotes) part)
+      fit_yes : fields_fit x quotes ≡ true → (r ≡ 0) × (m ≡ length (words_of x quotes)) × (ys ≡ over (words_of x quotes) part)
       unfolding write_of
       fit_yes f =
-          let v : WriteAnswerIs (record { refusal = 0; count = length (words_of x quotes); out = over (words_of x quotes) part }) r ys =
+          let v : record { refusal = r; count = m; out = ys } ≡ record { refusal = 0; count = length (words_of x quotes); out = over (words_of x quotes) part } =
           rw (le-leb tape_words (length part) roomy, f) at w in
-          (v.refusal, v.count, v.out)
+          (ap (λ (a : WriteAnswer). a.refusal) v, ap (λ (a : WriteAnswer). a.count) v, ap (λ (a : WriteAnswer). a.out) v)
 
-      fits : r.refusal ≡ 0 → fields_fit x quotes ≡ true
+      fits : r ≡ 0 → fields_fit x quotes ≡ true
       fits z = by_test (fields_fit x quotes) (λ t. t) (λ t. absurd (omega (arith, z, (fit_no t).0)))
 
-      not_fits : (r.refusal ≡ 0 → ⊥) → fields_fit x quotes ≡ false
+      not_fits : (r ≡ 0 → ⊥) → fields_fit x quotes ≡ false
       not_fits z = by_test (fields_fit x quotes) (λ t. absurd (z (fit_yes t).0)) (λ t. t)
 
       -- a refusal left it as it was
-      pub call_refused : is_kind kind ≡ true → (r.refusal ≡ 0 → ⊥) → NotedIs (call_noted n kind x quotes out) 4 (whole ys)
+      pub call_refused : is_kind kind ≡ true → (r ≡ 0 → ⊥) → NotedIs (call_noted n kind x quotes out) 4 (whole ys)
       unfolding call_noted
       call_refused k z =
           let f = not_fits z in
@@ -95,12 +103,12 @@ module _ (n kind : ℕ) (x : Instruction) (quotes out : List ℕ) where
           })
 
       -- else the words stand there, to be finished
-      call_stands : r.refusal ≡ 0 → whole ys ≡ sets out 1 (words_of x quotes)
+      call_stands : r ≡ 0 → whole ys ≡ sets out 1 (words_of x quotes)
       call_stands z =
           let f = fits z in
           part_over out ys (words_of x quotes) 1 (omega (arith, words_count x quotes f, h)) (fit_yes f).2
 
-      pub call_begun : r.refusal ≡ 0 → Begun r.count (whole ys)
+      pub call_begun : r ≡ 0 → Begun m (whole ys)
       call_begun z =
           let f = fits z in
           let c = words_count x quotes f in
@@ -109,8 +117,8 @@ module _ (n kind : ℕ) (x : Instruction) (quotes out : List ℕ) where
             room = omega (arith, h, ap length (call_stands z), length-sets out 1 (words_of x quotes));
           }
 
-      pub call_done : (lent : List ℕ) → is_kind kind ≡ true → r.refusal ≡ 0 →
-          lent ≡ over (closed (n ∷ padded (take r.count (drop 1 (whole ys))))) (whole ys) → NotedIs (call_noted n kind x quotes out) 0 lent
+      pub call_done : (lent : List ℕ) → is_kind kind ≡ true → r ≡ 0 →
+          lent ≡ over (closed (n ∷ padded (take m (drop 1 (whole ys))))) (whole ys) → NotedIs (call_noted n kind x quotes out) 0 lent
       unfolding call_noted record_of
       call_done lent k z e =
           let f = fits z in

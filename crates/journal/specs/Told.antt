@@ -1,10 +1,12 @@
 -- What stands at the front of the rest of a journal, in plain numbers.
-use Rattle.std.specs.Prelude.{◌≡◌, List, [], ◌∷◌, ℕ, get_or, replicate}
+use Rattle.std.specs.Prelude.{Option, option_map, [], ◌∷◌, ℕ, get_or, replicate}
 use Rattle.rules.specs.declared.Instruction.{Instruction}
 use Rattle.desk.specs.Fields.{fields_of}
 use Rattle.journals.specs.Record.{Logged, instructed, committed, commit_kind, ticket_words}
 use Rattle.journals.specs.Journal.{Next, call, none, torn, damaged}
 use Rattle.journal.specs.declared.Journalled.{Journalled}
+use Rattle.journal.specs.declared.reading.Unread.{Unread}
+use Rattle.journal.specs.declared.reading.Unread.TheVariants as unread
 
 -- no call: a reason, and 0 for every other number
 abbrev pub nothing_for : ℕ → Journalled
@@ -25,10 +27,9 @@ abbrev pub plain_of : Logged → Journalled
 plain_of (instructed x quotes) = instruction_as x
 plain_of (committed t) = record { reason = 0; kind = commit_kind; numbers = ticket_words t }
 
--- a call that is read, or a reason
-abbrev pub told_or : ℕ → List Logged → Journalled
-told_or reason [] = nothing_for reason
-told_or reason (c ∷ cs) = plain_of c
+-- a call that is read
+abbrev pub told_in : Option Logged → Option Journalled
+told_in = option_map plain_of
 
 -- 1 no word is left, 2 torn, 3 damaged
 abbrev pub reason_of : Next → ℕ
@@ -42,3 +43,9 @@ journalled (call c) = plain_of c
 journalled none = nothing_for (reason_of none)
 journalled torn = nothing_for (reason_of torn)
 journalled damaged = nothing_for (reason_of damaged)
+
+-- why no call is read
+abbrev pub as_next : Unread → Next
+as_next unread.Ended = none
+as_next unread.Torn = torn
+as_next unread.Damaged = damaged

@@ -1,11 +1,13 @@
 -- A record written to a lent output.
-use Rattle.std.specs.Prelude.{◌≡◌, ◌&&◌, List, [], ◌∷◌, ℕ, zero, suc, ◌≤◌, length}
+use Rattle.std.specs.Prelude.{◌≡◌, Result, Ok, Err, ◌&&◌, List, [], ◌∷◌, ℕ, zero, suc, ◌≤◌, length}
 use Rattle.rules.specs.declared.Instruction.{Instruction}
 use Rattle.rules.specs.Measures.{tape_words}
 use Rattle.rules.specs.Records.{over}
 use Rattle.rules.specs.Questions.{ask, first_no, ask_output}
 use Rattle.rules.specs.Tape.{fields_fit}
 use Rattle.desk.specs.Fields.{is_kind}
+use Rattle.journal.specs.declared.noting.Unnoted.{Unnoted}
+use Rattle.journal.specs.declared.noting.Unnoted.TheVariants as unnoted
 use Rattle.journals.specs.Record.{record_words, told_of, committed, ticket_in, record_of}
 
 -- what is answered: 0 where it is done, and the output's words
@@ -31,6 +33,15 @@ commit_noted n ticket out = noted (first_no (ask_output record_words out ∷ [])
 pub record NotedIs (d : Noted) (r : ℕ) (lent : List ℕ) : Type 0 where
   pub reason : r ≡ d.reason
   pub out : lent ≡ d.out
+
+-- why no record is written, by number; and the number of an answer of the code, 0 where it is done
+abbrev pub number_of : Unnoted → ℕ
+number_of unnoted.Short = 1
+number_of unnoted.Unfit = 4
+
+abbrev pub number_in : Result (Unit {0}) Unnoted → ℕ
+number_in (Ok u) = 0
+number_in (Err r) = number_of r
 
 -- there is room for a record, with a call's words in it behind the number's place
 pub record Begun (count : ℕ) (out : List ℕ) : Type 0 where

@@ -7,7 +7,8 @@
 pub mod noting;
 pub mod reading;
 
-// What reading answers: the reason, 0 where a record is read; its kind and numbers, 0 where none is.
+// What reading answers: the reason, 0 where a record is read; its kind and numbers, 0 where none is. It is returned by
+// value to C, so that the reason is a number with the others beside it, and no Result.
 #[repr(C)]
 #[derive(Clone, Copy, Drop)]
 pub struct Journalled {

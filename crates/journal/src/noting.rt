@@ -4,20 +4,49 @@ ghost use Rattle.std.proofs.lemmas.List.Edits.{sets};
 ghost use Rattle.rules.specs.Records.{over};
 ghost use Rattle.desk.specs.Fields.{instruction_of};
 ghost use Rattle.journals.specs.Record.{record_words, summed_words, commit_word, ticket_words, ticket_in, padded, closed};
-ghost use Rattle.journal.specs.Written.{call_noted, commit_noted, NotedIs, Begun};
+ghost use Rattle.journal.specs.Written.{number_of, number_in, call_noted, commit_noted, NotedIs, Begun};
 
-use desk::fields::{instruction_of, is_kind};
-use rules::Instruction;
+use desk::fields::instruction_at;
+
+// Why no record is written.
+#[derive(Clone, Copy, PartialEq, Eq, Drop)]
+pub enum Unnoted {
+    // the output has fewer than 36 words
+    Short,
+    // the kind is none of an instruction's, or a number does not fit
+    Unfit,
+}
+
+impl Unnoted {
+    // its number for a host
+    fn number(self) -> u32
+        ensures { result ≡ number_of self }
+    {
+        match self {
+            Unnoted::Short => 1,
+            Unnoted::Unfit => 4,
+        }
+    }
+}
+
+// The number of an answer, 0 where it is done: the C interface has a number here.
+fn number_in(answer: Result<(), Unnoted>) -> u32
+    ensures { result ≡ number_in answer }
+{
+    match answer {
+        Ok(_) => 0,
+        Err(no) => no.number(),
+    }
+}
 
 // Zeros from a place of a record on, up to its checksum.
+#[tactic(auto, using(crate::proofs::Laid::zero_more, crate::proofs::Laid::zeros_end))]
 fn clear(out: &mut [u32], from: usize)
     requires { record_words ≤ length out.old }
     ensures { out.new ≡ sets out.old from (replicate (summed_words - from) 0) }
 {
-    let mut at = from;
-    while at < 34 {
+    for at in from..34 {
         out[at] = 0;
-        at += 1;
     }
 }
 
@@ -34,7 +63,8 @@ fn finish(number: u32, count: usize, out: &mut [u32])
     out[35] = (sum / 4294967296) as u32;
 }
 
-// The words of a commit behind the place of the number.
+// The words of a commit behind the place of the number: a word of kind 15, then the ticket's six numbers, stored place by
+// place, as a host in C lays them out.
 fn put_commit(ticket: &[u32; 6], out: &mut [u32])
     requires { record_words ≤ length out.old }
     ensures { out.new ≡ sets out.old 1 (commit_word ∷ ticket_words (ticket_in ticket.now)) }
@@ -49,6 +79,44 @@ fn put_commit(ticket: &[u32; 6], out: &mut [u32])
 }
 
 // The record of an instruction.
+fn note_call(
+    number: u32,
+    kind: u32,
+    a: u32,
+    b: u32,
+    c: u32,
+    d: u32,
+    quotes: &[u32],
+    out: &mut [u32],
+) -> Result<(), Unnoted>
+    ensures { NotedIs (call_noted number kind (instruction_of kind a b c d) quotes.now out.old) (number_in result) out.new }
+{
+    if out.len() < 36 {
+        return Err(Unnoted::Short);
+    }
+    let Some(x) = instruction_at(kind, a, b, c, d) else {
+        return Err(Unnoted::Unfit);
+    };
+    let Ok(count) = tape::write(x, quotes, &mut out[1..]) else {
+        return Err(Unnoted::Unfit);
+    };
+    finish(number, count, out);
+    Ok(())
+}
+
+// The record of a ticket's commit.
+fn note_commit(number: u32, ticket: &[u32; 6], out: &mut [u32]) -> Result<(), Unnoted>
+    ensures { NotedIs (commit_noted number ticket.now out.old) (number_in result) out.new }
+{
+    if out.len() < 36 {
+        return Err(Unnoted::Short);
+    }
+    put_commit(ticket, out);
+    finish(number, 7, out);
+    Ok(())
+}
+
+// The record of an instruction, and the number of what is answered.
 pub fn day_journal_call(
     number: u32,
     kind: u32,
@@ -61,29 +129,12 @@ pub fn day_journal_call(
 ) -> u32
     ensures { NotedIs (call_noted number kind (instruction_of kind a b c d) quotes.now out.old) result out.new }
 {
-    if out.len() < 36 {
-        return 1;
-    }
-    if !is_kind(kind) {
-        return 4;
-    }
-    let x = instruction_of(kind, a, b, c, d);
-    let r = tape::write(x, quotes, &mut out[1..]);
-    if r.refusal != 0 {
-        return 4;
-    }
-    finish(number, r.count, out);
-    0
+    number_in(note_call(number, kind, a, b, c, d, quotes, out))
 }
 
-// The record of a ticket's commit.
+// The record of a ticket's commit, and the number of what is answered.
 pub fn day_journal_commit(number: u32, ticket: &[u32; 6], out: &mut [u32]) -> u32
     ensures { NotedIs (commit_noted number ticket.now out.old) result out.new }
 {
-    if out.len() < 36 {
-        return 1;
-    }
-    put_commit(ticket, out);
-    finish(number, 7, out);
-    0
+    number_in(note_commit(number, ticket, out))
 }

@@ -3,36 +3,54 @@ ghost use Rattle.std.specs.Prelude.{◌≡◌, ◌&&◌, ◌≤◌, eqb, length,
 ghost use Rattle.rules.specs.Measures.{tape_words};
 ghost use Rattle.rules.specs.Book.{all, is_zero};
 ghost use Rattle.rules.specs.Tape.{read_of};
-ghost use Rattle.journals.specs.Record.{record_words, summed_words, checks, ticket_told, instruction_told, call_in};
+ghost use Rattle.journals.specs.Record.{record_words, summed_words, checks, ticket_told, instruction_told, call_in, read_record};
 ghost use Rattle.journals.specs.Journal.{unread, read_next};
-ghost use Rattle.journal.specs.Told.{nothing_for, instruction_as, told_or, reason_of, journalled};
+ghost use Rattle.journal.specs.Told.{instruction_as, told_in, as_next, journalled};
 
 use crate::Journalled;
 use desk::fields::fields;
-use rules::{Instruction, Read};
+use rules::Instruction;
 
-// No call, for a reason.
-fn nothing(reason: u32) -> Journalled
-    ensures { result ≡ nothing_for reason }
-{
-    Journalled {
-        reason,
-        kind: 0,
-        numbers: [0; 6],
-    }
+// Why no call is read.
+#[derive(Clone, Copy, PartialEq, Eq, Drop)]
+pub enum Unread {
+    // no word is left
+    Ended,
+    // a record is not whole or wrong, and nothing stands behind it
+    Torn,
+    // a record is wrong, and something stands behind it
+    Damaged,
 }
 
-// Why no call is read, by how many words are left.
-fn reason_of(left: usize) -> u32
-    ensures { result ≡ reason_of (unread left) }
-{
-    if left == 0 {
-        return 1;
+impl Unread {
+    // Why none is, by how many words are left.
+    fn of(left: usize) -> Unread
+        ensures { as_next result ≡ unread left }
+    {
+        if left == 0 {
+            return Unread::Ended;
+        }
+        if left <= 36 {
+            return Unread::Torn;
+        }
+        Unread::Damaged
     }
-    if left <= 36 {
-        return 2;
+
+    // No call, for this reason.
+    fn told(self) -> Journalled
+        ensures { result ≡ journalled (as_next self) }
+    {
+        let reason = match self {
+            Unread::Ended => 1,
+            Unread::Torn => 2,
+            Unread::Damaged => 3,
+        };
+        Journalled {
+            reason,
+            kind: 0,
+            numbers: [0; 6],
+        }
     }
-    3
 }
 
 // Has the record its number and its checksum?
@@ -49,12 +67,10 @@ fn is_sealed(number: u32, words: &[u32]) -> bool
 fn blank(words: &[u32], from: usize) -> bool
     ensures { result ≡ all is_zero (drop from words.now) }
 {
-    let mut at = from;
-    while at < words.len() {
+    for at in from..words.len() {
         if words[at] != 0 {
             return false;
         }
-        at += 1;
     }
     true
 }
@@ -72,56 +88,68 @@ fn instruction_as(x: Instruction) -> Journalled
 }
 
 // The instruction of a record's words, with nothing but zeros behind it.
-fn instruction_in(words: &[u32], reason: u32) -> Journalled
-    ensures { result ≡ told_or reason (instruction_told (read_of words.now) words.now) }
+fn instruction_in(words: &[u32]) -> Option<Journalled>
+    ensures { result ≡ told_in (instruction_told (read_of words.now) words.now) }
 {
     match tape::read(words) {
-        Read::Instr(x, n) => {
+        Ok((x, n)) => {
             if !blank(words, n) {
-                return nothing(reason);
+                return None;
             }
-            instruction_as(x)
+            Some(instruction_as(x))
         }
-        Read::Refused(no) => nothing(reason),
+        Err(_) => None,
     }
 }
 
 // The commit of a record's words, with nothing but zeros behind it.
-fn commit_in(words: &[u32], reason: u32) -> Journalled
+fn commit_in(words: &[u32]) -> Option<Journalled>
     requires { length words.now ≡ tape_words }
-    ensures { result ≡ told_or reason (ticket_told words.now) }
+    ensures { result ≡ told_in (ticket_told words.now) }
 {
     if !blank(words, 7) {
-        return nothing(reason);
+        return None;
     }
-    Journalled {
+    Some(Journalled {
         reason: 0,
         kind: 15,
         numbers: [words[1], words[2], words[3], words[4], words[5], words[6]],
-    }
+    })
 }
 
 // The call of a record's words.
-fn call_in(words: &[u32], reason: u32) -> Journalled
+#[tactic(auto, unfolding(journals::specs::Record::call_in))]
+fn call_in(words: &[u32]) -> Option<Journalled>
     requires { length words.now ≡ tape_words }
-    ensures { result ≡ told_or reason (call_in words.now) }
+    ensures { result ≡ told_in (call_in words.now) }
 {
     if words[0] == 4026531840 {
-        return commit_in(words, reason);
+        return commit_in(words);
     }
-    instruction_in(words, reason)
+    instruction_in(words)
+}
+
+// The call of the record with this number, at the front of the rest of a journal.
+#[tactic(auto, unfolding(journals::specs::Record::read_record))]
+fn record_in(number: u32, words: &[u32]) -> Option<Journalled>
+    ensures { result ≡ told_in (read_record number words.now) }
+{
+    if words.len() < 36 {
+        return None;
+    }
+    if !is_sealed(number, words) {
+        return None;
+    }
+    call_in(&words[1..34])
 }
 
 // The record with this number, at the front of the rest of a journal.
+#[tactic(auto, unfolding(journals::specs::Journal::read_next))]
 pub fn day_journal_read(number: u32, words: &[u32]) -> Journalled
     ensures { result ≡ journalled (read_next number words.now) }
 {
-    let reason = reason_of(words.len());
-    if words.len() < 36 {
-        return nothing(reason);
+    match record_in(number, words) {
+        Some(call) => call,
+        None => Unread::of(words.len()).told(),
     }
-    if !is_sealed(number, words) {
-        return nothing(reason);
-    }
-    call_in(&words[1..34], reason)
 }

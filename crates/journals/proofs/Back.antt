@@ -1,18 +1,17 @@
 -- Read is written: the words that are read as a record are exactly those written for its call, and a journal that is read
 -- whole is the journal of its calls.
-use mathlib.Core.Path.{◌≡◌, refl, sym, ap, subst, ◌∙◌}
+use mathlib.Core.Path.{◌≡◌, refl, sym, ap, ◌∙◌}
 use mathlib.Core.Bool.{Bool, true, false, cond, ◌&&◌}
-use mathlib.Core.List.{List, [], ◌∷◌, ◌++◌, head-eq_of_cons-eq, nil≢cons}
-use Prim.Native.Nat.{ℕ, zero, suc, ◌+◌, ◌-◌, ◌*◌, ◌/◌, ◌%◌, ◌^◌, ◌≤◌, ◌<◌}
+use mathlib.Core.List.{List, [], ◌∷◌, ◌++◌}
+use Prim.Native.Nat.{ℕ, zero, suc, ◌+◌, ◌-◌, ◌*◌, ◌/◌, ◌%◌, ◌≤◌, ◌<◌}
 use native.Mathlib.Omega.{arith}
 use borrow.Author.Tests.{eqb-true, leb-true, ltb-true, ltb-false}
 use lib.Dec.{leb, ltb, eqb}
 use lib.ListN.{length, get_or, take, drop, replicate, length-drop, length-take, take-append-drop, get_or-eq_default}
-use lib.Seq.{length-take-le, get_or-take, get_or-drop, drop-cons, take-add, take_all}
+use lib.Seq.{length-take-le, get_or-take, get_or-drop, drop-cons, take-add}
 use Rattle.rules.specs.declared.Instruction.{Instruction}
 use Rattle.rules.specs.declared.Instruction.TheVariants.{Trade, Deliver, Resolve, PairOff, Close, Cutoff, Roll, Mark, Turn}
-use Rattle.rules.specs.declared.Read.{Read}
-use Rattle.rules.specs.declared.Read.TheVariants.{Instr, Refused}
+use Rattle.std.specs.Prelude.{Option, Some, None, Result, Ok, Err}
 use Rattle.rules.specs.Measures.{tape_words}
 use Rattle.rules.specs.Book.{all, is_zero}
 use Rattle.rules.specs.Tape.{read_of, quotes_of, words_of}
@@ -20,15 +19,18 @@ use Rattle.laws.proofs.Basics.{by_test, and_left, and_right}
 use Rattle.rereading.proofs.Sized.{read_sized}
 use Rattle.rereading.proofs.Back.{Words, read_is_written}
 use Rattle.checksums.specs.Sums.{word_size, weighted}
-use Rattle.journals.specs.Record.{record_words, summed_words, Logged, quotes_for, told_of, commit_word, commit_words, ticket_words, ticket_in, call_words, padded, closed, record_of, checks, ticket_told, instruction_told, call_in, call_part, read_record}
-use Rattle.journals.specs.Journal.{journal_from, journal_of, Next, call, none, torn, damaged, unread, next_of, read_next, Ending, Journal, ended, goes_on, whole, read_from, read_journal}
+use Rattle.journals.specs.Record.{record_words, summed_words, Logged, quotes_for, commit_word, commit_words, ticket_words, ticket_in, call_words, padded, closed, record_of, checks, ticket_told, instruction_told, call_in, call_part, read_record}
+use Rattle.journals.specs.Journal.{journal_from, journal_of, Next, call, none, torn, damaged, next_of, read_next, Journal, goes_on, whole, read_from, read_journal}
 use Rattle.journals.proofs.Checked.{Summed, is_summed}
 use Rattle.journals.proofs.There.{unread_call}
 
 -- what is told where a test holds
-told_if : {A : Type 0} (b : Bool) (xs : List A) (c : A) (ds : List A) → cond b xs [] ≡ c ∷ ds → (b ≡ true) × (xs ≡ c ∷ ds)
-told_if true xs c ds e = (refl, e)
-told_if false xs c ds e = absurd (nil≢cons e)
+told_if : {A : Type 0} (b : Bool) (x : Option A) (c : A) → cond b x None ≡ Some c → (b ≡ true) × (x ≡ Some c)
+told_if true x c e = (refl, e)
+told_if false x c e = absurd cc
+
+some_back : {A : Type 0} {x y : A} → Some x ≡ Some y → y ≡ x
+some_back e = cc
 
 zeros : (ws : List ℕ) → all is_zero ws ≡ true → ws ≡ replicate (length ws) 0
 zeros [] e = refl
@@ -67,24 +69,24 @@ words_told (Roll days rate) quotes = refl
 words_told (Mark i m) quotes = refl
 words_told (Turn d) quotes = refl
 
-module _ (ps : List ℕ) (h : length ps ≡ tape_words) (b : Words ps) (c : Logged) (ds : List Logged) where
-  ticket_back : eqb (get_or ps 0 0) commit_word ≡ true → ticket_told ps ≡ c ∷ ds → padded (call_words c) ≡ ps
+module _ (ps : List ℕ) (h : length ps ≡ tape_words) (b : Words ps) (c : Logged) where
+  ticket_back : eqb (get_or ps 0 0) commit_word ≡ true → ticket_told ps ≡ Some c → padded (call_words c) ≡ ps
   ticket_back t e =
-      let r = told_if (all is_zero (drop commit_words ps)) _ c ds e in
-      ap (λ d. padded (call_words d)) (sym (head-eq_of_cons-eq r.1))
+      let r = told_if (all is_zero (drop commit_words ps)) _ c e in
+      ap (λ d. padded (call_words d)) (some_back r.1)
       ∙ ap (λ w. padded (w ∷ ticket_words (ticket_in (drop 1 ps)))) (sym (eqb-true (get_or ps 0 0) commit_word t))
       ∙ ap padded (seven ps h) ∙ pad_back commit_words ps h (omega arith) r.0
 
-  instruction_back : (q : Read) → read_of ps ≡ q → instruction_told q ps ≡ c ∷ ds → padded (call_words c) ≡ ps
-  instruction_back (Instr x n) p e =
-      let r = told_if (all is_zero (drop n ps)) _ c ds e in
+  instruction_back : (q : Result (Instruction × ℕ) ℕ) → read_of ps ≡ q → instruction_told q ps ≡ Some c → padded (call_words c) ≡ ps
+  instruction_back (Ok (x, n)) p e =
+      let r = told_if (all is_zero (drop n ps)) _ c e in
       let s = read_sized ps x n p in
-      ap (λ d. padded (call_words d)) (sym (head-eq_of_cons-eq r.1))
+      ap (λ d. padded (call_words d)) (some_back r.1)
       ∙ ap padded (words_told x (quotes_of ps) ∙ sym (read_is_written ps x n b p))
       ∙ pad_back n ps h (omega arith) r.0
-  instruction_back (Refused n) p e = absurd (nil≢cons e)
+  instruction_back (Err n) p e = absurd cc
 
-  pub call_back : call_in ps ≡ c ∷ ds → padded (call_words c) ≡ ps
+  pub call_back : call_in ps ≡ Some c → padded (call_words c) ≡ ps
   unfolding call_in
   call_back e =
       by_test (eqb (get_or ps 0 0) commit_word)
@@ -125,16 +127,16 @@ closed_back n ws h b s =
     ∙ ap (λ t. take n ws ++ t) (sym (two_behind n ws h)) ∙ sym (take-add n 2 ws)
 
 -- the words that are read as a record
-module _ (n : ℕ) (ws : List ℕ) (c : Logged) (ds : List Logged) (b : Words ws) (e : read_record n ws ≡ c ∷ ds) where
+module _ (n : ℕ) (ws : List ℕ) (c : Logged) (b : Words ws) (e : read_record n ws ≡ Some c) where
   abbrev whole? : Bool
   whole? = leb record_words (length ws)
 
   abbrev numbered? : Bool
   numbered? = eqb (get_or ws 0 0) n
 
-  told : (whole? && numbered? && checks summed_words ws ≡ true) × (call_in (call_part ws) ≡ c ∷ ds)
+  told : (whole? && numbered? && checks summed_words ws ≡ true) × (call_in (call_part ws) ≡ Some c)
   unfolding read_record
-  told = told_if (whole? && numbered? && checks summed_words ws) (call_in (call_part ws)) c ds e
+  told = told_if (whole? && numbered? && checks summed_words ws) (call_in (call_part ws)) c e
 
   pub has_words : record_words ≤ length ws
   has_words =
@@ -149,25 +151,25 @@ module _ (n : ℕ) (ws : List ℕ) (c : Logged) (ds : List Logged) (b : Words ws
   pub record_back : record_of n c ≡ take record_words ws
   unfolding record_of
   record_back =
-      let p = call_back (call_part ws) (part_length ws has_words) (words_part ws b) c ds told.1 in
+      let p = call_back (call_part ws) (part_length ws has_words) (words_part ws b) c told.1 in
       ap (λ l. closed (n ∷ l)) p ∙ ap (λ m. closed (m ∷ call_part ws)) (sym has_number)
       ∙ ap closed (sym (first_body ws has_words)) ∙ closed_back summed_words ws has_words b has_sum
 
 -- Record by record
 
-next_back : (cs : List Logged) (left : ℕ) (c : Logged) → next_of cs left ≡ call c → (ds : List Logged) × (cs ≡ c ∷ ds)
-next_back [] left c e = absurd (unread_call left c e)
-next_back (d ∷ ds) left c e = (ds, ap (λ x. x ∷ ds) cc)
+next_back : (q : Option Logged) (left : ℕ) (c : Logged) → next_of q left ≡ call c → q ≡ Some c
+next_back None left c e = absurd (unread_call left c e)
+next_back (Some d) left c e = ap Some cc
 
 -- nothing is read where no word is left
-nothing : (cs : List Logged) (left : ℕ) → next_of cs left ≡ none → left ≡ 0
-nothing [] left e =
+nothing : (q : Option Logged) (left : ℕ) → next_of q left ≡ none → left ≡ 0
+nothing None left e =
     by_test (eqb left 0) (λ t. eqb-true left 0 t)
     (λ t.
     by_test (leb left record_words)
     (λ u. let z : ◌≡◌ {A = Next} torn none = rw (t, u) at e in absurd (let o : ◌≡◌ {A = ℕ} 0 1 = cc in omega arith))
     (λ u. let z : ◌≡◌ {A = Next} damaged none = rw (t, u) at e in absurd (let o : ◌≡◌ {A = ℕ} 0 1 = cc in omega arith)))
-nothing (d ∷ ds) left e = absurd (let o : ◌≡◌ {A = ℕ} 0 1 = cc in omega arith)
+nothing (Some d) left e = absurd (let o : ◌≡◌ {A = ℕ} 0 1 = cc in omega arith)
 
 no_words : (ws : List ℕ) → length ws ≡ 0 → [] ≡ ws
 no_words [] h = refl
@@ -183,8 +185,8 @@ one_back : (n : ℕ) (ws : List ℕ) → Words ws → (r : Next) (j : Journal) �
 unfolding read_next
 one_back n ws b (call c) j p f e =
     let q = next_back (read_record n ws) (length ws) c p in
-    ap (λ l. l ++ journal_from (suc n) j.calls) (record_back n ws c q.0 b q.1)
-    ∙ ap (λ l. take record_words ws ++ l) (f (has_words n ws c q.0 b q.1) e) ∙ take-append-drop record_words ws
+    ap (λ l. l ++ journal_from (suc n) j.calls) (record_back n ws c b q)
+    ∙ ap (λ l. take record_words ws ++ l) (f (has_words n ws c b q) e) ∙ take-append-drop record_words ws
 one_back n ws b none j p f e = no_words ws (nothing (read_record n ws) (length ws) p)
 one_back n ws b torn j p f e = absurd (let o : ◌≡◌ {A = ℕ} 0 1 = cc in omega arith)
 one_back n ws b damaged j p f e = absurd (let o : ◌≡◌ {A = ℕ} 0 1 = cc in omega arith)

@@ -1,8 +1,8 @@
 -- The parts of a record: its number, the words of its call, its checksum.
-use mathlib.Core.Path.{◌≡◌, refl, sym, ap, ◌∙◌}
+use mathlib.Core.Path.{◌≡◌, refl, ap, ◌∙◌}
 use mathlib.Core.Bool.{true}
 use mathlib.Core.List.{List, [], ◌∷◌, ◌++◌, append_assoc}
-use Prim.Native.Nat.{ℕ, suc, ◌+◌, ◌-◌, ◌*◌, ◌/◌, ◌%◌, ◌≤◌}
+use Prim.Native.Nat.{ℕ, suc, ◌+◌, ◌-◌, ◌/◌, ◌%◌, ◌≤◌}
 use native.Mathlib.Omega.{arith}
 use lib.ListN.{length, get_or, take, replicate, length-append, length-replicate, length-map}
 use lib.Seq.{take_at, get_or_at, get_or-append-add}
@@ -12,8 +12,8 @@ use Rattle.rules.specs.Measures.{tape_words}
 use Rattle.rules.specs.Tape.{quote_word, words_of, fields_fit}
 use Rattle.writing.proofs.Fitting.{roll_fits}
 use Rattle.checksums.specs.Sums.{word_size, weighted}
-use Rattle.journals.specs.Record.{record_words, summed_words, Logged, instructed, committed, Fits, call_words, padded, closed, record_of, call_part, checks}
-use Rattle.journals.proofs.Checked.{Summed, summed_checks}
+use Rattle.journals.specs.Record.{record_words, summed_words, Logged, instructed, committed, Fits, call_words, padded, closed, record_of, call_part}
+use Rattle.journals.proofs.Checked.{Summed}
 
 -- an instruction has at most thirty-three words, and so has a commit
 pub words_count : (x : Instruction) (quotes : List ℕ) → fields_fit x quotes ≡ true → length (words_of x quotes) ≤ tape_words

@@ -13,32 +13,31 @@ use lib.Seq.{drop-append_seam, drop_at}
 use Rattle.rules.specs.declared.Instruction.{Instruction}
 use Rattle.rules.specs.declared.Instruction.TheVariants.{Trade, Deliver, Resolve, PairOff, Close, Cutoff, Roll, Mark, Turn}
 use Rattle.rules.specs.declared.Ticket.{Ticket}
-use Rattle.rules.specs.declared.Read.{Read}
-use Rattle.rules.specs.declared.Read.TheVariants.{Instr, Refused}
+use Rattle.std.specs.Prelude.{Some, Result, Ok, Err}
 use Rattle.rules.specs.Measures.{Every, tape_words}
 use Rattle.rules.specs.Book.{all, is_zero}
 use Rattle.rules.specs.Tape.{kind_of, read_of, quotes_of, words_of, fields_fit}
 use Rattle.laws.proofs.Basics.{by_test, all_replicate}
 use Rattle.rereading.proofs.Window.{quotes_window}
 use Rattle.rereading.proofs.There.{written_is_read, quotes_read}
-use Rattle.journals.specs.Record.{record_words, summed_words, Logged, instructed, committed, quotes_for, told_of, Fits, commit_kind, commit_word, ticket_words, call_words, padded, record_of, checks, instruction_told, call_in, call_part, read_record}
-use Rattle.journals.specs.Journal.{journal_from, journal_of, Next, call, none, torn, damaged, unread, next_of, read_next, Journal, ended, behind, goes_on, whole, read_from, read_rest, read_journal}
+use Rattle.journals.specs.Record.{record_words, summed_words, Logged, instructed, committed, quotes_for, Fits, commit_kind, commit_word, ticket_words, call_words, padded, record_of, call_in, read_record}
+use Rattle.journals.specs.Journal.{journal_from, journal_of, Next, call, none, torn, damaged, unread, read_next, Journal, ended, behind, goes_on, whole, read_from, read_rest, read_journal}
 use Rattle.journals.proofs.Checked.{summed_checks}
 use Rattle.journals.proofs.Parts.{length_record, record_summed, record_number, record_call}
 
 -- the tape's reader refuses a word of a commit's kind: a journal is no tape
-pub commit_refused : (w : ℕ) (rest : List ℕ) → kind_of w ≡ commit_kind → read_of (w ∷ rest) ≡ Refused 14
+pub commit_refused : (w : ℕ) (rest : List ℕ) → kind_of w ≡ commit_kind → read_of (w ∷ rest) ≡ Err 14
 unfolding read_of
 commit_refused w rest e = rw e
 
-not_commit : (ws : List ℕ) (x : Instruction) (n : ℕ) → read_of ws ≡ Instr x n → eqb (get_or ws 0 0) commit_word ≡ false
+not_commit : (ws : List ℕ) (x : Instruction) (n : ℕ) → read_of ws ≡ Ok (x, n) → eqb (get_or ws 0 0) commit_word ≡ false
 unfolding read_of
 not_commit [] x n e = refl
 not_commit (w ∷ ws) x n e =
     by_test (eqb w commit_word)
     (λ t.
     let k : kind_of w ≡ commit_kind = ap kind_of (eqb-true w commit_word t) in
-    let z : ◌≡◌ {A = Read} (Refused 14) (Instr x n) = sym (commit_refused w ws k) ∙ e in
+    let z : ◌≡◌ {A = Result (Instruction × ℕ) ℕ} (Err 14) (Ok (x, n)) = sym (commit_refused w ws k) ∙ e in
     cc)
     (λ t. t)
 
@@ -67,7 +66,7 @@ module _ (x : Instruction) (quotes : List ℕ) (f : Fits (instructed x quotes)) 
   abbrev zeros : List ℕ
   zeros = replicate (tape_words - length (words_of x quotes)) 0
 
-  instruction_read : read_of (padded (words_of x quotes)) ≡ Instr x (length (words_of x quotes))
+  instruction_read : read_of (padded (words_of x quotes)) ≡ Ok (x, length (words_of x quotes))
   unfolding padded
   instruction_read = written_is_read x quotes zeros f.0
 
@@ -75,20 +74,20 @@ module _ (x : Instruction) (quotes : List ℕ) (f : Fits (instructed x quotes)) 
   unfolding padded
   quotes_back = quotes_told x quotes zeros f.0 f.1
 
-ticket_read : (t : Ticket) → call_in (padded (commit_word ∷ ticket_words t)) ≡ committed t ∷ []
+ticket_read : (t : Ticket) → call_in (padded (commit_word ∷ ticket_words t)) ≡ Some (committed t)
 unfolding call_in padded
 ticket_read t = refl
 
-pub call_read : (c : Logged) → Fits c → call_in (padded (call_words c)) ≡ c ∷ []
+pub call_read : (c : Logged) → Fits c → call_in (padded (call_words c)) ≡ Some c
 unfolding call_in
 call_read (instructed x quotes) f =
     let r = instruction_read x quotes f in
     rw (not_commit (padded (words_of x quotes)) x _ r, r, pad_zeros (words_of x quotes))
-    (ap (λ q. instructed x q ∷ []) (quotes_back x quotes f))
+    (ap (λ q. Some (instructed x q)) (quotes_back x quotes f))
 call_read (committed t) f = ticket_read t
 
 -- a record is read back, whatever follows
-pub record_read : (n : ℕ) (c : Logged) (rest : List ℕ) → Fits c → read_record n (record_of n c ++ rest) ≡ c ∷ []
+pub record_read : (n : ℕ) (c : Logged) (rest : List ℕ) → Fits c → read_record n (record_of n c ++ rest) ≡ Some c
 unfolding read_record
 record_read n c rest f =
     let l : record_words ≤ length (record_of n c ++ rest) =

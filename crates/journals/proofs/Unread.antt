@@ -11,6 +11,7 @@ use borrow.Author.Tests.{le-leb, lt-leb, ne_eqb}
 use lib.Dec.{leb, eqb}
 use lib.ListN.{length, get_or, set, take, drop, length-append, length-set, get_or-append}
 use lib.Seq.{length-take-le, get_or-take, get_or-drop, take-append-le, take-append-add}
+use Rattle.std.specs.Prelude.{Option, None}
 use Rattle.rules.specs.Measures.{Every, tape_words}
 use Rattle.rules.specs.Tape.{read_of}
 use Rattle.laws.proofs.Basics.{by_test, either}
@@ -23,18 +24,18 @@ use Rattle.journals.proofs.There.{before, journal_read}
 
 -- Records that are not read
 
-short_unread : (n : ℕ) (ws : List ℕ) → length ws < record_words → read_record n ws ≡ []
+short_unread : (n : ℕ) (ws : List ℕ) → length ws < record_words → read_record n ws ≡ None
 unfolding read_record
 short_unread n ws h = rw (lt-leb record_words (length ws) h)
 
-number_unread : (n : ℕ) (ws : List ℕ) → (get_or ws 0 0 ≡ n → ⊥) → read_record n ws ≡ []
+number_unread : (n : ℕ) (ws : List ℕ) → (get_or ws 0 0 ≡ n → ⊥) → read_record n ws ≡ None
 unfolding read_record
 number_unread n ws d =
     by_test (leb record_words (length ws))
     (λ t. rw (t, ne_eqb (get_or ws 0 0) n d))
     (λ t. rw t)
 
-sum_unread : (n : ℕ) (ws : List ℕ) → (Summed summed_words ws → ⊥) → read_record n ws ≡ []
+sum_unread : (n : ℕ) (ws : List ℕ) → (Summed summed_words ws → ⊥) → read_record n ws ≡ None
 unfolding read_record
 sum_unread n ws d =
     by_test (checks summed_words ws)
@@ -50,12 +51,12 @@ weighted_zero [] i e = refl
 weighted_zero (w ∷ ws) zero e = omega (arith, e)
 weighted_zero (w ∷ ws) (suc i) e = weighted_zero ws i (omega (arith, e))
 
-no_call : (ps : List ℕ) → get_or ps 0 0 ≡ 0 → call_in ps ≡ []
+no_call : (ps : List ℕ) → get_or ps 0 0 ≡ 0 → call_in ps ≡ None
 unfolding call_in read_of
 no_call [] e = refl
 no_call (p ∷ ps) e = rw e
 
-zero_unread : (n : ℕ) (ws : List ℕ) → get_or ws summed_words 0 ≡ 0 → get_or ws (suc summed_words) 0 ≡ 0 → read_record n ws ≡ []
+zero_unread : (n : ℕ) (ws : List ℕ) → get_or ws summed_words 0 ≡ 0 → get_or ws (suc summed_words) 0 ≡ 0 → read_record n ws ≡ None
 unfolding read_record
 zero_unread n ws l h =
     by_test (checks summed_words ws)
@@ -65,7 +66,7 @@ zero_unread n ws l h =
     get_or-take tape_words (drop 1 ws) 0 0 (omega arith) ∙ get_or-drop 1 ws 0 0 ∙ sym (get_or-take summed_words ws 1 0 (omega arith))
     ∙ weighted_zero (take summed_words ws) 1 z in
     rw (no_call (call_part ws) f)
-    (either (λ (cs : List Logged). cs ≡ []) (leb record_words (length ws) && eqb (get_or ws 0 0) n && checks summed_words ws) refl refl))
+    (either (λ (c : Option Logged). c ≡ None) (leb record_words (length ws) && eqb (get_or ws 0 0) n && checks summed_words ws) refl refl))
     (λ t. sum_unread n ws (λ s. false≢true (sym t ∙ summed_checks summed_words ws s)))
 
 -- a record is read from its own words
@@ -110,11 +111,11 @@ one_more cs c = from_more 0 cs c ∙ ap (λ k. journal_from 0 cs ++ record_of k 
 -- How reading ends there
 
 module _ (n : ℕ) (ws : List ℕ) where
-  rest_torn : 0 < length ws → length ws ≤ record_words → read_record n ws ≡ [] → read_rest n ws ≡ ended [] torn
+  rest_torn : 0 < length ws → length ws ≤ record_words → read_record n ws ≡ None → read_rest n ws ≡ ended [] torn
   unfolding read_next
   rest_torn h l e = rw (e, ne_eqb (length ws) 0 (λ z. omega (arith, z)), le-leb (length ws) record_words l)
 
-  rest_damaged : record_words < length ws → read_record n ws ≡ [] → read_rest n ws ≡ ended [] (damaged n)
+  rest_damaged : record_words < length ws → read_record n ws ≡ None → read_rest n ws ≡ ended [] (damaged n)
   unfolding read_next
   rest_damaged h e = rw (e, ne_eqb (length ws) 0 (λ z. omega (arith, z)), lt-leb (length ws) record_words h)
 
@@ -131,7 +132,7 @@ module _ (cs : List Logged) (fit : Every Fits cs) where
       journal_read 0 cs ws fit ∙ ap (λ k. before cs (read_rest k ws)) (zero-add (length cs)) ∙ ap (before cs) e
       ∙ ap (λ l. ended l end) (append-nil cs)
 
-  pub seen : (bad : List ℕ) → length bad ≡ record_words → read_record (length cs) bad ≡ [] → Seen cs bad
+  pub seen : (bad : List ℕ) → length bad ≡ record_words → read_record (length cs) bad ≡ None → Seen cs bad
   seen bad l e =
       record {
         last = stops bad torn (rest_torn (length cs) bad (omega arith) (omega arith) e);

@@ -1,8 +1,6 @@
 -- Worked journals, as one list with one proof.
-use Rattle.std.specs.Prelude.{refl, List, [], ◌∷◌, ◌++◌, ℕ, set, take, drop, replicate}
+use Rattle.std.specs.Prelude.{refl, Err, List, [], ◌∷◌, ◌++◌, ℕ, set, take, drop, replicate}
 use Rattle.rules.specs.declared.Instruction.TheVariants.{Trade, Close}
-use Rattle.rules.specs.declared.Read.TheVariants.{Refused}
-use Rattle.rules.specs.declared.Ticket.{Ticket}
 use Rattle.rules.specs.Days.{Case, case, Holds}
 use Rattle.rules.specs.Tape.{read_of, quotes_of}
 use Rattle.checksums.specs.Sums.{exchanged}
@@ -48,7 +46,7 @@ worked_journals =
     ∷ case (read_journal (closed (0 ∷ padded (1342177280 ∷ 1 ∷ [])))) (ended [] torn)
     ∷ case (read_journal (closed (0 ∷ padded (2684354560 ∷ [])))) (ended [] torn)
     -- the tape's reader refuses a commit
-    ∷ case (read_of (call_words lifted)) (Refused 14)
+    ∷ case (read_of (call_words lifted)) (Err 14)
     ∷ []
 
 -- each by computing what the definitions give

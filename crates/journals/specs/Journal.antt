@@ -1,5 +1,5 @@
 -- The journal: records numbered from 0, read back one after the other, and how that ends.
-use Rattle.std.specs.Prelude.{cond, List, [], ◌∷◌, ◌++◌, ℕ, zero, suc, leb, eqb, length, drop}
+use Rattle.std.specs.Prelude.{Option, Some, None, cond, List, [], ◌∷◌, ◌++◌, ℕ, zero, suc, leb, eqb, length, drop}
 use Rattle.journals.specs.Record.{record_words, Logged, record_of, read_record}
 
 abbrev pub journal_from : ℕ → List Logged → List ℕ
@@ -21,9 +21,9 @@ pub data Next : Type 0 where
 abbrev pub unread : ℕ → Next
 unread left = cond (eqb left 0) none (cond (leb left record_words) torn damaged)
 
-abbrev pub next_of : List Logged → ℕ → Next
-next_of [] left = unread left
-next_of (c ∷ cs) left = call c
+abbrev pub next_of : Option Logged → ℕ → Next
+next_of None left = unread left
+next_of (Some c) left = call c
 
 unfoldable pub read_next : ℕ → List ℕ → Next
 read_next n ws = next_of (read_record n ws) (length ws)

@@ -1,9 +1,7 @@
 -- A record of the journal: a call as words, its number before it and a checksum behind it.
-use Rattle.std.specs.Prelude.{◌≡◌, Bool, true, cond, ◌&&◌, List, [], ◌∷◌, ◌++◌, ℕ, suc, ◌+◌, ◌-◌, ◌*◌, ◌/◌, ◌%◌, leb, eqb, length, get_or, take, drop, replicate}
+use Rattle.std.specs.Prelude.{◌≡◌, Option, Some, None, Result, Ok, Err, Bool, true, cond, ◌&&◌, List, [], ◌∷◌, ◌++◌, ℕ, suc, ◌+◌, ◌-◌, ◌*◌, ◌/◌, ◌%◌, leb, eqb, length, get_or, take, drop, replicate}
 use Rattle.rules.specs.declared.Instruction.{Instruction}
 use Rattle.rules.specs.declared.Instruction.TheVariants.{Trade, Deliver, Resolve, PairOff, Close, Cutoff, Roll, Mark, Turn}
-use Rattle.rules.specs.declared.Read.{Read}
-use Rattle.rules.specs.declared.Read.TheVariants.{Instr, Refused}
 use Rattle.rules.specs.declared.Ticket.{Ticket}
 use Rattle.rules.specs.Measures.{tape_words}
 use Rattle.rules.specs.Book.{all, is_zero}
@@ -84,14 +82,14 @@ unfoldable pub checks : ℕ → List ℕ → Bool
 checks n ws = eqb (weighted (take n ws)) (get_or ws n 0 + word_size * get_or ws (suc n) 0)
 
 -- the call that 33 words tell; none where they are no call's, or where a word behind it is not 0
-abbrev pub ticket_told : List ℕ → List Logged
-ticket_told ws = cond (all is_zero (drop commit_words ws)) (committed (ticket_in (drop 1 ws)) ∷ []) []
+abbrev pub ticket_told : List ℕ → Option Logged
+ticket_told ws = cond (all is_zero (drop commit_words ws)) (Some (committed (ticket_in (drop 1 ws)))) None
 
-abbrev pub instruction_told : Read → List ℕ → List Logged
-instruction_told (Instr x n) ws = cond (all is_zero (drop n ws)) (told_of x (quotes_of ws) ∷ []) []
-instruction_told (Refused r) ws = []
+abbrev pub instruction_told : Result (Instruction × ℕ) ℕ → List ℕ → Option Logged
+instruction_told (Ok r) ws = cond (all is_zero (drop r.1 ws)) (Some (told_of r.0 (quotes_of ws))) None
+instruction_told (Err r) ws = None
 
-unfoldable pub call_in : List ℕ → List Logged
+unfoldable pub call_in : List ℕ → Option Logged
 call_in ws = cond (eqb (get_or ws 0 0) commit_word) (ticket_told ws) (instruction_told (read_of ws) ws)
 
 -- the words of a call in a record
@@ -99,6 +97,6 @@ abbrev pub call_part : List ℕ → List ℕ
 call_part ws = take tape_words (drop 1 ws)
 
 -- record n at the front of some words: it is whole, has its number, its checksum and a call
-unfoldable pub read_record : ℕ → List ℕ → List Logged
+unfoldable pub read_record : ℕ → List ℕ → Option Logged
 read_record n ws =
-    cond (leb record_words (length ws) && eqb (get_or ws 0 0) n && checks summed_words ws) (call_in (call_part ws)) []
+    cond (leb record_words (length ws) && eqb (get_or ws 0 0) n && checks summed_words ws) (call_in (call_part ws)) None

@@ -1,4 +1,5 @@
 -- Laws of the definitions.
+pub mod Refused
 pub mod Basics
 pub mod Rearrangements
 pub mod Units

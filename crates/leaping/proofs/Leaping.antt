@@ -1,20 +1,20 @@
 -- How many rounds can be leapt: the run that a round's units lie in.
 use mathlib.Core.Path.{◌≡◌, refl, sym, ap, subst, ◌∙◌}
-use mathlib.Core.List.{List, [], ◌∷◌, ◌++◌, append-nil}
-use Prim.Native.Nat.{ℕ, suc, ◌+◌, ◌-◌, ◌*◌, ◌/◌, ◌%◌, ◌≤◌, ◌<◌}
+use mathlib.Core.List.{List, [], ◌∷◌, ◌++◌, map, append-nil}
+use Prim.Native.Nat.{ℕ, zero, suc, ◌+◌, ◌-◌, ◌*◌, ◌/◌, ◌%◌, ◌≤◌, ◌<◌}
 use native.Mathlib.Omega.{arith}
 use native.Mathlib.Nat.{div-add-mod', div-mul-le_self, mul-le-mul_right, add-zero, zero-mul}
+use Rattle.std.proofs.Common.{add-one}
 use lib.Dec.{eqb}
 use borrow.Author.Tests.{eqb-true, eqb-false}
 use lib.ListN.{length, get_or, take, drop, replicate, take-append-drop}
 use Rattle.rules.specs.Units.{AccountLots, account_lots, sum_lots}
 use Rattle.rules.specs.Handover.{handovers}
-use Rattle.laws.proofs.Basics.{by_test, total_append, total_split, put_none}
-use Rattle.runs.specs.Runs.{runs_in, part_of}
-use Rattle.runs.proofs.Loops.{runs_at_lem, runs_length}
+use Rattle.laws.proofs.Basics.{by_test, total_append, put_none}
+use Rattle.runs.specs.Runs.{part_of}
 use Rattle.ranking.specs.Runs.{units_of_run, units_of_runs}
 use Rattle.simulation.specs.Repeated.{AgainFor}
-use Rattle.simulation.proofs.Leaps.{InRun, again_run, again_none}
+use Rattle.simulation.proofs.Leaps.{InRun, again_run}
 use Rattle.ranking.proofs.Sized.{units_append}
 use Rattle.rounds.proofs.Joins.{sum_run}
 
@@ -46,13 +46,19 @@ in_run size rs j r d e here full lo hi =
       ends = omega (arith, s, div-add-mod' r.lots size);
     }
 
-pub again_here : (size : ℕ) (runs : List ℕ) (n j d x b k : ℕ) → n ≤ length runs → 0 < size → j < n → x % size ≡ 0 →
-    b + sum_lots (take j (runs_in runs n)) ≡ d → get_or runs j 0 / 64 % size ≡ 0 → b + x + k * x < get_or runs j 0 / 64 →
-    AgainFor (units_of_runs size (runs_in runs n)) d x k
-again_here size runs n j d x b k l p h m s full room i hi =
+-- a run, and those behind it
+runs_at : (runs : List ℕ) (j : ℕ) → j < length runs → drop j (map part_of runs) ≡ part_of (get_or runs j 0) ∷ drop (suc j) (map part_of runs)
+runs_at [] j h = absurd (omega arith)
+runs_at (k ∷ ks) zero h = refl
+runs_at (k ∷ ks) (suc j) h = runs_at ks j (omega arith)
+
+pub again_here : (size : ℕ) (runs : List ℕ) (j d x b k : ℕ) → 0 < size → j < length runs → x % size ≡ 0 →
+    b + sum_lots (take j (map part_of runs)) ≡ d → get_or runs j 0 / 64 % size ≡ 0 → b + x + k * x < get_or runs j 0 / 64 →
+    AgainFor (units_of_runs size (map part_of runs)) d x k
+again_here size runs j d x b k p h m s full room i hi =
     let q = mul-le-mul_right x hi in
-    again_run (units_of_runs size (runs_in runs n)) size d (d + x) x i p m
-    (in_run size (runs_in runs n) j (part_of (get_or runs j 0)) d (d + x + i * x) (runs_at_lem runs n j l h) full (omega (arith, s))
+    again_run (units_of_runs size (map part_of runs)) size d (d + x) x i p m
+    (in_run size (map part_of runs) j (part_of (get_or runs j 0)) d (d + x + i * x) (runs_at runs j h) full (omega (arith, s))
     (omega (arith, s, room, q)))
 
 pub again_never : (us : List AccountLots) (d x : ℕ) → AgainFor us d x 0
@@ -65,23 +71,15 @@ pub room_for : (l b x : ℕ) → 0 < x → b + x < l → b + x + (l - b - x - 1)
 room_for l b x p h = omega (arith, div-mul-le_self (l - b - x - 1) x)
 
 -- the lots of one run more
-pub sum_next : (runs : List ℕ) (n j : ℕ) → n ≤ length runs → j < n →
-    sum_lots (take (j + 1) (runs_in runs n)) ≡ sum_lots (take j (runs_in runs n)) + get_or runs j 0 / 64
-sum_next runs n j l h =
-    let rs = runs_in runs n in
-    let s : suc j ≡ j + 1 = omega arith in
-    let k : j < length rs = omega (arith, runs_length runs n j l) in
-    let e = ap (λ us. sum_lots us) (runs_at_lem runs n j l h) in
-    omega (
-      arith,
-      ap (λ m. sum_lots (take m rs)) s,
-      total_split (λ u. u.lots) j rs,
-      total_split (λ u. u.lots) (suc j) rs,
-      e,
-    )
-
-pub again_none_for : (us : List AccountLots) (d x k : ℕ) → x ≡ 0 → AgainFor us d x k
-again_none_for us d x k e j h = again_none us d (d + x) x j e
+pub sum_next : (runs : List ℕ) (j : ℕ) → j < length runs →
+    sum_lots (take (j + 1) (map part_of runs)) ≡ sum_lots (take j (map part_of runs)) + get_or runs j 0 / 64
+sum_next runs j h = rw add-one (next runs j h)
+  where
+    next : (ks : List ℕ) (i : ℕ) → i < length ks →
+        sum_lots (take (suc i) (map part_of ks)) ≡ sum_lots (take i (map part_of ks)) + get_or ks i 0 / 64
+    next [] i l = absurd (omega arith)
+    next (k ∷ ks) zero l = omega arith
+    next (k ∷ ks) (suc i) l = omega (arith, next ks i (omega arith))
 
 pub again_fewer : (us : List AccountLots) (d x k r : ℕ) → r ≤ k → AgainFor us d x k → AgainFor us d x r
 again_fewer us d x k r le h j q = h j (omega arith)

@@ -1,8 +1,7 @@
--- An issue's runs, and what a round delivered of it.
-use Rattle.std.specs.Prelude.{List, ℕ, ◌≤◌, ◌<◌, length}
+-- What a round delivered of an issue.
+use Rattle.std.specs.Prelude.{ℕ, ◌<◌}
 
-pub record CanLeap (runs : List ℕ) (n size x : ℕ) : Type 0 where
-  pub there : n ≤ length runs
+pub record CanLeap (size x : ℕ) : Type 0 where
   pub some : 0 < size
   pub each : 0 < x
   pub small : x < 2000000000

@@ -42,28 +42,5 @@ advanced k xs ds es c l le h =
     ext_get_or 0 es (plus_times k xs ds) (l ∙ sym (length_plus k xs ds))
     (λ b q. h b (omega (arith, l)) ∙ sym (get_or_plus k xs ds b (omega (arith, l))))
 
-pub all_same : (us bs : List ℕ) (c : ℕ) → length bs ≡ length us → length us ≤ c → ((b : ℕ) → b < c → get_or us b 0 ≡ get_or bs b 0) → us ≡ bs
-all_same us bs c l le h = ext_get_or 0 us bs (sym l) (λ b q. h b (omega arith))
-
--- rounds for which there is room
-pub room_least : (k x o : ℕ) → 0 < x → min k (o / x) * x ≤ o
-room_least k x o p = let m : min k (o / x) ≤ o / x = omega arith in omega (arith, mul-le-mul_right x m, div-mul-le_self o x)
-
-pub room_none : (k x o : ℕ) → x ≡ 0 → k * x ≤ o
-room_none k x o e = let q : k * x ≡ 0 = ap (λ n. k * n) e ∙ mul-zero k in omega arith
-
-pub one_more : (f g : ℕ → ℕ) (c : ℕ) → ((i : ℕ) → i < c → f i ≡ g i) → f c ≡ g c → (i : ℕ) → i < c + 1 → f i ≡ g i
-one_more f g c h e i lt =
-    by_test (eqb i c)
-    (λ t. let q = eqb-true i c t in ap f q ∙ e ∙ sym (ap g q))
-    (λ t. let ne = eqb-false i c t in h i (omega (arith, ne)))
-
--- and with fewer rounds there is room for one cell more
-pub room_more : (k r c : ℕ) (f g : ℕ → ℕ) → r ≤ k → ((b : ℕ) → b < c → k * f b ≤ g b) → r * f c ≤ g c → (b : ℕ) → b < c + 1 → r * f b ≤ g b
-room_more k r c f g le h e b lt =
-    by_test (eqb b c)
-    (λ t. let q = eqb-true b c t in omega (arith, ap (λ n. r * f n) q, ap g q, e))
-    (λ t. let ne = eqb-false b c t in omega (arith, h b (omega (arith, ne)), mul-le-mul_right (f b) le))
-
 pub room_fewer : (k r x o : ℕ) → r ≤ k → k * x ≤ o → r * x ≤ o
 room_fewer k r x o le h = omega (arith, mul-le-mul_right x le, h)

@@ -5,9 +5,8 @@ use Rattle.rules.specs.Book.{delivered_total, dues_of}
 use Rattle.simulation.specs.Repeated.{AgainFor, OwedFor}
 use Rattle.ranking.specs.Orders.{Table}
 
--- an issue's runs, and what a round delivered of it
-pub record CanIssue (runs : List ℕ) (n size x : ℕ) : Type 0 where
-  pub there : n ≤ length runs
+-- what a round delivered of an issue
+pub record CanIssue (size x : ℕ) : Type 0 where
   pub some : 0 < size
   pub small : x < 2000000000
 

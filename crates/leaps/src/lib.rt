@@ -2,28 +2,26 @@
 // delivered lots after them. So the time of a simulated desk depends neither on the size of units nor on inventories.
 #![tactic(auto)]
 
-ghost use Rattle.std.specs.Prelude.{◌≡◌, true, ◌*◌, ◌≤◌, length};
+ghost use Rattle.std.specs.Prelude.{◌≡◌, map, ◌*◌, ◌≤◌, length};
 ghost use Rattle.rules.specs.Fails.{undelivered};
-ghost use Rattle.runs.specs.Runs.{runs_in};
+ghost use Rattle.runs.specs.Runs.{part_of};
 ghost use Rattle.simulation.specs.Repeated.{plus_times, AgainFor, OwedFor};
 ghost use Rattle.ranking.specs.Runs.{units_of_runs};
 ghost use Rattle.leaps.specs.Rooms.{CanIssue, CanOwe, CanAdvance, CanLeapAll, LeapIs};
 
-use joining::less;
 use leaping::run_rounds;
-use rounds::smaller;
 use rules::{ACCOUNT_COUNT, CELL_COUNT, ISSUE_COUNT, MOST_LOTS};
 use runs::RANK_COUNT;
 
 // At most k rounds more, as the issue's units allow them.
-fn issue_rounds(runs: &[u32], n: usize, size: u32, d: u32, x: u32, k: u32) -> u32
-    requires { CanIssue runs.now n size x }
-    ensures { (result ≤ k) × AgainFor (units_of_runs size (runs_in runs.now n)) d x result }
+fn issue_rounds(runs: &[u32], size: u32, d: u32, x: u32, k: u32) -> u32
+    requires { CanIssue size x }
+    ensures { (result ≤ k) × AgainFor (units_of_runs size (map part_of runs.now)) d x result }
 {
     if x == 0 {
         return k;
     }
-    smaller(k, run_rounds(runs, n, size, d, x))
+    k.min(run_rounds(runs, size, d, x))
 }
 
 // At most k rounds in which x lots go into so many.
@@ -33,7 +31,7 @@ fn fewer(k: u32, x: u32, lots: u32) -> u32
     if x == 0 {
         return k;
     }
-    smaller(k, lots / x)
+    k.min(lots / x)
 }
 
 // For how many rounds more is so much of each still owed?
@@ -42,12 +40,9 @@ fn owed_rounds(nets: &[i32], delivered: &[u32], xs: &[u32]) -> u32
     ensures { (result ≤ 20000000) × OwedFor nets.now delivered.now xs.now result }
 {
     let mut k: u32 = MOST_LOTS;
-    let mut c: usize = 0;
-    while c < CELL_COUNT {
-        let net = nets[c];
-        let lots = less(book::owed(net), delivered[c]);
+    for c in 0..CELL_COUNT {
+        let lots = book::owed(nets[c]).saturating_sub(delivered[c]);
         k = fewer(k, xs[c], lots);
-        c += 1;
     }
     k
 }
@@ -66,16 +61,14 @@ pub fn leap_rounds(
     ensures { LeapIs nets.now size before.now after.now xs.now result }
 {
     let mut k = owed_rounds(nets, after, xs);
-    let mut i: usize = 0;
-    while i < ISSUE_COUNT {
+    for i in 0..ISSUE_COUNT {
         let s = i * ACCOUNT_COUNT;
         let e = s + ACCOUNT_COUNT;
         let d = book::total(&before[s..e]);
         let x = book::total(&xs[s..e]);
         let f = i * RANK_COUNT;
-        let g = f + RANK_COUNT;
-        k = issue_rounds(&runs[f..g], counts[i] as usize, size, d, x, k);
-        i += 1;
+        let g = f + counts[i] as usize;
+        k = issue_rounds(&runs[f..g], size, d, x, k);
     }
     k
 }
@@ -85,10 +78,8 @@ pub fn changes(before: &[u32], after: &[u32], xs: &mut [u32])
     requires { (length after.now ≡ length before.now) × (length xs.old ≡ length before.now) }
     ensures { xs.new ≡ undelivered after.now before.now }
 {
-    let mut c: usize = 0;
-    while c < before.len() {
-        xs[c] = less(after[c], before[c]);
-        c += 1;
+    for (c, had) in before.iter().enumerate() {
+        xs[c] = after[c].saturating_sub(*had);
     }
 }
 
@@ -97,36 +88,7 @@ pub fn advance(xs: &[u32], k: u32, delivered: &mut [u32])
     requires { CanAdvance xs.now k delivered.old }
     ensures { delivered.new ≡ plus_times k xs.now delivered.old }
 {
-    let mut c: usize = 0;
-    while c < delivered.len() {
-        delivered[c] += k * xs[c];
-        c += 1;
-    }
-}
-
-// Are the two columns the same?
-pub fn same(a: &[u32], b: &[u32]) -> bool
-    requires { length b.now ≡ length a.now }
-    ensures { result ≡ true → a.now ≡ b.now }
-{
-    let mut c: usize = 0;
-    while c < a.len() {
-        if a[c] != b[c] {
-            return false;
-        }
-        c += 1;
-    }
-    true
-}
-
-// A column copied.
-pub fn copy(from: &[u32], to: &mut [u32])
-    requires { length to.old ≡ length from.now }
-    ensures { to.new ≡ from.now }
-{
-    let mut c: usize = 0;
-    while c < from.len() {
-        to[c] = from[c];
-        c += 1;
+    for (c, x) in xs.iter().enumerate() {
+        delivered[c] += k * *x;
     }
 }

@@ -1,11 +1,10 @@
 -- Five columns that hold a list of entries, and stores into them.
 use Rattle.std.specs.Prelude.{◌≡◌, cond, List, [], ◌∷◌, ◌++◌, ℕ, ◌-◌, ◌≤◌, length, get_or, set, take, drop, replicate}
-use Rattle.std.specs.Borrow.{Bor, MutBor}
-use denote.Triple.Both.{Both}
 use Rattle.rules.specs.declared.Entry.{Entry}
 use Rattle.rules.specs.Measures.{most_entries}
 use Rattle.rules.specs.Ledger.{entry}
 use Rattle.rules.specs.Book.{is_zero, column, entries}
+use Rattle.ledger.specs.declared.Ledger.{Ledger}
 
 -- the entry that stands at a place of five columns
 abbrev pub entry_at : ℕ → List ℕ → List ℕ → List ℕ → List ℕ → List ℕ → Entry
@@ -65,49 +64,46 @@ abbrev pub without_zeros : List Entry → List Entry
 without_zeros [] = []
 without_zeros (e ∷ es) = cond (is_zero e.lots) (without_zeros es) (e ∷ without_zeros es)
 
--- By name: columns as a contract has them, lent, and before and after
+-- By name, of the columns that are lent
 
-abbrev pub Lent : Type 0
-Lent = MutBor (List ℕ)
+-- their numbers
+abbrev pub whole : Ledger → Type 0
+whole l = Whole l.issues.now l.froms.now l.tos.now l.lots.now l.days.now
 
-abbrev pub Column : Type 0
-Column = Both Lent Lent
+abbrev pub unused : ℕ → Ledger → Type 0
+unused n l = Unused n l.issues.now l.froms.now l.tos.now l.lots.now l.days.now
 
--- the same of columns that are only read
-abbrev pub Shared : Type 0
-Shared = Bor (List ℕ)
+abbrev pub held : ℕ → Ledger → Type 0
+held n l = Held n l.issues.now l.froms.now l.tos.now l.lots.now l.days.now
 
-abbrev pub SharedColumn : Type 0
-SharedColumn = Both Shared Shared
+-- the entry at a place, and the first n entries
+abbrev pub place : ℕ → Ledger → Entry
+place k l = entry_at k l.issues.now l.froms.now l.tos.now l.lots.now l.days.now
 
--- whole columns, a ledger in its columns
-abbrev pub whole : Lent → Lent → Lent → Lent → Lent → Type 0
-whole issues froms tos lots days = Whole issues.now froms.now tos.now lots.now days.now
+abbrev pub entries_in : ℕ → Ledger → List Entry
+entries_in n l = entries n l.issues.now l.froms.now l.tos.now l.lots.now l.days.now
 
--- the same of columns that are only read
-abbrev pub shared_whole : Shared → Shared → Shared → Shared → Shared → Type 0
-shared_whole issues froms tos lots days = Whole issues.now froms.now tos.now lots.now days.now
-
-abbrev pub held : ℕ → Lent → Lent → Lent → Lent → Lent → Type 0
-held n issues froms tos lots days = Held n issues.now froms.now tos.now lots.now days.now
-
--- the ledger that the columns held, and what they hold
-abbrev pub before : ℕ → Column → Column → Column → Column → Column → List Entry
-before n issues froms tos lots days =
-    entries n issues.entry.now froms.entry.now tos.entry.now lots.entry.now days.entry.now
-
-abbrev pub shared_before : ℕ → SharedColumn → SharedColumn → SharedColumn → SharedColumn → SharedColumn → List Entry
-shared_before n issues froms tos lots days =
-    entries n issues.entry.now froms.entry.now tos.entry.now lots.entry.now days.entry.now
-
-abbrev pub kept : List Entry → ℕ → Column → Column → Column → Column → Column → Type 0
-kept es n issues froms tos lots days =
-    Kept es n issues.exit.now froms.exit.now tos.exit.now lots.exit.now days.exit.now
+abbrev pub kept : List Entry → ℕ → Ledger → Type 0
+kept es n l = Kept es n l.issues.now l.froms.now l.tos.now l.lots.now l.days.now
 
 -- what changed from columns before to columns after
 abbrev pub changed :
     (List ℕ → List ℕ → List ℕ → List ℕ → List ℕ → List ℕ → List ℕ → List ℕ → List ℕ → List ℕ → Type 0) →
-    Column → Column → Column → Column → Column → Type 0
-changed P issues froms tos lots days =
-    P issues.entry.now froms.entry.now tos.entry.now lots.entry.now days.entry.now
-    issues.exit.now froms.exit.now tos.exit.now lots.exit.now days.exit.now
+    Ledger → Ledger → Type 0
+changed P a b =
+    P a.issues.now a.froms.now a.tos.now a.lots.now a.days.now b.issues.now b.froms.now b.tos.now b.lots.now b.days.now
+
+-- all but the lots are as they were
+pub record ButLots (a b : Ledger) : Type 0 where
+  pub issues : b.issues.now ≡ a.issues.now
+  pub froms : b.froms.now ≡ a.froms.now
+  pub tos : b.tos.now ≡ a.tos.now
+  pub days : b.days.now ≡ a.days.now
+
+-- the same columns: what a function writes behind them reaches who lent them
+pub record Same (a b : Ledger) : Type 0 where
+  pub issues : b.issues.ghost_name ≡ a.issues.ghost_name
+  pub froms : b.froms.ghost_name ≡ a.froms.ghost_name
+  pub tos : b.tos.ghost_name ≡ a.tos.ghost_name
+  pub lots : b.lots.ghost_name ≡ a.lots.ghost_name
+  pub days : b.days.ghost_name ≡ a.days.ghost_name

@@ -21,10 +21,27 @@ use Rattle.laws.proofs.LiftColumn.{length_lift_words}
 use Rattle.laws.proofs.SoundRows.{order_in_lem}
 use Rattle.laws.proofs.RunLifts.{run_split, run_less, run_less_small}
 use Rattle.runs.specs.Runs.{part_of, runs_in, units_of_run, units_in, Plain, PlainIn, RankedNets, CanOrder, Prepared}
-use Rattle.lifted.specs.Lifting.{TakenOut, PutIn, CanLiftAll, AllLifted}
+use Rattle.handover.specs.declared.Seat.{Seat}
+use Rattle.lifted.specs.Lifting.{HasUnit, UnitAt, TakenOut, PutIn, CanLiftAll, AllLifted}
 use Rattle.runs.proofs.Units.{run_length}
 use Rattle.runs.proofs.Loops.{runs_at_lem, dues_small}
 use Rattle.runs.proofs.Numbers.{units_of, of_append, plain_less}
+
+-- the first n runs lent as a list of their own: a unit of them is one of all runs
+pub lent_unit : (runs : List ℕ) (n k : ℕ) → n ≤ length runs → k < length (units_in runs n) →
+    HasUnit (take n runs) (length (take n runs)) k
+unfolding units_in
+lent_unit runs n k h t = record { held = omega arith; there = rw (take_all (length (take n runs)) (take n runs) (omega arith)) t }
+
+pub lent_at : (runs : List ℕ) (n k : ℕ) (s : Seat) → n ≤ length runs → UnitAt (take n runs) (length (take n runs)) k s → UnitAt runs n k s
+unfolding units_in
+lent_at runs n k s h u =
+    let l : s.run < n = omega (arith, u.below, length-take-le n runs h) in
+    record {
+      below = l;
+      within = rw (get_or-take n runs s.run 0 l) at u.within;
+      place = rw (take-take s.run n runs (omega arith)) at u.place;
+    }
 
 -- unit m of a run as a run of its own, and the run without it
 module _ (a x m : ℕ) (h : m * 100000 < x) where

@@ -1,7 +1,7 @@
 // Lifts among runs: the unit is taken out of its run, and put in where another run is split.
 #![tactic(auto)]
 
-ghost use Rattle.std.specs.Prelude.{◌≡◌, ◌+◌, ◌-◌, ◌*◌, ◌/◌, ◌%◌, ◌<◌, min};
+ghost use Rattle.std.specs.Prelude.{◌≡◌, ◌+◌, ◌-◌, ◌*◌, ◌/◌, ◌%◌, ◌<◌, min, length};
 ghost use Rattle.lifted.specs.Lifting.{HasUnit, UnitAt, TakenOut, CanPut, PutIn, CanLift, LiftedIs, CanLiftAll, AllLifted};
 
 use handover::Seat;
@@ -10,13 +10,12 @@ use runs::{MOST_SMALL, UNIT_WORD};
 use sorting::shift;
 
 // The run of unit k, and how many of its units come before it.
-fn find(runs: &[u32], n: usize, k: u32) -> Seat
-    requires { HasUnit runs.now n k }
-    ensures { UnitAt runs.now n k result }
+fn find(runs: &[u32], k: u32) -> Seat
+    requires { HasUnit runs.now (length runs.now) k }
+    ensures { UnitAt runs.now (length runs.now) k result }
 {
     let mut left = k;
-    let mut j = 0;
-    while j < n {
+    for j in 0..runs.len() {
         let c = (runs[j] / ACCOUNTS + MOST_SMALL) / UNIT_LOTS;
         if left < c {
             return Seat {
@@ -25,10 +24,9 @@ fn find(runs: &[u32], n: usize, k: u32) -> Seat
             };
         }
         left -= c;
-        j += 1;
     }
     Seat {
-        run: j,
+        run: runs.len(),
         passed: left,
     }
 }
@@ -45,12 +43,13 @@ fn piece(key: u32, m: u32) -> u32
     UNIT_WORD + key % ACCOUNTS
 }
 
-// Unit k taken out of n runs: its run falls by its lots; answers the unit as a word.
+// Unit k taken out of n runs: its run falls by its lots; answers the unit as a word. Here and below the array is lent
+// whole, with the number of its words that are runs: a lift makes two runs more in place, and there is no heap.
 fn take_out(runs: &mut [u32], n: usize, k: u32) -> u32
     requires { HasUnit runs.old n k }
     ensures { TakenOut runs.old runs.new n k result }
 {
-    let s = find(runs, n, k);
+    let s = find(&runs[..n], k);
     let j = s.run;
     let key = runs[j];
     let word = piece(key, s.passed);
@@ -63,7 +62,7 @@ fn put_in(runs: &mut [u32], n: usize, k: u32, word: u32)
     requires { CanPut runs.old n k }
     ensures { PutIn runs.old runs.new n k word }
 {
-    let s = find(runs, n, k);
+    let s = find(&runs[..n], k);
     let j = s.run;
     let key = runs[j];
     let front = s.passed * UNIT_WORD;
@@ -90,13 +89,9 @@ pub fn lift_all(words: &[u32], runs: &mut [u32], n: usize) -> usize
     requires { CanLiftAll words.now runs.old n }
     ensures { AllLifted words.now runs.old runs.new n result }
 {
-    let mut left = words[0];
-    let mut i = 2;
     let mut r = n;
-    while 0 < left {
-        r = lift(runs, r, words[i], words[i + 1]);
-        i += 2;
-        left -= 1;
+    for i in 0..words[0] as usize {
+        r = lift(runs, r, words[2 * i + 2], words[2 * i + 3]);
     }
     r
 }

@@ -27,10 +27,12 @@ use Rattle.laws.proofs.Lifts.{lift_covered, lift_one}
 use Rattle.laws.proofs.Cells.{length_dues}
 use Rattle.laws.proofs.SoundRows.{order_in_lem}
 use Rattle.tickets.specs.declared.Stand.{Stand}
-use Rattle.lifting.specs.declared.Committed.{Committed}
+use Rattle.std.specs.Prelude.{Ok, Err}
+use Rattle.rules.specs.declared.Refusal.{Refusal}
+use Rattle.rules.specs.Refusals.{number_of}
 use Rattle.tickets.specs.Tickets.{Stands, unhanded_ticket, commit_no}
 use Rattle.committing.specs.Committing.{CanHandOn, if_covered, unit_of, HandedOn}
-use Rattle.lifting.specs.Lifting.{refused_by, Commits}
+use Rattle.lifting.specs.Lifting.{Commits}
 
 -- The unit lifted before all unhanded ones
 
@@ -167,19 +169,17 @@ module _ (new : Bool) (phase : Phase) (today : ℕ) (nets : List ℤ) (delivered
       ∙ sym (one_handed us d t.unit u.handed u.there))
 
   module _ (out : List ℕ) where
-    pub is_refused : (n : ℕ) (r : Committed) → r ≡ refused_by n → n ≡ number → (n ≡ 0 → ⊥) → Commits new phase today nets delivered lifts lifts t out out r
-    is_refused n r e q ne =
-        rw e (record { refusal = q; refuses = λ z. record { count = refl; column = refl; output = refl }; accepts = λ z. absurd (ne z) })
+    pub is_refused : (r : Refusal) → number_of r ≡ number → Commits new phase today nets delivered lifts lifts t out out (Err r)
+    is_refused r q = record { refusal = q; change = record { column = refl; output = refl } }
 
-    pub is_done : (n k : ℕ) (runs lifts' out' : List ℕ) (p : Stand) → n ≡ number → n ≡ 0 → Stands nets delivered lifts t.issue runs p →
+    pub is_done : (k : ℕ) (runs lifts' out' : List ℕ) (p : Stand) → 0 ≡ number → Stands nets delivered lifts t.issue runs p →
         HandedOn t p.stock out out' k → lifts' ≡ with_lift lifts t.issue (lift_of t.unit p.handed) →
-        Commits new phase today nets delivered lifts lifts' t out out' (record { refusal = 0; count = k })
-    is_done n k runs lifts' out' p q z s h c =
-        let e = handed_on_lem (all_yes (sym q ∙ z)) p.stock (s.left new) in
+        Commits new phase today nets delivered lifts lifts' t out out' (Ok k)
+    is_done k runs lifts' out' p z s h c =
+        let e = handed_on_lem (all_yes (sym z)) p.stock (s.left new) in
         record {
-          refusal = sym z ∙ q;
-          refuses = λ ne. absurd (ne refl);
-          accepts = λ w. record {
+          refusal = z;
+          change = record {
             count = h.count ∙ ap length e;
             column = c ∙ rw (s.covers new);
             output = h.output ∙ ap (λ rs. over (words rs) out) e;

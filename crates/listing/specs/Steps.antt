@@ -1,13 +1,14 @@
 -- What the functions of this crate may count on, and what they leave.
-use Rattle.std.specs.Prelude.{◌≡◌, Bool, true, cond, List, [], ◌∷◌, ℕ, ◌+◌, ◌*◌, ◌≤◌, ◌<◌, length, get_or, replicate, ℤ}
+use Rattle.std.specs.Prelude.{◌≡◌, Bool, true, List, ℕ, ◌+◌, ◌*◌, ◌≤◌, ◌<◌, length, get_or, replicate, ℤ, Result, Ok, Err}
 use Rattle.std.proofs.lemmas.List.Edits.{sets}
 use Rattle.rules.specs.Measures.{Every, total, sum}
 use Rattle.rules.specs.Book.{tabulate, within_owed}
 use Rattle.rules.specs.Calls.{joined}
 use Rattle.markets.specs.Markets.{most_accounts, most_net, digits_at, those, markets}
 use Rattle.markets.specs.Counts.{count_places, with_entries, counts_of}
-use Rattle.markets.specs.Answers.{most_places}
-use Rattle.markets.specs.Choices.{chosen, follows, markets_from, choice_count, meets, leaves}
+use Rattle.rules.specs.declared.Refusal.{Refusal}
+use Rattle.markets.specs.Answers.{most_places, no_counts}
+use Rattle.markets.specs.Choices.{chosen, follows, markets_from, meets, leaves}
 
 -- Choices
 
@@ -103,3 +104,15 @@ pub record CanCountAll (m : ℕ) (v delivered lots counts : List ℕ) : Type 0 w
 
 abbrev pub CountedAll : ℕ → List ℕ → List ℕ → Type 0
 CountedAll m delivered counts = counts ≡ counts_of (length delivered) m delivered
+
+-- What is answered
+
+-- the number of markets, 0 on a refusal
+abbrev pub count_in : Result ℕ Refusal → ℕ
+count_in (Ok count) = count
+count_in (Err r) = 0
+
+-- the five counts, 0 on a refusal
+abbrev pub counts_in : Result (List ℕ) Refusal → List ℕ
+counts_in (Ok counts) = counts
+counts_in (Err r) = no_counts

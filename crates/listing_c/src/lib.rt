@@ -10,7 +10,16 @@ ghost use Rattle.markets.specs.Answers.{listed, all_markets, counted, market_fai
 pub extern "C" fn day_markets(n: u32, m: u32, out: &mut [i32], count: &mut u32) -> u32
     ensures { listed result count.new out.new ≡ all_markets n m out.old }
 {
-    listing::day_markets(n, m, out, count)
+    match listing::day_markets(n, m, out) {
+        Ok(number) => {
+            *count = number;
+            0
+        }
+        Err(refusal) => {
+            *count = 0;
+            refusal.number()
+        }
+    }
 }
 
 // How many markets in which each account owes at least its lots have 0, 1, 2, 3, 4 fail entries after cutoff:
@@ -19,5 +28,14 @@ pub extern "C" fn day_markets(n: u32, m: u32, out: &mut [i32], count: &mut u32) 
 pub extern "C" fn day_market_fails(n: u32, m: u32, delivered: &[u32], counts: &mut [u32; 5]) -> u32
     ensures { counted result counts.new ≡ market_fails n m delivered.now }
 {
-    listing::day_market_fails(n, m, delivered, counts)
+    match listing::day_market_fails(n, m, delivered) {
+        Ok(numbers) => {
+            *counts = numbers;
+            0
+        }
+        Err(refusal) => {
+            *counts = [0; 5];
+            refusal.number()
+        }
+    }
 }

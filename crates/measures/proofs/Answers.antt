@@ -1,5 +1,5 @@
 -- Value and charge alone ask 7 and then 11: a number above 0 is the refusal, and 0 means that both said 'yes'.
-use mathlib.Core.Path.{◌≡◌, refl, sym, ap, ◌∙◌}
+use mathlib.Core.Path.{◌≡◌, refl, ap, ◌∙◌}
 use mathlib.Core.Bool.{Bool, true, false, ◌&&◌}
 use mathlib.Core.List.{[], ◌∷◌}
 use Prim.Native.Nat.{ℕ, zero, suc, ◌<◌}
@@ -7,8 +7,6 @@ use native.Mathlib.Omega.{arith}
 use Rattle.rules.specs.Measures.{most_lots, between, value_of, charge_of}
 use Rattle.rules.specs.Questions.{ask, first_no, quote_right, term_right}
 use Rattle.rules.specs.Calls.{some_yen, no_yen, yen_answer, value, charge}
-use Rattle.measures.specs.Range.{Priced, Termed}
-use Rattle.measures.proofs.Limits.{left, right, priced, termed}
 
 -- the number that question 7, answered a, and question 11, answered b, give
 abbrev pub number : Bool → Bool → ℕ
@@ -16,11 +14,6 @@ number a b = first_no (ask 7 a ∷ ask 11 b ∷ [])
 
 pub same_number : {a a' b b' : Bool} → a ≡ a' → b ≡ b' → number a b ≡ number a' b'
 same_number {a} {a'} {b} {b'} e f = ap (λ z. number z b) e ∙ ap (number a') f
-
-pub both_yes : (a b : Bool) → number a b ≡ 0 → (a ≡ true) × (b ≡ true)
-both_yes true true e = (refl, refl)
-both_yes true false e = absurd (omega arith)
-both_yes false b e = absurd (omega arith)
 
 -- question 11 on price and on term, or on both at once
 together : (a b c : Bool) → first_no (ask 7 a ∷ ask 11 b ∷ ask 11 c ∷ []) ≡ number a (b && c)
@@ -37,25 +30,15 @@ module _ (x p a n : ℕ) (e : n ≡ number (between 1 most_lots x) (quote_right 
   unfolding value
   value_refused h = rw (← e) (refused n (value_of x p a) h)
 
-  module _ (z : n ≡ 0) where
-    pub value_priced : Priced x p a
-    value_priced = let w = both_yes _ _ (sym e ∙ z) in priced x p a w.0 w.1
-
-    pub value_yen : (y : ℕ) → y ≡ value_of x p a → some_yen y ≡ value x p a
-    unfolding value
-    value_yen y h = rw (← e, z, h)
+  pub value_yen : n ≡ 0 → (y : ℕ) → y ≡ value_of x p a → some_yen y ≡ value x p a
+  unfolding value
+  value_yen z y h = rw (← e, z, h)
 
 module _ (x p d r a n : ℕ) (e : n ≡ number (between 1 most_lots x) (quote_right p a && term_right d r)) where
   pub charge_refused : 0 < n → no_yen n ≡ charge x p d r a
   unfolding charge
   charge_refused h = rw (together (between 1 most_lots x) (quote_right p a) (term_right d r), ← e) (refused n (charge_of x p d r a) h)
 
-  module _ (z : n ≡ 0) where
-    pub charge_priced : Priced x p a × Termed d r
-    charge_priced =
-        let w = both_yes _ _ (sym e ∙ z) in
-        (priced x p a w.0 (left (quote_right p a) (term_right d r) w.1), termed d r (right (quote_right p a) (term_right d r) w.1))
-
-    pub charge_yen : (y : ℕ) → y ≡ charge_of x p d r a → some_yen y ≡ charge x p d r a
-    unfolding charge
-    charge_yen y h = rw (together (between 1 most_lots x) (quote_right p a) (term_right d r), ← e, z, h)
+  pub charge_yen : n ≡ 0 → (y : ℕ) → y ≡ charge_of x p d r a → some_yen y ≡ charge x p d r a
+  unfolding charge
+  charge_yen z y h = rw (together (between 1 most_lots x) (quote_right p a) (term_right d r), ← e, z, h)

@@ -4,10 +4,11 @@
 ghost use Rattle.std.specs.Prelude.{◌≡◌, ◌&&◌, [], ◌∷◌, ◌/◌};
 ghost use Rattle.rules.specs.Measures.{between, most_lots};
 ghost use Rattle.rules.specs.Questions.{ask, first_no, quote_right, term_right};
+ghost use Rattle.rules.specs.Refusals.{number_in};
 ghost use Rattle.rules.specs.Calls.{amount_answer, value as valueAnswer, charge as chargeAnswer};
 ghost use Rattle.measures.specs.Range.{Priced, Termed, ValueIs, ChargeIs};
 
-use rules::{Amount, Lots, MOST_LOTS, Yen};
+use rules::{Lots, MOST_LOTS, Refusal, Yen};
 
 const MOST_PRICE: u32 = 200_000;
 
@@ -51,11 +52,17 @@ fn charge_right(price: u32, days: u32, rate: u32, accrued: u32) -> bool
     quote_right(price, accrued) & term_right(days, rate)
 }
 
-// The number of the first question answered 'no', 7 on lots and then 11 on the rest; 0 where both say 'yes'.
-fn refusal(lots: bool, rest: bool) -> u32
-    ensures { result ≡ first_no (ask 7 lots ∷ ask 11 rest ∷ []) }
+// The first of question 7 on lots and question 11 on the rest that is answered 'no'.
+fn asked(lots: bool, rest: bool) -> Result<(), Refusal>
+    ensures { number_in result ≡ first_no (ask 7 lots ∷ ask 11 rest ∷ []) }
 {
-    if lots { if rest { 0 } else { 11 } } else { 7 }
+    if !lots {
+        return Err(Refusal::Lots);
+    }
+    if !rest {
+        return Err(Refusal::Terms);
+    }
+    Ok(())
 }
 
 // Half of x, rounded down.
@@ -82,25 +89,17 @@ pub fn charge_of(lots: u32, price: u32, days: u32, rate: u32, accrued: u32) -> u
 }
 
 // The value of lots at a price and an accrued amount, or refusal 7 (lots) or 11 (price, accrued).
-pub fn value(lots: Lots, price: u32, accrued: u32) -> Amount
+pub fn value(lots: Lots, price: u32, accrued: u32) -> Result<Yen, Refusal>
     ensures { amount_answer result ≡ valueAnswer lots.0 price accrued }
 {
-    let n = lots.0;
-    let no = refusal(lots_right(n), quote_right(price, accrued));
-    if 0 < no {
-        return Amount::Refused(no);
-    }
-    Amount::Yen(Yen(value_of(n, price, accrued)))
+    asked(lots_right(lots.0), quote_right(price, accrued))?;
+    Ok(Yen(value_of(lots.0, price, accrued)))
 }
 
 // The charge on lots at a price and an accrued amount over days at a rate, or refusal 7 (lots) or 11 (the other numbers).
-pub fn charge(lots: Lots, price: u32, days: u32, rate: u32, accrued: u32) -> Amount
+pub fn charge(lots: Lots, price: u32, days: u32, rate: u32, accrued: u32) -> Result<Yen, Refusal>
     ensures { amount_answer result ≡ chargeAnswer lots.0 price days rate accrued }
 {
-    let n = lots.0;
-    let no = refusal(lots_right(n), charge_right(price, days, rate, accrued));
-    if 0 < no {
-        return Amount::Refused(no);
-    }
-    Amount::Yen(Yen(charge_of(n, price, days, rate, accrued)))
+    asked(lots_right(lots.0), charge_right(price, days, rate, accrued))?;
+    Ok(Yen(charge_of(lots.0, price, days, rate, accrued)))
 }

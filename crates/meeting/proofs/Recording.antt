@@ -8,17 +8,17 @@ use native.Mathlib.Omega.{arith}
 use lib.ListN.{set, get_or}
 use lib.Seq.{sets}
 use Rattle.rules.specs.declared.Entry.{Entry}
-use Rattle.rules.specs.Ledger.{entry, put_entry, is_from, met_by}
+use Rattle.rules.specs.Ledger.{put_entry, is_from, met_by}
 use Rattle.rules.specs.Records.{head_word, lots_word, record_of, words}
 use Rattle.meeting.specs.Meeting.{Recorded, WasMet}
 
 pub recorded_none : (e : Entry) (x n : ℕ) (o : List ℕ) → x ≡ 0 → Recorded e x n n o o
 recorded_none e x n o z = rw z (record { next = sym (add-zero n); out = refl })
 
-pub recorded_some : (i f t x d y n : ℕ) (o₀ o : List ℕ) → (x ≡ 0 → ⊥) →
-    o ≡ set (set o₀ (2 * n) (head_word 11 i f t)) (2 * n + 1) (lots_word x) → Recorded (entry i f t y d) x n (n + 1) o₀ o
-recorded_some i f t zero d y n o₀ o h s = absurd (h refl)
-recorded_some i f t (suc x) d y n o₀ o h s = record { next = refl; out = s ∙ rw (add-one (2 * n)) refl }
+pub recorded_some : (e : Entry) (x n : ℕ) (o₀ o : List ℕ) → (x ≡ 0 → ⊥) →
+    o ≡ set (set o₀ (2 * n) (head_word 11 e.issue e.from e.to)) (2 * n + 1) (lots_word x) → Recorded e x n (n + 1) o₀ o
+recorded_some e zero n o₀ o h s = absurd (h refl)
+recorded_some e (suc x) n o₀ o h s = record { next = refl; out = s ∙ rw (add-one (2 * n)) refl }
 
 -- an entry met by m of x lots
 pub was_met_lem : (i a x k n m r : ℕ) (e : Entry) (xs xs' o o' : List ℕ) → m ≡ met_by (is_from i a) x e → Recorded e m n r o o' →

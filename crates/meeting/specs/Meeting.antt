@@ -6,7 +6,8 @@ use Rattle.rules.specs.Measures.{most_entries}
 use Rattle.rules.specs.Ledger.{put_entry, is_from, met_by}
 use Rattle.rules.specs.Book.{entry_sound}
 use Rattle.rules.specs.Records.{record_of, words}
-use Rattle.ledger.specs.Columns.{entry_at, Whole, Lent, Column, Shared, SharedColumn}
+use Rattle.ledger.specs.declared.Ledger.{Ledger}
+use Rattle.ledger.specs.Columns.{entry_at, Whole, place, ButLots}
 use Rattle.meeting.specs.declared.Met.{Met}
 
 -- an entry of x lots, or nothing where x is 0
@@ -33,12 +34,9 @@ pub record WasMet (i a x k n : ℕ) (r : Met) (e : Entry) (xs xs' out out' : Lis
 
 -- The same by name
 
-abbrev pub can_meet : ℕ → ℕ → Shared → Shared → Shared → Lent → Shared → Lent → Type 0
-can_meet k n issues froms tos lots days out =
-    CanMeet k n issues.now froms.now tos.now lots.now days.now out.now
+abbrev pub can_meet : ℕ → ℕ → Ledger → List ℕ → Type 0
+can_meet k n l out = CanMeet k n l.issues.now l.froms.now l.tos.now l.lots.now l.days.now out
 
-abbrev pub was_met : ℕ → ℕ → ℕ → ℕ → ℕ → Met → SharedColumn → SharedColumn → SharedColumn → Column → SharedColumn → Column → Type 0
-was_met i a x k n r issues froms tos lots days out =
-    WasMet i a x k n r
-    (entry_at k issues.entry.now froms.entry.now tos.entry.now lots.entry.now days.entry.now)
-    lots.entry.now lots.exit.now out.entry.now out.exit.now
+abbrev pub was_met : ℕ → ℕ → ℕ → ℕ → ℕ → Met → Ledger → Ledger → List ℕ → List ℕ → Type 0
+was_met i a x k n r l l' out out' =
+    WasMet i a x k n r (place k l) l.lots.now l'.lots.now out out' × ButLots l l'

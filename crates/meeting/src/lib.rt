@@ -3,7 +3,11 @@
 
 ghost use Rattle.std.specs.Prelude.{◌≡◌, cond, ◌&&◌, ℕ, ◌+◌, ◌*◌, ◌≤◌, ◌<◌, min, eqb, length};
 ghost use Rattle.rules.specs.Ledger.{entry};
+ghost use Rattle.ledger.specs.Columns.{Same};
 ghost use Rattle.meeting.specs.Meeting.{Recorded, can_meet, was_met};
+
+use ledger::Ledger;
+use rules::Entry;
 
 // After one entry: the number of records, and the lots left.
 #[derive(Clone, Copy, Drop)]
@@ -12,54 +16,56 @@ pub struct Met {
     pub left: u32,
 }
 
-// What of x lots of account a in issue i meets an entry of y lots: where it is of that issue and from
-// that account it is met in a lent slice of entry structs.
-fn met_by(issue: u8, from: u8, to: u8, y: u32, day: u16, i: u32, a: u32, x: u32) -> u32
-    ensures { result ≡ cond (eqb issue i && eqb from a) (min x y) 0 }
+// What of x lots of account a in issue i meets an entry: where it is of that issue and from that account
+// it is met in a lent slice of entry structs.
+fn met_by(e: Entry, i: u32, a: u32, x: u32) -> u32
+    ensures { result ≡ cond (eqb e.issue i && eqb e.from a) (min x e.lots) 0 }
 {
-    if ledger::is_of(issue, from, i, a) {
-        return y - ledger::left_of(issue, from, to, y, day, x);
+    if ledger::is_of(e.issue, e.from, i, a) {
+        return e.lots - ledger::left_of(e, x);
     }
     0
 }
 
-// A handover's record behind n others, unless its lots are 0; answers the number of records.
-fn hand(out: &mut [u32], n: usize, i: u8, f: u8, t: u8, x: u32) -> usize
-    requires { (2 * n + 2 ≤ length out.old) × (i < 16) × (f < 64) × (t < 64) × (x < 268435456) }
-    ensures { (y d : ℕ) → Recorded (entry i f t y d) x n result out.old out.new }
+// A handover's record of x lots of an entry behind n others, unless they are 0; answers the number of
+// records: n counts them from call to call, so the output comes whole.
+fn hand(out: &mut [u32], n: usize, e: Entry, x: u32) -> usize
+    requires { (2 * n + 2 ≤ length out.old) × (e.issue < 16) × (e.from < 64) × (e.to < 64) × (x < 268435456) }
+    ensures { Recorded e x n result out.old out.new }
 {
     if x == 0 {
         return n;
     }
-    words::record(&mut out[2 * n..], 11, i as u32, f as u32, t as u32, x);
+    words::record(
+        &mut out[2 * n..],
+        11,
+        u32::from(e.issue),
+        u32::from(e.from),
+        u32::from(e.to),
+        x,
+    );
     n + 1
 }
 
 // The entry at place k met by x lots of account a in issue i: its lots fall by what meets it, and the
 // record of that stands behind n others.
 pub fn meet_at(
+    ledger: &mut Ledger,
     k: usize,
     n: usize,
     i: u32,
     a: u32,
     x: u32,
-    issues: &[u8],
-    froms: &[u8],
-    tos: &[u8],
-    lots: &mut [u32],
-    days: &[u16],
     out: &mut [u32],
 ) -> Met
-    requires { can_meet k n issues froms tos lots days out }
-    ensures { was_met i a x k n result issues froms tos lots days out }
+    requires { can_meet k n ledger.old out.old }
+    ensures done { was_met i a x k n result ledger.old ledger.new out.old out.new }
+    ensures same { Same ledger.old ledger.new }
 {
-    let issue = issues[k];
-    let f = froms[k];
-    let t = tos[k];
-    let y = lots[k];
-    let m = met_by(issue, f, t, y, days[k], i, a, x);
-    let records = hand(out, n, issue, f, t, m);
-    lots[k] = y - m;
+    let e = ledger::entry_at(ledger, k);
+    let m = met_by(e, i, a, x);
+    let records = hand(out, n, e, m);
+    ledger.lots[k] = e.lots - m;
     Met {
         records,
         left: x - m,

@@ -1,12 +1,13 @@
 -- The book of words by the places of its columns, and what opening answers.
+use Rattle.std.specs.Prelude.{Ok, Err}
 use mathlib.Core.Path.{◌≡◌, refl, sym, ap, ◌∙◌}
-use mathlib.Core.Bool.{Bool, true, false, ◌&&◌}
+use mathlib.Core.Bool.{true, false, ◌&&◌}
 use mathlib.Core.List.{List, [], ◌∷◌, ◌++◌, map}
-use Prim.Native.Nat.{ℕ, zero, suc, ◌+◌, ◌*◌, ◌<◌, ◌/◌, ◌%◌}
+use Prim.Native.Nat.{ℕ, zero, suc, ◌+◌, ◌*◌, ◌<◌, ◌%◌}
 use native.Mathlib.Omega.{arith}
 use borrow.Author.Tests.{ltb-true, eqb-true}
 use lib.Dec.{eqb}
-use lib.ListN.{length, get_or, take, drop, length-map}
+use lib.ListN.{length, get_or, drop, length-map}
 use lib.Seq.{drop-drop, get_or-take, get_or-drop}
 use lib.IntN.{ℤ}
 use Rattle.rules.specs.declared.Book.{Book}
@@ -17,9 +18,9 @@ use Rattle.laws.proofs.Basics.{and_left, and_right}
 use Rattle.laws.proofs.Answers.{AllYes, all_yes, stops, no_no}
 use Rattle.checksums.specs.Sums.{word_size, below}
 use Rattle.snapshots.specs.Words.{phase_in, signed_in, longs_in, field_in, issue_in, from_in, to_in, day_in, parted}
-use Rattle.snapshots.specs.Snapshot.{widths, snapshot_words, book_from, columns_in, book_in, fitting, seal_questions, questions, Opened, refused, book, answer, opened}
+use Rattle.snapshots.specs.Snapshot.{widths, snapshot_words, book_from, columns_in, book_in, fitting, seal_questions, questions, answer, opened}
 use Rattle.snapshots.proofs.Theorems.{opened_length}
-use Rattle.restoring.specs.Taking.{part, TakenCells, TakenLedger, TakenState}
+use Rattle.restoring.specs.Taking.{part, TakenCells, TakenLedger, numbers_fit, taken_state}
 use Rattle.restoring.proofs.Words.{part_length}
 use Rattle.opening.specs.Judging.{book_with, open_number, open_book, Judges, Opens}
 
@@ -91,6 +92,12 @@ taken_lengths ws ns dl ls cs is fs ts xs ds e a b =
           };
     }
 
+-- a book that is the same has the same lengths
+pub same_lengths : (b d : Book) → b ≡ d →
+    Lengths d.nets d.delivered d.lifts d.charges d.issues d.froms d.tos d.lots d.days →
+    Lengths b.nets b.delivered b.lifts b.charges b.issues b.froms b.tos b.lots b.days
+same_lengths b d e n = rw e n
+
 -- numbers that fit are taken as they are
 fit_same : (most : ℕ) (f : ℕ → ℕ) → ((w : ℕ) → w < most → f w ≡ w) → (ws : List ℕ) → all (below most) ws ≡ true → map f ws ≡ ws
 fit_same most f e [] h = refl
@@ -103,25 +110,23 @@ small w h = omega arith
 middle : (w : ℕ) → w < 65536 → w % 65536 ≡ w
 middle w h = omega arith
 
-module _ (ws : List ℕ) (s : State) (g : Bool) (t : TakenState ws s g) where
-  -- the flag is that of the definition
-  flag : g ≡ fitting (book_in ws) (get_or ws 4 0)
+module _ (ws : List ℕ) where
+  -- the test is that of the definition
+  flag : numbers_fit ws ≡ fitting (book_in ws) (get_or ws 4 0)
   unfolding fitting read_book
-  flag = t.fit ∙ sym (ap (λ b. fitting b (get_or ws 4 0)) (book_at ws))
+  flag = sym (ap (λ b. fitting b (get_or ws 4 0)) (book_at ws))
 
   -- and where all fits, so is the state
-  state_at : g ≡ true → s ≡ (book_in ws).state
+  state_at : numbers_fit ws ≡ true → taken_state ws ≡ (book_in ws).state
   unfolding read_book
-  state_at e =
+  state_at u =
       let m = all (below 256) (part 7 16 ws) in
       let d = below 65536 (get_or ws 3 0) in
       let p = below 3 (get_or ws 4 0) in
-      let u : m && d && p ≡ true = sym t.fit ∙ e in
       let v = and_left (m && d) p u in
       let n : day_in (get_or ws 3 0) ≡ get_or ws 3 0 = middle (get_or ws 3 0) (ltb-true (get_or ws 3 0) 65536 (and_right m d v)) in
       let k : map (field_in 1 256) (part 7 16 ws) ≡ part 7 16 ws = fit_same 256 (field_in 1 256) small (part 7 16 ws) (and_left m d v) in
-      t.state
-      ∙ ap (λ x. state_of x (phase_in (get_or ws 4 0)) (get_or ws 5 0) (get_or ws 6 0) (map (field_in 1 256) (part 7 16 ws))) n
+      ap (λ x. state_of x (phase_in (get_or ws 4 0)) (get_or ws 5 0) (get_or ws 6 0) (map (field_in 1 256) (part 7 16 ws))) n
       ∙ ap (state_of (get_or ws 3 0) (phase_in (get_or ws 4 0)) (get_or ws 5 0) (get_or ws 6 0)) k
       ∙ sym (ap (λ b. b.state) (book_at ws))
 
@@ -133,16 +138,16 @@ first_append (ask n true ∷ qs) rs h = first_append qs rs h
 first_append (ask n false ∷ qs) rs h = refl
 
 -- a number that is not 0 is a refusal
-answer_no : (q : ℕ) (b : Book) → (q ≡ 0 → ⊥) → answer q b ≡ refused q
+answer_no : (q : ℕ) (b : Book) → (q ≡ 0 → ⊥) → answer q b ≡ Err q
 answer_no zero b h = absurd (h refl)
 answer_no (suc q) b h = refl
 
 module _ (ws : List ℕ) where
-  refused_by_lem : (q : ℕ) → q ≡ first_no (questions ws) → (q ≡ 0 → ⊥) → opened ws ≡ refused q
+  refused_by_lem : (q : ℕ) → q ≡ first_no (questions ws) → (q ≡ 0 → ⊥) → opened ws ≡ Err q
   unfolding opened
   refused_by_lem q e h = ap (λ n. answer n (book_in ws)) (sym e) ∙ answer_no q (book_in ws) h
 
-  judged_no : (q : ℕ) (s : State) → opened ws ≡ refused q → s ≡ fresh.state → Judges ws q s
+  judged_no : (q : ℕ) (s : State) → opened ws ≡ Err q → s ≡ fresh.state → Judges ws q s
   judged_no q s e f = record { refusal = sym (ap open_number e); state = f ∙ sym (ap (λ d. (open_book d fresh).state) e) }
 
   -- one of the first three questions
@@ -154,46 +159,46 @@ module _ (ws : List ℕ) where
       (e ∙ first_append (seal_questions ws) (ask 4 (fitting (book_in ws) (get_or ws 4 0)) ∷ ask 5 (sound (book_in ws)) ∷ []) (λ z. h (e ∙ z))) h)
       f
 
-  module _ (q : ℕ) (e : q ≡ first_no (seal_questions ws)) (z : q ≡ 0) where
+  -- a number that is 0, where the first three are answered 'yes'
+  module _ (z : 0 ≡ first_no (seal_questions ws)) where
     yes : AllYes (seal_questions ws)
     unfolding seal_questions
-    yes = all_yes (seal_questions ws) (omega arith, (omega arith, (omega arith, tt))) (sym e ∙ z)
+    yes = all_yes (seal_questions ws) (omega arith, (omega arith, (omega arith, tt))) (sym z)
 
     pub sealed_long : length ws ≡ snapshot_words
     unfolding seal_questions
     sealed_long = eqb-true (length ws) snapshot_words (and_left (eqb (length ws) snapshot_words) (all (below word_size) ws) yes.0)
 
-    module _ (s : State) (g : Bool) (t : TakenState ws s g) where
-      pub unfit : (n : State) → g ≡ false → n ≡ fresh.state → Judges ws 4 n
+    pub unfit : numbers_fit ws ≡ false → Judges ws 4 fresh.state
+    unfolding seal_questions questions
+    unfit f =
+        let y = yes in
+        judged_no 4 fresh.state
+        (refused_by_lem 4 (stops 3 (questions ws) (y.0, (y.1.0, (y.1.1.0, tt))) (sym (flag ws) ∙ f)) (λ w. absurd (omega arith)))
+        refl
+
+    module _ (s : State) (t : (numbers_fit ws ≡ true) × (s ≡ taken_state ws)) where
+      fits : fitting (book_in ws) (get_or ws 4 0) ≡ true
+      fits = sym (flag ws) ∙ t.0
+
+      same : book_with ws s ≡ book_in ws
+      same = ap (with_state (book_in ws)) (t.1 ∙ state_at ws t.0)
+
+      pub unsound : sound (book_with ws s) ≡ false → Judges ws 5 fresh.state
       unfolding seal_questions questions
-      unfit n f k =
+      unsound h =
           let y = yes in
-          judged_no 4 n
-          (refused_by_lem 4 (stops 3 (questions ws) (y.0, (y.1.0, (y.1.1.0, tt))) (sym (flag ws s g t) ∙ f)) (λ w. absurd (omega arith)))
-          k
+          judged_no 5 fresh.state
+          (refused_by_lem 5 (stops 4 (questions ws) (y.0, (y.1.0, (y.1.1.0, (fits, tt)))) (sym (ap sound same) ∙ h)) (λ w. absurd (omega arith)))
+          refl
 
-      module _ (f : g ≡ true) where
-        fits : fitting (book_in ws) (get_or ws 4 0) ≡ true
-        fits = sym (flag ws s g t) ∙ f
-
-        same : book_with ws s ≡ book_in ws
-        same = ap (with_state (book_in ws)) (state_at ws s g t f)
-
-        pub unsound : (n : State) → sound (book_with ws s) ≡ false → n ≡ fresh.state → Judges ws 5 n
-        unfolding seal_questions questions
-        unsound n h k =
-            let y = yes in
-            judged_no 5 n
-            (refused_by_lem 5 (stops 4 (questions ws) (y.0, (y.1.0, (y.1.1.0, (fits, tt)))) (sym (ap sound same) ∙ h)) (λ w. absurd (omega arith)))
-            k
-
-        pub judged_yes : sound (book_with ws s) ≡ true → Judges ws 0 s
-        unfolding seal_questions questions opened
-        judged_yes h =
-            let y = yes in
-            let o : opened ws ≡ book (book_in ws) =
-            ap (λ n. answer n (book_in ws)) (sym (no_no (questions ws) (y.0, (y.1.0, (y.1.1.0, (fits, (sym (ap sound same) ∙ h, tt))))))) in
-            record { refusal = sym (ap open_number o); state = state_at ws s g t f ∙ sym (ap (λ d. (open_book d fresh).state) o) }
+      pub judged_yes : sound (book_with ws s) ≡ true → Judges ws 0 s
+      unfolding seal_questions questions opened
+      judged_yes h =
+          let y = yes in
+          let o : opened ws ≡ Ok (book_in ws) =
+          ap (λ n. answer n (book_in ws)) (sym (no_no (questions ws) (y.0, (y.1.0, (y.1.1.0, (fits, (sym (ap sound same) ∙ h, tt))))))) in
+          record { refusal = sym (ap open_number o); state = t.1 ∙ state_at ws t.0 ∙ sym (ap (λ d. (open_book d fresh).state) o) }
 
 -- What is lent
 
@@ -202,7 +207,7 @@ kept_by : (k : ℕ) (b : Book) (n : ℕ) (s : State) (lent : Book) → n ≡ ope
 kept_by zero b n s lent e f h = absurd (h e)
 kept_by (suc k) b n s lent e f h = ap (with_state lent) f
 
-done_by : (k : ℕ) (b : Book) (n : ℕ) → n ≡ open_number (answer k b) → n ≡ 0 → answer k b ≡ book b
+done_by : (k : ℕ) (b : Book) (n : ℕ) → n ≡ open_number (answer k b) → n ≡ 0 → answer k b ≡ Ok b
 done_by zero b n e z = refl
 done_by (suc k) b n e z = absurd (omega (arith, e, z))
 
@@ -213,7 +218,7 @@ module _ (ws : List ℕ) (n : ℕ) (s : State) (j : Judges ws n s) where
   stays lent h = record { refusal = j.refusal; book = kept_by (first_no (questions ws)) (book_in ws) n s (with_state lent s) j.refusal j.state h }
 
   module _ (z : n ≡ 0) where
-    done : opened ws ≡ book (book_in ws)
+    done : opened ws ≡ Ok (book_in ws)
     unfolding opened
     done = done_by (first_no (questions ws)) (book_in ws) n j.refusal z
 

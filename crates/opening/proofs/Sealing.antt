@@ -13,7 +13,18 @@ use Rattle.laws.proofs.Basics.{and_both}
 use Rattle.laws.proofs.Answers.{stops, no_no}
 use Rattle.checksums.specs.Sums.{word_size, below, weighted}
 use Rattle.checksums.proofs.Bounds.{all_words}
+use Rattle.snapshots.specs.declared.Fault.{Fault}
+use Rattle.snapshots.specs.declared.Fault.TheVariants as fault
+use Rattle.snapshots.specs.Faults.{fault_number}
 use Rattle.snapshots.specs.Snapshot.{version, snapshot_words, seal_questions}
+
+-- a fault has a number of 1 or more
+pub some_fault : (f : Fault) → fault_number f ≡ 0 → ⊥
+some_fault fault.Length z = absurd (omega (arith, z))
+some_fault fault.Version z = absurd (omega (arith, z))
+some_fault fault.Checksum z = absurd (omega (arith, z))
+some_fault fault.Field z = absurd (omega (arith, z))
+some_fault fault.Unsound z = absurd (omega (arith, z))
 
 both_false : (a b : Bool) → (a ≡ true → b ≡ true → ⊥) → a && b ≡ false
 both_false false b h = refl

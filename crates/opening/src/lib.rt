@@ -2,57 +2,45 @@
 #![tactic(auto)]
 
 ghost use Rattle.std.specs.Prelude.{◌≡◌, length};
-ghost use Rattle.rules.specs.Book.{sound, Lengths};
+ghost use Rattle.rules.specs.Book.{sound};
 ghost use Rattle.rules.specs.Questions.{first_no};
-ghost use Rattle.book.specs.States.{columns};
+ghost use Rattle.columns.specs.Books.{lent_book, LentLengths, SameColumns};
 ghost use Rattle.snapshots.specs.Snapshot.{snapshot_words, seal_questions};
-ghost use Rattle.opening.specs.Judging.{book_with, Judges, Opens};
+ghost use Rattle.snapshots.specs.Faults.{fault_in};
+ghost use Rattle.restoring.specs.Taking.{CanTake};
+ghost use Rattle.opening.specs.Judging.{book_with, opened_state, Judges, Opens};
 
-use book::state_of;
 use checksums::checksum;
-use restoring::{take_cells, take_ledger, take_state};
-use rules::{ACCOUNT_COUNT, CELL_COUNT, ISSUE_COUNT, LIFT_CELLS, MOST_ENTRIES, Phase, State};
-use snapshots::{VERSION, WORDS};
+use columns::{LentColumns, shared};
+use restoring::{take_columns, take_state};
+use rules::{ACCOUNT_COUNT, CELL_COUNT, LIFT_CELLS, MOST_ENTRIES, State};
+use snapshots::{Fault, VERSION, WORDS};
+use soundness::scan::sound_columns;
 
-// Is this a sealed body of a snapshot's length? The number of the question answered 'no', or 0.
-fn sealed(words: &[u32]) -> u32
-    ensures { result ≡ first_no (seal_questions words.now) }
+// Is this a sealed body of a snapshot's length?
+fn sealed(words: &[u32]) -> Result<(), Fault>
+    ensures { fault_in result ≡ first_no (seal_questions words.now) }
 {
     if words.len() != WORDS {
-        return 1;
+        return Err(Fault::Length);
     }
     if words[0] != VERSION {
-        return 2;
+        return Err(Fault::Version);
     }
     let t = checksum(&words[3..]);
     if words[1] as u64 + 4294967296 * (words[2] as u64) != t {
-        return 3;
+        return Err(Fault::Checksum);
     }
-    0
+    Ok(())
 }
 
 // The columns of words, taken into lent ones: are they a sound book with this state?
-fn sound_in<'a>(
-    words: &'a [u32],
-    s: State,
-    nets: &mut [i32],
-    delivered: &mut [u32],
-    lifts: &mut [u32],
-    charges: &mut [i64],
-    issues: &mut [u8],
-    froms: &mut [u8],
-    tos: &mut [u8],
-    lots: &mut [u32],
-    days: &mut [u16],
-) -> bool
-    requires { (length words.now ≡ snapshot_words) × Lengths nets.old delivered.old lifts.old charges.old issues.old froms.old tos.old lots.old days.old }
+fn sound_in(words: &[u32], s: State, columns: &mut LentColumns) -> bool
+    requires { CanTake words.now columns.old }
     ensures { result ≡ sound (book_with words.now s) }
 {
-    take_cells(words, nets, delivered, lifts, charges);
-    take_ledger(words, issues, froms, tos, lots, days);
-    soundness::scan::sound_columns(
-        s, nets, delivered, lifts, charges, issues, froms, tos, lots, days,
-    )
+    take_columns(words, columns);
+    sound_columns(s, shared(columns))
 }
 
 // Are words a sound book with this state? They are read into columns of their own.
@@ -69,79 +57,41 @@ fn sound_words(words: &[u32], s: State) -> bool
     let mut tos = [0u8; MOST_ENTRIES];
     let mut lots = [0u32; MOST_ENTRIES];
     let mut days = [0u16; MOST_ENTRIES];
-    sound_in(
-        words,
-        s,
-        &mut nets,
-        &mut delivered,
-        &mut lifts,
-        &mut charges,
-        &mut issues,
-        &mut froms,
-        &mut tos,
-        &mut lots,
-        &mut days,
-    )
+    let mut columns = LentColumns {
+        nets: &mut nets,
+        delivered: &mut delivered,
+        lifts: &mut lifts,
+        charges: &mut charges,
+        issues: &mut issues,
+        froms: &mut froms,
+        tos: &mut tos,
+        lots: &mut lots,
+        days: &mut days,
+    };
+    sound_in(words, s, &mut columns)
 }
 
-// What words are judged as: the number of the question answered 'no' (0: none), and the state, that of a fresh book where
-// one was.
-#[derive(Clone, Copy, Drop)]
-pub struct Judged {
-    pub refusal: u32,
-    pub state: State,
-}
-
-// All questions on words, before anything is stored.
-fn judge(words: &[u32]) -> Judged
-    ensures { Judges words.now result.refusal result.state }
+// All questions on words, before anything is stored: the state of their book.
+fn judge(words: &[u32]) -> Result<State, Fault>
+    ensures { Judges words.now (fault_in result) (opened_state result) }
 {
-    let none = state_of(0, Phase::Taking, 0, 0, [0; ISSUE_COUNT]);
-    let q = sealed(words);
-    if q != 0 {
-        return Judged {
-            refusal: q,
-            state: none,
-        };
-    }
-    let t = take_state(words);
-    let state = t.state;
-    if !t.good {
-        return Judged {
-            refusal: 4,
-            state: none,
-        };
-    }
+    sealed(words)?;
+    let Some(state) = take_state(words) else {
+        return Err(Fault::Field);
+    };
     if !sound_words(words, state) {
-        return Judged {
-            refusal: 5,
-            state: none,
-        };
+        return Err(Fault::Unsound);
     }
-    Judged { refusal: 0, state }
+    Ok(state)
 }
 
 // The book of words, in lent columns, which stay as they came where it is refused.
-pub fn open<'a>(
-    words: &'a [u32],
-    nets: &mut [i32],
-    delivered: &mut [u32],
-    lifts: &mut [u32],
-    charges: &mut [i64],
-    issues: &mut [u8],
-    froms: &mut [u8],
-    tos: &mut [u8],
-    lots: &mut [u32],
-    days: &mut [u16],
-) -> Judged
-    requires { Lengths nets.old delivered.old lifts.old charges.old issues.old froms.old tos.old lots.old days.old }
-    ensures { let c = columns nets delivered lifts charges issues froms tos lots days in Opens words.now result.refusal (c.before result.state) (c.after result.state) }
+pub fn open(words: &[u32], columns: &mut LentColumns) -> Result<State, Fault>
+    requires { LentLengths columns.old }
+    ensures opens { Opens words.now (fault_in result) (lent_book (opened_state result) columns.old) (lent_book (opened_state result) columns.new) }
+    ensures same { SameColumns columns.old columns.new }
 {
-    let r = judge(words);
-    if r.refusal != 0 {
-        return r;
-    }
-    take_cells(words, nets, delivered, lifts, charges);
-    take_ledger(words, issues, froms, tos, lots, days);
-    r
+    let state = judge(words)?;
+    take_columns(words, columns);
+    Ok(state)
 }

@@ -9,28 +9,25 @@ ghost use Rattle.runs.specs.Runs.{runs_in, units_in, runs_of, full_of, small_lot
 use rules::{ACCOUNT_COUNT, ACCOUNTS, UNIT_LOTS};
 use sorting::rank;
 
-// Of each account's lots, those of its small unit.
+// Of each account's lots, those of its small unit. The size is a constant here; `ranking::rests` has it as a parameter
+// above 0, and one function of both would ask for that here too.
 fn rests(lots: &[u32], out: &mut [u32])
     requires { length out.old ≡ length lots.now }
     ensures { out.new ≡ map small_lots lots.now }
 {
-    let mut i = 0;
-    while i < lots.len() {
-        out[i] = lots[i] % UNIT_LOTS;
-        i += 1;
+    for (i, x) in lots.iter().enumerate() {
+        out[i] = *x % UNIT_LOTS;
     }
 }
 
-// Of each of the first n keys, the lots of its full units.
+// Of each of the first n keys, the lots of its full units. The array is lent whole, as `rank` left it with n keys in
+// front: the small units take the places behind them, and there is no heap.
 fn fulls(keys: &mut [u32], n: usize)
     requires { n ≤ length keys.old }
     ensures { runs_in keys.new n ≡ map full_of (runs_in keys.old n) }
 {
-    let mut i = 0;
-    while i < n {
-        let k = keys[i];
-        keys[i] = k - k / ACCOUNTS % UNIT_LOTS * ACCOUNTS;
-        i += 1;
+    for i in 0..n {
+        keys[i] -= keys[i] / ACCOUNTS % UNIT_LOTS * ACCOUNTS;
     }
 }
 

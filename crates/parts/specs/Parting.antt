@@ -3,6 +3,7 @@ use Rattle.std.specs.Prelude.{◌≡◌, true, not, List, ℕ, ◌+◌, ◌*◌,
 use Rattle.rules.specs.Measures.{output_words}
 use Rattle.rules.specs.Book.{sound}
 use Rattle.input.specs.declared.Words.{Words}
+use Rattle.input.specs.Fed.{is_ended, is_failed}
 use Rattle.parts.specs.declared.Place.{Place}
 use Rattle.turns.specs.Going.{Went}
 
@@ -20,5 +21,5 @@ pub record Parted (p : Place) (w : Words) (ws text : List ℕ) (r : Place) : Typ
   pub start : r.start ≡ 4 * used
   pub end : r.end ≡ w.end
   pub index : r.index ≡ p.index + used
-  pub failed : r.failed ≡ w.failed
-  pub went : Went ws w.done (not (eqb (w.end % 4) 0)) p.index p.book text used r.printed r.over r.book
+  pub failed : r.failed ≡ is_failed w.input
+  pub went : Went ws (is_ended w.input) (not (eqb (w.end % 4) 0)) p.index p.book text used r.printed r.over r.book

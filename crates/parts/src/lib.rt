@@ -9,7 +9,8 @@ use turns::run_on;
 
 // Where a run stands between two parts: the bytes from `start` to `end` are not used yet, the next word
 // has this index; how much of the text is printed, whether the run is over, whether the last read
-// failed, and the book.
+// failed, and the book. `over` and `failed` stay two flags: a reader's refusal ends a run whatever the last
+// read said.
 #[derive(Clone, Copy, Drop)]
 pub struct Place {
     pub start: usize,
@@ -28,16 +29,16 @@ pub fn part(p: Place, w: Words, words: &[u32], text: &mut [u8], out: &mut [u32])
     ensures { Parted p w words.now text.new result }
 {
     let stray = w.end % 4 != 0;
-    let book = p.book;
-    let r = run_on(book, words, w.done, stray, p.index, text, out);
-    let after = r.book;
+    let last = w.input.ended();
+    let r = run_on(p.book, words, last, stray, p.index, text, out);
+    let after = r.after;
     Place {
         start: 4 * r.used,
         end: w.end,
         index: p.index + r.used as u64,
         printed: r.end,
         over: r.over,
-        failed: w.failed,
+        failed: w.input.failed(),
         book: after,
     }
 }

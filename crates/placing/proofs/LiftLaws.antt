@@ -17,7 +17,7 @@ use Rattle.rules.specs.Handover.{covered}
 use Rattle.rules.specs.Lifts.{Lift}
 use Rattle.rules.specs.Book.{Orders, is_taking, is_zero, tabulate, all, row, balanced, within_size, within_owed, delivered_total, lift_number, count_at, places_in, lifts_at, order_in, places_sound, lift_conditions, lifts_sound}
 use Rattle.laws.proofs.Basics.{by_test, and_left, and_right, all_at, length_tab, get_or_tab}
-use Rattle.laws.proofs.Scans.{rest_of_issues, and_true, and_false}
+use Rattle.laws.proofs.Scans.{rest_of_issues, and_true, and_false, and_assoc}
 use Rattle.laws.proofs.Cells.{length_row, get_or_block, within_row}
 use Rattle.laws.proofs.Cutoff.{delivered_due}
 use Rattle.laws.proofs.Lifts.{length_lifted}
@@ -30,23 +30,20 @@ use Rattle.placing.specs.LiftScan.{all_lifts, CanScan, CanPlace}
 
 -- The places
 
-and_places : (g a b c d r : Bool) → ((((g && a) && b) && c) && d) && r ≡ g && ((((a && b) && c) && d) && r)
-and_places true a b c d r = refl
-and_places false a b c d r = refl
-
 module _ (words : List ℕ) (number handed : ℕ) where
   -- what is left of the tests of places, from word j on
   abbrev pub rest_of_places : ℕ → ℕ → ℕ → Bool
   rest_of_places least left j = places_sound number handed least (places_in left (drop j words))
 
-  pub places_more : (least left j : ℕ) (g whole : Bool) → 0 < left → g && rest_of_places least left j ≡ whole →
-      ((((g && leb least (get_or words (j + 1) 0)) && leb (get_or words (j + 1) 0) (get_or words j 0)) && ltb (get_or words j 0) number) && leb (get_or words (j + 1) 0) handed)
-      && rest_of_places (get_or words (j + 1) 0) (left - 1) (j + 2) ≡ whole
-  places_more least left j g whole h e =
-      and_places g _ _ _ _ _ ∙ ap (λ ls. g && places_sound number handed least ls) (sym (places_next words j left h)) ∙ e
-
-  pub places_end : (least left j : ℕ) (g whole : Bool) → left ≡ 0 → g && rest_of_places least left j ≡ whole → g ≡ whole
-  places_end least left j g whole z e = sym (and_true g) ∙ ap (λ t. g && t) (sym (rw z)) ∙ e
+  pub places_turn : (least n k : ℕ) (g whole : Bool) → k < n → g && rest_of_places least (n - k) (2 * k + 2) ≡ whole →
+      (g && (((leb least (get_or words (2 * k + 3) 0) && leb (get_or words (2 * k + 3) 0) (get_or words (2 * k + 2) 0)) && ltb (get_or words (2 * k + 2) 0) number) && leb (get_or words (2 * k + 3) 0) handed))
+      && rest_of_places (get_or words (2 * k + 3) 0) (n - (k + 1)) (2 * (k + 1) + 2) ≡ whole
+  places_turn least n k g whole h e =
+      let a : 2 * k + 3 ≡ 2 * k + 2 + 1 = omega arith in
+      let b : n - (k + 1) ≡ n - k - 1 = omega arith in
+      let d : 2 * (k + 1) + 2 ≡ 2 * k + 2 + 2 = omega arith in
+      rw (a, b, d)
+      (and_assoc g _ _ ∙ ap (λ ls. g && places_sound number handed least ls) (sym (places_next words (2 * k + 2) (n - k) (omega arith))) ∙ e)
 
 -- whatever is handed, they are places of units
 wider : (number handed least : ℕ) (ls : List Lift) → places_sound number handed least ls ≡ true → places_sound number number least ls ≡ true

@@ -19,15 +19,12 @@ fn places_sound(words: &[u32], number: u32, handed: u32) -> bool
 {
     let mut good = true;
     let mut least: u32 = 0;
-    let mut left = words[0];
-    let mut j: usize = 2;
-    while 0 < left {
-        let old = words[j];
-        let new = words[j + 1];
-        good = good & (least <= new) & (new <= old) & (old < number) & (new <= handed);
+    // by index: the first word tells how many pairs of words follow
+    for k in 0..words[0] as usize {
+        let old = words[2 * k + 2];
+        let new = words[2 * k + 3];
+        good &= (least <= new) & (new <= old) & (old < number) & (new <= handed);
         least = new;
-        j += 2;
-        left -= 1;
     }
     good
 }
@@ -41,12 +38,12 @@ fn placed(nets: &[i32], lifts: &[u32], i: usize, d: u32) -> bool
     let e = s + LIFT_WORDS;
     let mut runs = [0u32; RUN_COUNT];
     let n = ordering::ranked(nets, i, &mut runs);
-    let k = handover::number(&runs, n);
+    let k = handover::number(&runs[..n]);
     if !places_sound(&lifts[s..e], k, k) {
         return false;
     }
     let m = lifted::lift_all(&lifts[s..e], &mut runs, n);
-    let h = handover::handover(&runs, m, d);
+    let h = handover::handover(&runs[..m], d);
     places_sound(&lifts[s..e], k, h.count)
 }
 
@@ -92,10 +89,8 @@ pub fn lifts_sound<'a>(
     ensures { result ≡ all_lifts phase nets.now delivered.now lifts.now }
 {
     let mut good = true;
-    let mut i: usize = 0;
-    while i < ISSUE_COUNT {
-        good = good & issue_lifts(phase, nets, delivered, lifts, i);
-        i += 1;
+    for i in 0..ISSUE_COUNT {
+        good &= issue_lifts(phase, nets, delivered, lifts, i);
     }
     good
 }

@@ -5,17 +5,17 @@ use mathlib.Core.List.{List, [], ◌∷◌, ◌++◌, append_assoc, append-nil}
 use Prim.Native.Nat.{ℕ, zero, suc, ◌+◌, ◌-◌, ◌*◌, ◌%◌, ◌≤◌, ◌<◌}
 use native.Mathlib.Omega.{arith}
 use lib.Dec.{eqb}
-use lib.IntN.{ℤ, pos, negsuc}
 use lib.ListN.{length, take, drop, length-append}
 use lib.Seq.{take-nil, drop-nil, take-append_seam, drop-append_seam, length-take-le}
-use Rattle.std.specs.Counts.{clamp_len}
+use Rattle.std.specs.Prelude.{Option, Some, None}
 use Rattle.rules.specs.declared.Book.{Book}
-use Rattle.rules.specs.Bytes.{words_in, stray_in, says_end, says_failed}
+use Rattle.rules.specs.Bytes.{words_in, stray_in}
 use Rattle.rules.specs.Book.{fresh, sound}
 use Rattle.rules.specs.Run.{Ran, run_rest, stopped}
 use Rattle.rules.specs.Text.{lines_text, ran_of, closing_text, printed_of}
 use Rattle.laws.proofs.Sound.{sound_parts}
 use Rattle.rereading.proofs.Run.{run_start}
+use Rattle.input.specs.Fed.{is_ended, is_failed, brought, says_end, says_failed}
 use Rattle.input.proofs.WordLaws.{tail_in, words_append, words_tail, words_length, words_from, stray_from}
 use Rattle.parts.specs.declared.Place.{Place}
 use Rattle.turns.specs.Going.{Follows, Goes, onward, Went}
@@ -54,19 +54,19 @@ stands sent before text bytes on m g =
     (ap (λ (l : List ℕ). l ++ closing) g.printed ∙ append_assoc (before ++ text) lines closing ∙ append_assoc before text (lines ++ closing))
 
 -- a read that fails brings nothing and does not say that the tape has ended
-failed_end : (z : ℤ) → says_failed z ≡ true → says_end z ≡ false
-failed_end (pos n) e = absurd (let q : ◌≡◌ {A = ℕ} 0 1 = cc in omega arith)
-failed_end (negsuc n) e = refl
+failed_end : (z : Option ℕ) → says_failed z ≡ true → says_end z ≡ false
+failed_end (Some n) e = absurd (let q : ◌≡◌ {A = ℕ} 0 1 = cc in omega arith)
+failed_end None e = refl
 
-failed_none : (z : ℤ) (m : ℕ) → says_failed z ≡ true → clamp_len z m ≡ 0
-failed_none (pos n) m e = absurd (let q : ◌≡◌ {A = ℕ} 0 1 = cc in omega arith)
-failed_none (negsuc n) m e = refl
+failed_none : (z : Option ℕ) → says_failed z ≡ true → brought z ≡ 0
+failed_none (Some n) e = absurd (let q : ◌≡◌ {A = ℕ} 0 1 = cc in omega arith)
+failed_none None e = refl
 
 -- a read that neither ends the tape nor fails brings a byte
-brings : (z : ℤ) (m : ℕ) → says_end z ≡ false → says_failed z ≡ false → 0 < m → 0 < clamp_len z m
-brings (pos zero) m e f h = absurd (false≢true (sym e))
-brings (pos (suc n)) m e f h = omega arith
-brings (negsuc n) m e f h = absurd (false≢true (sym f))
+brings : (z : Option ℕ) → says_end z ≡ false → says_failed z ≡ false → 0 < brought z
+brings (Some zero) e f = absurd (false≢true (sym e))
+brings (Some (suc n)) e f = omega arith
+brings None e f = absurd (false≢true (sym f))
 
 -- a run on its way: of all bytes that the reads brought, in order, and whatever comes behind them, the text written so far and
 -- the run from here; each read but the last brought a byte, and the last where the run goes on
@@ -120,7 +120,7 @@ module _ (p r : Place) (bytes bytes' text : List ℕ) (d : Stepped p bytes bytes
   size : length all ≡ d.read.end
   size = length-take-le d.read.end bytes' d.fed.refilled.fits
 
-  went : Went (words_in all) d.read.done (stray_in all) p.index p.book text d.parted.used r.printed r.over r.book
+  went : Went (words_in all) (is_ended d.read.input) (stray_in all) p.index p.book text d.parted.used r.printed r.over r.book
   went =
       went_as _ _ _ _ _ _ d.fed.decoded.front (ap (λ (k : ℕ). not (eqb (k % 4) 0)) (sym size)) refl refl d.parted.went
 
@@ -129,7 +129,7 @@ module _ (p r : Place) (bytes bytes' text : List ℕ) (d : Stepped p bytes bytes
   failed_waits k h e =
       let f = d.fed.refilled in
       let s : says_failed f.said ≡ true = sym f.took.failed ∙ sym d.parted.failed ∙ e in
-      let n = failed_none f.said (length bytes - (p.end - p.start)) s in
+      let n = failed_none f.said s in
       let z = words_length all in
       went.waits (f.took.done ∙ failed_end f.said s) (omega (arith, z.0, size, f.took.end))
 
@@ -152,7 +152,7 @@ module _ (p r : Place) (bytes bytes' text : List ℕ) (d : Stepped p bytes bytes
       (omega (arith, went.within, z.0, size, d.fed.refilled.fits, d.parted.index), omega (arith, went.fits, z.0, size, d.fed.refilled.fits))
 
   -- the part's own run, of bytes
-  part_goes : (more : List ℕ) → (d.read.done ≡ true → more ≡ []) →
+  part_goes : (more : List ℕ) → (is_ended d.read.input ≡ true → more ≡ []) →
       Goes (run_rest p.index p.book (words_in (all ++ more)) (stray_in (all ++ more))) (take r.printed text)
       (onward r.over r.index r.book (words_in (unused r bytes' ++ more)) (stray_in (unused r bytes' ++ more)))
   part_goes more f =
@@ -163,16 +163,16 @@ module _ (p r : Place) (bytes bytes' text : List ℕ) (d : Stepped p bytes bytes
       ∙ ap (λ (n : ℕ). take (d.read.end - n) (drop n bytes')) (sym d.parted.start)
       ∙ ap (λ (n : ℕ). take (n - r.start) (drop r.start bytes')) (sym d.parted.end) in
       rw (words_append all more, d.parted.index, ← u, ← words_from k all more went.within, ← stray_from k all more (omega (arith, went.within, z.0)))
-      (went.run (words_in (tail_in all ++ more)) (stray_in (all ++ more)) (follows d.read.done all more f))
+      (went.run (words_in (tail_in all ++ more)) (stray_in (all ++ more)) (follows (is_ended d.read.input) all more f))
 
   -- and one that neither fails nor ends the run brings a byte
-  came_some : p.end < p.start + 132 → p.start ≤ p.end → 132 ≤ length bytes → r.over ≡ false → r.failed ≡ false → 0 < length came
-  came_some k h l o e =
+  came_some : r.over ≡ false → r.failed ≡ false → 0 < length came
+  came_some o e =
       let f = d.fed.refilled in
-      omega (arith, f.many, brings f.said (length bytes - (p.end - p.start)) (sym f.took.done ∙ went.goes o) (sym f.took.failed ∙ sym d.parted.failed ∙ e) (omega arith))
+      omega (arith, f.many, brings f.said (sym f.took.done ∙ went.goes o) (sym f.took.failed ∙ sym d.parted.failed ∙ e))
 
   module _ (sent reads : ℕ) (o : p.over ≡ false) (s : Sofar p.over p.failed reads p.index p.book (unused p bytes) sent) where
-    on : (more : List ℕ) → (d.read.done ≡ true → more ≡ []) →
+    on : (more : List ℕ) → (is_ended d.read.input ≡ true → more ≡ []) →
         Goes (ran_of ((s.came ++ came) ++ more)) (s.text ++ take r.printed text)
         (onward r.over r.index r.book (words_in (unused r bytes' ++ more)) (stray_in (unused r bytes' ++ more)))
     on more f =
@@ -188,15 +188,14 @@ module _ (p r : Place) (bytes bytes' text : List ℕ) (d : Stepped p bytes bytes
         (on_goes p.over p.index p.book _ s.text (words_in (unused p bytes ++ (came ++ more))) (stray_in (unused p bytes ++ (came ++ more))) o old))
         (part_goes more f))
 
-    pub sofar_on : (next : ℕ) → next ≡ sent + length (take r.printed text) → p.failed ≡ false → Standing p → 132 ≤ length bytes →
-        Sofar r.over r.failed (reads + 1) r.index r.book (unused r bytes') next
-    sofar_on next e w g l =
+    pub sofar_on : (next : ℕ) → next ≡ sent + length (take r.printed text) → p.failed ≡ false → Sofar r.over r.failed (reads + 1) r.index r.book (unused r bytes') next
+    sofar_on next e w =
         record {
           came = s.came ++ came;
           text = s.text ++ take r.printed text;
-          ended = d.read.done;
+          ended = is_ended d.read.input;
           many = omega (arith, e, s.many, length-append s.text (take r.printed text));
-          each = λ u v. omega (arith, s.each o w, came_some (g.few o) g.order l u v, length-append s.came came);
+          each = λ u v. omega (arith, s.each o w, came_some u v, length-append s.came came);
           brought = omega (arith, s.each o w, length-append s.came came);
           goes = went.goes;
           run = on;
@@ -207,7 +206,7 @@ module _ (p r : Place) (bytes bytes' text : List ℕ) (d : Stepped p bytes bytes
     shown =
         record {
           came = s.came ++ came;
-          ended = d.read.done;
+          ended = is_ended d.read.input;
           printed = record { part = λ more f. stands sent s.text (take r.printed text) _ _ s.many (on more f) };
         }
 

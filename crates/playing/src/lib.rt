@@ -29,7 +29,8 @@ fn step<R: Read>(
     parts::part(p, w, &words[..n], text, out)
 }
 
-// After a write: how many bytes were handed over since the start, and whether this write took its own.
+// After a write: how many bytes were handed over since the start, and whether this write took its own. The
+// count stands either way, so `written` stays a flag.
 #[derive(Clone, Copy, Drop)]
 pub struct Sent {
     pub written: bool,
@@ -66,7 +67,7 @@ pub fn show<P: Print + Eprint>(rt: &P, s: Sent, text: &[u8]) -> Sent
 }
 
 // How a run ended: whether it was over, whether its last read failed, how many reads it made, what was
-// written of its lines, and the book.
+// written of its lines, and the book. `over` and `failed` are those of the last part.
 #[derive(Clone, Copy, Drop)]
 pub struct End {
     pub over: bool,
@@ -76,7 +77,8 @@ pub struct End {
     pub book: Book,
 }
 
-// Runs the tape to its end, part by part, and writes its lines. A read or a write that fails ends the run.
+// Runs the tape to its end, part by part, and writes its lines. A read or a write that fails ends the run: what a part or
+// a write said ends the loop, and no range says that.
 pub fn play<P: Print + Eprint, R: Read>(
     rt: &P,
     reader: &mut R,

@@ -6,7 +6,7 @@ use Prim.Native.Nat.{ℕ, zero, suc, ◌+◌, ◌-◌, ◌*◌, ◌/◌, ◌%◌
 use native.Mathlib.Omega.{arith}
 use native.Mathlib.Nat.{mod-le, div-add-mod', div-eq_of_lt, mod-eq_of_lt, mul-div_cancel, mul-mod_left}
 use lib.Dec.{leb, ltb, eqb}
-use lib.ListN.{length, get_or, set, take, drop, replicate, length-take, length-drop, length-append}
+use lib.ListN.{length, get_or, set, take, drop, replicate, length-drop, length-append, length-map}
 use lib.Seq.{get_or-set_same, get_or-set_other, get_or-take, length-take-le, take_at, drop_at, ext_get_or}
 use lib.IntN.{ℤ}
 use borrow.Author.Tests.{leb-true, leb-false, ltb-true, ltb-false, le-leb, lt-leb, eqb-true, eqb-false}
@@ -21,7 +21,7 @@ use Rattle.runs.specs.Runs.{part_of, runs_in, at_least}
 use Rattle.runs.proofs.Units.{smalls_parts}
 use Rattle.runs.proofs.Loops.{behind, dues_small}
 use Rattle.ranking.specs.Runs.{units_of_run, units_of_runs}
-use Rattle.ranking.specs.Orders.{full_at, small_at, runs_at, CanOrder, CanRankAt, RankedAt, CanRankAll, RankedIn}
+use Rattle.ranking.specs.Orders.{full_at, full_word, small_at, runs_at, CanOrder, CanRankAt, RankedAt, RankedIn}
 
 pub units_append : (size : ℕ) (us vs : List AccountLots) → units_of_runs size (us ++ vs) ≡ units_of_runs size us ++ units_of_runs size vs
 units_append size [] vs = refl
@@ -128,12 +128,10 @@ full_key size k =
     let b : (k - r * 64) / 64 ≡ f = omega (arith, e, mod-le x size) in
     ap (λ n. account_lots n ((k - r * 64) / 64)) a ∙ ap (account_lots (k % 64)) b
 
-pub full_fits : (size k : ℕ) → k / 64 % size * 64 ≤ k
-full_fits size k = omega (arith, mod-le (k / 64) size)
-
-pub full_keys : (size : ℕ) (ks : List ℕ) → map (λ k. full_at size (part_of k)) ks ≡ map (full_at size) (map part_of ks)
-full_keys size [] = refl
-full_keys size (k ∷ ks) = ap (λ l. full_at size (part_of k) ∷ l) (full_keys size ks)
+pub full_words : (size : ℕ) (ks : List ℕ) → map part_of (map (full_word size) ks) ≡ map (full_at size) (map part_of ks)
+full_words size [] = refl
+full_words size (k ∷ ks) =
+    ap (λ u. u ∷ map part_of (map (full_word size) ks)) (full_key size k) ∙ ap (λ l. full_at size (part_of k) ∷ l) (full_words size ks)
 
 pub rest_small : (size : ℕ) (dues rests : List ℕ) → rests ≡ map (small_at size) dues → ((a : ℕ) → get_or dues a 0 ≤ most_lots) →
     (a : ℕ) → get_or rests a 0 ≤ most_lots
@@ -150,16 +148,22 @@ at_least_one [] = refl
 at_least_one (zero ∷ xs) = ap (λ l. 0 ∷ l) (at_least_one xs)
 at_least_one (suc n ∷ xs) = rw (le-leb 1 (suc n) (omega arith)) (ap (λ l. suc n ∷ l) (at_least_one xs))
 
-pub ordered : (size : ℕ) (dues rests r₀ r₁ r₂ : List ℕ) (n m k : ℕ) → n ≤ length r₁ → m ≤ length r₂ →
-    map part_of (take n r₀) ≡ largest_first (by_account 0 (map (at_least size) dues)) →
-    map part_of (take n r₁) ≡ map (full_at size) (map part_of (take n r₀)) →
+-- the full units' words in front of the small ones' are the definition's runs
+pub ordered : (size : ℕ) (dues rests ranked fulls smalls : List ℕ) (n m k : ℕ) → n ≤ length ranked → m ≤ length smalls →
+    map part_of (take n ranked) ≡ largest_first (by_account 0 (map (at_least size) dues)) →
+    fulls ≡ map (full_word size) (take n ranked) →
     rests ≡ map (small_at size) dues →
-    map part_of (take m r₂) ≡ largest_first (by_account 0 (map (at_least 1) rests)) →
-    map part_of (take (n + m) (take n r₁ ++ (r₂ ++ drop k (drop n r₁)))) ≡ runs_at size dues
+    map part_of (take m smalls) ≡ largest_first (by_account 0 (map (at_least 1) rests)) →
+    let held = fulls ++ drop n ranked in
+    map part_of (take (n + m) (take n held ++ (smalls ++ drop k (drop n held)))) ≡ runs_at size dues
 unfolding runs_at
-ordered size dues rests r₀ r₁ r₂ n m k h g e f r s =
-    ap (map part_of) (behind r₁ r₂ n m k h g) ∙ map-append part_of (take n r₁) (take m r₂)
-    ∙ ap (λ l. l ++ map part_of (take m r₂)) (f ∙ ap (map (full_at size)) e)
+ordered size dues rests ranked fulls smalls n m k h g e f r s =
+    let held = fulls ++ drop n ranked in
+    let long : length fulls ≡ n = ap length f ∙ length-map (take n ranked) (full_word size) ∙ length-take-le n ranked h in
+    let front : take n held ≡ fulls = take_at fulls (drop n ranked) n long in
+    ap (map part_of) (behind held smalls n m k (omega (arith, length-append fulls (drop n ranked))) g) ∙ map-append part_of (take n held) (take m smalls)
+    ∙ ap (λ l. map part_of l ++ map part_of (take m smalls)) (front ∙ f)
+    ∙ ap (λ l. l ++ map part_of (take m smalls)) (full_words size (take n ranked) ∙ ap (map (full_at size)) e)
     ∙ ap (λ l. map (full_at size) (largest_first (by_account 0 (map (at_least size) dues))) ++ l)
     (s ∙ ap (λ l. largest_first (by_account 0 l)) (at_least_one rests ∙ r))
 
@@ -218,18 +222,6 @@ module _ (rs ys : List ℕ) (i : ℕ) (l : length rs ≡ 2048) (h : i < 16) (k :
       ∙ ap (λ xs. get_or xs (j * 128 + c) 0) (take_at (take (i * 128) rs) rest (i * 128) front)
       ∙ get_or-take (i * 128) rs (j * 128 + c) 0 (omega arith)
       ∙ sym (get_or_block 128 rs j c 0 lc))
-
--- the issue's part of the table can be ranked
-pub can_rank_part : (size : ℕ) (nets : List ℤ) (runs counts : List ℕ) (i : ℕ) → CanRankAll size nets runs counts → (rs : List ℕ) → length rs ≡ 2048 → i < 16 →
-    CanRankAt size nets i (take (i * 128 + 128 - i * 128) (drop (i * 128) rs))
-can_rank_part size nets runs counts i c rs l h =
-    record {
-      cells = c.cells;
-      sized = c.sized;
-      issue = h;
-      some = c.some;
-      room = omega (arith, length-take (i * 128 + 128 - i * 128) (drop (i * 128) rs), length-drop (i * 128) rs);
-    }
 
 pub rank_more : (size : ℕ) (nets : List ℤ) (rs ys cs : List ℕ) (i n : ℕ) → length rs ≡ 2048 → length cs ≡ 16 → i < 16 → length ys ≡ 128 →
     ((j : ℕ) → j < i → RankedIn size nets rs cs j) → RankedAt size nets i ys n →

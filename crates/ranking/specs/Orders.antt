@@ -1,5 +1,5 @@
 -- The runs of every issue at any size of units.
-use Rattle.std.specs.Prelude.{◌≡◌, true, List, ◌++◌, map, ℕ, ◌*◌, ◌/◌, ◌%◌, ◌≤◌, ◌<◌, length, get_or, ℤ}
+use Rattle.std.specs.Prelude.{◌≡◌, true, List, ◌++◌, map, ℕ, ◌-◌, ◌*◌, ◌/◌, ◌%◌, ◌≤◌, ◌<◌, length, get_or, ℤ}
 use Rattle.rules.specs.Measures.{most_lots}
 use Rattle.rules.specs.Units.{AccountLots, account_lots, by_account, largest_first, units}
 use Rattle.rules.specs.Book.{all, block, within_size, dues_of}
@@ -9,6 +9,10 @@ use Rattle.ranking.specs.Runs.{units_of_runs}
 -- what is full of an account's lots, and what is small of them
 abbrev pub full_at : ℕ → AccountLots → AccountLots
 full_at size u = account_lots u.account (u.lots / size * size)
+
+-- the same of a word, lots * 64 + account
+abbrev pub full_word : ℕ → ℕ → ℕ
+full_word size k = k - k / 64 % size * 64
 
 abbrev pub small_at : ℕ → ℕ → ℕ
 small_at size x = x % size

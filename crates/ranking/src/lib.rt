@@ -4,33 +4,28 @@
 
 ghost use Rattle.std.specs.Prelude.{◌≡◌, map, ◌≤◌, length};
 ghost use Rattle.runs.specs.Runs.{runs_in};
-ghost use Rattle.ranking.specs.Orders.{full_at, small_at, runs_at, CanOrder, CanRankAt, RankedAt, CanRankAll, Table};
+ghost use Rattle.ranking.specs.Orders.{full_word, small_at, runs_at, CanOrder, CanRankAt, RankedAt, CanRankAll, Table};
 
 use rules::{ACCOUNT_COUNT, ACCOUNTS, ISSUE_COUNT};
 use runs::RANK_COUNT;
 
-// Of each account's lots, those of its small unit.
+// Of each account's lots, those of its small unit, at any size; `ordering::rests` has the size of document 01.
 fn rests(lots: &[u32], out: &mut [u32], size: u32)
     requires { (1 ≤ size) × (length out.old ≡ length lots.now) }
     ensures { out.new ≡ map (small_at size) lots.now }
 {
-    let mut i = 0;
-    while i < lots.len() {
-        out[i] = lots[i] % size;
-        i += 1;
+    for (i, x) in lots.iter().enumerate() {
+        out[i] = *x % size;
     }
 }
 
-// Of each of the first n keys, the lots of its full units.
-fn fulls(keys: &mut [u32], n: usize, size: u32)
-    requires { (1 ≤ size) × (n ≤ length keys.old) }
-    ensures { runs_in keys.new n ≡ map (full_at size) (runs_in keys.old n) }
+// Of each key the lots of its full units.
+fn fulls(keys: &mut [u32], size: u32)
+    requires { 1 ≤ size }
+    ensures { keys.new ≡ map (full_word size) keys.old }
 {
-    let mut i = 0;
-    while i < n {
-        let k = keys[i];
-        keys[i] = k - k / ACCOUNTS % size * ACCOUNTS;
-        i += 1;
+    for k in keys.iter_mut() {
+        *k -= *k / ACCOUNTS % size * ACCOUNTS;
     }
 }
 
@@ -40,7 +35,7 @@ fn order(dues: &[u32], runs: &mut [u32], size: u32) -> usize
     ensures { (result ≤ 128) × (runs_in runs.new result ≡ runs_at size dues.now) }
 {
     let n = sorting::rank(dues, runs, size);
-    fulls(runs, n, size);
+    fulls(&mut runs[..n], size);
     let mut small = [0u32; ACCOUNT_COUNT];
     rests(dues, &mut small, size);
     let m = sorting::rank(&small, &mut runs[n..], 1);
@@ -64,12 +59,10 @@ pub fn rank_all(nets: &[i32], runs: &mut [u32], counts: &mut [u32], size: u32)
     requires { CanRankAll size nets.now runs.old counts.old }
     ensures { Table size nets.now runs.new counts.new }
 {
-    let mut i: usize = 0;
-    while i < ISSUE_COUNT {
+    for i in 0..ISSUE_COUNT {
         let s = i * RANK_COUNT;
         let e = s + RANK_COUNT;
         let n = rank_issue(nets, i, &mut runs[s..e], size);
         counts[i] = n as u32;
-        i += 1;
     }
 }

@@ -1,4 +1,4 @@
--- One column whose places s to before e move up to place w: so far those before place `at`, to before place `to`.
+-- One column whose places s to before e move up to place w: so far the first k of them.
 use mathlib.Core.Path.{◌≡◌, refl, sym, ap, ◌∙◌}
 use mathlib.Core.List.{List, [], ◌∷◌, ◌++◌, append_assoc, append-nil}
 use Prim.Native.Nat.{ℕ, suc, ◌+◌, ◌-◌, ◌≤◌, ◌<◌}
@@ -8,40 +8,29 @@ use lib.ListN.{length, get_or, set, take, drop, length-set, length-drop}
 use lib.Seq.{drop-drop, get_or-drop, take-suc, take-suc-set, drop-set-lt}
 use Rattle.removing.specs.Moves.{CanMove, Moved}
 
-pub record Moving (w s e : ℕ) (c₀ : List ℕ) (to at : ℕ) (c : List ℕ) : Type 0 where
+pub record Moving {X : Type 0} (w s e : ℕ) (c₀ : List X) (k : ℕ) (c : List X) : Type 0 where
   pub whole : length c ≡ length c₀
   pub up : w ≤ s
-  pub start : s ≤ at
-  pub most : at ≤ e
+  pub most : s + k ≤ e
   pub inside : e ≤ length c₀
-  pub gap : to + s ≡ w + at
-  pub front : take to c ≡ take w c₀ ++ take (at - s) (drop s c₀)
-  pub back : drop at c ≡ drop at c₀
+  pub front : take (w + k) c ≡ take w c₀ ++ take k (drop s c₀)
+  pub back : drop (s + k) c ≡ drop (s + k) c₀
 
-pub moving_starts : (w s e : ℕ) (c : List ℕ) → CanMove w s e c → Moving w s e c w s c
+pub moving_starts : {X : Type 0} (w s e : ℕ) (c : List X) → CanMove w s e c → Moving w s e c 0 c
 moving_starts w s e c h =
-    record {
-      whole = refl;
-      up = h.up;
-      start = omega arith;
-      most = h.part;
-      inside = h.inside;
-      gap = refl;
-      front = let z : s - s ≡ 0 = omega arith in rw z (sym (append-nil (take w c)));
-      back = refl;
-    }
+    record { whole = refl; up = h.up; most = omega (arith, h.part); inside = h.inside; front = let z : w + 0 ≡ w = omega arith in rw z (sym (append-nil (take w c))); back = refl }
 
 -- what stands at a place from which on nothing has changed
-pub same_at : (k : ℕ) (c c₀ : List ℕ) → drop k c ≡ drop k c₀ → (j : ℕ) → k ≤ j → get_or c j 0 ≡ get_or c₀ j 0
-same_at k c c₀ e j h =
+pub same_at : {X : Type 0} (d : X) (k : ℕ) (c c₀ : List X) → drop k c ≡ drop k c₀ → (j : ℕ) → k ≤ j → get_or c j d ≡ get_or c₀ j d
+same_at d k c c₀ e j h =
     let z : k + (j - k) ≡ j = omega arith in
-    ap (λ n. get_or c n 0) (sym z)
-    ∙ sym (get_or-drop k c (j - k) 0)
-    ∙ ap (λ l. get_or l (j - k) 0) e
-    ∙ get_or-drop k c₀ (j - k) 0
-    ∙ ap (λ n. get_or c₀ n 0) z
+    ap (λ n. get_or c n d) (sym z)
+    ∙ sym (get_or-drop k c (j - k) d)
+    ∙ ap (λ l. get_or l (j - k) d) e
+    ∙ get_or-drop k c₀ (j - k) d
+    ∙ ap (λ n. get_or c₀ n d) z
 
-pub same_behind : (k : ℕ) (c c₀ : List ℕ) → drop k c ≡ drop k c₀ → (j : ℕ) → k ≤ j → drop j c ≡ drop j c₀
+pub same_behind : {X : Type 0} (k : ℕ) (c c₀ : List X) → drop k c ≡ drop k c₀ → (j : ℕ) → k ≤ j → drop j c ≡ drop j c₀
 same_behind k c c₀ e j h =
     let z : k + (j - k) ≡ j = omega arith in
     ap (λ n. drop n c) (sym z)
@@ -50,41 +39,30 @@ same_behind k c c₀ e j h =
     ∙ drop-drop (j - k) k c₀
     ∙ ap (λ n. drop n c₀) z
 
-module _ {w s e : ℕ} {c₀ : List ℕ} {to at : ℕ} {c : List ℕ} (m : Moving w s e c₀ to at c) where
-  pub moving_can : at < e → (to < length c) × (at < length c)
-  moving_can h = (omega (arith, m.whole, m.gap, m.up, m.inside), omega (arith, m.whole, m.inside))
-
-  pub moving_more : at < e → Moving w s e c₀ (to + 1) (at + 1) (set c to (get_or c at 0))
-  moving_more h =
-      let v = get_or c at 0 in
-      let a : at + 1 - s ≡ suc (at - s) = omega (arith, m.start) in
-      let b : s + (at - s) ≡ at = omega (arith, m.start) in
-      let u : get_or (drop s c₀) (at - s) 0 ≡ v =
-      get_or-drop s c₀ (at - s) 0 ∙ ap (λ n. get_or c₀ n 0) b ∙ sym (same_at at c c₀ m.back at (omega arith)) in
+module _ {X : Type 0} {w s e : ℕ} {c₀ : List X} {k : ℕ} {c : List X} (m : Moving w s e c₀ k c) where
+  pub moving_more : (v : X) → v ≡ get_or c (s + k) v → k < e - s → Moving w s e c₀ (k + 1) (set c (w + k) v)
+  moving_more v q h =
+      let u : get_or (drop s c₀) k v ≡ v =
+      get_or-drop s c₀ k v ∙ sym (q ∙ same_at v (s + k) c c₀ m.back (s + k) (omega arith)) in
+      let l : w + k < length c = omega (arith, m.whole, m.up, m.inside) in
+      let a : w + (k + 1) ≡ suc (w + k) = omega arith in
       record {
-        whole = length-set c to v ∙ m.whole;
+        whole = length-set c (w + k) v ∙ m.whole;
         up = m.up;
-        start = omega (arith, m.start);
         most = omega arith;
         inside = m.inside;
-        gap = omega (arith, m.gap);
         front =
-            rw (add-one to, take-suc-set c to v (moving_can h).0, m.front, a)
-            (append_assoc (take w c₀) (take (at - s) (drop s c₀)) (v ∷ [])
-            ∙ ap (λ x. take w c₀ ++ (take (at - s) (drop s c₀) ++ (x ∷ []))) (sym u)
-            ∙ ap (λ l. take w c₀ ++ l)
-            (sym (take-suc (drop s c₀) (at - s) 0 (omega (arith, length-drop s c₀, m.inside, m.start)))));
+            rw (a, take-suc-set c (w + k) v l, m.front, add-one k)
+            (append_assoc (take w c₀) (take k (drop s c₀)) (v ∷ [])
+            ∙ ap (λ x. take w c₀ ++ (take k (drop s c₀) ++ (x ∷ []))) (sym u)
+            ∙ ap (λ l. take w c₀ ++ l) (sym (take-suc (drop s c₀) k v (omega (arith, length-drop s c₀, m.inside)))));
         back =
-            drop-set-lt (at + 1) c to v (omega (arith, m.gap, m.up))
-            ∙ same_behind at c c₀ m.back (at + 1) (omega arith);
+            drop-set-lt (s + (k + 1)) c (w + k) v (omega (arith, m.up))
+            ∙ same_behind (s + k) c c₀ m.back (s + (k + 1)) (omega arith);
       }
 
-  pub moving_ends : e ≤ at → Moved w s e c₀ c
+  pub moving_ends : e - s ≤ k → Moved w s e c₀ c
   moving_ends h =
-      let z : at ≡ e = omega (arith, m.most) in
-      let y : w + (e - s) ≡ to = omega (arith, m.gap, m.start) in
-      record {
-        whole = m.whole;
-        front = rw (y, ← z) m.front;
-        back = rw z at m.back;
-      }
+      let z : k ≡ e - s = omega (arith, m.most) in
+      let y : s + k ≡ e = omega (arith, m.most) in
+      record { whole = m.whole; front = rw z at m.front; back = rw y at m.back }

@@ -1,15 +1,15 @@
 -- Entries at 0 go and what stands between them moves up. Before place w stand the entries that stay, from place k
 -- on the columns are as they were; what is to stay of the whole ledger is the former and what stays of the latter.
 use mathlib.Core.Path.{◌≡◌, refl, sym, ap, ◌∙◌}
-use mathlib.Core.Bool.{true, false, false≢true}
+use mathlib.Core.Bool.{Bool, true, false, false≢true}
 use mathlib.Core.List.{List, [], ◌∷◌, ◌++◌, map, map-append, append_assoc, append-nil}
 use Prim.Native.Nat.{ℕ, zero, suc, ◌+◌, ◌-◌, ◌≤◌, ◌<◌}
 use native.Mathlib.Numerals.{add-one}
 use native.Mathlib.Omega.{arith}
-use lib.Dec.{eqb, leb, ltb}
+use lib.Dec.{leb}
 use lib.ListN.{length, get_or, take, drop, replicate, length-append, length-take, length-drop, length-map, drop_of_length-le, take-append-drop}
 use lib.Seq.{drop-cons, drop-drop, get_or-drop, drop_at}
-use borrow.Author.Tests.{eqb-true, eqb-false, leb-true, leb-false, ltb-true, ltb-false}
+use borrow.Author.Tests.{leb-true, leb-false}
 use Rattle.rules.specs.declared.Entry.{Entry}
 use Rattle.rules.specs.Measures.{most_entries}
 use Rattle.rules.specs.Book.{is_zero, entries, column}
@@ -18,9 +18,11 @@ use Rattle.laws.proofs.Ledger.{no_entry, entry_at_lem}
 use Rattle.ledger.specs.Columns.{EachPair, Held, Unused, Cleared, Kept, without_zeros}
 use Rattle.ledger.proofs.Each.{each_stay, each_then, each_after, both}
 use Rattle.ledger.proofs.Entries.{entries_length}
-use Rattle.seeking.specs.Places.{NoneIn, Sought}
+use Rattle.std.specs.Prelude.{Option, Some, None}
+use Rattle.std.specs.Option.{unwrap_or}
+use Rattle.seeking.specs.Places.{NoneIn, Passed, First, Sought}
 use Rattle.seeking.proofs.Passing.{none_join}
-use Rattle.removing.specs.Moves.{zero_at, CanLookFor, Moved, CanMoveAll, MovedAll, Ends, Removable}
+use Rattle.removing.specs.Moves.{zero_at, CanLookFor, Moved, CanMoveAll, MovedAll, Removable}
 use Rattle.removing.proofs.Moving.{same_at, same_behind}
 
 -- entries that are not at 0 stay
@@ -90,26 +92,44 @@ pub record Sweep (n to k w : ℕ) (i₀ f₀ t₀ x₀ d₀ i f t x d : List ℕ
   pub later : NoneIn (zero_at x₀) to n
   pub columns : EachPair (λ g c₀ c. Swept g (entries n i₀ f₀ t₀ x₀ d₀) pre w k c₀ c) i₀ f₀ t₀ x₀ d₀ i f t x d
 
+-- none passes from place s to before e, and what stands at e passes, where it is before n
+pub record Part (t : ℕ → Bool) (n s e : ℕ) : Type 0 where
+  pub start : s ≤ e
+  pub most : e ≤ n
+  pub none : NoneIn t s e
+  pub found : e < n → t e ≡ true
+
+part_ends : (t : ℕ → Bool) (to n s : ℕ) → to ≤ n → NoneIn t to n → (o : Option ℕ) → Sought t to s o → Part t n s (unwrap_or o n)
+part_ends t to n s h l (Some z) q =
+    record { start = q.passed.start; most = omega (arith, q.inside); none = q.passed.none; found = λ u. q.found }
+part_ends t to n s h l None q =
+    record {
+      start = omega (arith, q.start);
+      most = omega arith;
+      none = none_join t s to n q.none l;
+      found = λ u. absurd (omega arith);
+    }
+
 -- the part with entries at 0 can be looked at
 pub looks_starts : {n s e : ℕ} {is fs ts xs ds : List ℕ} → Removable n s e is fs ts xs ds → CanLookFor e s xs
 looks_starts r = record { start = r.part; inside = omega (arith, r.inside, r.held.most, r.held.whole.lotss) }
 
-module _ {n at to first : ℕ} {is fs ts xs ds : List ℕ} (r : Removable n at to is fs ts xs ds) (q : Sought (zero_at xs) to at first) where
+module _ {n at to : ℕ} {is fs ts xs ds : List ℕ} (r : Removable n at to is fs ts xs ds) where
   abbrev all : List Entry
   all = entries n is fs ts xs ds
 
-  none_first : NoneIn (zero_at xs) 0 first
-  none_first = none_join (zero_at xs) 0 at first r.none_before q.passed.none
+  none_first : {m : ℕ} → Passed (zero_at xs) to at m → NoneIn (zero_at xs) 0 m
+  none_first {m} p = none_join (zero_at xs) 0 at m r.none_before p.none
 
   lots_at_lem : (j : ℕ) → j < n → is_zero (get_or all j no_entry).lots ≡ zero_at xs j
   lots_at_lem j h = ap (λ e. is_zero e.lots) (entry_at_lem n is fs ts xs ds j h)
 
   -- where there is none at 0 all stay
-  pub none_goes : first ≡ to → Kept (without_zeros all) n is fs ts xs ds
-  none_goes e =
+  pub none_goes : Passed (zero_at xs) to at to → Kept (without_zeros all) n is fs ts xs ds
+  none_goes p =
       let l = entries_length n is fs ts xs ds in
       let none : NoneIn (zero_at xs) 0 n =
-      none_join (zero_at xs) 0 to n (rw e at none_first) r.none_behind in
+      none_join (zero_at xs) 0 to n (none_first p) r.none_behind in
       let d : drop n all ≡ [] = drop_of_length-le all {i = n} (omega arith) in
       let same : without_zeros all ≡ all =
       none_zeros n all (omega arith) (λ j h. lots_at_lem j h ∙ none j (omega arith) h)
@@ -118,10 +138,10 @@ module _ {n at to first : ℕ} {is fs ts xs ds : List ℕ} (r : Removable n at t
       ∙ take-append-drop n all in
       rw same (record { count = sym l; columns = r.held.columns })
 
-  pub sweep_starts : (first ≡ to → ⊥) → Sweep n to first first is fs ts xs ds is fs ts xs ds
-  sweep_starts h =
+  pub sweep_starts : {first : ℕ} → First (zero_at xs) to at first → Sweep n to first first is fs ts xs ds is fs ts xs ds
+  sweep_starts {first} q =
       let l = entries_length n is fs ts xs ds in
-      let b : first < to = omega (arith, q.passed.most) in
+      let b : first < to = q.inside in
       let m : first ≤ length all = omega (arith, r.inside) in
       record {
         pre = take first all;
@@ -130,8 +150,8 @@ module _ {n at to first : ℕ} {is fs ts xs ds : List ℕ} (r : Removable n at t
         end = r.inside;
         keeps = omega (arith, length-take first all);
         behind = omega arith;
-        stays = none_zeros first all m (λ j u. lots_at_lem j (omega (arith, r.inside)) ∙ none_first j (omega arith) u);
-        here = λ u. q.found b;
+        stays = none_zeros first all m (λ j u. lots_at_lem j (omega (arith, r.inside)) ∙ none_first q.passed j (omega arith) u);
+        here = λ u. q.found;
         later = r.none_behind;
         columns = each_stay (λ g c p. swept_starts g all first c m p) (both r.held.whole r.held.columns);
       }
@@ -157,33 +177,24 @@ module _ {n to k w : ℕ} {i₀ f₀ t₀ x₀ d₀ i f t x d : List ℕ} (s : S
         inside = omega (arith, s.columns.lotss.whole, s.end, s.held.most);
       }
 
-  module _ {z e : ℕ} (h : k < n) (q : Sought (zero_at x) to (k + 1) z) (r : Ends z to n e) where
-    pub end_inside : (k < e) × (e ≤ n)
-    end_inside =
-        by_test (eqb z to)
-        (λ y. let u = r.last (eqb-true z to y) in (omega arith, omega arith))
-        (λ y. let u = r.inner (eqb-false z to y) in (omega (arith, q.passed.start), omega (arith, q.passed.most, s.end)))
+  -- behind place k the column of lots is as it was
+  lots_same : (j : ℕ) → k ≤ j → zero_at x j ≡ zero_at x₀ j
+  lots_same j u = ap is_zero (same_at 0 k x x₀ s.columns.lotss.back j u)
 
-    -- what stands behind place k up to place e is not at 0
-    lots_same : (j : ℕ) → k ≤ j → zero_at x j ≡ zero_at x₀ j
-    lots_same j u = ap is_zero (same_at k x x₀ s.columns.lotss.back j u)
+  pub sweep_ends_at : k < n → (o : Option ℕ) → Sought (zero_at x) to (k + 1) o → Part (zero_at x) n (k + 1) (unwrap_or o n)
+  sweep_ends_at h o q =
+      part_ends (zero_at x) to n (k + 1) s.end
+      (λ j u v. lots_same j (omega (arith, before_end h)) ∙ s.later j u v) o q
+
+  module _ {e : ℕ} (h : k < n) (q : Part (zero_at x) n (k + 1) e) where
+    pub end_inside : (k < e) × (e ≤ n)
+    end_inside = (omega (arith, q.start), q.most)
 
     none_part : NoneIn (zero_at x₀) (k + 1) e
-    none_part j u v =
-        by_test (ltb j z)
-        (λ y. sym (lots_same j (omega arith)) ∙ q.passed.none j u (ltb-true j z y))
-        (λ y.
-        by_test (eqb z to)
-        (λ o. s.later j (omega (arith, ltb-false j z y, eqb-true z to o)) (omega (arith, end_inside.1)))
-        (λ o. absurd (omega (arith, ltb-false j z y, r.inner (eqb-false z to o)))))
+    none_part j u v = sym (lots_same j (omega arith)) ∙ q.none j u v
 
     found_next : e < n → zero_at x₀ e ≡ true
-    found_next u =
-        by_test (eqb z to)
-        (λ o. absurd (omega (arith, r.last (eqb-true z to o))))
-        (λ o.
-        let v : e ≡ z = r.inner (eqb-false z to o) in
-        rw v (sym (lots_same z (omega (arith, q.passed.start))) ∙ q.found (omega (arith, q.passed.most, eqb-false z to o))))
+    found_next u = sym (lots_same e (omega (arith, end_inside.0))) ∙ q.found u
 
     pub sweep_can : CanMoveAll w (k + 1) e i f t x d
     sweep_can =

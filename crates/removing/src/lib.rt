@@ -2,8 +2,11 @@
 #![tactic(auto)]
 
 ghost use Rattle.std.specs.Prelude.{◌≡◌, true};
-ghost use Rattle.ledger.specs.Columns.{without_zeros, before, kept, changed};
-ghost use Rattle.removing.specs.Moves.{can_look_for, none_at_zero, passed_zeros, found_zero, can_move, moved, CanMoveAll, MovedAll, Ends, removable};
+ghost use Rattle.ledger.specs.Columns.{Same, without_zeros, entries_in, kept, changed};
+ghost use Rattle.seeking.specs.Places.{Sought};
+ghost use Rattle.removing.specs.Moves.{zero_at, CanLookFor, can_look_for, none_at_zero, passed_zeros, CanMove, Moved, can_move_all, MovedAll, removable};
+
+use ledger::Ledger;
 
 // Places that are looked at together.
 const MANY: usize = 64;
@@ -15,15 +18,14 @@ fn none_zero(s: usize, e: usize, lots: &[u32]) -> bool
     ensures { result ≡ true → none_at_zero s e lots }
 {
     let mut none = true;
-    let mut k = s;
-    while k < e {
+    for k in s..e {
         none = none & (lots[k] != 0);
-        k += 1;
     }
     none
 }
 
-// A place up to which, from place `at` on, there is no entry at 0: behind whole blocks without one.
+// A place up to which, from place `at` on, there is no entry at 0: behind whole blocks without one. It goes
+// on as far as blocks have none: no range ends there.
 fn pass_zeros(end: usize, at: usize, lots: &[u32]) -> usize
     requires { can_look_for end at lots }
     ensures { passed_zeros end at result lots }
@@ -38,122 +40,63 @@ fn pass_zeros(end: usize, at: usize, lots: &[u32]) -> usize
     k
 }
 
-// The first place from `at` on with an entry at 0, `end` where there is none before it.
-fn first_zero(end: usize, at: usize, lots: &[u32]) -> usize
-    requires { can_look_for end at lots }
-    ensures { found_zero end at result lots }
+// The first place from `at` on with an entry at 0, where there is one before `end`.
+fn first_zero(ledger: &Ledger, end: usize, at: usize) -> Option<usize>
+    requires { CanLookFor end at ledger.now.lots.now }
+    ensures { Sought (zero_at ledger.now.lots.now) end at result }
 {
-    let mut k = pass_zeros(end, at, lots);
-    while k < end {
-        if lots[k] == 0 {
-            return k;
+    let k = pass_zeros(end, at, ledger.lots);
+    for j in k..end {
+        if ledger.lots[j] == 0 {
+            return Some(j);
         }
-        k += 1;
     }
-    k
+    None
 }
 
-// Places s to before e again from place w on, in a column of bytes, of days, of lots.
-fn move_bytes(w: usize, s: usize, e: usize, c: &mut [u8])
-    requires { can_move w s e c }
-    ensures { moved w s e c }
+// Places s to before e of a column again from place w on.
+fn move_up<T: Copy>(w: usize, s: usize, e: usize, c: &mut [T])
+    requires { CanMove w s e c.old }
+    ensures { Moved w s e c.old c.new }
 {
-    let mut to = w;
-    let mut at = s;
-    while at < e {
-        c[to] = c[at];
-        to += 1;
-        at += 1;
-    }
-}
-
-fn move_days(w: usize, s: usize, e: usize, c: &mut [u16])
-    requires { can_move w s e c }
-    ensures { moved w s e c }
-{
-    let mut to = w;
-    let mut at = s;
-    while at < e {
-        c[to] = c[at];
-        to += 1;
-        at += 1;
-    }
-}
-
-fn move_lots(w: usize, s: usize, e: usize, c: &mut [u32])
-    requires { can_move w s e c }
-    ensures { moved w s e c }
-{
-    let mut to = w;
-    let mut at = s;
-    while at < e {
-        c[to] = c[at];
-        to += 1;
-        at += 1;
+    for k in 0..e - s {
+        c[w + k] = c[s + k];
     }
 }
 
 // The same in all five columns.
-fn move_all(
-    w: usize,
-    s: usize,
-    e: usize,
-    issues: &mut [u8],
-    froms: &mut [u8],
-    tos: &mut [u8],
-    lots: &mut [u32],
-    days: &mut [u16],
-)
-    requires { CanMoveAll w s e issues.old froms.old tos.old lots.old days.old }
-    ensures { changed (MovedAll w s e) issues froms tos lots days }
+fn move_all(ledger: &mut Ledger, w: usize, s: usize, e: usize)
+    requires { can_move_all w s e ledger.old }
+    ensures done { changed (MovedAll w s e) ledger.old ledger.new }
+    ensures same { Same ledger.old ledger.new }
 {
-    move_bytes(w, s, e, issues);
-    move_bytes(w, s, e, froms);
-    move_bytes(w, s, e, tos);
-    move_lots(w, s, e, lots);
-    move_days(w, s, e, days);
-}
-
-// Where what stands before place z ends: at z, or at the last entry where z is the end of the part that
-// has entries at 0.
-fn end_of(z: usize, end: usize, entries: usize) -> usize
-    ensures { Ends z end entries result }
-{
-    if z == end {
-        return entries;
-    }
-    z
+    move_up(w, s, e, ledger.issues);
+    move_up(w, s, e, ledger.froms);
+    move_up(w, s, e, ledger.tos);
+    move_up(w, s, e, ledger.lots);
+    move_up(w, s, e, ledger.days);
 }
 
 // Entries at 0, which stand from place `at` to before place `end`, go and later ones move up; answers the
-// number of those that stay.
-pub fn remove_zeros(
-    entries: usize,
-    at: usize,
-    end: usize,
-    issues: &mut [u8],
-    froms: &mut [u8],
-    tos: &mut [u8],
-    lots: &mut [u32],
-    days: &mut [u16],
-) -> usize
-    requires { removable entries at end issues froms tos lots days }
-    ensures { kept (without_zeros (before entries issues froms tos lots days)) result issues froms tos lots days }
+// number of those that stay. What stands before an entry at 0 ends there, and at the last entry where no more
+// is at 0. It jumps from one entry at 0 to the next: no range says that.
+pub fn remove_zeros(ledger: &mut Ledger, entries: usize, at: usize, end: usize) -> usize
+    requires { removable entries at end ledger.old }
+    ensures done { kept (without_zeros (entries_in entries ledger.old)) result ledger.new }
+    ensures same { Same ledger.old ledger.new }
 {
-    let first = first_zero(end, at, lots);
-    if first == end {
+    let Some(first) = first_zero(ledger, end, at) else {
         return entries;
-    }
+    };
     let mut w = first;
     let mut k = first;
     while k < entries {
         let s = k + 1;
-        let z = first_zero(end, s, lots);
-        let e = end_of(z, end, entries);
-        move_all(w, s, e, issues, froms, tos, lots, days);
+        let e = first_zero(ledger, end, s).unwrap_or(entries);
+        move_all(ledger, w, s, e);
         w += e - s;
         k = e;
     }
-    ledger::clear(w, entries, issues, froms, tos, lots, days);
+    ledger::clear(ledger, w, entries);
     w
 }

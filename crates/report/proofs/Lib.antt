@@ -1,4 +1,3 @@
 -- Laws of the text and of signs.
 pub mod Texts
 pub mod Spelled
-pub mod Signed

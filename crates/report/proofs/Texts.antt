@@ -9,7 +9,7 @@ use borrow.Author.Tests.{lt-ltb, le-ltb, eq-eqb, ne_eqb}
 use lib.Dec.{ltb, eqb}
 use lib.IntN.{ℤ, pos, nat_abs}
 use lib.ListN.{length, get_or, take, drop, length-append}
-use lib.Seq.{drop-cons, length-take-le, take-length, take-append_seam}
+use lib.Seq.{drop-cons, length-take-le, take-append_seam}
 use Rattle.report.specs.Digits.{last_digits, hex_digit_ascii, IsDigitCount}
 use Rattle.rules.specs.declared.Name.{Name}
 use Rattle.rules.specs.Run.{charge_lines_from, line}

@@ -2,3 +2,4 @@
 pub mod Added
 pub mod Digits
 pub mod Lines
+pub mod Entries

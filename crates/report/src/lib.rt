@@ -4,31 +4,32 @@
 pub mod text;
 
 ghost use Rattle.std.specs.Prelude.{[], ◌∷◌, ◌+◌, ◌*◌, ◌≤◌, length};
-ghost use Rattle.rules.specs.Book.{entries as entries_of, LedgerLengths};
+ghost use Rattle.columns.specs.Books.{SharedLengths};
 ghost use Rattle.rules.specs.Run.{charge_lines_from};
 ghost use Rattle.rules.specs.Text.{fails_text, charges_text, closing_text};
 ghost use Rattle.report.specs.Added.{Added};
+ghost use Rattle.report.specs.Entries.{shared_entries};
 
+use columns::SharedColumns;
 use rules::Book;
 
-// A line for each entry, in ledger order.
-fn fails<'a>(
-    text: &mut [u8],
-    entries: usize,
-    issues: &'a [u8],
-    froms: &'a [u8],
-    tos: &'a [u8],
-    lots: &'a [u32],
-    days: &'a [u16],
-) -> usize
-    requires { (entries ≤ 2048) × (107 * entries ≤ length text.old) × LedgerLengths issues.now froms.now tos.now lots.now days.now }
-    ensures { Added (107 * entries) text.old text.new 0 result (fails_text (entries_of entries issues.now froms.now tos.now lots.now days.now)) }
+// A line for each entry, in ledger order. The columns are a book's whole arrays; how many entries they hold is in its
+// state.
+fn fails(text: &mut [u8], entries: usize, columns: SharedColumns) -> usize
+    requires { (entries ≤ 2048) × (107 * entries ≤ length text.old) × SharedLengths columns }
+    ensures { Added (107 * entries) text.old text.new 0 result (fails_text (shared_entries entries columns.entry)) }
 {
     let mut at = 0;
-    let mut k = 0;
-    while k < entries {
-        at = text::fail(text, at, issues[k], froms[k], tos[k], lots[k], days[k]);
-        k += 1;
+    for k in 0..entries {
+        at = text::fail(
+            text,
+            at,
+            columns.issues[k],
+            columns.froms[k],
+            columns.tos[k],
+            columns.lots[k],
+            columns.days[k],
+        );
     }
     at
 }
@@ -50,11 +51,8 @@ fn charges(text: &mut [u8], at: usize, charges: &[i64]) -> usize
     ensures { Added (45 * length charges.now) text.old text.new at result (charges_text (charge_lines_from 0 charges.now)) }
 {
     let mut end = at;
-    let mut a = 0;
-    while a < charges.len() {
-        let yen = charges[a];
-        end = charge(text, end, a, yen);
-        a += 1;
+    for a in 0..charges.len() {
+        end = charge(text, end, a, charges[a]);
     }
     end
 }
@@ -65,6 +63,17 @@ pub fn closing(text: &mut [u8], b: Book) -> usize
     ensures { Added 222016 text.old text.new 0 result (closing_text b) }
 {
     let entries = b.state.entries;
-    let at = fails(text, entries, &b.issues, &b.froms, &b.tos, &b.lots, &b.days);
-    charges(text, at, &b.charges)
+    let columns = SharedColumns {
+        nets: &b.nets,
+        delivered: &b.delivered,
+        lifts: &b.lifts,
+        charges: &b.charges,
+        issues: &b.issues,
+        froms: &b.froms,
+        tos: &b.tos,
+        lots: &b.lots,
+        days: &b.days,
+    };
+    let at = fails(text, entries, columns);
+    charges(text, at, columns.charges)
 }

@@ -1,6 +1,6 @@
 // The text of a run's lines: bytes put behind the first `at` of a lent buffer. Each function answers
 // where its last byte ends.
-ghost use Rattle.std.specs.Prelude.{◌≡◌, ◌++◌, ◌+◌, ◌-◌, ◌^◌, ◌≤◌, ◌<◌, length, take, drop, nat_abs};
+ghost use Rattle.std.specs.Prelude.{◌≡◌, ◌++◌, ◌+◌, ◌-◌, ◌^◌, ◌≤◌, ◌<◌, length, take};
 ghost use Rattle.rules.specs.Ledger.{entry as entry_of};
 ghost use Rattle.rules.specs.Run.{line as line_of};
 ghost use Rattle.rules.specs.Text.{decimal, signed as signedText, name_text, field as fieldText, line_text, fail_text, charge_text, yen_of};
@@ -10,22 +10,14 @@ ghost use Rattle.report.specs.Lines.{rest_text, plain_text};
 
 use rules::Name;
 
-// The bytes of a part, copied to the front of others; answers how many.
-fn copy(part: &[u8], to: &mut [u8]) -> usize
-    requires { length part.now ≤ length to.old }
-    ensures { (result ≡ length part.now) × (to.new ≡ part.now ++ drop (length part.now) to.old) }
-{
-    let n = part.len();
-    to[..n].copy_from_slice(part);
-    n
-}
-
 // The bytes of a part.
 fn put(text: &mut [u8], at: usize, part: &[u8]) -> usize
     requires { at + length part.now ≤ length text.old }
     ensures { Added (length part.now) text.old text.new at result part.now }
 {
-    at + copy(part, &mut text[at..])
+    let end = at + part.len();
+    text[at..end].copy_from_slice(part);
+    end
 }
 
 // How many decimal digits a number below 100,000,000 has.
@@ -57,7 +49,7 @@ fn short_width(n: u64) -> usize
     8
 }
 
-// How many decimal digits a number has.
+// How many decimal digits a number has, by comparisons, which are faster than a division for each digit.
 fn width(n: u64) -> usize
     ensures { IsDigitCount 10 1 n result }
 {
@@ -70,7 +62,7 @@ fn width(n: u64) -> usize
     16 + short_width(n / 10_000_000_000_000_000)
 }
 
-// The digits of a number from `at` to `end`, the last first, two at a time.
+// The digits of a number from `at` to `end`, the last first, two at a time: no `for` goes two places down.
 fn spell(text: &mut [u8], at: usize, end: usize, n: u64)
     requires { (at ≤ end) × (end ≤ length text.old) × (n < 10 ^ (end - at)) }
     ensures { take end text.new ≡ take at text.old ++ last_digits 10 (end - at) n }
@@ -99,19 +91,12 @@ fn number(text: &mut [u8], at: usize, n: u64) -> usize
     end
 }
 
-// The size of a signed number.
-fn size(z: i64) -> u64
-    ensures { result ≡ nat_abs z }
-{
-    if z < 0 { (-1 - z) as u64 + 1 } else { z as u64 }
-}
-
 // A signed number, with a minus in front if it is negative.
 fn signed(text: &mut [u8], at: usize, z: i64) -> usize
     requires { at + 21 ≤ length text.old }
     ensures { Added 21 text.old text.new at result (signedText z) }
 {
-    let n = size(z);
+    let n = z.unsigned_abs();
     if z < 0 {
         let to = put(text, at, b"-");
         return number(text, to, n);
@@ -147,7 +132,7 @@ fn name(text: &mut [u8], at: usize, n: Name) -> usize
     }
 }
 
-// What follows a line's index where its refusal number and its count are 0.
+// What follows a line's index where its refusal number and its count are 0: the usual line, in one copy, for speed.
 fn plain(text: &mut [u8], at: usize, n: Name) -> usize
     requires { at + 14 ≤ length text.old }
     ensures { Added 14 text.old text.new at result (plain_text n) }

@@ -6,7 +6,7 @@ use Prim.Native.Nat.{ℕ, zero, suc, ◌+◌, ◌*◌, ◌/◌, ◌%◌, ◌^◌
 use native.Mathlib.Omega.{arith}
 use lib.ListN.{get_or, take}
 use Rattle.rules.specs.declared.Instruction.{Instruction}
-use Rattle.rules.specs.declared.Read.TheVariants.{Instr}
+use Rattle.std.specs.Prelude.{Ok}
 use Rattle.rules.specs.Measures.{quote_count}
 use Rattle.rules.specs.Records.{bits, issue_bits, from_bits, to_bits, lots_bits, days_bits, rate_bits, mark_bits, day_bits, quote_bits, of_field, head_word, lots_word}
 use Rattle.rules.specs.Tape.{kind_of, Kind, head, after, none, kind_at, is_after, word_as, words_wrong, read_of, quotes_of, roll_word, mark_word, turn_word, quote_word, words_of}
@@ -127,7 +127,7 @@ module _ (w : ℕ) (rest : List ℕ) (b : Words (w ∷ rest)) where
       (λ e z r. joined (turn_back w 14 (b 0) e refl z) refl) k
 
 -- the words that are read as an instruction are exactly those written for it
-pub read_is_written : (ws : List ℕ) (x : Instruction) (n : ℕ) → Words ws → read_of ws ≡ Instr x n →
+pub read_is_written : (ws : List ℕ) (x : Instruction) (n : ℕ) → Words ws → read_of ws ≡ Ok (x, n) →
     take n ws ≡ words_of x (quotes_of ws)
 unfolding read_of
 read_is_written [] x n b e = let z : ◌≡◌ {A = ℕ} 0 1 = cc in absurd (omega arith)

@@ -6,7 +6,7 @@ use native.Mathlib.Omega.{arith}
 use lib.ListN.{length}
 use lib.Seq.{sets}
 use Rattle.rules.specs.declared.Instruction.TheVariants.{Roll}
-use Rattle.rules.specs.declared.Read.TheVariants.{Instr}
+use Rattle.std.specs.Prelude.{Ok}
 use Rattle.rules.specs.Measures.{quote_count, tape_words}
 use Rattle.rules.specs.Tape.{kind_of, Kind, head, after, none, kind_at, read_of, quotes_of}
 use Rattle.rereading.proofs.Table.{by_kind}
@@ -23,7 +23,7 @@ quotes_after : (k : ℕ) → QuotesAfter (kind_at k)
 quotes_after k =
     by_kind (λ k K. QuotesAfter K) (λ k. tt) (λ k u. tt) (λ w x d r e. cc) (λ w x d r e. cc) (λ w x d r e. cc) (λ w x d r e. cc) (λ w x d r e. cc) (λ w x d r e. cc) (λ w x d r e. refl) (λ w x d r e. cc) (λ w x d r e. cc) k
 
-pub roll_whole : (ws : List ℕ) (days rate n : ℕ) → read_of ws ≡ Instr (Roll days rate) n → tape_words ≤ length ws
+pub roll_whole : (ws : List ℕ) (days rate n : ℕ) → read_of ws ≡ Ok (Roll days rate, n) → tape_words ≤ length ws
 unfolding read_of
 roll_whole [] days rate n e = let z : ◌≡◌ {A = ℕ} 0 1 = cc in absurd (omega arith)
 roll_whole (w ∷ rest) days rate n e =
@@ -32,6 +32,6 @@ roll_whole (w ∷ rest) days rate n e =
     omega (arith, s w _ days rate (sym f.is), f.count, (read_sized (w ∷ rest) (Roll days rate) n e).1)
 
 -- its quotes fill 32 lent numbers
-pub roll_quotes : (ws lent : List ℕ) (days rate n : ℕ) → read_of ws ≡ Instr (Roll days rate) n → length lent ≡ quote_count →
+pub roll_quotes : (ws lent : List ℕ) (days rate n : ℕ) → read_of ws ≡ Ok (Roll days rate, n) → length lent ≡ quote_count →
     sets lent 0 (quotes_of ws) ≡ quotes_of ws
 roll_quotes ws lent days rate n e h = quotes_filled ws lent (roll_whole ws days rate n e) h

@@ -11,8 +11,7 @@ use Rattle.rules.specs.declared.Book.{Book}
 use Rattle.rules.specs.declared.Instruction.{Instruction}
 use Rattle.rules.specs.declared.Instruction.TheVariants as instruction
 use Rattle.rules.specs.declared.Name.TheVariants as name
-use Rattle.rules.specs.declared.Read.{Read}
-use Rattle.rules.specs.declared.Read.TheVariants.{Instr, Refused}
+use Rattle.std.specs.Prelude.{Result, Ok, Err}
 use Rattle.rules.specs.Measures.{output_words}
 use Rattle.rules.specs.Book.{fresh}
 use Rattle.rules.specs.Questions.{Question, first_no, ask_output, ask_sound}
@@ -28,10 +27,10 @@ turn n at b ws stray x k =
     (run_from n (at + k) (answer_of b x ws).book (drop k ws) stray)
 
 -- two turns that agree where an instruction is read
-read_same : (at : ℕ) (b : Book) (r : Read) (f g : Instruction → ℕ → Ran) →
-    ((x : Instruction) (k : ℕ) → r ≡ Instr x k → f x k ≡ g x k) → after_read at b r f ≡ after_read at b r g
-read_same at b (Refused r) f g h = refl
-read_same at b (Instr x k) f g h = h x k refl
+read_same : (at : ℕ) (b : Book) (r : Result (Instruction × ℕ) ℕ) (f g : Instruction → ℕ → Ran) →
+    ((x : Instruction) (k : ℕ) → r ≡ Ok (x, k) → f x k ≡ g x k) → after_read at b r f ≡ after_read at b r g
+read_same at b (Err r) f g h = refl
+read_same at b (Ok p) f g h = h p.0 p.1 refl
 
 -- fuel above the number of words
 pub run_fuel : (n m at : ℕ) (b : Book) (ws : List ℕ) (stray : Bool) → length ws < n → length ws < m →
@@ -56,11 +55,11 @@ module _ (at : ℕ) (b : Book) (ws : List ℕ) (stray : Bool) where
   pub run_ended : ended ws stray ≡ true → run_rest at b ws stray ≡ stopped [] b
   run_ended e = rw e
 
-  pub run_refused : (r : ℕ) → ended ws stray ≡ false → read_of ws ≡ Refused r →
+  pub run_refused : (r : ℕ) → ended ws stray ≡ false → read_of ws ≡ Err r →
       run_rest at b ws stray ≡ stopped (line at name.Tape r 0 ∷ []) b
   run_refused r e f = rw (e, f)
 
-  pub run_instruction : (x : Instruction) (k : ℕ) → ended ws stray ≡ false → read_of ws ≡ Instr x k →
+  pub run_instruction : (x : Instruction) (k : ℕ) → ended ws stray ≡ false → read_of ws ≡ Ok (x, k) →
       run_rest at b ws stray
       ≡ after_line (line at (name_of x) (answer_of b x ws).refusal (answer_of b x ws).count)
       (run_rest (at + k) (answer_of b x ws).book (drop k ws) stray)

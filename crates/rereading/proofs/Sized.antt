@@ -5,24 +5,13 @@ use Prim.Native.Nat.{ℕ, zero, suc, ◌-◌, ◌≤◌}
 use native.Mathlib.Omega.{arith}
 use lib.ListN.{length, get_or}
 use Rattle.rules.specs.declared.Instruction.{Instruction}
-use Rattle.rules.specs.declared.Read.{Read}
-use Rattle.rules.specs.declared.Read.TheVariants.{Instr, Refused}
+use Rattle.std.specs.Prelude.{Option, Some, None, Ok}
 use Rattle.rules.specs.declared.Word.{Word}
-use Rattle.rules.specs.declared.Word.TheVariants.{Head, After, Wrong}
+use Rattle.rules.specs.declared.Word.TheVariants.{Head, After}
 use Rattle.rules.specs.Records.{lots_bits, of_field}
-use Rattle.rules.specs.Tape.{kind_of, kind_at, word_as, is_after, words_wrong, read_as, read_from, read_of, ReadAnswer, read_answer}
+use Rattle.rules.specs.Tape.{kind_of, kind_at, word_as, is_after, words_wrong, read_as, read_from, read_of}
 use Rattle.laws.proofs.Basics.{by_test}
 use Rattle.rereading.proofs.Table.{HeadIs, head_is}
-
--- the answer's number and values tell which case it is
-pub same_read : (r s : Read) → read_answer r ≡ read_answer s → r ≡ s
-same_read (Instr x n) (Instr y m) e =
-    let i = ap (λ (a : ReadAnswer). a.instruction) e in
-    let c = ap (λ (a : ReadAnswer). a.count) e in
-    cc
-same_read (Instr x n) (Refused q) e = let i = ap (λ (a : ReadAnswer). a.instruction) e in cc
-same_read (Refused r) (Instr y m) e = let i = ap (λ (a : ReadAnswer). a.instruction) e in cc
-same_read (Refused r) (Refused q) e = ap (λ (a : ReadAnswer). Refused a.refusal) e
 
 -- words that are asked and not wrong are there
 right_length : (k n : ℕ) (ws : List ℕ) → 0 ≡ words_wrong k n ws → n ≤ length ws
@@ -39,26 +28,28 @@ pub record ReadIs (w : ℕ) (rest : List ℕ) (x : Instruction) (n : ℕ) : Type
   pub first : HeadIs (kind_at (kind_of w)) w (of_field lots_bits (get_or rest 0 0)) x follows n
   pub right : 0 ≡ words_wrong follows first.follow rest
 
-not_wrong : (r : ℕ) (y x : Instruction) (m n : ℕ) → read_as r y m ≡ Instr x n → (0 ≡ r) × (y ≡ x) × (m ≡ n)
-not_wrong zero y x m n e = (refl, cc, cc)
+not_wrong : (r : ℕ) (y x : Instruction) (m n : ℕ) → read_as r y m ≡ Ok (x, n) → (0 ≡ r) × (y ≡ x) × (m ≡ n)
+not_wrong zero y x m n e =
+    let p : ◌≡◌ {A = Instruction × ℕ} (y, m) (x, n) = cc in
+    (refl, ap (λ (q : Instruction × ℕ). q.0) p, ap (λ (q : Instruction × ℕ). q.1) p)
 not_wrong (suc r) y x m n e = let z : ◌≡◌ {A = ℕ} 0 1 = cc in absurd (omega arith)
 
-from_head : (f : Word) (w : ℕ) (rest : List ℕ) (x : Instruction) (n : ℕ) → word_as w (of_field lots_bits (get_or rest 0 0)) ≡ f →
-    read_from f rest ≡ Instr x n → ReadIs w rest x n
-from_head (Head y k m) w rest x n h e =
+from_head : (f : Option Word) (w : ℕ) (rest : List ℕ) (x : Instruction) (n : ℕ) → word_as w (of_field lots_bits (get_or rest 0 0)) ≡ f →
+    read_from f rest ≡ Ok (x, n) → ReadIs w rest x n
+from_head (Some (Head y k m)) w rest x n h e =
     let r = not_wrong (words_wrong k (m - 1) rest) y x m n e in
     let g = head_is (kind_at (kind_of w)) w (of_field lots_bits (get_or rest 0 0)) x k n (rw (r.1, r.2) at h) in
     let c : m - 1 ≡ g.follow = omega (arith, g.count, r.2) in
     record { follows = k; first = g; right = rw c at r.0 }
-from_head (After k) w rest x n h e = let z : ◌≡◌ {A = ℕ} 0 1 = cc in absurd (omega arith)
-from_head Wrong w rest x n h e = let z : ◌≡◌ {A = ℕ} 0 1 = cc in absurd (omega arith)
+from_head (Some (After k)) w rest x n h e = let z : ◌≡◌ {A = ℕ} 0 1 = cc in absurd (omega arith)
+from_head None w rest x n h e = let z : ◌≡◌ {A = ℕ} 0 1 = cc in absurd (omega arith)
 
-pub read_is : (w : ℕ) (rest : List ℕ) (x : Instruction) (n : ℕ) → read_of (w ∷ rest) ≡ Instr x n → ReadIs w rest x n
+pub read_is : (w : ℕ) (rest : List ℕ) (x : Instruction) (n : ℕ) → read_of (w ∷ rest) ≡ Ok (x, n) → ReadIs w rest x n
 unfolding read_of
 read_is w rest x n e = from_head _ w rest x n refl e
 
 -- an instruction has a word at least, and at most the words there are
-pub read_sized : (ws : List ℕ) (x : Instruction) (n : ℕ) → read_of ws ≡ Instr x n → (1 ≤ n) × (n ≤ length ws)
+pub read_sized : (ws : List ℕ) (x : Instruction) (n : ℕ) → read_of ws ≡ Ok (x, n) → (1 ≤ n) × (n ≤ length ws)
 unfolding read_of
 read_sized [] x n e = let z : ◌≡◌ {A = ℕ} 0 1 = cc in absurd (omega arith)
 read_sized (w ∷ rest) x n e =

@@ -8,6 +8,7 @@ use native.Mathlib.Omega.{arith}
 use borrow.Author.Tests.{eqb-true}
 use lib.Dec.{eqb}
 use Rattle.rules.specs.declared.Instruction.{Instruction}
+use Rattle.std.specs.Prelude.{Some}
 use Rattle.rules.specs.declared.Word.TheVariants.{Head}
 use Rattle.rules.specs.Records.{Field, of_field}
 use Rattle.rules.specs.Tape.{kind_of, Kind, head, after, none, Line, kind, kinds, kind_in, kind_at, clear, as_kind, is_after}
@@ -38,7 +39,7 @@ pub record HeadIs (K : Kind) (w x : ℕ) (y : Instruction) (k n : ℕ) : Type 0 
   pub is : y ≡ instruction w x
   pub count : n ≡ 1 + follow
 
-pub head_is : (K : Kind) (w x : ℕ) (y : Instruction) (k n : ℕ) → as_kind K w x ≡ Head y k n → HeadIs K w x y k n
+pub head_is : (K : Kind) (w x : ℕ) (y : Instruction) (k n : ℕ) → as_kind K w x ≡ Some (Head y k n) → HeadIs K w x y k n
 head_is (head u m j f) w x y k n e =
     by_test (clear u w)
     (λ t.

@@ -2,7 +2,7 @@
 use mathlib.Core.Path.{◌≡◌, refl, ◌∙◌}
 use mathlib.Core.Bool.{true}
 use mathlib.Core.List.{List, [], ◌∷◌, ◌++◌, map}
-use Prim.Native.Nat.{ℕ, ◌^◌, ◌<◌}
+use Prim.Native.Nat.{ℕ, ◌^◌, ◌/◌, ◌%◌, ◌<◌}
 use native.Mathlib.Omega.{arith}
 use borrow.Author.Tests.{ltb-true}
 use lib.Dec.{leb}
@@ -10,14 +10,13 @@ use lib.ListN.{length, drop, length-map}
 use lib.Seq.{take_at}
 use Rattle.rules.specs.declared.Instruction.{Instruction}
 use Rattle.rules.specs.declared.Instruction.TheVariants.{Trade, Deliver, Resolve, PairOff, Close, Cutoff, Roll, Mark, Turn}
-use Rattle.rules.specs.declared.Read.TheVariants.{Instr}
+use Rattle.std.specs.Prelude.{Ok}
 use Rattle.rules.specs.Measures.{quote_count, tape_words}
 use Rattle.rules.specs.Book.{all}
 use Rattle.rules.specs.Records.{bits, issue_bits, days_bits, rate_bits, mark_bits, day_bits, quote_bits, of_field, head_word, over}
 use Rattle.rules.specs.Tape.{kind_of, words_wrong, read_of, quotes_of, roll_word, mark_word, turn_word, quote_word, words_of, fits, fields_fit, write_of}
 use Rattle.laws.proofs.Basics.{by_test, and_left, and_right}
 use Rattle.words.proofs.Fields.{kind_read, issue_read, from_read, to_read, lots_read, lots_kind}
-use Rattle.tape.proofs.Reading.{mod_one}
 use Rattle.writing.proofs.Fitting.{RollFits, roll_fits, MarkFits, mark_fits, head_fits_lem, lots_fit}
 
 -- what is below a head's fields
@@ -91,7 +90,7 @@ module _ (days rate : ℕ) (quotes rest : List ℕ) (fit : fields_fit (Roll days
   roll_clears : of_field (bits 0 10) (roll_word days rate) ≡ 0
   roll_clears = omega arith
 
-  roll_read : read_of (words_of (Roll days rate) quotes ++ rest) ≡ Instr (Roll days rate) (length (words_of (Roll days rate) quotes))
+  roll_read : read_of (words_of (Roll days rate) quotes ++ rest) ≡ Ok (Roll days rate, length (words_of (Roll days rate) quotes))
   unfolding read_of
   roll_read =
       simp (roll_kind, roll_days, roll_rate, roll_clears, length-map quotes quote_word, fields.count)
@@ -103,9 +102,12 @@ module _ (days rate : ℕ) (quotes rest : List ℕ) (fit : fields_fit (Roll days
   quotes_read =
       rw (take_at (map quote_word quotes) rest quote_count (length-map quotes quote_word ∙ fields.count)) (quotes_back quotes fields.each)
 
+mod_one : (w : ℕ) → w / 1 % 1 ≡ 0
+mod_one w = omega arith
+
 -- an instruction whose fields fit is read back from the words written for it, whatever follows
 pub written_is_read : (x : Instruction) (quotes rest : List ℕ) → fields_fit x quotes ≡ true →
-    read_of (words_of x quotes ++ rest) ≡ Instr x (length (words_of x quotes))
+    read_of (words_of x quotes ++ rest) ≡ Ok (x, length (words_of x quotes))
 unfolding read_of
 written_is_read (Trade i f t x) quotes rest fit =
     let h = head_fits_lem 1 i f t x (omega arith) fit in
@@ -149,7 +151,7 @@ module _ (x : Instruction) (quotes out : List ℕ) (done : (write_of x quotes ou
   unfolding write_of
   stands = simp (roomy, fitting)
 
-  pub writer_is_read : read_of (write_of x quotes out).out ≡ Instr x (write_of x quotes out).count
+  pub writer_is_read : read_of (write_of x quotes out).out ≡ Ok (x, (write_of x quotes out).count)
   writer_is_read = rw stands (written_is_read x quotes (drop (length (words_of x quotes)) out) fitting)
 
 pub writer_quotes : (days rate : ℕ) (quotes out : List ℕ) → (write_of (Roll days rate) quotes out).refusal ≡ 0 →

@@ -6,6 +6,7 @@ use Prim.Native.Nat.{ℕ, zero, suc, ◌+◌, ◌-◌, ◌≤◌}
 use native.Mathlib.Omega.{arith}
 use lib.ListN.{length, take}
 use lib.Seq.{get_or-take, take-take, take-append-le}
+use Rattle.std.specs.Prelude.{Option}
 use Rattle.rules.specs.declared.Word.{Word}
 use Rattle.rules.specs.Measures.{quote_count, tape_words}
 use Rattle.rules.specs.Records.{quote_bits, of_field}
@@ -33,9 +34,9 @@ few k =
 module _ (m : ℕ) (enough : quote_count ≤ m) (ws : List ℕ) where
   from_take : (K : Kind) (w x : ℕ) → Few K → read_from (as_kind K w x) (take m ws) ≡ read_from (as_kind K w x) ws
   from_take (head u n k f) w x h =
-      either (λ (g : Word). read_from g (take m ws) ≡ read_from g ws) (clear u w)
+      either (λ (g : Option Word). read_from g (take m ws) ≡ read_from g ws) (clear u w)
       (ap (λ (r : ℕ). read_as r (f w x) (1 + n)) (wrong_take k (1 + n - 1) m ws (omega arith))) refl
-  from_take (after u) w x h = either (λ (g : Word). read_from g (take m ws) ≡ read_from g ws) (clear u w) refl refl
+  from_take (after u) w x h = either (λ (g : Option Word). read_from g (take m ws) ≡ read_from g ws) (clear u w) refl refl
   from_take none w x h = refl
 
 pub read_window : (n : ℕ) (ws : List ℕ) → tape_words ≤ n → read_of (take n ws) ≡ read_of ws

@@ -6,7 +6,8 @@ use Rattle.rules.specs.Ledger.{is_from, meet}
 use Rattle.rules.specs.Book.{all, entries, entry_sound}
 use Rattle.rules.specs.Records.{words, over}
 use Rattle.rules.specs.Calls.{resolve_records}
-use Rattle.ledger.specs.Columns.{Columns, Held, Lent, Column}
+use Rattle.ledger.specs.declared.Ledger.{Ledger}
+use Rattle.ledger.specs.Columns.{Columns, Held}
 use Rattle.resolution.specs.declared.Counts.{Counts}
 
 -- a ledger whose entries are sound, in its columns, and an output with room for a record an entry
@@ -22,11 +23,11 @@ pub record Resolved (es : List Entry) (i a x : ℕ) (r : Counts) (is fs ts xs ds
   pub records : r.records ≡ length (resolve_records es i a x)
   pub written : out' ≡ over (words (resolve_records es i a x)) out
 
-abbrev pub resolvable : ℕ → Lent → Lent → Lent → Lent → Lent → Lent → Type 0
-resolvable n issues froms tos lots days out =
-    Resolvable n issues.now froms.now tos.now lots.now days.now out.now
+-- The same by name
 
-abbrev pub resolved : List Entry → ℕ → ℕ → ℕ → Counts → Column → Column → Column → Column → Column → Column → Type 0
-resolved es i a x r issues froms tos lots days out =
-    Resolved es i a x r issues.exit.now froms.exit.now tos.exit.now lots.exit.now days.exit.now
-    out.entry.now out.exit.now
+abbrev pub resolvable : ℕ → Ledger → List ℕ → Type 0
+resolvable n l out = Resolvable n l.issues.now l.froms.now l.tos.now l.lots.now l.days.now out
+
+abbrev pub resolved : List Entry → ℕ → ℕ → ℕ → Counts → Ledger → List ℕ → List ℕ → Type 0
+resolved es i a x r l out out' =
+    Resolved es i a x r l.issues.now l.froms.now l.tos.now l.lots.now l.days.now out out'

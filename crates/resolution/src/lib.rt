@@ -1,19 +1,21 @@
 // Resolve: the ledger's fails met by an account's lots.
 #![tactic(auto)]
 
-ghost use Rattle.std.specs.Prelude.{◌≡◌, List, ℕ, ◌≤◌, length};
+ghost use Rattle.std.specs.Prelude.{◌≡◌, ◌≤◌, length};
 ghost use Rattle.rules.specs.Measures.{output_words};
-ghost use Rattle.rules.specs.Book.{entries};
+ghost use Rattle.rules.specs.Refusals.{number_in};
 ghost use Rattle.rules.specs.Questions.{first_no};
 ghost use Rattle.rules.specs.Calls.{resolve_asks, Resolve};
-ghost use Rattle.ledger.specs.Columns.{before};
-ghost use Rattle.seeking.specs.Places.{can_look, passed_by};
-ghost use Rattle.answers.specs.Turns.{Turns, on_ledger, ledger_ready};
+ghost use Rattle.ledger.specs.Columns.{Same, whole, entries_in};
+ghost use Rattle.ledger.specs.Within.{on_ledger, ledger_ready};
+ghost use Rattle.seeking.specs.Places.{is_at, Passed, CanLook};
+ghost use Rattle.answers.specs.Turns.{Turns};
 ghost use Rattle.resolution.specs.Resolving.{resolvable, resolved};
 
 use answers::Turn;
+use ledger::Ledger;
 use meeting::meet_at;
-use rules::{LAST_ACCOUNT, LAST_ISSUE, MOST_LOTS, State};
+use rules::{LAST_ACCOUNT, LAST_ISSUE, MOST_LOTS, Refusal, State};
 
 // What a resolve leaves: the number of entries in the ledger, and of records written.
 #[derive(Clone, Copy, Drop)]
@@ -22,120 +24,92 @@ pub struct Counts {
     pub records: usize,
 }
 
-// The next place from `at` on with an entry of issue i from account a, where lots are left to meet it.
-fn next_from(
-    left: u32,
-    entries: usize,
-    at: usize,
-    issues: &[u8],
-    froms: &[u8],
-    i: u32,
-    a: u32,
-) -> usize
-    requires { can_look entries at issues froms }
-    ensures { passed_by entries at result i a issues froms }
+// The next place from `at` on with an entry of issue i from account a, the end where there is none; where no
+// lots are left to meet it, `at`.
+fn next_from(ledger: &Ledger, left: u32, entries: usize, at: usize, i: u32, a: u32) -> usize
+    requires { CanLook entries at ledger.now.issues.now ledger.now.froms.now }
+    ensures { Passed (is_at ledger.now.issues.now ledger.now.froms.now i a) entries at result }
 {
     if left == 0 {
         return at;
     }
-    seeking::seek(entries, at, issues, froms, i, a)
+    seeking::seek(entries, at, ledger.issues, ledger.froms, i, a).unwrap_or(entries)
 }
 
 // Entries of issue i from account a met by x lots in ledger order, and each that is met gives one
-// record; then entries at 0 go and later ones move up.
+// record; then entries at 0 go and later ones move up. It jumps from one that was found to the next, while lots are
+// left: no range says that.
 fn resolve_in(
+    ledger: &mut Ledger,
     entries: usize,
-    issues: &mut [u8],
-    froms: &mut [u8],
-    tos: &mut [u8],
-    lots: &mut [u32],
-    days: &mut [u16],
     i: u32,
     a: u32,
     x: u32,
     out: &mut [u32],
 ) -> Counts
-    requires { resolvable entries issues froms tos lots days out }
-    ensures { resolved (before entries issues froms tos lots days) i a x result issues froms tos lots days out }
+    requires { resolvable entries ledger.old out.old }
+    ensures done { resolved (entries_in entries ledger.old) i a x result ledger.new out.old out.new }
+    ensures same { Same ledger.old ledger.new }
 {
     let mut n = 0;
     let mut left = x;
-    let first = next_from(left, entries, 0, issues, froms, i, a);
+    let first = next_from(ledger, left, entries, 0, i, a);
     let mut k = first;
     while (k < entries) & (0 < left) {
-        let t = meet_at(k, n, i, a, left, issues, froms, tos, lots, days, out);
+        let t = meet_at(ledger, k, n, i, a, left, out);
         n = t.records;
         left = t.left;
-        k = next_from(left, entries, k + 1, issues, froms, i, a);
+        k = next_from(ledger, left, entries, k + 1, i, a);
     }
-    let stay = removing::remove_zeros(entries, first, k, issues, froms, tos, lots, days);
+    let stay = removing::remove_zeros(ledger, entries, first, k);
     Counts {
         entries: stay,
         records: n,
     }
 }
 
-// The number of the first of resolve's questions answered 'no', from the issue on; 0 where there is
-// none.
-fn resolve_asks<'a>(
-    s: State,
-    issues: &'a [u8],
-    froms: &'a [u8],
-    lots: &'a [u32],
-    i: u32,
-    a: u32,
-    x: u32,
-) -> u32
-    requires { (s.entries ≤ 2048) × (length issues.now ≡ 2048) × (length froms.now ≡ 2048) × (length lots.now ≡ 2048) }
-    ensures { (ts ds : List ℕ) → result ≡ first_no (resolve_asks s.marks (entries s.entries issues.now froms.now ts lots.now ds) i a x) }
+// The first of resolve's questions answered 'no', from the issue on.
+fn resolve_asks(ledger: &Ledger, s: State, i: u32, a: u32, x: u32) -> Result<(), Refusal>
+    requires { (s.entries ≤ 2048) × whole ledger.now }
+    ensures { number_in result ≡ first_no (resolve_asks s.marks (entries_in s.entries ledger.now) i a x) }
 {
     if LAST_ISSUE < i {
-        return 4;
+        return Err(Refusal::Issue);
     }
     if LAST_ACCOUNT < a {
-        return 5;
+        return Err(Refusal::Account);
     }
-    if x < 1 {
-        return 7;
-    }
-    if MOST_LOTS < x {
-        return 7;
+    if x < 1 || MOST_LOTS < x {
+        return Err(Refusal::Lots);
     }
     if !book::even_in(s, i, x) {
-        return 19;
+        return Err(Refusal::OddLots);
     }
-    if !seeking::owes(s.entries, issues, froms, lots, i, a, x) {
-        return 9;
+    if !seeking::owes(ledger, s.entries, i, a, x) {
+        return Err(Refusal::Owed);
     }
-    0
+    Ok(())
 }
 
 // resolve: the ledger's entries, unless it is refused; the records go to the output.
 pub fn resolve(
     s: State,
-    issues: &mut [u8],
-    froms: &mut [u8],
-    tos: &mut [u8],
-    lots: &mut [u32],
-    days: &mut [u16],
+    ledger: &mut Ledger,
     i: u32,
     a: u32,
     x: u32,
     out: &mut [u32],
-) -> Turn
-    requires { ledger_ready s issues froms tos lots days × (output_words ≤ length out.old) }
-    ensures { Turns (on_ledger issues froms tos lots days) s (Resolve i a x out.old) result out.new }
+) -> Result<Turn, Refusal>
+    requires { ledger_ready s ledger.old × (output_words ≤ length out.old) }
+    ensures done { Turns (on_ledger ledger.old ledger.new) s (Resolve i a x out.old) result out.new }
+    ensures same { Same ledger.old ledger.new }
 {
-    let no = resolve_asks(s, issues, froms, lots, i, a, x);
-    if no != 0 {
-        return answers::refused(no, s);
-    }
-    let k = resolve_in(s.entries, issues, froms, tos, lots, days, i, a, x, out);
+    resolve_asks(ledger, s, i, a, x)?;
+    let k = resolve_in(ledger, s.entries, i, a, x, out);
     let next = book::with_entries(s, k.entries);
-    Turn {
-        refusal: 0,
+    Ok(Turn {
         count: k.records,
         cancelled: 0,
         state: next,
-    }
+    })
 }

@@ -1,3 +1,2 @@
 pub mod Asks
 pub mod Turned
-pub mod Clearing

@@ -1,7 +1,8 @@
 // roll: its questions, and its effect in place.
 #![tactic(auto)]
 
-ghost use Rattle.std.specs.Prelude.{◌≡◌, [], length, replicate, pos};
+ghost use Rattle.std.specs.Prelude.{◌≡◌, [], length};
+ghost use Rattle.rules.specs.Refusals.{number_in};
 ghost use Rattle.rules.specs.Questions.{first_no, quotes_right};
 ghost use Rattle.rules.specs.Calls.{roll_asks, Roll};
 ghost use Rattle.answers.specs.Turns.{Turns, on_charges, roll_ready};
@@ -10,7 +11,7 @@ ghost use Rattle.rolling.specs.Rolling.{Cells, Rolled};
 
 use answers::Turn;
 use charging::charge_entries;
-use rules::{ISSUE_COUNT, QUOTE_COUNT, State};
+use rules::{ISSUE_COUNT, QUOTE_COUNT, Refusal, State};
 
 // Are price and accrued amount of each issue right?
 fn quotes_right(quotes: &[u32]) -> bool
@@ -18,59 +19,39 @@ fn quotes_right(quotes: &[u32]) -> bool
     ensures { result ≡ quotes_right quotes.now }
 {
     let mut good = true;
-    let mut i: usize = 0;
-    while i < ISSUE_COUNT {
+    for i in 0..ISSUE_COUNT {
         good = good & measures::quote_right(quotes[i], quotes[ISSUE_COUNT + i]);
-        i += 1;
     }
     good
 }
 
-// roll's questions but that of soundness: the number of the first 'no', 0 where there is none.
-fn roll_asks(s: State, days: u32, rate: u32, quotes: &[u32]) -> u32
-    ensures { result ≡ first_no (roll_asks s.phase s.day days rate quotes.now) }
+// roll's questions but that of soundness: the refusal of the first 'no'.
+fn roll_asks(s: State, days: u32, rate: u32, quotes: &[u32]) -> Result<(), Refusal>
+    ensures { number_in result ≡ first_no (roll_asks s.phase s.day days rate quotes.now) }
 {
     let today = s.day;
     let phase = s.phase;
     if !book::cut(phase) {
-        return 3;
+        return Err(Refusal::Phase);
     }
     if !measures::term_right(days, rate) {
-        return 11;
+        return Err(Refusal::Terms);
     }
     if quotes.len() != QUOTE_COUNT {
-        return 11;
+        return Err(Refusal::Terms);
     }
     if !quotes_right(quotes) {
-        return 11;
+        return Err(Refusal::Terms);
     }
     if today < 65_535 {
-        return 0;
+        return Ok(());
     }
-    12
+    Err(Refusal::Day)
 }
 
-// All nets are 0.
-fn clear_nets(nets: &mut [i32])
-    ensures { nets.new ≡ replicate (length nets.old) (pos 0) }
-{
-    let mut i: usize = 0;
-    while i < nets.len() {
-        nets[i] = 0;
-        i += 1;
-    }
-}
-
-// All words are 0.
-fn clear_words(words: &mut [u32])
-    ensures { words.new ≡ replicate (length words.old) 0 }
-{
-    let mut i: usize = 0;
-    while i < words.len() {
-        words[i] = 0;
-        i += 1;
-    }
-}
+// Eight of the nine columns, one by one, and four of them only read: the struct of all would ask for the entries'
+// days, of which a roll needs nothing, and lend what it may not change. They come whole, as C lends them; how many
+// entries they hold is in the state.
 
 // Entries are charged; then nets and delivered lots are 0, and lifts and counts are cleared.
 fn roll_in<'a>(
@@ -93,9 +74,9 @@ fn roll_in<'a>(
     charge_entries(
         days, rate, quotes, entries, issues, froms, tos, lots, charges,
     );
-    clear_nets(nets);
-    clear_words(delivered);
-    clear_words(lifts);
+    nets.fill(0);
+    delivered.fill(0);
+    lifts.fill(0);
 }
 
 // roll: charges, nets, delivered lots and lifts, day and phase, unless it is refused.
@@ -112,17 +93,14 @@ pub fn roll<'a>(
     days: u32,
     rate: u32,
     quotes: &[u32],
-) -> Turn
+) -> Result<Turn, Refusal>
     requires { roll_ready s nets delivered lifts charges issues froms tos lots }
     ensures { Turns (on_charges nets delivered lifts charges issues froms tos lots) s (Roll days rate quotes.now) result [] }
 {
-    let no = roll_asks(s, days, rate, quotes);
-    if no != 0 {
-        return answers::refused(no, s);
-    }
+    roll_asks(s, days, rate, quotes)?;
     roll_in(
         days, rate, quotes, s.entries, issues, froms, tos, lots, charges, nets, delivered, lifts,
     );
     let next = book::next_day(s);
-    answers::done(next)
+    Ok(answers::done(next))
 }

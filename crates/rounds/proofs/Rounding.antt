@@ -6,19 +6,19 @@ use Prim.Native.Nat.{ℕ, zero, suc, ◌+◌, ◌-◌, ◌*◌, ◌/◌, ◌%◌
 use native.Mathlib.Omega.{arith}
 use native.Mathlib.Nat.{add-zero}
 use lib.ListN.{length, get_or, set, take, drop}
+use Rattle.std.proofs.lemmas.List.{take-take}
 use lib.Dec.{ltb}
 use lib.IntN.{ℤ, pos, nat_abs}
 use borrow.Author.Tests.{leb-true, ltb-true, ltb-false}
 use Rattle.rules.specs.Measures.{sum, owed_of, most_lots}
-use Rattle.rules.specs.Units.{units}
 use Rattle.rules.specs.Book.{block, row, cell, net_at, delivered_at, delivered_total, within_owed, within_size, all}
 use Rattle.laws.proofs.Basics.{by_test, and_left, and_right}
 use Rattle.laws.proofs.Signed.{size_of_lem}
-use Rattle.laws.proofs.Cells.{get_or_row, length_row, get_or_block, length_block, within_set}
+use Rattle.laws.proofs.Cells.{get_or_row, length_row, get_or_block, within_set}
 use Rattle.laws.proofs.Sound.{within_at}
 use Rattle.book.specs.Cells.{OwedCells}
 use Rattle.runs.proofs.Cells.{cell_owed}
-use Rattle.desks.specs.Desk.{Plan, plan, Desk, desk, amount, turns_from, round}
+use Rattle.desks.specs.Desk.{Plan, plan, desk, amount, turns_from, round}
 use Rattle.rounds.specs.Turns.{CanTurn, Turned, CanRound}
 use Rattle.simulation.proofs.Stops.{amount_le}
 use Rattle.simulation.proofs.Leaps.{turn_column}
@@ -64,8 +64,11 @@ past_end [] c h = refl
 past_end (x ∷ xs) zero h = absurd (omega arith)
 past_end (x ∷ xs) (suc c) h = past_end xs c (omega arith)
 
-pub part_block : (l : List ℕ) (i : ℕ) → take (i * 128 + 128 - i * 128) (drop (i * 128) l) ≡ block 128 i l
-part_block l i = let e : i * 128 + 128 - i * 128 ≡ 128 = omega arith in ap (λ n. take n (drop (i * 128) l)) e
+-- an issue's runs as they are lent
+pub part_block : (l : List ℕ) (i n : ℕ) → n ≤ 128 → take (i * 128 + n - i * 128) (drop (i * 128) l) ≡ take n (block 128 i l)
+part_block l i n h =
+    let e : i * 128 + n - i * 128 ≡ n = omega arith in
+    ap (λ m. take m (drop (i * 128) l)) e ∙ sym (take-take n 128 (drop (i * 128) l) h)
 
 module _ (nets : List ℤ) (settles runs counts : List ℕ) (size : ℕ) where
   abbrev p : Plan
@@ -79,9 +82,9 @@ module _ (nets : List ℤ) (settles runs counts : List ℕ) (size : ℕ) where
 
   -- a turn of it
   pub can_turn : (d v : List ℕ) (a i : ℕ) → CanRound nets settles runs counts size d v → a < 64 → i < 16 →
-      CanTurn nets settles (take (i * 128 + 128 - i * 128) (drop (i * 128) runs)) (get_or counts i 0) size a i d v
+      CanTurn nets settles (take (i * 128 + get_or counts i 0 - i * 128) (drop (i * 128) runs)) size a i d v
   can_turn d v a i r ha hi =
-      subst (λ l. CanTurn nets settles l (get_or counts i 0) size a i d v) (sym (part_block runs i))
+      subst (λ l. CanTurn nets settles l size a i d v) (sym (part_block runs i (get_or counts i 0) (r.ranked.orders i hi).few))
       (record {
         asks = record {
           cells = r.cells.cells;
@@ -92,7 +95,6 @@ module _ (nets : List ℤ) (settles runs counts : List ℕ) (size : ℕ) where
           account = ha;
           issue = hi;
         };
-        there = omega (arith, length_block 128 runs i (omega (arith, r.ranked.table)), (r.ranked.orders i hi).few);
         some = r.some;
         units = (r.ranked.orders i hi).units;
         fits = omega (arith, total_most nets d i r.cells hi, owed_most d i a r);
@@ -141,6 +143,3 @@ module _ (nets : List ℤ) (settles runs counts : List ℕ) (size : ℕ) where
       ap (λ n. turns_from p t n (desk d v (m + made))) e
       ∙ ap (turns_from p (suc t) (1024 - (t + 1))) (sym (g.desk (m + made)) ∙ ap (desk d' v') a)
       ∙ ap (λ n. turns_from p n (1024 - (t + 1)) (desk d' v' (m + (made + r)))) f
-
-  pub round_end : (t : ℕ) (s : Desk) → 1024 ≤ t → turns_from p t (1024 - t) s ≡ s
-  round_end t s h = let e : 1024 - t ≡ 0 = omega arith in ap (λ n. turns_from p t n s) e

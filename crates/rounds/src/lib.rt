@@ -2,20 +2,13 @@
 // runs, never unit by unit.
 #![tactic(auto)]
 
-ghost use Rattle.std.specs.Prelude.{◌≡◌, min};
+ghost use Rattle.std.specs.Prelude.{◌≡◌};
 ghost use Rattle.rounds.specs.Turns.{amount_in, CanAsk, CanDeliver, Delivered, CanTurn, Turned, CanRound, Rounded};
 
 use desks::SETTLEMENT_COUNT;
-use joining::{join, less};
+use joining::join;
 use rules::{ACCOUNT_COUNT, CELL_COUNT, ISSUE_COUNT};
 use runs::RANK_COUNT;
-
-// The smaller of two numbers.
-pub fn smaller(a: u32, b: u32) -> u32
-    ensures { result ≡ min a b }
-{
-    if a < b { a } else { b }
-}
 
 // The smaller of the inventory of an account's settlement account and what it still owes of an issue.
 fn amount(
@@ -32,15 +25,14 @@ fn amount(
     let c = i * ACCOUNT_COUNT + a;
     let k = i * SETTLEMENT_COUNT + settles[a] as usize;
     let net = nets[c];
-    let owed = less(book::owed(net), delivered[c]);
-    smaller(inventories[k], owed)
+    let owed = book::owed(net).saturating_sub(delivered[c]);
+    inventories[k].min(owed)
 }
 
 // An account delivers x lots of an issue, and what is handed over for them joins the inventories.
 fn deliver(
     settles: &[u32],
     runs: &[u32],
-    n: usize,
     size: u32,
     a: usize,
     i: usize,
@@ -48,8 +40,8 @@ fn deliver(
     delivered: &mut [u32],
     inventories: &mut [u32],
 )
-    requires { CanDeliver settles.now runs.now n size a i x delivered.old inventories.old }
-    ensures { Delivered settles.now runs.now n size a i x delivered.old delivered.new inventories.old inventories.new }
+    requires { CanDeliver settles.now runs.now size a i x delivered.old inventories.old }
+    ensures { Delivered settles.now runs.now size a i x delivered.old delivered.new inventories.old inventories.new }
 {
     let s = i * ACCOUNT_COUNT;
     let e = s + ACCOUNT_COUNT;
@@ -58,7 +50,7 @@ fn deliver(
     let k = i * SETTLEMENT_COUNT + settles[a] as usize;
     delivered[c] += x;
     inventories[k] -= x;
-    join(runs, n, size, settles, i, d, x, inventories);
+    join(runs, size, settles, i, d, x, inventories);
 }
 
 // An account's turn in an issue: 1 where it delivers, 0 where it has nothing to deliver.
@@ -66,21 +58,20 @@ fn turn(
     nets: &[i32],
     settles: &[u32],
     runs: &[u32],
-    n: usize,
     size: u32,
     a: usize,
     i: usize,
     delivered: &mut [u32],
     inventories: &mut [u32],
 ) -> u32
-    requires { CanTurn nets.now settles.now runs.now n size a i delivered.old inventories.old }
+    requires { CanTurn nets.now settles.now runs.now size a i delivered.old inventories.old }
     ensures { Turned nets.now settles.now size a i delivered.old delivered.new inventories.old inventories.new result }
 {
     let x = amount(nets, settles, delivered, inventories, a, i);
     if x == 0 {
         return 0;
     }
-    deliver(settles, runs, n, size, a, i, x, delivered, inventories);
+    deliver(settles, runs, size, a, i, x, delivered, inventories);
     1
 }
 
@@ -98,25 +89,21 @@ pub fn round(
     ensures { Rounded nets.now settles.now size delivered.old delivered.new inventories.old inventories.new result }
 {
     let mut made: u32 = 0;
-    let mut t: usize = 0;
-    while t < CELL_COUNT {
+    for t in 0..CELL_COUNT {
         let a = t / ISSUE_COUNT;
         let i = t % ISSUE_COUNT;
         let s = i * RANK_COUNT;
-        let e = s + RANK_COUNT;
-        let n = counts[i] as usize;
+        let e = s + counts[i] as usize;
         made += turn(
             nets,
             settles,
             &runs[s..e],
-            n,
             size,
             a,
             i,
             delivered,
             inventories,
         );
-        t += 1;
     }
     made
 }

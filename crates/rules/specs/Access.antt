@@ -1,13 +1,14 @@
 -- Who may call, who may look: caller and owners, question 27 at its place, and reading an account.
-use Rattle.std.specs.Prelude.{Bool, true, false, cond, ◌&&◌, List, [], ◌∷◌, ℕ, zero, suc, leb, eqb, get_or, drop, ℤ, pos}
+use Rattle.std.specs.Prelude.{Bool, true, false, cond, ◌&&◌, List, [], ◌∷◌, ℕ, zero, suc, leb, eqb, get_or, drop, ℤ, pos, Result, Ok, Err, Option, Some, None}
 use Rattle.rules.specs.declared.Book.{Book}
 use Rattle.rules.specs.declared.Caller.{Caller}
 use Rattle.rules.specs.declared.Entry.{Entry}
+use Rattle.rules.specs.declared.Refusal.{Refusal}
 use Rattle.rules.specs.declared.Seen.{Seen}
-use Rattle.rules.specs.declared.Seen.TheVariants as seeing
 use Rattle.rules.specs.Measures.{last_account, last_participant, operator, between}
 use Rattle.rules.specs.Ledger.{is_from, is_to}
 use Rattle.rules.specs.Book.{net_at, order_of, ledger_of}
+use Rattle.rules.specs.Refusals.{number_of}
 use Rattle.rules.specs.Questions.{Question, ask, first_no, ask_sound, ask_issue, ask_account}
 use Rattle.rules.specs.Calls.{Call, Trade, Close, Deliver, Ask, Commit, Cutoff, Resolve, PairOff, Roll, Mark, Turn, Answer, AskAnswer, UnitAnswer, answer, lent_to, asks, effect, ticket_answer, ticket_of, unit_answer}
 
@@ -111,8 +112,11 @@ look_asks b i a = ask_sound b ∷ ask_issue i ∷ ask_account a ∷ []
 unfoldable pub look : Caller → Book → ℕ → ℕ → ℕ → LookAnswer
 look w b i a k = look_answer (first_no (with_right (may_read w a) (look_asks b i a))) (seen_at b i a k)
 
--- the paper's answer for each case of the enum
-abbrev pub seen_answer : Seen → LookAnswer
-seen_answer (seeing.One net charge e) = seen net charge e
-seen_answer (seeing.Nothing net charge) = none_seen net charge
-seen_answer (seeing.Refused r) = look_refused r
+-- the paper's answer for each answer of the code
+abbrev pub entry_seen : ℤ → ℤ → Option Entry → LookAnswer
+entry_seen net charge (Some e) = seen net charge e
+entry_seen net charge None = none_seen net charge
+
+abbrev pub seen_answer : Result Seen Refusal → LookAnswer
+seen_answer (Ok s) = entry_seen s.net s.charge s.entry
+seen_answer (Err r) = look_refused (number_of r)

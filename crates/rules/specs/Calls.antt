@@ -1,16 +1,13 @@
 -- The calls: of each its questions and its effect; then one answer for all of them.
-use Rattle.std.specs.Prelude.{◌≡◌, Bool, true, false, cond, List, [], ◌∷◌, ◌++◌, map, ℕ, zero, suc, ◌+◌, ◌*◌, min, length, set, drop, replicate, ℤ, pos, ◌+ℤ◌, ◌-ℤ◌}
-use Rattle.rules.specs.declared.Asked.{Asked}
-use Rattle.rules.specs.declared.Asked.TheVariants as asking
-use Rattle.rules.specs.declared.Amount.{Amount}
-use Rattle.rules.specs.declared.Amount.TheVariants.{Yen, Refused}
+use Rattle.std.specs.Prelude.{◌≡◌, Bool, true, false, cond, List, [], ◌∷◌, ◌++◌, map, ℕ, zero, suc, ◌+◌, ◌*◌, min, length, set, drop, replicate, ℤ, pos, ◌+ℤ◌, ◌-ℤ◌, Result, Ok, Err, Option, Some, None}
 use Rattle.rules.specs.declared.Book.{Book}
 use Rattle.rules.specs.declared.Entry.{Entry}
-use Rattle.rules.specs.declared.Found.{Found}
-use Rattle.rules.specs.declared.Found.TheVariants as found
 use Rattle.rules.specs.declared.Phase.{Phase}
 use Rattle.rules.specs.declared.Phase.TheVariants.{Settling, Cut}
+use Rattle.rules.specs.declared.Refusal.{Refusal}
 use Rattle.rules.specs.declared.Ticket.{Ticket}
+use Rattle.rules.specs.declared.Unit.{Unit}
+use Rattle.rules.specs.declared.Yen.{Yen}
 use Rattle.rules.specs.Measures.{issue_count, cell_count, lift_cells, unit_lots, output_words, value_of, charge_of}
 use Rattle.rules.specs.Units.{AccountLots}
 use Rattle.rules.specs.Handover.{covered, first_unit, handovers, partials, handed_from}
@@ -19,6 +16,7 @@ use Rattle.rules.specs.Fails.{Fail, fails}
 use Rattle.rules.specs.Ledger.{entry, is_from, meet, met, Pairing, pairing, charged}
 use Rattle.rules.specs.Book.{tabulate, row, cell, net_at, delivered_at, obligations_of, delivered_total, lift_cell, lift_number, count_at, Orders, order_of, ledger_of, with_phase, with_turn, with_marks, next_day, with_state, with_nets, with_delivered, with_lifts, with_charges, with_ledger}
 use Rattle.rules.specs.Records.{Rec, handover, record_of, words, over}
+use Rattle.rules.specs.Refusals.{number_of}
 use Rattle.rules.specs.Questions.{Question, first_no, ask_output, ask_sound, ask_taking, ask_settling, ask_cut, ask_issue, ask_account, ask_accounts, ask_differ, ask_lots, ask_nets, ask_owed_today, ask_owed_in_ledger, ask_entries, ask_roll, ask_quote, ask_term, ask_day, ask_unhanded, ask_ticket, ask_lifts, ask_even, ask_unused, ask_turn}
 
 -- a call with its arguments and the output lent to it
@@ -296,10 +294,10 @@ ticket_answer (suc r) t = no_ticket (suc r)
 unfoldable pub asked : Book → ℕ → ℕ → AskAnswer
 asked b i k = ticket_answer (first_no (asks b (Ask i k))) (ticket_of b.state.day (order_of b) b.lifts i k)
 
--- the paper's number and ticket for each case of the enum
-abbrev pub asked_answer : Asked → AskAnswer
-asked_answer (asking.Ticket t) = some_ticket t
-asked_answer (asking.Refused r) = no_ticket r
+-- the paper's number and ticket for each answer of the code
+abbrev pub asked_answer : Result Ticket Refusal → AskAnswer
+asked_answer (Ok t) = some_ticket t
+asked_answer (Err r) = no_ticket (number_of r)
 
 -- the k-th unit of an issue, k from 0: account and lots, or 'none' exactly when k is not below the number of units;
 -- a refusal is neither, and has its number
@@ -319,11 +317,11 @@ unit_answer (suc r) us = unit_refused (suc r)
 unfoldable pub unit : Book → ℕ → ℕ → UnitAnswer
 unit b i k = unit_answer (first_no (ask_sound b ∷ ask_issue i ∷ [])) (drop k (order_of b i))
 
--- the paper's answer for each case of the enum
-abbrev pub found_answer : Found → UnitAnswer
-found_answer (found.Unit a x) = one_unit a x
-found_answer found.Nothing = no_unit
-found_answer (found.Refused r) = unit_refused r
+-- the paper's answer for each answer of the code
+abbrev pub found_answer : Result (Option Unit) Refusal → UnitAnswer
+found_answer (Ok (Some u)) = one_unit u.account u.lots
+found_answer (Ok None) = no_unit
+found_answer (Err r) = unit_refused (number_of r)
 
 -- value and charge alone: number, whether there is an amount, yen
 pub record AmountAnswer : Type 0 where
@@ -349,7 +347,7 @@ unfoldable pub charge : ℕ → ℕ → ℕ → ℕ → ℕ → AmountAnswer
 charge lots price days rate accrued =
     yen_answer (first_no (ask_lots lots ∷ ask_quote price accrued ∷ ask_term days rate ∷ [])) (charge_of lots price days rate accrued)
 
--- the paper's number and yen for each case of the enum
-abbrev pub amount_answer : Amount → AmountAnswer
-amount_answer (Yen y) = some_yen y.0
-amount_answer (Refused r) = no_yen r
+-- the paper's number and yen for each answer of the code
+abbrev pub amount_answer : Result Yen Refusal → AmountAnswer
+amount_answer (Ok y) = some_yen y.0
+amount_answer (Err r) = no_yen (number_of r)

@@ -9,6 +9,7 @@ pub mod Fails
 pub mod Ledger
 pub mod Book
 pub mod Records
+pub mod Refusals
 pub mod Questions
 pub mod Calls
 pub mod Access

@@ -1,5 +1,5 @@
 -- The run of a tape, as the program prints it: its lines as data.
-use Rattle.std.specs.Prelude.{Bool, cond, not, ◌&&◌, List, [], ◌∷◌, ℕ, zero, suc, ◌+◌, eqb, length, drop, replicate, ℤ, nat_abs}
+use Rattle.std.specs.Prelude.{Bool, cond, not, ◌&&◌, List, [], ◌∷◌, ℕ, zero, suc, ◌+◌, eqb, length, drop, replicate, ℤ, nat_abs, Result, Ok, Err}
 use Rattle.rules.specs.declared.Book.{Book}
 use Rattle.rules.specs.declared.Entry.{Entry}
 use Rattle.rules.specs.declared.Instruction.{Instruction}
@@ -7,8 +7,6 @@ use Rattle.rules.specs.declared.Instruction.TheVariants as instruction
 use Rattle.rules.specs.declared.Line.{Line}
 use Rattle.rules.specs.declared.Name.{Name}
 use Rattle.rules.specs.declared.Name.TheVariants as name
-use Rattle.rules.specs.declared.Read.{Read}
-use Rattle.rules.specs.declared.Read.TheVariants.{Instr, Refused}
 use Rattle.rules.specs.Measures.{output_words}
 use Rattle.rules.specs.Book.{ledger_of, fresh}
 use Rattle.rules.specs.Calls.{Call, Trade, Close, Deliver, Cutoff, Resolve, PairOff, Roll, Mark, Turn, Answer, called}
@@ -65,9 +63,9 @@ abbrev pub after_line : Line → Ran → Ran
 after_line l r = record { lines = l ∷ r.lines; book = r.book }
 
 -- a reader's refusal prints index, `tape`, number, 0 and ends reading; an instruction is answered, and reading goes on
-abbrev pub after_read : ℕ → Book → Read → (Instruction → ℕ → Ran) → Ran
-after_read at b (Refused r) on = stopped (line at name.Tape r 0 ∷ []) b
-after_read at b (Instr x k) on = on x k
+abbrev pub after_read : ℕ → Book → Result (Instruction × ℕ) ℕ → (Instruction → ℕ → Ran) → Ran
+after_read at b (Err r) on = stopped (line at name.Tape r 0 ∷ []) b
+after_read at b (Ok r) on = on r.0 r.1
 
 -- at most n instructions more, of the words from index `at` on
 abbrev pub run_from : ℕ → ℕ → Book → List ℕ → Bool → Ran

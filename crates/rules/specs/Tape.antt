@@ -1,11 +1,9 @@
 -- The tape: what its reader and its writer answer.
-use Rattle.std.specs.Prelude.{Bool, true, false, cond, ◌&&◌, List, [], ◌∷◌, map, ℕ, zero, suc, ◌+◌, ◌-◌, ◌^◌, ltb, eqb, length, get_or, take, drop}
+use Rattle.std.specs.Prelude.{Bool, true, false, cond, ◌&&◌, List, [], ◌∷◌, map, ℕ, zero, suc, ◌+◌, ◌-◌, ◌^◌, ltb, eqb, length, get_or, take, drop, Result, Ok, Err, Option, Some, None}
 use Rattle.rules.specs.declared.Instruction.{Instruction}
 use Rattle.rules.specs.declared.Instruction.TheVariants.{Trade, Deliver, Resolve, PairOff, Close, Cutoff, Roll, Mark, Turn}
-use Rattle.rules.specs.declared.Read.{Read}
-use Rattle.rules.specs.declared.Read.TheVariants.{Instr, Refused}
 use Rattle.rules.specs.declared.Word.{Word}
-use Rattle.rules.specs.declared.Word.TheVariants.{Head, After, Wrong}
+use Rattle.rules.specs.declared.Word.TheVariants.{Head, After}
 use Rattle.rules.specs.Measures.{quote_count, tape_words}
 use Rattle.rules.specs.Book.{all}
 use Rattle.rules.specs.Records.{Field, bits, kind_bits, issue_bits, from_bits, to_bits, lots_bits, days_bits, rate_bits, mark_bits, day_bits, quote_bits, in_field, of_field, head_word, lots_word, over}
@@ -59,19 +57,19 @@ kind_at k = kind_in kinds k
 abbrev pub clear : Field → ℕ → Bool
 clear unused w = eqb (of_field unused w) 0
 
-abbrev pub as_kind : Kind → ℕ → ℕ → Word
-as_kind (head unused n k instruction) w x = cond (clear unused w) (Head (instruction w x) k (1 + n)) Wrong
-as_kind (after unused) w x = cond (clear unused w) (After (kind_of w)) Wrong
-as_kind none w x = Wrong
+abbrev pub as_kind : Kind → ℕ → ℕ → Option Word
+as_kind (head unused n k instruction) w x = cond (clear unused w) (Some (Head (instruction w x) k (1 + n))) None
+as_kind (after unused) w x = cond (clear unused w) (Some (After (kind_of w))) None
+as_kind none w x = None
 
--- what a word is taken as, with the lots of the word after it
-abbrev pub word_as : ℕ → ℕ → Word
+-- what a word is taken as, with the lots of the word after it; 'none' for a wrong word
+abbrev pub word_as : ℕ → ℕ → Option Word
 word_as w x = as_kind (kind_at (kind_of w)) w x
 
-abbrev pub is_after : ℕ → Word → Bool
-is_after k (Head x j n) = false
-is_after k (After j) = eqb j k
-is_after k Wrong = false
+abbrev pub is_after : ℕ → Option Word → Bool
+is_after k (Some (Head x j n)) = false
+is_after k (Some (After j)) = eqb j k
+is_after k None = false
 
 -- n words of kind k after a head: the first that is missing gives 13, the first that is present and wrong gives 14
 abbrev pub words_wrong : ℕ → ℕ → List ℕ → ℕ
@@ -79,18 +77,19 @@ words_wrong k zero ws = 0
 words_wrong k (suc n) [] = 13
 words_wrong k (suc n) (w ∷ ws) = cond (is_after k (word_as w 0)) (words_wrong k n ws) 14
 
-abbrev pub read_as : ℕ → Instruction → ℕ → Read
-read_as zero x n = Instr x n
-read_as (suc r) x n = Refused (suc r)
+abbrev pub read_as : ℕ → Instruction → ℕ → Result (Instruction × ℕ) ℕ
+read_as zero x n = Ok (x, n)
+read_as (suc r) x n = Err (suc r)
 
-abbrev pub read_from : Word → List ℕ → Read
-read_from (Head x k n) ws = read_as (words_wrong k (n - 1) ws) x n
-read_from (After k) ws = Refused 14
-read_from Wrong ws = Refused 14
+abbrev pub read_from : Option Word → List ℕ → Result (Instruction × ℕ) ℕ
+read_from (Some (Head x k n)) ws = read_as (words_wrong k (n - 1) ws) x n
+read_from (Some (After k)) ws = Err 14
+read_from None ws = Err 14
 
--- the reader takes the words from the instruction on and gives the instruction and its word count
-unfoldable pub read_of : List ℕ → Read
-read_of [] = Refused 13
+-- the reader takes the words from the instruction on and gives the instruction and its word count, or the number of
+-- its refusal
+unfoldable pub read_of : List ℕ → Result (Instruction × ℕ) ℕ
+read_of [] = Err 13
 read_of (w ∷ ws) = read_from (word_as w (of_field lots_bits (get_or ws 0 0))) ws
 
 -- what the reader answers: number, instruction (none on a refusal), word count
@@ -99,10 +98,10 @@ pub record ReadAnswer : Type 0 where
   pub instruction : List Instruction
   pub count : ℕ
 
--- the paper's number and values for each case of the enum
-abbrev pub read_answer : Read → ReadAnswer
-read_answer (Instr x n) = record { refusal = 0; instruction = x ∷ []; count = n }
-read_answer (Refused r) = record { refusal = r; instruction = []; count = 0 }
+-- the paper's number and values
+abbrev pub read_answer : Result (Instruction × ℕ) ℕ → ReadAnswer
+read_answer (Ok r) = record { refusal = 0; instruction = r.0 ∷ []; count = r.1 }
+read_answer (Err r) = record { refusal = r; instruction = []; count = 0 }
 
 -- roll's sixteen prices and sixteen accrued amounts, issue 0 first in both, taken from their words
 unfoldable pub quotes_of : List ℕ → List ℕ

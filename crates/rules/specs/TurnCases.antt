@@ -1,7 +1,6 @@
 -- Full units dealt in turn: cases on lists, each by computing what the definitions give.
-use Rattle.std.specs.Prelude.{refl, true, false, List, [], ◌∷◌, ℕ, ℤ, pos, negsuc}
+use Rattle.std.specs.Prelude.{refl, true, false, List, [], ◌∷◌, ℕ, ℤ, pos, negsuc, Ok, Err}
 use Rattle.rules.specs.declared.Instruction.TheVariants as instruction
-use Rattle.rules.specs.declared.Read.TheVariants.{Instr, Refused}
 use Rattle.rules.specs.Measures.{unit_lots}
 use Rattle.rules.specs.Units.{AccountLots, account_lots, units}
 use Rattle.rules.specs.Dealt.{dealt}
@@ -56,8 +55,8 @@ turn_cases =
     -- and where the new order is in force, every day
     ∷ case (turn_asked 3 3 4 ∷ turn_asked 3 9 10 ∷ []) (26 ∷ 26 ∷ [])
     -- the word of a turn: the day in 15..0, bits 27..16 unused
-    ∷ case (read_of (0xe000ffff ∷ [])) (Instr (instruction.Turn 65535) 1)
-    ∷ case (read_of (0xe0010000 ∷ []) ∷ read_of (0xe8000001 ∷ []) ∷ []) (Refused 14 ∷ Refused 14 ∷ [])
+    ∷ case (read_of (0xe000ffff ∷ [])) (Ok (instruction.Turn 65535, 1))
+    ∷ case (read_of (0xe0010000 ∷ []) ∷ read_of (0xe8000001 ∷ []) ∷ []) (Err 14 ∷ Err 14 ∷ [])
     ∷ case (words_of (instruction.Turn 65535) []) (0xe000ffff ∷ [])
     ∷ case (fields_fit (instruction.Turn 65535) [] ∷ fields_fit (instruction.Turn 65536) [] ∷ []) (true ∷ false ∷ [])
     ∷ []

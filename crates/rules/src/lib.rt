@@ -1,9 +1,12 @@
 // The types of the settlement-day book: measures, book, answers, instructions; and its limits, each by the name that it
-// has in specs/Measures. No code stands here; what they mean is in specs/, which reads beside document 01 from top to
-// bottom.
+// has in specs/Measures. The one function here gives a refusal's number; what all of it means is in specs/, which reads
+// beside document 01 from top to bottom.
 
 // 16 issues, 0 to 15
 #![tactic(auto)]
+
+ghost use Rattle.std.specs.Prelude.{◌≡◌};
+ghost use Rattle.rules.specs.Refusals.{number_of};
 
 pub const ISSUE_COUNT: usize = 16;
 
@@ -56,14 +59,103 @@ pub struct Lots(pub u32);
 #[derive(Clone, Copy, Drop)]
 pub struct Yen(pub u64);
 
-// What value and charge answer: yen, or the number of the question answered 'no'.
-#[derive(Clone, Copy, Drop)]
-pub enum Amount {
-    Yen(Yen),
-    Refused(u32),
+// Why a call is refused: the question that is answered 'no' first.
+#[derive(Clone, Copy, PartialEq, Eq, Drop)]
+pub enum Refusal {
+    // the output has too few words
+    Output,
+    // the book is not sound
+    Unsound,
+    // another phase than the call's
+    Phase,
+    // no such issue
+    Issue,
+    // no such account
+    Account,
+    // from and to are the same account
+    SameAccount,
+    // lots out of range
+    Lots,
+    // a net would pass its limit
+    Net,
+    // the account does not owe that many lots
+    Owed,
+    // too many entries
+    Entries,
+    // days, rate, a price or an accrued amount out of range
+    Terms,
+    // the last day
+    Day,
+    // the tape does not hold the whole instruction
+    Cut,
+    // wrong kind or unused bits
+    Word,
+    // a field does not fit its bits
+    Field,
+    // no such unit, or it is handed
+    Unit,
+    // the ticket is not what asking gives now
+    Ticket,
+    // eight lifts stand
+    Lifts,
+    // odd lots in a marked issue
+    OddLots,
+    // the issue has a net or an entry
+    Used,
+    // not each report number just once
+    Draw,
+    // too many reports, or no such sub-account
+    Reports,
+    // the fail is more than the eligible lots
+    Eligible,
+    // participants or amounts out of range
+    Amounts,
+    // the funds are more than all bases
+    Funds,
+    // not after today, or the new order is in force
+    Turn,
+    // the caller has not the right
+    Right,
 }
 
-#[derive(Clone, Copy, Drop)]
+impl Refusal {
+    // the number that the paper gives it
+    pub fn number(self) -> u32
+        ensures { result ≡ number_of self }
+    {
+        match self {
+            Refusal::Output => 1,
+            Refusal::Unsound => 2,
+            Refusal::Phase => 3,
+            Refusal::Issue => 4,
+            Refusal::Account => 5,
+            Refusal::SameAccount => 6,
+            Refusal::Lots => 7,
+            Refusal::Net => 8,
+            Refusal::Owed => 9,
+            Refusal::Entries => 10,
+            Refusal::Terms => 11,
+            Refusal::Day => 12,
+            Refusal::Cut => 13,
+            Refusal::Word => 14,
+            Refusal::Field => 15,
+            Refusal::Unit => 16,
+            Refusal::Ticket => 17,
+            Refusal::Lifts => 18,
+            Refusal::OddLots => 19,
+            Refusal::Used => 20,
+            Refusal::Draw => 21,
+            Refusal::Reports => 22,
+            Refusal::Eligible => 23,
+            Refusal::Amounts => 24,
+            Refusal::Funds => 25,
+            Refusal::Turn => 26,
+            Refusal::Right => 27,
+        }
+    }
+}
+
+#[derive(Clone, Copy, PartialEq, Eq, Drop)]
 pub enum Phase {
     Taking,
     Settling,
@@ -119,17 +211,16 @@ pub enum Priority {
     Small(u32, u32),
 }
 
-// What the unit question answers: account and lots, none, or the refusal's number.
-#[derive(Clone, Copy, Drop)]
-pub enum Found {
-    Unit(u32, u32),
-    Nothing,
-    Refused(u32),
+// A unit of an issue: its account and its lots.
+#[derive(Clone, Copy, PartialEq, Eq, Drop)]
+pub struct Unit {
+    pub account: u32,
+    pub lots: u32,
 }
 
 // A ticket for a lift: issue and unit number, and what stands there: account and lots of the unit, the
 // day, and the count of that day's accepted deliveries and lifts in the issue.
-#[derive(Clone, Copy, Drop)]
+#[derive(Clone, Copy, PartialEq, Eq, Drop)]
 pub struct Ticket {
     pub issue: u32,
     pub unit: u32,
@@ -137,13 +228,6 @@ pub struct Ticket {
     pub lots: u32,
     pub day: u32,
     pub count: u32,
-}
-
-// What asking for a lift answers: the ticket, or the refusal's number.
-#[derive(Clone, Copy, Drop)]
-pub enum Asked {
-    Ticket(Ticket),
-    Refused(u32),
 }
 
 // Who calls, laid out as in C for a host that passes it by value: a participant, 0 to 15, or the operator,
@@ -156,13 +240,12 @@ pub struct Caller {
     pub owners: [u8; ACCOUNT_COUNT],
 }
 
-// What reading an account answers: its net, its charge and the entry; net and charge where it has no such
-// entry; or the refusal's number.
+// What reading an account shows: its net, its charge, and the entry where it has that many.
 #[derive(Clone, Copy, Drop)]
-pub enum Seen {
-    One(i32, i64, Entry),
-    Nothing(i32, i64),
-    Refused(u32),
+pub struct Seen {
+    pub net: i32,
+    pub charge: i64,
+    pub entry: Option<Entry>,
 }
 
 // An instruction of the tape. Roll's sixteen prices and sixteen accrued amounts stand beside it.
@@ -186,31 +269,16 @@ pub enum Instruction {
     Turn(u32),
 }
 
-// What a word of the tape is taken as: the head of an instruction, with the kind of the words that
-// follow it and the count of all its words; a word of that kind after a head; or a wrong word.
+// What a word of the tape is taken as that is not wrong: the head of an instruction, with the kind of the words that
+// follow it and the count of all its words; or a word of that kind after a head.
 #[derive(Clone, Copy, Drop)]
 pub enum Word {
     Head(Instruction, u32, usize),
     After(u32),
-    Wrong,
-}
-
-// What the tape reader answers: the instruction and its word count, or the refusal's number.
-#[derive(Clone, Copy, Drop)]
-pub enum Read {
-    Instr(Instruction, usize),
-    Refused(u32),
-}
-
-// What the tape writer answers: the refusal's number (0: done), the count of words written.
-#[derive(Clone, Copy, Drop)]
-pub struct Written {
-    pub refusal: u32,
-    pub count: usize,
 }
 
 // What a line of a run names: a call, or the tape where the reader refused.
-#[derive(Clone, Copy, Drop)]
+#[derive(Clone, Copy, PartialEq, Eq, Drop)]
 pub enum Name {
     Trade,
     Deliver,
@@ -225,7 +293,7 @@ pub enum Name {
 }
 
 // A line of a run: the index of the instruction's first word, the name, the refusal's number
-// (0: done), the count of records (for pair-off, steps).
+// (0: done), the count of records (for pair-off, steps). A line prints all four, 0 too, so the number is no Option.
 #[derive(Clone, Copy, Drop)]
 pub struct Line {
     pub index: u64,

@@ -1,13 +1,152 @@
 // An instruction of a run, answered in place on the columns of a sound book by the call that it is.
 #![tactic(auto)]
 
-ghost use Rattle.rules.specs.Calls.{HasRoom};
+ghost use Rattle.std.specs.Prelude.{[]};
+ghost use Rattle.rules.specs.Calls.{HasRoom, Trade, Deliver, Resolve, PairOff, Cutoff, Roll, Mark};
 ghost use Rattle.rules.specs.Run.{call_of};
-ghost use Rattle.book.specs.States.{sound_columns, columns};
-ghost use Rattle.answers.specs.Turns.{Answered};
+ghost use Rattle.columns.specs.Books.{IsSound, IsReady, SameColumns};
+ghost use Rattle.answers.specs.Turns.{Makes, Answered};
 
 use answers::Turn;
-use rules::{Instruction, State};
+use columns::LentColumns;
+use ledger::Ledger;
+use rules::{Instruction, Refusal, State};
+
+// Each call on the columns of a sound book: of all columns it is lent those that it reads or changes, and they
+// stay the same ones. A column that is only read is lent by `&mut *` too: beside a lent field the check knows no
+// `&*` of another.
+fn trade(
+    s: State,
+    columns: &mut LentColumns,
+    i: u32,
+    f: u32,
+    t: u32,
+    x: u32,
+) -> Result<Turn, Refusal>
+    requires { IsSound s columns.old }
+    ensures made { Makes s (Trade i f t x) result columns.old columns.new [] }
+    ensures same { SameColumns columns.old columns.new }
+{
+    trading::trade(s, &mut *columns.nets, i, f, t, x)
+}
+
+fn deliver(
+    s: State,
+    columns: &mut LentColumns,
+    i: u32,
+    a: u32,
+    x: u32,
+    out: &mut [u32],
+) -> Result<Turn, Refusal>
+    requires { IsReady s columns.old out.old }
+    ensures made { Makes s (Deliver i a x out.old) result columns.old columns.new out.new }
+    ensures same { SameColumns columns.old columns.new }
+{
+    delivery::deliver(
+        s,
+        &mut *columns.nets,
+        &mut *columns.delivered,
+        &mut *columns.lifts,
+        i,
+        a,
+        x,
+        out,
+    )
+}
+
+fn resolve(
+    s: State,
+    columns: &mut LentColumns,
+    i: u32,
+    a: u32,
+    x: u32,
+    out: &mut [u32],
+) -> Result<Turn, Refusal>
+    requires { IsReady s columns.old out.old }
+    ensures made { Makes s (Resolve i a x out.old) result columns.old columns.new out.new }
+    ensures same { SameColumns columns.old columns.new }
+{
+    let mut ledger = Ledger {
+        issues: &mut *columns.issues,
+        froms: &mut *columns.froms,
+        tos: &mut *columns.tos,
+        lots: &mut *columns.lots,
+        days: &mut *columns.days,
+    };
+    resolution::resolve(s, &mut ledger, i, a, x, out)
+}
+
+fn pair_off(s: State, columns: &mut LentColumns, i: u32, a: u32) -> Result<Turn, Refusal>
+    requires { IsSound s columns.old }
+    ensures made { Makes s (PairOff i a) result columns.old columns.new [] }
+    ensures same { SameColumns columns.old columns.new }
+{
+    let mut ledger = Ledger {
+        issues: &mut *columns.issues,
+        froms: &mut *columns.froms,
+        tos: &mut *columns.tos,
+        lots: &mut *columns.lots,
+        days: &mut *columns.days,
+    };
+    pairing::pair_off(s, &mut ledger, i, a)
+}
+
+fn cutoff(s: State, columns: &mut LentColumns, out: &mut [u32]) -> Result<Turn, Refusal>
+    requires { IsReady s columns.old out.old }
+    ensures made { Makes s (Cutoff out.old) result columns.old columns.new out.new }
+    ensures same { SameColumns columns.old columns.new }
+{
+    let mut ledger = Ledger {
+        issues: &mut *columns.issues,
+        froms: &mut *columns.froms,
+        tos: &mut *columns.tos,
+        lots: &mut *columns.lots,
+        days: &mut *columns.days,
+    };
+    cutoff::cutoff(
+        s,
+        &mut *columns.nets,
+        &mut *columns.delivered,
+        &mut *columns.lifts,
+        &mut ledger,
+        out,
+    )
+}
+
+fn roll(
+    s: State,
+    columns: &mut LentColumns,
+    term: u32,
+    rate: u32,
+    quotes: &[u32],
+) -> Result<Turn, Refusal>
+    requires { IsSound s columns.old }
+    ensures made { Makes s (Roll term rate quotes.now) result columns.old columns.new [] }
+    ensures same { SameColumns columns.old columns.new }
+{
+    rolling::roll(
+        s,
+        &mut *columns.nets,
+        &mut *columns.delivered,
+        &mut *columns.lifts,
+        &mut *columns.charges,
+        &mut *columns.issues,
+        &mut *columns.froms,
+        &mut *columns.tos,
+        &mut *columns.lots,
+        term,
+        rate,
+        quotes,
+    )
+}
+
+fn mark(s: State, columns: &mut LentColumns, i: u32, m: u32) -> Result<Turn, Refusal>
+    requires { IsSound s columns.old }
+    ensures made { Makes s (Mark i m) result columns.old columns.new [] }
+    ensures same { SameColumns columns.old columns.new }
+{
+    settings::mark(s, &mut *columns.nets, &mut *columns.issues, i, m)
+}
 
 // The answer to an instruction of a sound book in its columns: number, count, lots cancelled, book and
 // output are those of the call. Roll's quotes stand beside it.
@@ -15,35 +154,22 @@ pub fn answer(
     x: Instruction,
     quotes: &[u32],
     s: State,
-    nets: &mut [i32],
-    delivered: &mut [u32],
-    lifts: &mut [u32],
-    charges: &mut [i64],
-    issues: &mut [u8],
-    froms: &mut [u8],
-    tos: &mut [u8],
-    lots: &mut [u32],
-    days: &mut [u16],
+    columns: &mut LentColumns,
     out: &mut [u32],
-) -> Turn
-    requires { sound_columns s nets delivered lifts charges issues froms tos lots days × HasRoom (call_of x quotes.now out.old) }
-    ensures { Answered x quotes out s result (columns nets delivered lifts charges issues froms tos lots days) }
+) -> Result<Turn, Refusal>
+    requires { IsSound s columns.old × HasRoom (call_of x quotes.now out.old) }
+    ensures answered { Answered x quotes.now s result columns.old columns.new out.old out.new }
+    ensures same { SameColumns columns.old columns.new }
 {
     match x {
-        Instruction::Trade(i, f, t, x) => trading::trade(s, nets, i, f, t, x),
-        Instruction::Deliver(i, a, x) => delivery::deliver(s, nets, delivered, lifts, i, a, x, out),
-        Instruction::Resolve(i, a, x) => resolution::resolve(
-            s, issues, froms, tos, lots, days, i, a, x, out,
-        ),
-        Instruction::PairOff(i, a) => pairing::pair_off(s, issues, froms, tos, lots, days, i, a),
+        Instruction::Trade(i, f, t, x) => trade(s, columns, i, f, t, x),
+        Instruction::Deliver(i, a, x) => deliver(s, columns, i, a, x, out),
+        Instruction::Resolve(i, a, x) => resolve(s, columns, i, a, x, out),
+        Instruction::PairOff(i, a) => pair_off(s, columns, i, a),
         Instruction::Close => trading::close(s),
-        Instruction::Cutoff => cutoff::cutoff(
-            s, nets, delivered, lifts, issues, froms, tos, lots, days, out,
-        ),
-        Instruction::Roll(term, rate) => rolling::roll(
-            s, nets, delivered, lifts, charges, issues, froms, tos, lots, term, rate, quotes,
-        ),
-        Instruction::Mark(i, m) => settings::mark(s, nets, issues, i, m),
+        Instruction::Cutoff => cutoff(s, columns, out),
+        Instruction::Roll(term, rate) => roll(s, columns, term, rate, quotes),
+        Instruction::Mark(i, m) => mark(s, columns, i, m),
         Instruction::Turn(d) => settings::turn(s, d),
     }
 }

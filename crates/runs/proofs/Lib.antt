@@ -3,3 +3,4 @@ pub mod Cells
 pub mod Units
 pub mod Loops
 pub mod Numbers
+pub mod Words

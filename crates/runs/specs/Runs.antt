@@ -1,13 +1,12 @@
 -- Runs: parts of one word each that stand for units in unit order.
-use Rattle.std.specs.Prelude.{◌≡◌, true, cond, false, List, [], ◌∷◌, ◌++◌, map, ℕ, suc, ◌+◌, ◌*◌, ◌/◌, ◌%◌, ◌≤◌, ◌<◌, min, leb, ltb, length, take, get_or, replicate, ℤ}
+use Rattle.std.specs.Prelude.{◌≡◌, true, cond, false, List, [], ◌∷◌, ◌++◌, map, ℕ, suc, ◌+◌, ◌*◌, ◌/◌, ◌%◌, ◌≤◌, ◌<◌, min, leb, ltb, length, take, get_or, replicate, ℤ, Option, Some, None}
 use Rattle.rules.specs.Measures.{Every, unit_lots, most_lots, total, due_of}
 use Rattle.rules.specs.Units.{AccountLots, account_lots, prepend, by_account, largest_first, of_account, units_of_nets}
 use Rattle.rules.specs.Ranking.{priority, Pairwise}
 use Rattle.rules.specs.Lifts.{Among}
 use Rattle.rules.specs.Book.{all, row, within_size, lift_number, lifts_at, order_in}
 use Rattle.rules.specs.declared.Priority.{Priority}
-use Rattle.rules.specs.declared.Found.{Found}
-use Rattle.rules.specs.declared.Found.TheVariants.{Unit, Nothing}
+use Rattle.rules.specs.declared.Unit.{Unit}
 
 -- a part in one word: lots * 64 + account
 abbrev pub part_of : ℕ → AccountLots
@@ -34,9 +33,13 @@ abbrev pub units_of_runs : List AccountLots → List AccountLots
 units_of_runs [] = []
 units_of_runs (u ∷ us) = units_of_run u ++ units_of_runs us
 
--- the units that n runs stand for
+-- the units that words stand for
+abbrev pub units_of_words : List ℕ → List AccountLots
+units_of_words runs = units_of_runs (map part_of runs)
+
+-- those that the first n words stand for
 unfoldable pub units_in : List ℕ → ℕ → List AccountLots
-units_in runs n = units_of_runs (runs_in runs n)
+units_in runs n = units_of_words (take n runs)
 
 -- what is full of a part, and what is small of its lots
 abbrev pub full_of : AccountLots → AccountLots
@@ -118,6 +121,11 @@ pub record Prepared (nets : List ℤ) (lifts : List ℕ) (i : ℕ) (runs : List 
   pub few : n ≤ 128 + 2 * lift_number lifts i
   pub units : units_in runs n ≡ order_in false nets lifts i
 
-abbrev pub found_of : List AccountLots → Found
-found_of [] = Nothing
-found_of (u ∷ us) = Unit u.account u.lots
+-- a unit of these lots of this account, as the code answers it
+abbrev pub unit_of : ℕ → ℕ → Unit
+unit_of account lots = record { account = account; lots = lots }
+
+-- the first of the units, if there is one
+abbrev pub found_of : List AccountLots → Option Unit
+found_of [] = None
+found_of (u ∷ us) = Some (unit_of u.account u.lots)

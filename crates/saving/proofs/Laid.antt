@@ -1,24 +1,22 @@
 -- The columns of a book laid one behind the other, in two parts, are its words.
 use mathlib.Core.Path.{◌≡◌, refl, sym, ap, ◌∙◌}
-use mathlib.Core.Bool.{true}
 use mathlib.Core.List.{List, [], ◌∷◌, ◌++◌, map, append_assoc}
-use Prim.Native.Nat.{ℕ, ◌+◌, ◌*◌, ◌<◌}
+use Prim.Native.Nat.{ℕ, ◌+◌}
 use native.Mathlib.Omega.{arith}
-use lib.ListN.{length, get_or, drop, length-map, length-append}
+use lib.ListN.{length, drop, length-map, length-append}
 use lib.Seq.{sets}
-use lib.IntN.{ℤ}
 use Rattle.rules.specs.declared.Book.{Book}
 use Rattle.rules.specs.declared.State.{State}
 use Rattle.rules.specs.Measures.{sum}
-use Rattle.rules.specs.Book.{book_of, CellLengths, LedgerLengths}
+use Rattle.rules.specs.Book.{LedgerLengths}
 use Rattle.laws.proofs.Sound.{sound_parts}
-use Rattle.checksums.specs.Sums.{word_size}
-use Rattle.checksums.proofs.Bounds.{all_words}
-use Rattle.snapshots.specs.Words.{signed_word, long_words, entry_words, InRange, joined}
+use Rattle.snapshots.specs.Words.{signed_word, long_words, entry_words, joined}
 use Rattle.snapshots.specs.Snapshot.{seal, saved, Typed}
 use Rattle.snapshots.proofs.Words.{longs_length, length_joined, entries_length}
 use Rattle.snapshots.proofs.Ranges.{ranges}
 use Rattle.snapshots.proofs.Theorems.{saved_opened}
+use Rattle.columns.specs.declared.SharedColumns.{SharedColumns}
+use Rattle.columns.specs.Books.{shared_book}
 use Rattle.saving.specs.Laying.{cell_columns, ledger_columns, CanPut, CanPutLedger, CanSave, Saves}
 use Rattle.saving.proofs.Loops.{sets_append, behind_three}
 
@@ -32,24 +30,25 @@ cell_widths = 4 ∷ 16 ∷ 1024 ∷ 1024 ∷ 288 ∷ 128 ∷ []
 abbrev pub ledger_widths : List ℕ
 ledger_widths = 2048 ∷ 2048 ∷ []
 
-pub ledger_widths_lem : (is fs ts xs ds : List ℕ) → LedgerLengths is fs ts xs ds → map length (ledger_columns is fs ts xs ds) ≡ ledger_widths
-ledger_widths_lem is fs ts xs ds n =
-    let e : length (entry_words is fs ts ds) ≡ 2048 = entries_length is fs ts ds ∙ n.issues in
+pub ledger_widths_lem : (c : SharedColumns) → LedgerLengths c.issues.now c.froms.now c.tos.now c.lots.now c.days.now →
+    map length (ledger_columns c) ≡ ledger_widths
+ledger_widths_lem c n =
+    let e : length (entry_words c.issues.now c.froms.now c.tos.now c.days.now) ≡ 2048 =
+    entries_length c.issues.now c.froms.now c.tos.now c.days.now ∙ n.issues in
     rw (e, n.lots)
 
-module _ (s : State) (nets : List ℤ) (delivered lifts : List ℕ) (charges : List ℤ) where
-  pub cell_widths_lem : (out : List ℕ) → CanPut s nets delivered lifts charges out →
-      map length (cell_columns s nets delivered lifts charges) ≡ cell_widths
+module _ (s : State) (c : SharedColumns) where
+  pub cell_widths_lem : (out : List ℕ) → CanPut s c out → map length (cell_columns s c) ≡ cell_widths
   cell_widths_lem out p =
-      let c : length (long_words charges) ≡ 128 = omega (arith, longs_length charges, p.accounts) in
-      let n : length (map signed_word nets) ≡ 1024 = length-map nets signed_word ∙ p.cells.nets in
-      rw (p.sixteen, n, p.cells.delivered, p.lift_words, c)
+      let l : length (long_words c.charges.now) ≡ 128 = omega (arith, longs_length c.charges.now, p.accounts) in
+      let n : length (map signed_word c.nets.now) ≡ 1024 = length-map c.nets.now signed_word ∙ p.cells.nets in
+      rw (p.sixteen, n, p.cells.delivered, p.lift_words, l)
 
-  module _ (issues froms tos lots days out : List ℕ) (p : CanSave s nets delivered lifts charges issues froms tos lots days out) where
+  module _ (out : List ℕ) (p : CanSave s c out) where
     abbrev saving : Book
-    saving = book_of s nets delivered lifts charges issues froms tos lots days
+    saving = shared_book s c
 
-    pub can_put : length s.marks ≡ 16 → CanPut s nets delivered lifts charges out
+    pub can_put : length s.marks ≡ 16 → CanPut s c out
     can_put n =
         record {
           cells = p.lengths.cells;
@@ -62,14 +61,14 @@ module _ (s : State) (nets : List ℤ) (delivered lifts : List ℕ) (charges : L
 
     saved_laid : length s.marks ≡ 16 →
         seal
-        (drop 3 (sets (sets out 3 (joined (cell_columns s nets delivered lifts charges))) 2487 (joined (ledger_columns issues froms tos lots days))))
+        (drop 3 (sets (sets out 3 (joined (cell_columns s c))) 2487 (joined (ledger_columns c))))
         ≡ saved saving
     unfolding saved
     saved_laid marked =
-        let cs = cell_columns s nets delivered lifts charges in
-        let ds = ledger_columns issues froms tos lots days in
+        let cs = cell_columns s c in
+        let ds = ledger_columns c in
         let n : length (joined cs) ≡ 2484 = length_joined cs ∙ ap sum (cell_widths_lem out (can_put marked)) in
-        let m : length (joined ds) ≡ 4096 = length_joined ds ∙ ap sum (ledger_widths_lem issues froms tos lots days p.lengths.ledger) in
+        let m : length (joined ds) ≡ 4096 = length_joined ds ∙ ap sum (ledger_widths_lem c p.lengths.ledger) in
         let a : 3 + length (joined cs) ≡ 2487 = omega (arith, n) in
         let j : joined cs ++ joined ds ≡ joined (cs ++ ds) = joined_append cs ds in
         let k : length (joined (cs ++ ds)) ≡ 6580 = ap length (sym j) ∙ length-append (joined cs) (joined ds) ∙ omega (arith, n, m) in
@@ -78,14 +77,14 @@ module _ (s : State) (nets : List ℤ) (delivered lifts : List ℕ) (charges : L
         ∙ ap seal (behind_three out (joined (cs ++ ds)) (omega (arith, p.room, k)))
 
     module _ (t : Typed saving) where
-      pub can_put_ledger : (after : List ℕ) → length after ≡ length out → CanPutLedger issues froms tos lots days after
+      pub can_put_ledger : (after : List ℕ) → length after ≡ length out → CanPutLedger c after
       can_put_ledger after e =
           record { lengths = p.lengths.ledger; range = (ranges saving t p.sound).entered; room = e ∙ p.room }
 
       -- the words that were laid down are the book's
       pub laid : (after : List ℕ) →
           after
-          ≡ seal (drop 3 (sets (sets out 3 (joined (cell_columns s nets delivered lifts charges))) 2487 (joined (ledger_columns issues froms tos lots days)))) →
+          ≡ seal (drop 3 (sets (sets out 3 (joined (cell_columns s c))) 2487 (joined (ledger_columns c)))) →
           Saves saving after
       laid after e =
           let w = e ∙ saved_laid t.sixteen in

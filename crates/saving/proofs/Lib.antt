@@ -2,3 +2,4 @@
 pub mod Loops
 pub mod Bytes
 pub mod Laid
+pub mod Signed

@@ -1,16 +1,14 @@
 -- Loops over words: words stored one after the other, and columns one behind the other.
 use mathlib.Core.Path.{◌≡◌, refl, sym, ap, ◌∙◌}
-use mathlib.Core.List.{List, [], ◌∷◌, ◌++◌, map, append-nil}
-use Prim.Native.Nat.{ℕ, zero, suc, ◌+◌, ◌-◌, ◌*◌, ◌≤◌, ◌<◌, ◌/◌, ◌%◌}
+use mathlib.Core.List.{List, [], ◌∷◌, ◌++◌, map, append-nil, append_assoc}
+use Prim.Native.Nat.{ℕ, zero, suc, ◌+◌, ◌-◌, ◌*◌, ◌≤◌, ◌<◌}
 use native.Mathlib.Nat.{add-suc, add-zero}
 use native.Mathlib.Numerals.{add-one}
 use native.Mathlib.Omega.{arith}
 use lib.ListN.{length, get_or, set, take, drop, drop_of_length-le}
-use lib.Seq.{drop-cons, sets, sets-eq, drop_at, length-take-le}
-use lib.IntN.{ℤ, pos, negsuc}
-use Rattle.rules.specs.Measures.{due_of, owed_of}
-use Rattle.checksums.specs.Sums.{word_size}
-use Rattle.snapshots.specs.Words.{last_word, signed_word, low_word, high_word, long_words, joined}
+use lib.Seq.{drop-cons, drop-drop, sets, sets-eq, drop_at, length-take-le}
+use lib.IntN.{ℤ, pos}
+use Rattle.snapshots.specs.Words.{low_word, high_word, long_words, joined}
 
 -- a word stored, and those still to be stored
 pub put_more : (ws whole o : List ℕ) (at i v : ℕ) → i < length ws → v ≡ get_or ws i 0 → whole ≡ sets o (at + i) (drop i ws) →
@@ -20,34 +18,18 @@ put_more ws whole o at i v h e a = a ∙ rw (add-one, add-suc, drop-cons ws i 0 
 pub put_end : (ws whole o : List ℕ) (at i : ℕ) → length ws ≤ i → whole ≡ sets o (at + i) (drop i ws) → o ≡ whole
 put_end ws whole o at i h a = sym (a ∙ rw (drop_of_length-le ws h))
 
-pub put_start : (ws o : List ℕ) (at : ℕ) → sets o at ws ≡ sets o (at + 0) (drop 0 ws)
-put_start ws o at = rw (add-zero at)
+-- the word of a number of a column
+pub map_at : {A : Type 0} (f : A → ℕ) (n : A) (xs : List A) (i : ℕ) → i < length xs → n ≡ get_or xs i n → f n ≡ get_or (map f xs) i 0
+map_at f n [] i h e = absurd (omega arith)
+map_at f n (x ∷ xs) zero h e = ap f e
+map_at f n (x ∷ xs) (suc i) h e = map_at f n xs i (omega arith) e
 
--- a signed number's word by what is due and owed
-pub due_word : (n : ℤ) → owed_of n ≡ 0 → due_of n ≡ signed_word n
-due_word (pos n) h = refl
-due_word (negsuc n) h = absurd (omega arith)
-
-pub owed_word : (n : ℤ) → (owed_of n ≡ 0 → ⊥) → last_word - (owed_of n - 1) ≡ signed_word n
-owed_word (pos n) h = absurd (h refl)
-owed_word (negsuc n) h = omega arith
-
--- and of a number of 64 bits
-pub due_low : (z : ℤ) → owed_of z ≡ 0 → due_of z % word_size ≡ low_word z
-due_low (pos n) h = refl
-due_low (negsuc n) h = absurd (omega arith)
-
-pub owed_low : (z : ℤ) → (owed_of z ≡ 0 → ⊥) → last_word - (owed_of z - 1) % word_size ≡ low_word z
-owed_low (pos n) h = absurd (h refl)
-owed_low (negsuc n) h = let e : suc n - 1 ≡ n = omega arith in rw e
-
-pub due_high : (z : ℤ) → owed_of z ≡ 0 → due_of z / word_size ≡ high_word z
-due_high (pos n) h = refl
-due_high (negsuc n) h = absurd (omega arith)
-
-pub owed_high : (z : ℤ) → (owed_of z ≡ 0 → ⊥) → last_word - (owed_of z - 1) / word_size ≡ high_word z
-owed_high (pos n) h = absurd (h refl)
-owed_high (negsuc n) h = let e : suc n - 1 ≡ n = omega arith in rw e
+-- a part stored at once
+pub put_part : (o c new : List ℕ) (at : ℕ) → at + length c ≤ length o → new ≡ c →
+    take at o ++ (new ++ drop (at + length c - at) (drop at o)) ≡ sets o at c
+put_part o c new at h e =
+    let k : at + length c - at ≡ length c = omega arith in
+    rw (e, k, drop-drop (length c) at o) (sym (sets-eq c o at h ∙ append_assoc (take at o) c (drop (at + length c) o)))
 
 -- the two words of a number stored
 long_at : (cs : List ℤ) (i : ℕ) → i < length cs →
@@ -98,10 +80,3 @@ behind_three o body e =
     ∙ ap (λ l. drop 3 (take 3 o ++ body ++ l)) (drop_of_length-le o h)
     ∙ ap (drop 3) (append-nil (take 3 o ++ body))
     ∙ drop_at (take 3 o) body 3 (length-take-le 3 o (omega arith))
-
--- three words before them
-pub before_three : (o : List ℕ) (v l h : ℕ) → 3 ≤ length o → set (set (set o 0 v) 1 l) 2 h ≡ v ∷ l ∷ h ∷ drop 3 o
-before_three [] v l h n = absurd (omega arith)
-before_three (x ∷ []) v l h n = absurd (omega arith)
-before_three (x ∷ y ∷ []) v l h n = absurd (omega arith)
-before_three (x ∷ y ∷ z ∷ o) v l h n = refl

@@ -1,67 +1,64 @@
 // A book's columns laid one behind the other as words, and sealed.
 #![tactic(auto)]
 
-ghost use Rattle.std.specs.Prelude.{◌≡◌, [], ◌∷◌, map, ◌+◌, ◌*◌, ◌≤◌, length, drop};
+ghost use Rattle.std.specs.Prelude.{◌≡◌, ℕ, true, [], ◌∷◌, map, ◌+◌, ◌*◌, ◌≤◌, length, drop};
 ghost use Rattle.std.proofs.lemmas.List.Edits.{sets};
-ghost use Rattle.rules.specs.Measures.{due_of, owed_of};
-ghost use Rattle.book.specs.States.{shared_columns};
+ghost use Rattle.rules.specs.Book.{all};
+ghost use Rattle.checksums.specs.Sums.{word_size, below};
+ghost use Rattle.columns.specs.Books.{shared_book};
 ghost use Rattle.snapshots.specs.Words.{phase_word, signed_word, low_word, high_word, long_words, entry_word, entry_words, Fields, joined};
 ghost use Rattle.snapshots.specs.Snapshot.{seal, snapshot_words};
 ghost use Rattle.saving.specs.Laying.{cell_columns, ledger_columns, CanPack, CanPut, CanPutLedger, CanSave, Saves};
 
-use book::{due, owed};
 use checksums::checksum;
+use columns::SharedColumns;
 use rules::{Phase, State};
 use snapshots::{CHARGES, DELIVERED, ENTRIES, LIFTS, LOTS, MARKS, NETS, VERSION};
 
-// A net as a word, in two's complement.
-fn signed_word(n: i32) -> u32
-    ensures { result ≡ signed_word n }
-{
-    let o = owed(n);
-    if o == 0 {
-        return due(n);
+// A number of a column that is stored as a word.
+trait Word: Copy {
+    ghost word: { Self → ℕ };
+
+    fn word(self) -> u32
+        ensures { result ≡ word self };
+}
+
+// A mark.
+impl Word for u8 {
+    ghost word = { λ n. n };
+
+    fn word(self) -> u32 {
+        u32::from(self)
     }
-    4294967295 - (o - 1)
 }
 
-// The yen that an account is to get, and that it is to pay.
-fn credit(c: i64) -> u64
-    ensures { result ≡ due_of c }
-{
-    if 0 < c { c as u64 } else { 0 }
-}
+// A net, in two's complement.
+impl Word for i32 {
+    ghost word = { signed_word };
 
-fn debit(c: i64) -> u64
-    ensures { result ≡ owed_of c }
-{
-    if c < 0 { (-1 - c) as u64 + 1 } else { 0 }
+    #[tactic(auto, using(crate::proofs::Signed::signed_word_lem))]
+    fn word(self) -> u32 {
+        self.cast_unsigned()
+    }
 }
 
 // The two halves of a charge.
+#[tactic(auto, using(crate::proofs::Signed::low_word_lem))]
 fn low_word(c: i64) -> u32
     ensures { result ≡ low_word c }
 {
-    let o = debit(c);
-    if o == 0 {
-        let d = credit(c);
-        return (d % 4294967296) as u32;
-    }
-    4294967295 - ((o - 1) % 4294967296) as u32
+    (c.cast_unsigned() % 4294967296) as u32
 }
 
+#[tactic(auto, using(crate::proofs::Signed::high_word_lem))]
 fn high_word(c: i64) -> u32
     ensures { result ≡ high_word c }
 {
-    let o = debit(c);
-    if o == 0 {
-        let d = credit(c);
-        return (d / 4294967296) as u32;
-    }
-    4294967295 - ((o - 1) / 4294967296) as u32
+    (c.cast_unsigned() / 4294967296) as u32
 }
 
-// A phase as a word.
+// A phase as a word: the numbers are the snapshot's, as in `restoring::phase_in`; `host::number_of` has those of the C
+// interface.
 fn phase_word(p: Phase) -> u32
     ensures { result ≡ phase_word p }
 {
@@ -81,39 +78,23 @@ fn entry_word(issue: u8, from: u8, to: u8, day: u16) -> u32
 }
 
 // A column's numbers as words, from a place on.
-fn put8(column: &[u8], out: &mut [u32], at: usize)
+fn put<N: Word>(column: &[N], out: &mut [u32], at: usize)
     requires { at + length column.now ≤ length out.old }
-    ensures { out.new ≡ sets out.old at column.now }
+    ensures { out.new ≡ sets out.old at (map N.word column.now) }
 {
-    let mut i = 0;
-    while i < column.len() {
-        out[at + i] = column[i] as u32;
-        i += 1;
+    // by index: of what a `zip` with `iter_mut` stores the library says nothing
+    for (i, n) in column.iter().enumerate() {
+        out[at + i] = n.word();
     }
 }
 
+// The same of words, which are stored as they are.
 fn put32(column: &[u32], out: &mut [u32], at: usize)
     requires { at + length column.now ≤ length out.old }
-    ensures { out.new ≡ sets out.old at column.now }
+    ensures stored { out.new ≡ sets out.old at column.now }
+    ensures words { all (below word_size) column.now ≡ true }
 {
-    let mut i = 0;
-    while i < column.len() {
-        out[at + i] = column[i];
-        i += 1;
-    }
-}
-
-// Nets as words.
-fn put_nets(column: &[i32], out: &mut [u32], at: usize)
-    requires { at + length column.now ≤ length out.old }
-    ensures { out.new ≡ sets out.old at (map signed_word column.now) }
-{
-    let mut i = 0;
-    while i < column.len() {
-        let n = column[i];
-        out[at + i] = signed_word(n);
-        i += 1;
-    }
+    out[at..at + column.len()].copy_from_slice(column);
 }
 
 // Charges as words, two of each.
@@ -121,28 +102,28 @@ fn put_charges(column: &[i64], out: &mut [u32], at: usize)
     requires { at + 2 * length column.now ≤ length out.old }
     ensures { out.new ≡ sets out.old at (long_words column.now) }
 {
-    let mut i = 0;
-    while i < column.len() {
-        let c = column[i];
-        out[at + 2 * i] = low_word(c);
-        out[at + 2 * i + 1] = high_word(c);
-        i += 1;
+    // by index, as in `put`; and not by `put`: two words of each
+    for (i, c) in column.iter().enumerate() {
+        out[at + 2 * i] = low_word(*c);
+        out[at + 2 * i + 1] = high_word(*c);
     }
 }
 
 // Entries but for their lots, a word each.
-fn put_entries(issues: &[u8], froms: &[u8], tos: &[u8], days: &[u16], out: &mut [u32], at: usize)
-    requires { CanPack issues.now froms.now tos.now days.now out.old at }
-    ensures { out.new ≡ sets out.old at (entry_words issues.now froms.now tos.now days.now) }
+fn put_entries(columns: SharedColumns, out: &mut [u32], at: usize)
+    requires { CanPack columns.issues.now columns.froms.now columns.tos.now columns.days.now out.old at }
+    ensures { out.new ≡ sets out.old at (entry_words columns.entry.issues.now columns.entry.froms.now columns.entry.tos.now columns.entry.days.now) }
 {
-    let mut i = 0;
-    while i < issues.len() {
-        let issue = issues[i];
-        let from = froms[i];
-        let to = tos[i];
-        let day = days[i];
-        out[at + i] = entry_word(issue, from, to, day);
-        i += 1;
+    let SharedColumns {
+        issues,
+        froms,
+        tos,
+        days,
+        ..
+    } = columns;
+    // by index: an entry stands in four columns at one place
+    for i in 0..issues.len() {
+        out[at + i] = entry_word(issues[i], froms[i], tos[i], days[i]);
     }
 }
 
@@ -170,60 +151,35 @@ fn put_seal(out: &mut [u32])
 }
 
 // All but the ledger.
-fn put_cells<'a>(
-    s: State,
-    nets: &'a [i32],
-    delivered: &'a [u32],
-    lifts: &'a [u32],
-    charges: &'a [i64],
-    out: &mut [u32],
-)
-    requires { CanPut s nets.now delivered.now lifts.now charges.now out.old }
-    ensures { out.new ≡ sets out.old 3 (joined (cell_columns s nets.now delivered.now lifts.now charges.now)) }
+fn put_cells(s: State, columns: SharedColumns, out: &mut [u32])
+    requires { CanPut s columns out.old }
+    ensures stored { out.new ≡ sets out.old 3 (joined (cell_columns s columns.entry)) }
+    ensures words { all (below word_size) columns.entry.lifts.now ≡ true }
 {
     let marks = s.marks;
     put_state(s, out);
-    put8(&marks, out, MARKS);
-    put_nets(nets, out, NETS);
-    put32(delivered, out, DELIVERED);
-    put32(lifts, out, LIFTS);
-    put_charges(charges, out, CHARGES);
+    put(&marks, out, MARKS);
+    put(columns.nets, out, NETS);
+    put32(columns.delivered, out, DELIVERED);
+    put32(columns.lifts, out, LIFTS);
+    put_charges(columns.charges, out, CHARGES);
 }
 
 // The ledger.
-fn put_ledger<'a>(
-    issues: &'a [u8],
-    froms: &'a [u8],
-    tos: &'a [u8],
-    lots: &'a [u32],
-    days: &'a [u16],
-    out: &mut [u32],
-)
-    requires { CanPutLedger issues.now froms.now tos.now lots.now days.now out.old }
-    ensures { out.new ≡ sets out.old 2487 (joined (ledger_columns issues.now froms.now tos.now lots.now days.now)) }
+fn put_ledger(columns: SharedColumns, out: &mut [u32])
+    requires { CanPutLedger columns out.old }
+    ensures { out.new ≡ sets out.old 2487 (joined (ledger_columns columns.entry)) }
 {
-    put_entries(issues, froms, tos, days, out, ENTRIES);
-    put32(lots, out, LOTS);
+    put_entries(columns, out, ENTRIES);
+    put32(columns.lots, out, LOTS);
 }
 
 // The words of a sound book.
-pub fn save<'a>(
-    s: State,
-    nets: &'a [i32],
-    delivered: &'a [u32],
-    lifts: &'a [u32],
-    charges: &'a [i64],
-    issues: &'a [u8],
-    froms: &'a [u8],
-    tos: &'a [u8],
-    lots: &'a [u32],
-    days: &'a [u16],
-    out: &mut [u32],
-)
-    requires { CanSave s nets.now delivered.now lifts.now charges.now issues.now froms.now tos.now lots.now days.now out.old }
-    ensures { Saves ((shared_columns nets delivered lifts charges issues froms tos lots days).before s) out.new }
+pub fn save(s: State, columns: SharedColumns, out: &mut [u32])
+    requires { CanSave s columns out.old }
+    ensures { Saves (shared_book s columns.entry) out.new }
 {
-    put_cells(s, nets, delivered, lifts, charges, out);
-    put_ledger(issues, froms, tos, lots, days, out);
+    put_cells(s, columns, out);
+    put_ledger(columns, out);
     put_seal(out);
 }

@@ -14,7 +14,7 @@ use Rattle.rules.specs.Ledger.{is_from, lots_of}
 use Rattle.rules.specs.Book.{entries}
 use Rattle.laws.proofs.Basics.{by_test}
 use Rattle.ledger.proofs.Left.{left, owed_next}
-use Rattle.seeking.specs.Places.{is_at, NoneIn, Sought}
+use Rattle.seeking.specs.Places.{is_at, NoneIn, Passed, First}
 
 less_asked : (x y r : ℕ) → leb (x - y) r ≡ leb x (y + r)
 less_asked x y r =
@@ -48,29 +48,27 @@ module _ {n i a : ℕ} {is fs xs : List ℕ} {x₀ k x : ℕ} (s : Asking n i a 
   pub asking_all : x ≤ 0 → (ts ds : List ℕ) → true ≡ leb x₀ (lots_of (is_from i a) (entries n is fs ts xs ds))
   asking_all h ts ds = sym (s.asks ts ds ∙ le-leb x _ (omega arith))
 
-  module _ {r : ℕ} (f : Sought (is_at is fs i a) n k r) where
-    over : (ts ds : List ℕ) → lots_of (is_from i a) (left k n is fs ts xs ds) ≡ lots_of (is_from i a) (left r n is fs ts xs ds)
-    over ts ds = owed_over n is fs xs i a k r ts ds f.passed.none f.passed.start f.passed.most
+  over : {r : ℕ} → Passed (is_at is fs i a) n k r → (ts ds : List ℕ) →
+      lots_of (is_from i a) (left k n is fs ts xs ds) ≡ lots_of (is_from i a) (left r n is fs ts xs ds)
+  over {r} p ts ds = owed_over n is fs xs i a k r ts ds p.none p.start p.most
 
-    pub asking_inside : (r ≡ n → ⊥) → r < n
-    asking_inside h = omega (arith, f.passed.most)
+  -- there is no entry more
+  pub asking_none : Passed (is_at is fs i a) n k n → 0 < x → (ts ds : List ℕ) →
+      false ≡ leb x₀ (lots_of (is_from i a) (entries n is fs ts xs ds))
+  asking_none p h ts ds =
+      let d : n - n ≡ 0 = omega arith in
+      let z : lots_of (is_from i a) (left n n is fs ts xs ds) ≡ 0 = rw d in
+      sym (s.asks ts ds ∙ lt-leb x _ (omega (arith, over p ts ds)))
 
-    -- there is no entry more
-    pub asking_none : r ≡ n → 0 < x → (ts ds : List ℕ) → false ≡ leb x₀ (lots_of (is_from i a) (entries n is fs ts xs ds))
-    asking_none e h ts ds =
-        let d : n - r ≡ 0 = omega arith in
-        let z : lots_of (is_from i a) (left r n is fs ts xs ds) ≡ 0 = rw d in
-        sym (s.asks ts ds ∙ lt-leb x _ (omega (arith, over ts ds)))
-
-    -- the entry that was found
-    pub asking_more : {y : ℕ} → (r ≡ n → ⊥) → y ≡ x - get_or xs r 0 → Asking n i a is fs xs x₀ (r + 1) y
-    asking_more {y} h e =
-        record {
-          most = omega (arith, asking_inside h);
-          asks =
-              λ ts ds.
-              s.asks ts ds
-              ∙ ap (leb x) (over ts ds ∙ owed_next r n is fs ts xs ds i a (asking_inside h) ∙ rw (f.found (asking_inside h)))
-              ∙ sym (less_asked x (get_or xs r 0) _)
-              ∙ ap (λ z. leb z (lots_of (is_from i a) (left (r + 1) n is fs ts xs ds))) (sym e);
-        }
+  -- the entry that was found
+  pub asking_more : {r y : ℕ} → First (is_at is fs i a) n k r → y ≡ x - get_or xs r 0 → Asking n i a is fs xs x₀ (r + 1) y
+  asking_more {r} {y} f e =
+      record {
+        most = omega (arith, f.inside);
+        asks =
+            λ ts ds.
+            s.asks ts ds
+            ∙ ap (leb x) (over f.passed ts ds ∙ owed_next r n is fs ts xs ds i a f.inside ∙ rw f.found)
+            ∙ sym (less_asked x (get_or xs r 0) _)
+            ∙ ap (λ z. leb z (lots_of (is_from i a) (left (r + 1) n is fs ts xs ds))) (sym e);
+      }

@@ -8,7 +8,7 @@ use lib.Dec.{eqb, ltb}
 use lib.ListN.{get_or}
 use borrow.Author.Tests.{ltb-true, ltb-false}
 use Rattle.laws.proofs.Basics.{by_test}
-use Rattle.seeking.specs.Places.{is_at, NoneIn, Passed, Sought}
+use Rattle.seeking.specs.Places.{is_at, NoneIn, Passed}
 
 -- none before, and none here
 none_here : (n p q : Bool) → n && (not p || not q) ≡ true → (n ≡ true) × (p && q ≡ false)
@@ -48,11 +48,8 @@ module _ (t : ℕ → Bool) where
   passed_one {n} {s} {k} p h z =
       record { start = omega (arith, p.start); most = omega arith; none = none_more s k p.none z }
 
-  pub sought_here : {n s k : ℕ} → Passed t n s k → t k ≡ true → Sought t n s k
-  sought_here p z = record { passed = p; found = λ h. z }
-
-  pub sought_end : {n s k : ℕ} → Passed t n s k → n ≤ k → Sought t n s k
-  sought_end p h = record { passed = p; found = λ l. absurd (omega arith) }
+  pub passed_end : {n s k : ℕ} → Passed t n s k → n ≤ k → Passed t n s n
+  passed_end {n} {s} {k} p h = let e : k ≡ n = omega (arith, p.most) in rw e at p
 
 -- the columns at one place more
 pub none_turn : (is cs : List ℕ) (i a s k : ℕ) (n : Bool) → (n ≡ true → NoneIn (is_at is cs i a) s k) →

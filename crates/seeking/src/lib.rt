@@ -1,10 +1,13 @@
-// Entries of an issue and an account looked for along the ledger's columns, by blocks.
+// Entries of an issue and an account looked for along the ledger's columns, by blocks. The columns come whole, as C
+// lends them; how many entries they hold is in the state.
 #![tactic(auto)]
 
-ghost use Rattle.std.specs.Prelude.{◌≡◌, true, List, ℕ, ◌-◌, ◌≤◌, ◌<◌, leb, length};
+ghost use Rattle.std.specs.Prelude.{◌≡◌, true, ◌≤◌, ◌<◌, leb};
 ghost use Rattle.rules.specs.Ledger.{is_from, lots_of};
-ghost use Rattle.rules.specs.Book.{entries as entries_of};
+ghost use Rattle.ledger.specs.Columns.{whole, entries_in};
 ghost use Rattle.seeking.specs.Places.{none_of, can_look, passed_by, found_by};
+
+use ledger::Ledger;
 
 // Places that are looked at together, many of them and few.
 const MANY: usize = 64;
@@ -18,16 +21,14 @@ fn none_in(s: usize, e: usize, issues: &[u8], accounts: &[u8], i: u8, a: u8) -> 
     ensures { result ≡ true → none_of s e i a issues accounts }
 {
     let mut none = true;
-    let mut k = s;
-    while k < e {
+    for k in s..e {
         none = none & ((issues[k] != i) | (accounts[k] != a));
-        k += 1;
     }
     none
 }
 
 // A place up to which, from place `at` on, there is none of issue i and account a: behind whole blocks
-// of `size` places without one.
+// of `size` places without one. It goes on as far as blocks have none: no range ends there.
 fn pass(
     size: usize,
     entries: usize,
@@ -50,69 +51,58 @@ fn pass(
     k
 }
 
-// The same behind large blocks and then small ones.
+// The same behind large blocks and then small ones. That place is no answer of `seek` yet: of the entry at it nothing
+// is said.
 fn pass_all(entries: usize, at: usize, issues: &[u8], accounts: &[u8], i: u32, a: u32) -> usize
     requires { can_look entries at issues accounts }
     ensures { passed_by entries at result i a issues accounts }
 {
-    if 255 < i {
+    let Ok(issue) = u8::try_from(i) else {
         return at;
-    }
-    if 255 < a {
+    };
+    let Ok(account) = u8::try_from(a) else {
         return at;
-    }
-    let k = pass(MANY, entries, at, issues, accounts, i as u8, a as u8);
-    pass(FEW, entries, k, issues, accounts, i as u8, a as u8)
+    };
+    let k = pass(MANY, entries, at, issues, accounts, issue, account);
+    pass(FEW, entries, k, issues, accounts, issue, account)
 }
 
-// The first place from `at` on with an entry of issue i and account a, the number of entries where there
-// is none.
-pub fn seek(entries: usize, at: usize, issues: &[u8], accounts: &[u8], i: u32, a: u32) -> usize
+// The first place from `at` on with an entry of issue i and account a, where there is one.
+pub fn seek(
+    entries: usize,
+    at: usize,
+    issues: &[u8],
+    accounts: &[u8],
+    i: u32,
+    a: u32,
+) -> Option<usize>
     requires { can_look entries at issues accounts }
     ensures { found_by entries at result i a issues accounts }
 {
-    let mut k = pass_all(entries, at, issues, accounts, i, a);
-    while k < entries {
-        if ledger::is_of(issues[k], accounts[k], i, a) {
-            return k;
+    let k = pass_all(entries, at, issues, accounts, i, a);
+    for j in k..entries {
+        if ledger::is_of(issues[j], accounts[j], i, a) {
+            return Some(j);
         }
-        k += 1;
     }
-    k
-}
-
-fn less(x: u32, y: u32) -> u32
-    ensures { result ≡ x - y }
-{
-    if x < y {
-        return 0;
-    }
-    x - y
+    None
 }
 
 // Whether account a owes at least x lots in issue i: of all entries from it. Whoever is owed and since
-// when does not matter. Entries behind those that make up x lots are not looked at.
-pub fn owes(
-    entries: usize,
-    issues: &[u8],
-    froms: &[u8],
-    lots: &[u32],
-    i: u32,
-    a: u32,
-    x: u32,
-) -> bool
-    requires { (entries ≤ 2048) × (length issues.now ≡ 2048) × (length froms.now ≡ 2048) × (length lots.now ≡ 2048) }
-    ensures { (ts ds : List ℕ) → result ≡ leb x (lots_of (is_from i a) (entries_of entries issues.now froms.now ts lots.now ds)) }
+// when does not matter. Entries behind those that make up x lots are not looked at, and from one that is found the
+// search jumps to the next: no range says that.
+pub fn owes(ledger: &Ledger, entries: usize, i: u32, a: u32, x: u32) -> bool
+    requires { (entries ≤ 2048) × whole ledger.now }
+    ensures { result ≡ leb x (lots_of (is_from i a) (entries_in entries ledger.now)) }
 {
     let mut left = x;
     let mut k = 0;
     while 0 < left {
-        k = seek(entries, k, issues, froms, i, a);
-        if k == entries {
+        let Some(m) = seek(entries, k, ledger.issues, ledger.froms, i, a) else {
             return false;
-        }
-        left = less(left, lots[k]);
-        k += 1;
+        };
+        left = left.saturating_sub(ledger.lots[m]);
+        k = m + 1;
     }
     true
 }

@@ -1,11 +1,11 @@
 -- The units that more lots hand over, and units dealt out in front of a longer array.
 use mathlib.Core.Path.{◌≡◌, sym, ap, ◌∙◌}
 use mathlib.Core.Bool.{true}
-use mathlib.Core.List.{List, ◌++◌, map}
+use mathlib.Core.List.{List, map}
 use Prim.Native.Nat.{ℕ, ◌+◌, ◌≤◌}
 use native.Mathlib.Omega.{arith}
 use lib.ListN.{length, take, drop, length-map, length-drop}
-use lib.Seq.{take_all, take_at, take-take}
+use lib.Seq.{take_all, take-take}
 use lib.IntN.{ℤ}
 use Rattle.rules.specs.Units.{AccountLots}
 use Rattle.rules.specs.Handover.{handovers}
@@ -13,7 +13,7 @@ use Rattle.rules.specs.Records.{handover, words, over}
 use Rattle.rules.specs.Book.{order_in}
 use Rattle.laws.proofs.Handover.{covered_le, handovers_length}
 use Rattle.laws.proofs.Dealt.{lots_in, same_covered}
-use Rattle.runs.specs.Runs.{part_of, units_of_runs, units_in}
+use Rattle.runs.specs.Runs.{part_of, units_of_words, units_in}
 use Rattle.dealing.proofs.Dealer.{words_units}
 use Rattle.handing.specs.declared.NextUnits.{NextUnits}
 use Rattle.handing.specs.Handing.{hand_records, NewlyCovered}
@@ -46,16 +46,15 @@ newly_same us vs d x r e c =
       number = c.number ∙ rw (same_covered us vs e d, same_covered us vs e (d + x));
     }
 
--- Units dealt out in front of a longer array
+-- Units dealt out, a word each
 
-module _ (nets : List ℤ) (lifts : List ℕ) (i k n : ℕ) (ys rest : List ℕ) (l : length ys ≡ n) (e : map part_of ys ≡ take n (drop k (order_in true nets lifts i))) where
-  pub dealt_units : units_in (ys ++ rest) n ≡ take n (drop k (order_in true nets lifts i))
+module _ (nets : List ℤ) (lifts : List ℕ) (i k n : ℕ) (ys : List ℕ) (l : length ys ≡ n) (e : map part_of ys ≡ take n (drop k (order_in true nets lifts i))) where
+  dealt_units : units_of_words ys ≡ take n (drop k (order_in true nets lifts i))
   unfolding units_in
-  dealt_units =
-      ap (λ ws. units_of_runs (map part_of ws)) (take_at ys rest n l ∙ sym (take_all n ys (omega arith))) ∙ words_units true nets lifts i k n ys l e
+  dealt_units = ap units_of_words (sym (take_all n ys (omega arith))) ∙ words_units true nets lifts i k n ys l e
 
-  pub dealt_number : n ≤ length (drop 0 (units_in (ys ++ rest) n))
+  pub dealt_number : n ≤ length (drop 0 (units_of_words ys))
   dealt_number = omega (arith, ap length dealt_units, ap length e, length-map ys part_of)
 
-  pub dealt_records : (j : ℕ) → hand_records j n (drop 0 (units_in (ys ++ rest) n)) ≡ hand_records j n (drop k (order_in true nets lifts i))
+  pub dealt_records : (j : ℕ) → hand_records j n (drop 0 (units_of_words ys)) ≡ hand_records j n (drop k (order_in true nets lifts i))
   dealt_records j = ap (λ us. hand_records j n us) dealt_units ∙ ap (map (handover j)) (take-take n n (drop k (order_in true nets lifts i)) (omega arith))

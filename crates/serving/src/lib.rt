@@ -16,8 +16,8 @@ fn serve(nets: &[i32], lifts: &[u32], i: u32, d: u32, x: u32, out: &mut [u32]) -
 {
     let mut runs = [0u32; RUN_COUNT];
     let n = units::prepare(nets, lifts, i as usize, &mut runs);
-    let p = newly_covered(&runs, n, d, x);
-    hand(&runs, n, i, p.first, p.number, out);
+    let p = newly_covered(&runs[..n], d, x);
+    hand(&runs[..n], i, p.first, p.number, out);
     p.number
 }
 
@@ -30,23 +30,16 @@ fn serve_dealt(nets: &[i32], lifts: &[u32], i: u32, d: u32, x: u32, out: &mut [u
     let mut keys = [0u32; RANK_COUNT];
     let mut runs = [0u32; RUN_COUNT];
     let ready = dealing::prepare(nets, lifts, i as usize, &mut keys, &mut runs);
-    let p = newly_covered(&runs, ready.lifted, d, x);
-    let ranks = ready.ranks;
-    let number = p.number;
+    let p = newly_covered(&runs[..ready.lifted], d, x);
     let mut dealt = [0u32; 264];
-    dealing::units_from(
-        &keys,
-        ranks,
-        lifts,
-        i as usize,
-        p.first,
-        &mut dealt[..number],
-    );
-    hand(&dealt, number, i, 0, number, out);
-    number
+    let lent = &mut dealt[..p.number];
+    dealing::units_from(&keys, ready.ranks, lifts, i as usize, p.first, lent);
+    hand(lent, i, 0, p.number, out);
+    p.number
 }
 
-// The units of an issue that x more lots hand over, full units dealt in turn or not.
+// The units of an issue that x more lots hand over, full units dealt in turn or not. The order is a fact of the day, one
+// Bool as in the rules (`order_in`), and is told apart here alone; what is run for each is a function of its own.
 pub fn serve_in(
     dealt: bool,
     nets: &[i32],

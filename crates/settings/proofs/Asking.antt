@@ -1,23 +1,17 @@
 -- The questions of a mark, and what it means that none is answered 'no'.
 use mathlib.Core.Path.{◌≡◌}
-use mathlib.Core.Bool.{Bool, true, false, ◌&&◌}
+use mathlib.Core.Bool.{true, false, ◌&&◌}
 use mathlib.Core.List.{List}
 use Prim.Native.Nat.{ℕ, ◌≤◌, ◌<◌}
 use native.Mathlib.Omega.{arith}
 use lib.IntN.{ℤ}
-use borrow.Author.Tests.{leb-true, le-leb, lt-leb}
+use borrow.Author.Tests.{leb-true, le-leb}
 use Rattle.rules.specs.declared.Entry.{Entry}
 use Rattle.rules.specs.Questions.{first_no, no_net, no_entry}
 use Rattle.rules.specs.Calls.{mark_asks}
 use Rattle.laws.proofs.Answers.{stops, no_no, all_yes}
 
-pub both : (a b c d : Bool) → a ≡ c → b ≡ d → a && b ≡ c && d
-both a b c d e f = rw (e, f)
-
 module _ (nets : List ℤ) (es : List Entry) (i : ℕ) where
-  pub no4 : 15 < i → 4 ≡ first_no (mark_asks nets es i)
-  no4 h = stops 0 (mark_asks nets es i) tt (lt-leb i 15 h)
-
   pub no20 : i ≤ 15 → no_net nets i && no_entry es i ≡ false → 20 ≡ first_no (mark_asks nets es i)
   no20 y h = stops 1 (mark_asks nets es i) (le-leb i 15 y, tt) h
 

@@ -1,34 +1,45 @@
--- A net that is 0, and a flag along the entries of a ledger.
-use mathlib.Core.Path.{◌≡◌, refl, ap, sym}
-use mathlib.Core.Bool.{Bool, not, ◌&&◌}
-use mathlib.Core.List.{List}
-use Prim.Native.Nat.{ℕ, ◌+◌, ◌≤◌, ◌<◌}
+-- A chain that asks of each element, as the test of the whole list; entries' issues, as the test of the entries.
+use mathlib.Core.Path.{◌≡◌, refl, sym, ap}
+use mathlib.Core.Bool.{Bool, true, false, not, ◌&&◌}
+use mathlib.Core.List.{List, [], ◌∷◌, tail}
+use Prim.Native.Nat.{ℕ, zero, suc, ◌≤◌, ◌<◌}
 use native.Mathlib.Omega.{arith}
 use lib.Dec.{eqb}
-use lib.IntN.{ℤ, pos, negsuc, nat_abs}
-use lib.ListN.{get_or, drop}
-use Rattle.rules.specs.declared.Entry.{Entry}
-use Rattle.rules.specs.Measures.{due_of, owed_of}
-use Rattle.rules.specs.Book.{all, is_zero, entries}
-use Rattle.laws.proofs.Ledger.{no_entry, length_entries, entry_at_lem}
-use Rattle.laws.proofs.Scans.{and_true, all_more, all_end}
+use lib.IntN.{ℤ}
+use lib.ListN.{length, get_or, take}
+use Rattle.std.proofs.Common.{MatchBool}
+use Rattle.std.specs.List.{AllWithin, HoldsAt}
+use Rattle.rules.specs.Book.{all, entries}
+use Rattle.rules.specs.Questions.{no_net, no_entry}
+use Rattle.laws.proofs.Basics.{and_both}
+use Rattle.laws.proofs.Scans.{and_false}
 
--- a net is 0 where nothing is due and nothing is owed
-pub none_parts : (n : ℤ) (d o : ℕ) → d ≡ due_of n → o ≡ owed_of n → eqb d 0 && eqb o 0 ≡ is_zero (nat_abs n)
-none_parts (pos n) d o ed eo = rw (ed, eo) (and_true (is_zero n))
-none_parts (negsuc n) d o ed eo = rw (ed, eo) refl
+module _ {A : Type 0} (p : A → Bool) where
+  all_true : (xs : List A) → ((k : ℕ) (d : A) → 0 ≤ k → k < length xs → p (get_or xs k d) ≡ true) → all p xs ≡ true
+  all_true [] h = refl
+  all_true (x ∷ xs) h =
+      and_both (p x) (all p xs) (h 0 x (omega arith) (omega arith))
+      (all_true xs (λ k d z l. h (suc k) d (omega arith) (omega arith)))
 
--- an entry of another issue
-abbrev pub is_other : ℕ → Entry → Bool
-is_other i e = not (eqb e.issue i)
+  all_false : (xs : List A) (k : ℕ) → k < length xs → ((d : A) → p (get_or xs k d) ≡ false) → all p xs ≡ false
+  all_false [] k l h = absurd (omega arith)
+  all_false (x ∷ xs) zero l h = rw (h x) refl
+  all_false (x ∷ xs) (suc k) l h = rw (all_false xs k (omega arith) h) (and_false (p x))
 
-module _ (n : ℕ) (is fs ts xs ds : List ℕ) (i k : ℕ) (g whole : Bool) where
-  pub other_more : k < n → g && all (is_other i) (drop k (entries n is fs ts xs ds)) ≡ whole →
-      (g && not (eqb (get_or is k 0) i)) && all (is_other i) (drop (k + 1) (entries n is fs ts xs ds)) ≡ whole
-  other_more h e =
-      let es = entries n is fs ts xs ds in
-      rw (sym (ap (is_other i) (entry_at_lem n is fs ts xs ds k h)))
-      (all_more (is_other i) es k no_entry g whole (omega (arith, length_entries n is fs ts xs ds)) e)
+  pub all_cases : (xs : List A) (r : Bool) →
+      MatchBool r (AllWithin (λ x. p x ≡ true) xs 0 (length xs)) ((k : ℕ) × (k < length xs) × HoldsAt (λ x. p x ≡ false) xs k) →
+      r ≡ all p xs
+  all_cases xs true h = sym (all_true xs h)
+  all_cases xs false h = sym (all_false xs h.0 h.1 h.2)
 
-  pub other_end : n ≤ k → g && all (is_other i) (drop k (entries n is fs ts xs ds)) ≡ whole → g ≡ whole
-  other_end h e = all_end (is_other i) (entries n is fs ts xs ds) k g whole (omega (arith, length_entries n is fs ts xs ds)) e
+-- an entry's issue is another exactly if the entry is another issue's
+pub others : (n : ℕ) (is fs ts xs ds : List ℕ) (i : ℕ) → n ≤ length is →
+    all (λ j. not (eqb j i)) (take n is) ≡ no_entry (entries n is fs ts xs ds) i
+others zero is fs ts xs ds i h = refl
+others (suc n) [] fs ts xs ds i h = absurd (omega arith)
+others (suc n) (j ∷ is) fs ts xs ds i h = ap (λ t. not (eqb j i) && t) (others n is (tail fs) (tail ts) (tail xs) (tail ds) i (omega arith))
+
+-- what two scans found is the question whether the issue is unused
+pub unused : (nets : List ℤ) (n : ℕ) (is fs ts xs ds : List ℕ) (i : ℕ) (flat clear : Bool) → n ≤ length is → flat ≡ no_net nets i →
+    clear ≡ all (λ j. not (eqb j i)) (take n is) → flat && clear ≡ no_net nets i && no_entry (entries n is fs ts xs ds) i
+unused nets n is fs ts xs ds i flat clear h e f = rw (e, f, others n is fs ts xs ds i h) refl

@@ -1,76 +1,60 @@
 // mark: its questions over nets and ledger, and its effect on the marks. turn: its question.
 #![tactic(auto)]
 
-ghost use Rattle.std.specs.Prelude.{◌≡◌, List, [], ℕ, ◌≤◌, ◌<◌, min, nat_abs, length, ◌&&◌, not, ltb};
+ghost use Rattle.std.specs.Prelude.{◌≡◌, List, [], ℕ, ◌≤◌, ◌<◌, min, nat_abs, length, ◌&&◌, not, ltb, eqb};
+ghost use Rattle.rules.specs.Refusals.{number_in};
 ghost use Rattle.rules.specs.Book.{all, is_zero, entries as entries_of, in_force};
 ghost use Rattle.rules.specs.Questions.{first_no, no_entry};
 ghost use Rattle.rules.specs.Calls.{mark_asks, marked_as, turn_asks, Mark, Turn as NameTurn};
 ghost use Rattle.answers.specs.Turns.{Turns, on_state, on_marks, mark_ready};
 
 use answers::Turn;
-use rules::{ACCOUNT_COUNT, ISSUE_COUNT, LAST_ISSUE, State};
+use rules::{ACCOUNT_COUNT, ISSUE_COUNT, LAST_ISSUE, Refusal, State};
 
 // Is a net 0?
 fn is_none(n: i32) -> bool
     ensures { result ≡ is_zero (nat_abs n) }
 {
-    let d = book::due(n);
-    let o = book::owed(n);
-    (d == 0) & (o == 0)
+    n == 0
 }
 
 // Are all nets of an issue 0?
 fn no_net(net: &[i32]) -> bool
     ensures { result ≡ all (λ n. is_zero (nat_abs n)) net.now }
 {
-    let mut good = true;
-    let mut a: usize = 0;
-    while a < net.len() {
-        let n = net[a];
-        good = good & is_none(n);
-        a += 1;
-    }
-    good
+    net.iter().all(|n| is_none(*n))
 }
 
 // Is no entry of the ledger in this issue?
-fn no_entry(entries: usize, issues: &[u8], i: u32) -> bool
-    requires { entries ≤ length issues.now }
-    ensures { (fs ts xs ds : List ℕ) → result ≡ no_entry (entries_of entries issues.now fs ts xs ds) i }
+fn no_entry(issues: &[u8], i: u32) -> bool
+    ensures { result ≡ all (λ j. not (eqb j i)) issues.now }
 {
-    let mut good = true;
-    let mut k: usize = 0;
-    while k < entries {
-        let j = issues[k];
-        good = good & (j as u32 != i);
-        k += 1;
-    }
-    good
+    issues.iter().all(|j| *j as u32 != i)
 }
 
-// Questions 4 and 20 of a mark: the number of the first 'no', 0 where there is none.
-fn mark_asks<'a>(s: State, nets: &'a [i32], issues: &'a [u8], i: u32) -> u32
+// Questions 4 and 20 of a mark: the refusal of the first 'no'.
+fn mark_asks<'a>(s: State, nets: &'a [i32], issues: &'a [u8], i: u32) -> Result<(), Refusal>
     requires { (s.entries ≤ 2048) × (length nets.now ≡ 1024) × (length issues.now ≡ 2048) }
-    ensures { (fs ts xs ds : List ℕ) → result ≡ first_no (mark_asks nets.now (entries_of s.entries issues.now fs ts xs ds) i) }
+    ensures { (fs ts xs ds : List ℕ) → number_in result ≡ first_no (mark_asks nets.now (entries_of s.entries issues.now fs ts xs ds) i) }
 {
     if LAST_ISSUE < i {
-        return 4;
+        return Err(Refusal::Issue);
     }
     let b = i as usize * ACCOUNT_COUNT;
     let e = b + ACCOUNT_COUNT;
     let flat = no_net(&nets[b..e]);
-    let clear = no_entry(s.entries, issues, i);
+    let clear = no_entry(&issues[..s.entries], i);
     if !(flat & clear) {
-        return 20;
+        return Err(Refusal::Used);
     }
-    0
+    Ok(())
 }
 
 // 1, or 0 for no mark.
 fn bit(m: u32) -> u8
     ensures { result ≡ min m 1 }
 {
-    if m == 0 { 0 } else { 1 }
+    m.min(1) as u8
 }
 
 // The marks with that of an issue set.
@@ -91,35 +75,39 @@ fn can_be_named(s: State, d: u32) -> bool
     (today < d) & !((0 < s.turn) & (s.turn <= today))
 }
 
-// Question 26 of a turn: the number, or 0 where the day can be named.
-pub fn turn_asks(s: State, d: u32) -> u32
-    ensures { result ≡ first_no (turn_asks s.turn s.day d) }
+// Question 26 of a turn: can the day be named?
+pub fn turn_asks(s: State, d: u32) -> Result<(), Refusal>
+    ensures { number_in result ≡ first_no (turn_asks s.turn s.day d) }
 {
-    if can_be_named(s, d) { 0 } else { 26 }
+    if can_be_named(s, d) {
+        Ok(())
+    } else {
+        Err(Refusal::Turn)
+    }
 }
 
 // mark: the issue's mark, unless it is refused.
-pub fn mark<'a>(s: State, nets: &'a [i32], issues: &'a [u8], i: u32, m: u32) -> Turn
+pub fn mark<'a>(
+    s: State,
+    nets: &'a [i32],
+    issues: &'a [u8],
+    i: u32,
+    m: u32,
+) -> Result<Turn, Refusal>
     requires { mark_ready s nets issues }
     ensures { Turns (on_marks nets issues) s (Mark i m) result [] }
 {
-    let no = mark_asks(s, nets, issues, i);
-    if no != 0 {
-        return answers::refused(no, s);
-    }
+    mark_asks(s, nets, issues, i)?;
     let marks = s.marks;
     let next = book::with_marks(s, mark_in(marks, i, m));
-    answers::done(next)
+    Ok(answers::done(next))
 }
 
 // turn: the first day on which full units are dealt in turn, unless it is refused.
-pub fn turn(s: State, d: u32) -> Turn
+pub fn turn(s: State, d: u32) -> Result<Turn, Refusal>
     ensures { Turns on_state s (NameTurn d) result [] }
 {
-    let no = turn_asks(s, d);
-    if no != 0 {
-        return answers::refused(no, s);
-    }
+    turn_asks(s, d)?;
     let next = book::with_turn(s, d);
-    answers::done(next)
+    Ok(answers::done(next))
 }

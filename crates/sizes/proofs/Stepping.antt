@@ -1,31 +1,40 @@
 -- A round and its leap, from their parts.
-use mathlib.Core.Path.{◌≡◌, sym, ap, subst, ◌∙◌}
+use mathlib.Core.Path.{◌≡◌, refl, sym, ap, subst, ◌∙◌}
+use mathlib.Core.Bool.{Bool, true, false, not, false≢true}
+use lib.Pointwise.{pointwise}
+use Rattle.std.proofs.lemmas.Slice.Eq.{slice_eq-Decides}
+use Rattle.std.proofs.lemmas.Bool.Decides.{Decides-eqb}
 use mathlib.Core.List.{List}
-use Prim.Native.Nat.{ℕ, suc, ◌+◌, ◌-◌, ◌*◌, ◌≤◌, ◌<◌}
+use Prim.Native.Nat.{ℕ, suc, ◌+◌, ◌*◌, ◌≤◌, ◌<◌}
 use native.Mathlib.Omega.{arith}
-use native.Mathlib.Nat.{mul-le-mul_left, mul-one, suc-add, zero-add, zero-mul, mul-zero}
+use native.Mathlib.Nat.{mul-le-mul_left, mul-one, suc-add, zero-add, zero-mul}
 use lib.ListN.{length, get_or}
 use lib.IntN.{ℤ}
-use Rattle.rules.specs.Units.{units}
 use Rattle.rules.specs.Fails.{undelivered}
 use Rattle.rules.specs.Book.{delivered_total}
 use Rattle.desks.specs.Desk.{Plan, plan, desk, ended, one_round_more, round}
 use Rattle.simulation.specs.Repeated.{left, ending, later}
 use Rattle.rounds.specs.Turns.{CanRound, Rounded}
-use Rattle.leaps.specs.Rooms.{LeapIs, CanLeapAll, CanAdvance}
+use Rattle.leaps.specs.Rooms.{LeapIs, CanLeapAll}
 use Rattle.sizes.specs.Steps.{Stepped, EndIs}
 use Rattle.simulation.specs.Repeated.{plus_times}
 use Rattle.leaps.proofs.Columns.{length_less}
-use Rattle.rounds.proofs.Rounding.{total_most, total_bounded, net_most, past_end}
-use Rattle.laws.proofs.Basics.{by_test}
+use Rattle.rounds.proofs.Rounding.{total_most, total_bounded}
 use Rattle.laws.proofs.Fails.{get_or_shorts}
 use Rattle.runs.proofs.Cells.{cell_owed}
-use lib.Dec.{ltb}
-use borrow.Author.Tests.{ltb-true, ltb-false}
+use lib.Dec.{eqb}
 use Rattle.simulation.proofs.Stops.{goes_round}
 use Rattle.simulation.proofs.Leaps.{shift, Repeats}
 use Rattle.simulation.proofs.Ending.{Fine, fine_round, leapt, ending_last, ending_more, ending_leap}
 use Rattle.sizes.proofs.Repeating.{repeats}
+
+-- columns that `!=` finds no different
+pub equal_columns : (xs ys : List ℕ) → false ≡ not (pointwise eqb xs ys) → xs ≡ ys
+equal_columns xs ys h = (slice_eq-Decides Decides-eqb xs ys (pointwise eqb xs ys) refl).0 (is_true (pointwise eqb xs ys) h)
+  where
+    is_true : (b : Bool) → false ≡ not b → b ≡ true
+    is_true true e = refl
+    is_true false e = absurd (false≢true e)
 
 module _ (nets : List ℤ) (settles runs counts : List ℕ) (size : ℕ) where
   abbrev p : Plan
@@ -102,7 +111,7 @@ module _ (nets : List ℤ) (settles runs counts : List ℕ) (size : ℕ) where
             omega (arith, a, b, f);
       }
 
-  -- what the leap asks, and what the columns' advance asks
+  -- what the leap asks
   pub can_leap : (d v d' v' w xs : List ℕ) → CanRound nets settles runs counts size d v → CanRound nets settles runs counts size d' v' →
       w ≡ d → xs ≡ undelivered d' w → CanLeapAll nets runs counts size w d' xs
   can_leap d v d' v' w xs c g e x =
@@ -117,23 +126,6 @@ module _ (nets : List ℤ) (settles runs counts : List ℕ) (size : ℕ) where
         small_each = λ i h.
             let t = total_bounded xs i lx h (λ k. omega (arith, ap (λ l. get_or l k 0) x, get_or_shorts d' w k (g.cells.both ∙ sym lw), cell_owed nets d' g.cells k)) in
             omega (arith, t);
-      }
-
-  pub can_advance : (d' v' w xs : List ℕ) (k : ℕ) → CanRound nets settles runs counts size d' v' → length w ≡ 1024 → xs ≡ undelivered d' w → LeapIs nets size w d' xs k →
-      CanAdvance xs k d'
-  can_advance d' v' w xs k g lw x l =
-      let lx : length xs ≡ 1024 = ap length x ∙ length_less d' w (g.cells.both ∙ sym lw) ∙ lw in
-      record {
-        both = lx ∙ sym g.cells.both;
-        fits = λ c.
-            by_test (ltb c 1024)
-            (λ t.
-            let h = ltb-true c 1024 t in
-            omega (arith, l.owed c h, net_most nets c g.cells.size, cell_owed nets d' g.cells c))
-            (λ t.
-            let h = ltb-false c 1024 t in
-            let z : k * get_or xs c 0 ≡ 0 = ap (λ n. k * n) (past_end xs c (omega (arith, lx))) ∙ mul-zero k in
-            omega (arith, z, cell_owed nets d' g.cells c));
       }
 
   -- from copies of the columns

@@ -2,48 +2,39 @@
 ghost use Rattle.std.specs.Prelude.{◌≡◌, leb};
 ghost use Rattle.rules.specs.Book.{all};
 ghost use Rattle.rules.specs.Questions.{first_no};
+ghost use Rattle.rules.specs.Refusals.{number_in};
 ghost use Rattle.desks.specs.Simulation.{simulation_asks};
 
 use desks::{INVENTORY_COUNT, LAST_SETTLEMENT};
-use rules::{ACCOUNT_COUNT, MOST_LOTS, UNIT_LOTS};
+use rules::{ACCOUNT_COUNT, MOST_LOTS, Refusal, UNIT_LOTS};
 
 // Is each number of the list at most so much?
 fn at_most(xs: &[u32], most: u32) -> bool
     ensures { result ≡ all (λ x. leb x most) xs.now }
 {
-    let mut good = true;
-    let mut i: usize = 0;
-    while i < xs.len() {
-        good = good & (xs[i] <= most);
-        i += 1;
-    }
-    good
+    xs.iter().all(|x| *x <= most)
 }
 
-// The questions, where 2 is answered so: the number of the first 'no', 0 where there is none.
-pub fn refusal(good: bool, settles: &[u32], inventories: &[u32], size: u32) -> u32
-    ensures { result ≡ first_no (simulation_asks good settles.now inventories.now size) }
+// The questions, where 2 is answered so: the first 'no'.
+pub fn simulation_asks(
+    good: bool,
+    settles: &[u32],
+    inventories: &[u32],
+    size: u32,
+) -> Result<(), Refusal>
+    ensures { number_in result ≡ first_no (simulation_asks good settles.now inventories.now size) }
 {
     if !good {
-        return 2;
+        return Err(Refusal::Unsound);
     }
-    if settles.len() != ACCOUNT_COUNT {
-        return 5;
+    if settles.len() != ACCOUNT_COUNT || !at_most(settles, LAST_SETTLEMENT) {
+        return Err(Refusal::Account);
     }
-    if !at_most(settles, LAST_SETTLEMENT) {
-        return 5;
+    if size < 1 || UNIT_LOTS < size {
+        return Err(Refusal::Lots);
     }
-    if size < 1 {
-        return 7;
+    if inventories.len() != INVENTORY_COUNT || !at_most(inventories, MOST_LOTS) {
+        return Err(Refusal::Lots);
     }
-    if UNIT_LOTS < size {
-        return 7;
-    }
-    if inventories.len() != INVENTORY_COUNT {
-        return 7;
-    }
-    if !at_most(inventories, MOST_LOTS) {
-        return 7;
-    }
-    0
+    Ok(())
 }

@@ -10,7 +10,7 @@ ghost use Rattle.rounds.specs.Turns.{CanRound};
 ghost use Rattle.sizes.specs.Steps.{Stepped, CanEnd, EndIs, CanSum, CanSumEach, CanSimulate, SimulatedIs};
 
 use desks::INVENTORY_COUNT;
-use leaps::{advance, changes, copy, leap_rounds, same};
+use leaps::{advance, changes, leap_rounds};
 use ranking::rank_all;
 use rounds::round;
 use rules::{ACCOUNT_COUNT, CELL_COUNT, ISSUE_COUNT};
@@ -42,13 +42,13 @@ fn round_and_leap(
 {
     let mut before = [0u32; CELL_COUNT];
     let mut held = [0u32; INVENTORY_COUNT];
-    copy(delivered, &mut before);
-    copy(inventories, &mut held);
+    before.copy_from_slice(delivered);
+    held.copy_from_slice(inventories);
     let made = round(nets, settles, runs, counts, size, delivered, inventories);
     if made == 0 {
         return Step { made, leapt: 0 };
     }
-    if !same(&held, inventories) {
+    if &held[..] != &inventories[..] {
         return Step { made, leapt: 0 };
     }
     let mut xs = [0u32; CELL_COUNT];
@@ -65,7 +65,7 @@ pub struct Totals {
     pub rounds: u64,
 }
 
-// Round after round, until one makes no delivery.
+// Round after round, until one makes no delivery: the loop counts no index, and no range says how many rounds there are.
 fn to_the_end(
     nets: &[i32],
     settles: &[u32],
@@ -108,12 +108,10 @@ fn still_owed(nets: &[i32], delivered: &[u32], owed: &mut [u32])
     requires { CanSumEach nets.now delivered.now owed.old }
     ensures { owed.new ≡ owed_of_each nets.now delivered.now }
 {
-    let mut i: usize = 0;
-    while i < ISSUE_COUNT {
+    for i in 0..ISSUE_COUNT {
         let s = i * ACCOUNT_COUNT;
         let e = s + ACCOUNT_COUNT;
         owed[i] = missing(&nets[s..e], &delivered[s..e]);
-        i += 1;
     }
 }
 
@@ -133,7 +131,7 @@ pub fn simulate(
     rank_all(nets, &mut runs, &mut counts, size);
     let mut delivered = [0u32; CELL_COUNT];
     let mut held = [0u32; INVENTORY_COUNT];
-    copy(inventories, &mut held);
+    held.copy_from_slice(inventories);
     let t = to_the_end(
         nets,
         settles,

@@ -3,17 +3,20 @@
 
 ghost use Rattle.std.specs.Prelude.{◌≡◌};
 ghost use Rattle.rules.specs.Book.{fresh};
-ghost use Rattle.book.specs.States.{columns, shared_columns};
-ghost use Rattle.host.specs.States.{state_in, numbers_of, book_at};
-ghost use Rattle.snapshot.specs.Host.{SaveIs, OpenIs};
+ghost use Rattle.columns.specs.Books.{shared_book, lent_book, SameColumns};
+ghost use Rattle.host.specs.States.{state_in, numbers_of};
+ghost use Rattle.snapshots.specs.Faults.{fault_number, fault_in};
+ghost use Rattle.snapshot.specs.Host.{SaveIs, refused_as, OpenIs};
 
-use host::{DayState, number_of, sound_at, state_in};
+use columns::{LentColumns, SharedColumns, shared};
+use host::{DayState, held, lengths_right, number_of};
 use opening::open;
-use rules::{ACCOUNT_COUNT, CELL_COUNT, ISSUE_COUNT, LIFT_CELLS, MOST_ENTRIES, Phase, State};
+use rules::{ISSUE_COUNT, Phase, State};
 use saving::save;
-use snapshots::WORDS;
+use snapshots::{Fault, WORDS};
 
-// What opening gives a host: the reason (0: opened), and the state, that of a fresh book where it was refused.
+// What opening gives a host: the reason (0: opened), and the state, that of a fresh book where it was refused. It is C's:
+// so the reason is a number with a state beside it.
 #[repr(C)]
 #[derive(Clone, Copy, Drop)]
 pub struct DayOpened {
@@ -36,93 +39,55 @@ fn numbers_of(s: State) -> DayState
     }
 }
 
-// The words of a sound book, from the output's first on: 0 done, 1 the output has fewer words than a snapshot, 5 no sound
-// book. A refusal leaves the output as it came.
-pub fn day_save<'a>(
-    state: DayState,
-    nets: &'a [i32],
-    delivered: &'a [u32],
-    lifts: &'a [u32],
-    charges: &'a [i64],
-    issues: &'a [u8],
-    froms: &'a [u8],
-    tos: &'a [u8],
-    lots: &'a [u32],
-    days: &'a [u16],
-    out: &mut [u32],
-) -> u32
-    ensures { SaveIs state.phase (book_at state (shared_columns nets delivered lifts charges issues froms tos lots days)) out.old result out.new }
+// What a refusal gives a host: its number, and the state of a fresh book.
+fn refused(fault: Fault) -> DayOpened
+    ensures { result ≡ refused_as (fault_number fault) }
+{
+    let none = book::state_of(0, Phase::Taking, 0, 0, [0; ISSUE_COUNT]);
+    DayOpened {
+        reason: fault.number(),
+        state: numbers_of(none),
+    }
+}
+
+// The words of a sound book, from the output's first on. A refusal leaves the output as it came.
+fn save_at(state: DayState, columns: SharedColumns, out: &mut [u32]) -> Result<(), Fault>
+    ensures { SaveIs state.phase (shared_book (state_in state) columns.entry) out.old (fault_in result) out.new }
 {
     if out.len() < WORDS {
-        return 1;
+        return Err(Fault::Length);
     }
-    let s = state_in(state);
-    if !sound_at(
-        state.phase,
-        s,
-        nets,
-        delivered,
-        lifts,
-        charges,
-        issues,
-        froms,
-        tos,
-        lots,
-        days,
-    ) {
-        return 5;
+    let Ok(s) = held(state, columns) else {
+        return Err(Fault::Unsound);
+    };
+    save(s, columns, &mut out[..WORDS]);
+    Ok(())
+}
+
+// The same for a host: 0 done, 1 the output has fewer words than a snapshot, 5 no sound book.
+pub fn day_save(state: DayState, columns: SharedColumns, out: &mut [u32]) -> u32
+    ensures { SaveIs state.phase (shared_book (state_in state) columns.entry) out.old result out.new }
+{
+    match save_at(state, columns, out) {
+        Ok(()) => 0,
+        Err(fault) => fault.number(),
     }
-    save(
-        s,
-        nets,
-        delivered,
-        lifts,
-        charges,
-        issues,
-        froms,
-        tos,
-        lots,
-        days,
-        &mut out[0..WORDS],
-    );
-    0
 }
 
 // The book of words, in lent columns: 0 opened, 1 another number of words, or a column of another length than a book's, 2
 // another version, 3 the checksum, 4 a number that does not fit its field, 5 no sound book. A refusal leaves the columns.
-pub fn day_open<'a>(
-    words: &'a [u32],
-    nets: &mut [i32],
-    delivered: &mut [u32],
-    lifts: &mut [u32],
-    charges: &mut [i64],
-    issues: &mut [u8],
-    froms: &mut [u8],
-    tos: &mut [u8],
-    lots: &mut [u32],
-    days: &mut [u16],
-) -> DayOpened
-    ensures { let c = columns nets delivered lifts charges issues froms tos lots days in OpenIs words.now result (c.before fresh.state) (c.after (state_in result.state)) }
+pub fn day_open(words: &[u32], columns: &mut LentColumns) -> DayOpened
+    ensures opened { OpenIs words.now result (lent_book fresh.state columns.old) (lent_book (state_in result.state) columns.new) }
+    ensures same { SameColumns columns.old columns.new }
 {
-    let cells = (nets.len() == CELL_COUNT) & (delivered.len() == CELL_COUNT);
-    let flat = (lifts.len() == LIFT_CELLS) & (charges.len() == ACCOUNT_COUNT);
-    let accounts = (issues.len() == MOST_ENTRIES)
-        & (froms.len() == MOST_ENTRIES)
-        & (tos.len() == MOST_ENTRIES);
-    if !(cells & flat & accounts & (lots.len() == MOST_ENTRIES) & (days.len() == MOST_ENTRIES)) {
-        let none = numbers_of(book::state_of(0, Phase::Taking, 0, 0, [0; ISSUE_COUNT]));
-        return DayOpened {
-            reason: 1,
-            state: none,
-        };
+    if !lengths_right(shared(&*columns)) {
+        return refused(Fault::Length);
     }
-    let r = open(
-        words, nets, delivered, lifts, charges, issues, froms, tos, lots, days,
-    );
-    let s = r.state;
-    let state = numbers_of(s);
-    DayOpened {
-        reason: r.refusal,
-        state,
+    match open(words, columns) {
+        Ok(s) => DayOpened {
+            reason: 0,
+            state: numbers_of(s),
+        },
+        Err(fault) => refused(fault),
     }
 }

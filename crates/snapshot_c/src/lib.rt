@@ -1,5 +1,5 @@
 // A snapshot of the book for hosts in C and Rust: any numbers, any columns, any words. Each call is that of the library
-// `snapshot`, with the same contract.
+// `snapshot`, with the same contract. C lends nine columns, so they are parameters here.
 #![tactic(auto)]
 
 ghost use Rattle.rules.specs.Book.{fresh};
@@ -7,6 +7,7 @@ ghost use Rattle.book.specs.States.{shared_columns, columns};
 ghost use Rattle.host.specs.States.{book_at, state_in};
 ghost use Rattle.snapshot.specs.Host.{SaveIs, OpenIs};
 
+use columns::{LentColumns, SharedColumns};
 use host::DayState;
 use snapshot::DayOpened;
 
@@ -28,9 +29,18 @@ pub extern "C" fn day_save<'a>(
 ) -> u32
     ensures { SaveIs state.phase (book_at state (shared_columns nets delivered lifts charges issues froms tos lots days)) out.old result out.new }
 {
-    snapshot::day_save(
-        state, nets, delivered, lifts, charges, issues, froms, tos, lots, days, out,
-    )
+    let columns = SharedColumns {
+        nets,
+        delivered,
+        lifts,
+        charges,
+        issues,
+        froms,
+        tos,
+        lots,
+        days,
+    };
+    snapshot::day_save(state, columns, out)
 }
 
 // The book of words, in lent columns: 0 opened, 1 another number of words, or a column of another length than a book's, 2
@@ -50,7 +60,16 @@ pub extern "C" fn day_open<'a>(
 ) -> DayOpened
     ensures { let c = columns nets delivered lifts charges issues froms tos lots days in OpenIs words.now result (c.before fresh.state) (c.after (state_in result.state)) }
 {
-    snapshot::day_open(
-        words, nets, delivered, lifts, charges, issues, froms, tos, lots, days,
-    )
+    let mut columns = LentColumns {
+        nets: &mut *nets,
+        delivered: &mut *delivered,
+        lifts: &mut *lifts,
+        charges: &mut *charges,
+        issues: &mut *issues,
+        froms: &mut *froms,
+        tos: &mut *tos,
+        lots: &mut *lots,
+        days: &mut *days,
+    };
+    snapshot::day_open(words, &mut columns)
 }

@@ -1,8 +1,8 @@
 -- What a sound book's numbers are below, so that each fits its word.
 use mathlib.Core.Path.{◌≡◌, sym, ap, ◌∙◌}
-use mathlib.Core.Bool.{Bool, true}
+use mathlib.Core.Bool.{true}
 use mathlib.Core.List.{List, [], ◌∷◌}
-use Prim.Native.Nat.{ℕ, zero, suc, ◌+◌, ◌-◌, ◌*◌, ◌≤◌, ◌<◌}
+use Prim.Native.Nat.{ℕ, ◌+◌, ◌-◌, ◌*◌, ◌≤◌, ◌<◌}
 use native.Mathlib.Omega.{arith}
 use lib.Dec.{leb, ltb}
 use lib.ListN.{length, get_or, drop}
@@ -13,11 +13,11 @@ use Rattle.rules.specs.declared.Book.{Book}
 use Rattle.rules.specs.declared.Entry.{Entry}
 use Rattle.rules.specs.Measures.{most_lots, most_charge, owed_of}
 use Rattle.rules.specs.Book.{all, is_zero, entries, days_sound, sound}
-use Rattle.laws.proofs.Basics.{Every, by_test, and_left, and_right, and_both, all_of, each_at, each_map}
-use Rattle.laws.proofs.Sound.{SoundEntry, SoundLedger, SoundBook, sound_parts, each_all, zero_at_lem, within_at, net_bounded}
+use Rattle.laws.proofs.Basics.{Every, by_test, and_left, and_right, all_of, each_at, each_map}
+use Rattle.laws.proofs.Sound.{SoundLedger, sound_parts, each_all, zero_at_lem, within_at, net_bounded}
 use Rattle.laws.proofs.Ledger.{no_entry, length_entries, entry_at_lem, sound_at_lem}
 use Rattle.checksums.specs.Sums.{word_size, below}
-use Rattle.snapshots.specs.Words.{fits32, fits64, Fields, InRange}
+use Rattle.snapshots.specs.Words.{fits32, fits64, InRange}
 use Rattle.snapshots.specs.Snapshot.{Typed}
 
 -- Signed numbers by their size

@@ -1,12 +1,13 @@
 -- What is saved is opened again, the same book; what is opened is sound and saves to the same words; words of another
 -- number, with one word changed, with two unlike words exchanged or with words lowered are not opened.
+use Rattle.std.specs.Prelude.{Ok, Err}
 use mathlib.Core.Path.{◌≡◌, refl, sym, ap, ◌∙◌, subst}
 use mathlib.Core.Bool.{Bool, true, false, ◌&&◌, false≢true}
-use mathlib.Core.List.{List, [], ◌∷◌, ◌++◌, map}
-use Prim.Native.Nat.{ℕ, zero, suc, ◌+◌, ◌*◌, ◌≤◌, ◌<◌, ◌/◌, ◌%◌}
+use mathlib.Core.List.{List, [], ◌∷◌, map}
+use Prim.Native.Nat.{ℕ, zero, suc, ◌*◌, ◌≤◌, ◌<◌, ◌/◌, ◌%◌}
 use native.Mathlib.Omega.{arith}
 use borrow.Author.Tests.{ltb-true, lt-ltb, eqb-true, eq-eqb, ne_eqb}
-use lib.Dec.{ltb, eqb}
+use lib.Dec.{eqb}
 use lib.ListN.{length, get_or, set, take, drop, length-drop, length-map}
 use lib.Seq.{get_or-take, get_or-drop}
 use Rattle.rules.specs.declared.Book.{Book}
@@ -14,14 +15,14 @@ use Rattle.rules.specs.declared.Phase.{Phase}
 use Rattle.rules.specs.declared.Phase.TheVariants.{Taking, Settling, Cut}
 use Rattle.rules.specs.Measures.{sum}
 use Rattle.rules.specs.Book.{all, sound, fresh}
-use Rattle.rules.specs.Questions.{Question, ask, first_no}
+use Rattle.rules.specs.Questions.{first_no}
 use Rattle.laws.proofs.Basics.{and_left, and_right, and_both, all_at}
 use Rattle.laws.proofs.Answers.{AllYes, all_yes, stops, no_no}
 use Rattle.laws.proofs.Called.{fresh_sound}
 use Rattle.checksums.specs.Sums.{word_size, below, weighted, exchanged, Under}
 use Rattle.checksums.proofs.Bounds.{all_drop, weighted_fits, sum_size}
-use Rattle.snapshots.specs.Words.{phase_word, phase_in, signed_word, signed_in, long_words, longs_in, fits32, fits64, issue_in, from_in, to_in, day_in, entry_word, entry_words, joined, parted}
-use Rattle.snapshots.specs.Snapshot.{version, seal, widths, snapshot_words, columns_of, book_from, saved, fitting, columns_in, book_in, seal_questions, questions, Opened, refused, book, answer, opened, Typed}
+use Rattle.snapshots.specs.Words.{phase_word, signed_word, signed_in, long_words, fits32, issue_in, from_in, to_in, day_in, entry_word, entry_words, joined, parted}
+use Rattle.snapshots.specs.Snapshot.{version, seal, widths, snapshot_words, columns_of, book_from, saved, fitting, columns_in, book_in, seal_questions, questions, Opened, answer, opened, Typed}
 use Rattle.snapshots.proofs.Seals.{sealed_set, sealed_exchanged, seal_under}
 use Rattle.snapshots.proofs.Words.{phase_back, phase_word_lem, signed_back, signed_word_lem, signed_below, map_back, all_map, longs_back, longs_length, longs_below, longs_words, joined_parted, parted_joined, length_joined, all_joined, parted_lengths, all_parted, FieldsBack, fields_back, entries_length, column_back, entries_below, entries_words}
 use Rattle.snapshots.proofs.Ranges.{Ranged, ranges}
@@ -29,14 +30,14 @@ use Rattle.snapshots.proofs.Ranges.{Ranged, ranges}
 -- Answers
 
 book_or : Book → Opened → Book
-book_or b (refused n) = b
-book_or b (book c) = c
+book_or b (Err n) = b
+book_or b (Ok c) = c
 
 is_book : Opened → Bool
-is_book (refused n) = false
-is_book (book c) = true
+is_book (Err n) = false
+is_book (Ok c) = true
 
-answered : (n : ℕ) (a b : Book) → answer n a ≡ book b → (n ≡ 0) × (a ≡ b)
+answered : (n : ℕ) (a b : Book) → answer n a ≡ Ok b → (n ≡ 0) × (a ≡ b)
 unfolding book_or is_book
 answered zero a b e = (refl, ap (book_or a) e)
 answered (suc n) a b e = absurd (false≢true (ap is_book e))
@@ -68,7 +69,7 @@ whole_of ws y =
       firm = y.1.1.1.1.0;
     }
 
-opened_as : (ws : List ℕ) (b : Book) → opened ws ≡ book b → Whole ws × (book_in ws ≡ b)
+opened_as : (ws : List ℕ) (b : Book) → opened ws ≡ Ok b → Whole ws × (book_in ws ≡ b)
 unfolding opened seal_questions questions
 opened_as ws b e =
     let a = answered (first_no (questions ws)) (book_in ws) b e in
@@ -123,7 +124,7 @@ whole_saved ws w =
 
 -- The theorems on words that are opened
 
-module _ (ws : List ℕ) (b : Book) (e : opened ws ≡ book b) where
+module _ (ws : List ℕ) (b : Book) (e : opened ws ≡ Ok b) where
   -- what is opened saves to the same words
   pub opened_saved : saved b ≡ ws
   opened_saved =
@@ -140,9 +141,9 @@ module _ (ws : List ℕ) (b : Book) (e : opened ws ≡ book b) where
   pub opened_length : length ws ≡ snapshot_words
   opened_length = (opened_as ws b e).0.long
 
-module _ (ws : List ℕ) (b : Book) (e : opened ws ≡ book b) where
+module _ (ws : List ℕ) (b : Book) (e : opened ws ≡ Ok b) where
   -- with one word changed they are not opened
-  pub changed_refused : (i w : ℕ) → i < length ws → (w ≡ get_or ws i 0 → ⊥) → (c : Book) → opened (set ws i w) ≡ book c → ⊥
+  pub changed_refused : (i w : ℕ) → i < length ws → (w ≡ get_or ws i 0 → ⊥) → (c : Book) → opened (set ws i w) ≡ Ok c → ⊥
   unfolding saved
   changed_refused i w h d c f =
       d
@@ -151,7 +152,7 @@ module _ (ws : List ℕ) (b : Book) (e : opened ws ≡ book b) where
 
   -- with two unlike words exchanged they are not opened
   pub exchanged_refused : (i j : ℕ) → i < length ws → j < length ws → (get_or ws i 0 ≡ get_or ws j 0 → ⊥) → (c : Book) →
-      opened (exchanged ws i j) ≡ book c → ⊥
+      opened (exchanged ws i j) ≡ Ok c → ⊥
   unfolding saved
   exchanged_refused i j h g d c f =
       d
@@ -282,13 +283,13 @@ module _ (b : Book) (t : Typed b) (s : sound b ≡ true) where
       )
 
   -- what is saved is opened again, the same book
-  pub saved_opened : opened (saved b) ≡ book b
+  pub saved_opened : opened (saved b) ≡ Ok b
   unfolding opened
   saved_opened =
-      ap (λ n. answer n (book_in (saved b))) (sym (no_no (questions (saved b)) saved_yes)) ∙ ap book saved_book
+      ap (λ n. answer n (book_in (saved b))) (sym (no_no (questions (saved b)) saved_yes)) ∙ ap Ok saved_book
 
 -- Words lost: with any words of the body lowered, and the first three as they were, they are not opened
-module _ (ws vs : List ℕ) (b c : Book) (e : opened ws ≡ book b) (f : opened vs ≡ book c) where
+module _ (ws vs : List ℕ) (b c : Book) (e : opened ws ≡ Ok b) (f : opened vs ≡ Ok c) where
   lowered_same : Under (drop 3 vs) (drop 3 ws) → take 3 vs ≡ take 3 ws → vs ≡ ws
   unfolding saved
   lowered_same u k =
@@ -302,19 +303,19 @@ module _ (ws vs : List ℕ) (b c : Book) (e : opened ws ≡ book b) (f : opened 
       (ap (λ x. get_or x 1 0) h) (ap (λ x. get_or x 2 0) h) in
       sym t ∙ ap seal d ∙ s
 
-pub lowered_refused : (ws : List ℕ) (b : Book) → opened ws ≡ book b → (vs : List ℕ) → Under (drop 3 vs) (drop 3 ws) → take 3 vs ≡ take 3 ws →
-    (vs ≡ ws → ⊥) → (c : Book) → opened vs ≡ book c → ⊥
+pub lowered_refused : (ws : List ℕ) (b : Book) → opened ws ≡ Ok b → (vs : List ℕ) → Under (drop 3 vs) (drop 3 ws) → take 3 vs ≡ take 3 ws →
+    (vs ≡ ws → ⊥) → (c : Book) → opened vs ≡ Ok c → ⊥
 lowered_refused ws b e vs u k d c f = d (lowered_same ws vs b c e f u k)
 
 -- Words lacking or too many: they are refused by 1
-pub length_refused : (ws : List ℕ) → (length ws ≡ snapshot_words → ⊥) → opened ws ≡ refused 1
+pub length_refused : (ws : List ℕ) → (length ws ≡ snapshot_words → ⊥) → opened ws ≡ Err 1
 unfolding opened seal_questions questions
 length_refused ws h =
     ap (λ n. answer n (book_in ws))
     (sym (stops 0 (questions ws) tt (ap (λ t. t && all (below word_size) ws) (ne_eqb (length ws) snapshot_words h))))
 
 -- a fresh book's snapshot is opened as a fresh book
-pub fresh_opened : opened (saved fresh) ≡ book fresh
+pub fresh_opened : opened (saved fresh) ≡ Ok fresh
 fresh_opened =
     saved_opened fresh
     (record {

@@ -1,9 +1,10 @@
 -- Worked snapshots, as one list with one proof.
+use Rattle.std.specs.Prelude.{Err}
 use Rattle.std.specs.Prelude.{refl, List, [], ◌∷◌, map, length, get_or, drop, take, pos, negsuc}
 use Rattle.rules.specs.Days.{Case, case, Holds}
 use Rattle.rules.specs.Book.{fresh}
-use Rattle.snapshots.specs.Words.{signed_word, signed_in, long_words, longs_in, entry_word, issue_in, from_in, to_in, day_in, entry_words}
-use Rattle.snapshots.specs.Snapshot.{version, seal, saved, refused, opened, seal_questions, questions}
+use Rattle.snapshots.specs.Words.{signed_word, signed_in, long_words, longs_in, issue_in, from_in, to_in, day_in, entry_words}
+use Rattle.snapshots.specs.Snapshot.{version, seal, saved, opened, seal_questions, questions}
 
 unfoldable pub worked_words : List Case
 worked_words =
@@ -23,8 +24,8 @@ worked_words =
     ∷ case (get_or (saved fresh) 0 0) 1399734321
     ∷ case (take 6 (drop 3 (saved fresh))) (0 ∷ 0 ∷ 0 ∷ 0 ∷ 0 ∷ 0 ∷ [])
     -- words lacking
-    ∷ case (opened (seal (5 ∷ 7 ∷ 1 ∷ []))) (refused 1)
-    ∷ case (opened []) (refused 1)
+    ∷ case (opened (seal (5 ∷ 7 ∷ 1 ∷ []))) (Err 1)
+    ∷ case (opened []) (Err 1)
     ∷ []
 
 -- each by computing what the definitions give

@@ -2,3 +2,4 @@
 pub mod Words
 pub mod Snapshot
 pub mod Days
+pub mod Faults

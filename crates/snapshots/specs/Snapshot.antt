@@ -1,5 +1,5 @@
 -- A snapshot: the words of a book, and the book of words.
-use Rattle.std.specs.Prelude.{◌≡◌, Bool, true, ◌&&◌, List, [], ◌∷◌, ◌++◌, map, ℕ, zero, suc, ◌<◌, ◌/◌, ◌%◌, eqb, length, get_or, drop}
+use Rattle.std.specs.Prelude.{◌≡◌, Bool, Result, Ok, Err, true, ◌&&◌, List, [], ◌∷◌, ◌++◌, map, ℕ, zero, suc, ◌<◌, ◌/◌, ◌%◌, eqb, length, get_or, drop}
 use Rattle.rules.specs.declared.Book.{Book}
 use Rattle.rules.specs.Book.{state_of, book_of, sound, all, Lengths}
 use Rattle.rules.specs.Questions.{Question, ask, first_no}
@@ -78,13 +78,13 @@ questions ws =
     ∷ ask 5 (sound (book_in ws))
     ∷ [])
 
-pub data Opened : Type 0 where
-  refused : ℕ → Opened
-  book : Book → Opened
+-- what words are opened as: a book, or the number of the question answered 'no'
+abbrev pub Opened : Type 0
+Opened = Result Book ℕ
 
 abbrev pub answer : ℕ → Book → Opened
-answer zero b = book b
-answer (suc n) b = refused (suc n)
+answer zero b = Ok b
+answer (suc n) b = Err (suc n)
 
 -- the book of words, or the number of the question answered 'no'
 unfoldable pub opened : List ℕ → Opened

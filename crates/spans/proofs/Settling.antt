@@ -13,8 +13,7 @@ use Rattle.rules.specs.declared.Instruction.{Instruction}
 use Rattle.rules.specs.declared.Instruction.TheVariants as instruction
 use Rattle.rules.specs.declared.Phase.{Phase}
 use Rattle.rules.specs.declared.Phase.TheVariants.{Taking, Settling, Cut}
-use Rattle.rules.specs.declared.Read.{Read}
-use Rattle.rules.specs.declared.Read.TheVariants.{Instr, Refused}
+use Rattle.std.specs.Prelude.{Result, Ok, Err}
 use Rattle.rules.specs.Measures.{total, Every}
 use Rattle.rules.specs.Book.{is_taking, is_settling, is_cut}
 use Rattle.rules.specs.Calls.{Answer, Call}
@@ -142,10 +141,10 @@ one_more b t ts s m h =
           ∙ ap (λ (c : Book). c.nets) s;
     }
 
-moves_read : (n : ℕ) (b : Book) (ws : List ℕ) (r : Read) → read_of ws ≡ r → ((c : Book) (vs : List ℕ) → MovesOn c (turns_from n c vs)) →
+moves_read : (n : ℕ) (b : Book) (ws : List ℕ) (r : Result (Instruction × ℕ) ℕ) → read_of ws ≡ r → ((c : Book) (vs : List ℕ) → MovesOn c (turns_from n c vs)) →
     MovesOn b (turns_from (suc n) b ws)
-moves_read n b ws (Refused r) e h = rw (turns_refused (suc n) b ws r e) (no_turns b)
-moves_read n b ws (Instr x k) e h =
+moves_read n b ws (Err r) e h = rw (turns_refused (suc n) b ws r e) (no_turns b)
+moves_read n b ws (Ok (x, k)) e h =
     rw (turns_read n b ws x k e)
     (one_more b (turn_of b x ws) (turns_from n (answer_of b x ws).book (drop k ws)) refl (turn_moves b x ws) (h (answer_of b x ws).book (drop k ws)))
 

@@ -9,8 +9,7 @@ use borrow.Author.Tests.{leb-true}
 use Rattle.rules.specs.declared.Book.{Book}
 use Rattle.rules.specs.declared.Instruction.{Instruction}
 use Rattle.rules.specs.declared.Instruction.TheVariants as instruction
-use Rattle.rules.specs.declared.Read.{Read}
-use Rattle.rules.specs.declared.Read.TheVariants.{Instr, Refused}
+use Rattle.std.specs.Prelude.{Result, Ok, Err}
 use Rattle.rules.specs.Measures.{total, Every}
 use Rattle.rules.specs.Book.{fresh}
 use Rattle.rules.specs.Questions.{first_no, ask_issue, ask_account}
@@ -28,10 +27,10 @@ use Rattle.spans.proofs.Cuts.{fresh_stands, answer_stands, cut_owed}
 -- Every turn of a span is one on a book that stands
 
 module _ (P : Turn → Type 0) (p : (b : Book) → Standing b → (x : Instruction) (ws : List ℕ) → P (turn_of b x ws)) where
-  each_read : (n : ℕ) (b : Book) (ws : List ℕ) → Standing b → (r : Read) → read_of ws ≡ r →
+  each_read : (n : ℕ) (b : Book) (ws : List ℕ) → Standing b → (r : Result (Instruction × ℕ) ℕ) → read_of ws ≡ r →
       ((c : Book) (vs : List ℕ) → Standing c → Every P (turns_from n c vs)) → Every P (turns_from (suc n) b ws)
-  each_read n b ws s (Refused r) e h = rw (turns_refused (suc n) b ws r e) tt
-  each_read n b ws s (Instr x k) e h =
+  each_read n b ws s (Err r) e h = rw (turns_refused (suc n) b ws r e) tt
+  each_read n b ws s (Ok (x, k)) e h =
       rw (turns_read n b ws x k e) (p b s x ws, h (answer_of b x ws).book (drop k ws) (answer_stands b x ws s))
 
   pub each_turn : (n : ℕ) (b : Book) (ws : List ℕ) → Standing b → Every P (turns_from n b ws)

@@ -1,9 +1,7 @@
 -- A span of a tape: its first instructions, each with the book that it was run on and what it was answered.
-use Rattle.std.specs.Prelude.{List, [], ◌∷◌, ℕ, zero, suc, drop}
+use Rattle.std.specs.Prelude.{List, [], ◌∷◌, ℕ, zero, suc, drop, Result, Ok, Err}
 use Rattle.rules.specs.declared.Book.{Book}
 use Rattle.rules.specs.declared.Instruction.{Instruction}
-use Rattle.rules.specs.declared.Read.{Read}
-use Rattle.rules.specs.declared.Read.TheVariants.{Instr, Refused}
 use Rattle.rules.specs.Calls.{Answer}
 use Rattle.rules.specs.Tape.{read_of}
 use Rattle.rules.specs.Run.{answer_of}
@@ -19,9 +17,9 @@ abbrev pub turn_of : Book → Instruction → List ℕ → Turn
 turn_of b x ws = record { instruction = x; before = b; answer = answer_of b x ws }
 
 -- a reader's refusal ends the span there, and so does the end of the tape, where the reader refuses too
-abbrev pub on_read : Read → (Instruction → ℕ → List Turn) → List Turn
-on_read (Refused r) on = []
-on_read (Instr x k) on = on x k
+abbrev pub on_read : Result (Instruction × ℕ) ℕ → (Instruction → ℕ → List Turn) → List Turn
+on_read (Err r) on = []
+on_read (Ok (x, k)) on = on x k
 
 -- the first n instructions of some words, or fewer, run from a book on; a refused one is one of them
 unfoldable pub turns_from : ℕ → Book → List ℕ → List Turn
@@ -34,9 +32,9 @@ book_behind b [] = b
 book_behind b (t ∷ ts) = book_behind t.answer.book ts
 
 -- the words behind the first n instructions, or from where the reader refuses
-abbrev pub words_on : Read → List ℕ → (ℕ → List ℕ) → List ℕ
-words_on (Refused r) ws on = ws
-words_on (Instr x k) ws on = on k
+abbrev pub words_on : Result (Instruction × ℕ) ℕ → List ℕ → (ℕ → List ℕ) → List ℕ
+words_on (Err r) ws on = ws
+words_on (Ok (x, k)) ws on = on k
 
 unfoldable pub words_behind : ℕ → List ℕ → List ℕ
 words_behind zero ws = ws

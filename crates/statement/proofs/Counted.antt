@@ -13,11 +13,11 @@ use borrow.Author.Tests.{le-leb, lt-leb}
 use Rattle.rules.specs.declared.Book.{Book}
 use Rattle.rules.specs.declared.Instruction.{Instruction}
 use Rattle.rules.specs.declared.Instruction.TheVariants as instruction
-use Rattle.rules.specs.declared.Read.TheVariants.{Instr, Refused}
+use Rattle.std.specs.Prelude.{Ok, Err}
 use Rattle.rules.specs.declared.Phase.TheVariants.{Taking}
 use Rattle.rules.specs.declared.State.{State}
 use Rattle.rules.specs.Measures.{output_words, total}
-use Rattle.rules.specs.Book.{net_at, delivered_at, sound, fresh, state_of, book_of}
+use Rattle.rules.specs.Book.{net_at, delivered_at, sound, fresh, state_of, book_of, Lengths}
 use Rattle.rules.specs.Questions.{first_no, ask_issue, ask_account}
 use Rattle.rules.specs.Calls.{Cutoff}
 use Rattle.rules.specs.Tape.{read_of}
@@ -28,8 +28,10 @@ use Rattle.laws.proofs.Answers.{said_yes, said_no, by_answer}
 use Rattle.laws.proofs.Called.{Standing, fresh_sound}
 use Rattle.rereading.proofs.Sized.{read_sized}
 use Rattle.rereading.proofs.Window.{read_window}
-use Rattle.book.specs.States.{Ready}
-use Rattle.answers.specs.declared.Turn.{Turn}
+use Rattle.columns.specs.declared.LentColumns.{LentColumns}
+use Rattle.columns.specs.Books.{lent_book, IsReady}
+use Rattle.rules.specs.Refusals.{number_in}
+use Rattle.answers.specs.Turns.{Given}
 use Rattle.instructions.specs.Answering.{AnsweredIn}
 use Rattle.spans.specs.declared.Statement.{Statement}
 use Rattle.spans.specs.Span.{Turn as Turned, turn_of, turns_from}
@@ -77,27 +79,27 @@ module _ (i a : ℕ) (hi : i < 16) (ha : a < 64) (c : Statement) where
   added_turn b s (instruction.Turn d) ws = quiet (accepted (answer_of b (instruction.Turn d) ws).refusal) c
 
 -- a turn of the code is the run's
-pub stepped : (ws : List ℕ) (x : Instruction) (i a : ℕ) (c : Statement) (b : Book) → Standing b → Within i a → (t : Turn) (b' : Book) (net : ℤ) →
-    net ≡ net_at b.nets i a → (r : Step) → r.statement ≡ added_in c x t.refusal net (delivered_at b.delivered i a) i a → Grown c r.statement →
+pub stepped : (ws : List ℕ) (x : Instruction) (i a : ℕ) (c : Statement) (b : Book) → Standing b → Within i a → (t : Given) (b' : Book) (net : ℤ) →
+    net ≡ net_at b.nets i a → (r : Step) → r.statement ≡ added_in c x (number_in t) net (delivered_at b.delivered i a) i a → Grown c r.statement →
     AnsweredIn ws x b t b' → Stepped ws x i a c b r b'
 stepped ws x i a c b s w t b' net e r q g h =
     record {
-      counted = q ∙ ap (λ (n : ℤ). added_in c x t.refusal n (delivered_at b.delivered i a) i a) e
+      counted = q ∙ ap (λ (n : ℤ). added_in c x (number_in t) n (delivered_at b.delivered i a) i a) e
           ∙ ap (λ (n : ℕ). added_in c x n (net_at b.nets i a) (delivered_at b.delivered i a) i a) h.refusal
           ∙ added_turn i a (omega (arith, w.issue)) (omega (arith, w.account)) c b s x ws;
       grown = g;
       book = h.book;
+      lengths = h.lengths;
       sound = h.sound;
     }
 
 -- a sound book in its columns
-pub ready_stands : (s : State) (nets : List ℤ) (delivered lifts : List ℕ) (charges : List ℤ) (issues froms tos lots days out : List ℕ) →
-    Ready s nets delivered lifts charges issues froms tos lots days out → Standing (book_of s nets delivered lifts charges issues froms tos lots days)
-ready_stands s nets delivered lifts charges issues froms tos lots days out r =
+pub ready_stands : (s : State) (c : LentColumns) (out : List ℕ) → IsReady s c out → Standing (lent_book s c)
+ready_stands s c out r =
     let l = r.lengths in
     record {
       sizes = record { nets = l.cells.nets; delivered = l.cells.delivered; lifts = l.lifts; charges = l.charges };
-      parts = sound_parts (book_of s nets delivered lifts charges issues froms tos lots days) r.sound;
+      parts = sound_parts (lent_book s c) r.sound;
     }
 
 -- On the way
@@ -150,7 +152,7 @@ one_turn i a c t ts = same_statement _ _ _ _ _ _ _ _ (omega arith) (omega arith)
 
 module _ (i a : ℕ) (b₀ : Book) (ws₀ : List ℕ) (c : Statement) (b : Book) (ws : List ℕ) where
   -- one instruction more
-  again_suc : (left : ℕ) → Counting i a b₀ ws₀ (suc left) c b ws → (x : Instruction) (k : ℕ) → read_of ws ≡ Instr x k → (d : Statement) (b' : Book) →
+  again_suc : (left : ℕ) → Counting i a b₀ ws₀ (suc left) c b ws → (x : Instruction) (k : ℕ) → read_of ws ≡ Ok (x, k) → (d : Statement) (b' : Book) →
       d ≡ plus_turn i a c (turn_of b x ws) → Grown c d → b' ≡ (answer_of b x ws).book → Counting i a b₀ ws₀ left d b' (drop k ws)
   again_suc left g x k e d b' q w p =
       record {
@@ -161,7 +163,7 @@ module _ (i a : ℕ) (b₀ : Book) (ws₀ : List ℕ) (c : Statement) (b : Book)
             ∙ ap (plus_turns i a c) (sym (turns_read left b ws x k e)) ∙ g.sum);
       }
 
-  pub again : (left : ℕ) → 0 < left → Counting i a b₀ ws₀ left c b ws → (x : Instruction) (k : ℕ) → read_of ws ≡ Instr x k → (d : Statement) (b' : Book) →
+  pub again : (left : ℕ) → 0 < left → Counting i a b₀ ws₀ left c b ws → (x : Instruction) (k : ℕ) → read_of ws ≡ Ok (x, k) → (d : Statement) (b' : Book) →
       d ≡ plus_turn i a c (turn_of b x ws) → Grown c d → b' ≡ (answer_of b x ws).book → Counting i a b₀ ws₀ (left - 1) d b' (drop k ws)
   again zero h g x k e d b' q w p = absurd (omega arith)
   again (suc left) h g x k e d b' q w p =
@@ -173,7 +175,7 @@ module _ (i a : ℕ) (b₀ : Book) (ws₀ : List ℕ) (c : Statement) (b : Book)
   ends left g e =
       same_statement _ _ _ _ _ _ _ _ (omega arith) (omega arith) (omega arith) (omega arith) ∙ sym (ap (plus_turns i a c) e) ∙ g.sum
 
-  pub ends_refused : (left : ℕ) → Counting i a b₀ ws₀ left c b ws → (r : ℕ) → read_of ws ≡ Refused r → c ≡ statement_over i a (turns_from most_span b₀ ws₀)
+  pub ends_refused : (left : ℕ) → Counting i a b₀ ws₀ left c b ws → (r : ℕ) → read_of ws ≡ Err r → c ≡ statement_over i a (turns_from most_span b₀ ws₀)
   ends_refused left g r e = ends left g (turns_refused left b ws r e)
 
   pub ends_out : (left : ℕ) → left ≤ 0 → Counting i a b₀ ws₀ left c b ws → c ≡ statement_over i a (turns_from most_span b₀ ws₀)
@@ -181,14 +183,14 @@ module _ (i a : ℕ) (b₀ : Book) (ws₀ : List ℕ) (c : Statement) (b : Book)
   ends_out (suc left) h g = absurd (omega arith)
 
 -- An instruction has at most thirty-three words
-pub read_few : (ws : List ℕ) (x : Instruction) (n : ℕ) → read_of ws ≡ Instr x n → n ≤ 33
+pub read_few : (ws : List ℕ) (x : Instruction) (n : ℕ) → read_of ws ≡ Ok (x, n) → n ≤ 33
 read_few ws x n e =
     let z = read_sized (take 33 ws) x n (read_window 33 ws (omega arith) ∙ e) in
     omega (arith, z.1, length-take 33 ws)
 
 -- the same of the words from a place on
 pub again_at : (i a : ℕ) (b₀ : Book) (ws : List ℕ) (c : Statement) (b : Book) (at left : ℕ) → 0 < left → Counting i a b₀ ws left c b (drop at ws) →
-    (x : Instruction) (k : ℕ) → read_of (drop at ws) ≡ Instr x k → (d : Statement) (b' : Book) →
+    (x : Instruction) (k : ℕ) → read_of (drop at ws) ≡ Ok (x, k) → (d : Statement) (b' : Book) →
     d ≡ plus_turn i a c (turn_of b x (drop at ws)) → Grown c d → b' ≡ (answer_of b x (drop at ws)).book → Counting i a b₀ ws (left - 1) d b' (drop (at + k) ws)
 again_at i a b₀ ws c b at left h g x k e d b' q w p =
     rw (← drop-drop k at ws) (again i a b₀ ws c b (drop at ws) left h g x k e d b' q w p)
@@ -228,25 +230,26 @@ fresh_in s =
 fresh_in_lem : (s : State) → s ≡ fresh_state → fresh_in s ≡ fresh
 fresh_in_lem s e = ap fresh_in e
 
-pub fresh_ready : (s : State) → s ≡ fresh_state →
-    Ready s (replicate 1024 (pos 0)) (replicate 1024 0) (replicate 288 0) (replicate 64 (pos 0)) (replicate 2048 0) (replicate 2048 0) (replicate 2048 0) (replicate 2048 0) (replicate 2048 0) (replicate 4096 0)
-fresh_ready s e =
+pub fresh_lengths : Lengths (replicate 1024 (pos 0)) (replicate 1024 0) (replicate 288 0) (replicate 64 (pos 0)) (replicate 2048 0) (replicate 2048 0) (replicate 2048 0) (replicate 2048 0) (replicate 2048 0)
+fresh_lengths =
     record {
-      lengths = record {
-        cells = record { nets = length-replicate 1024 (pos 0); delivered = length-replicate {A = ℕ} 1024 0 };
-        lifts = length-replicate {A = ℕ} 288 0;
-        charges = length-replicate 64 (pos 0);
-        ledger = record {
-          issues = length-replicate {A = ℕ} 2048 0;
-          froms = length-replicate {A = ℕ} 2048 0;
-          tos = length-replicate {A = ℕ} 2048 0;
-          lots = length-replicate {A = ℕ} 2048 0;
-          days = length-replicate {A = ℕ} 2048 0;
-        };
+      cells = record { nets = length-replicate 1024 (pos 0); delivered = length-replicate {A = ℕ} 1024 0 };
+      lifts = length-replicate {A = ℕ} 288 0;
+      charges = length-replicate 64 (pos 0);
+      ledger = record {
+        issues = length-replicate {A = ℕ} 2048 0;
+        froms = length-replicate {A = ℕ} 2048 0;
+        tos = length-replicate {A = ℕ} 2048 0;
+        lots = length-replicate {A = ℕ} 2048 0;
+        days = length-replicate {A = ℕ} 2048 0;
       };
-      sound = ap sound (fresh_in_lem s e) ∙ fresh_sound;
-      room = subst (λ (n : ℕ). output_words ≤ n) (sym (length-replicate {A = ℕ} 4096 0)) (omega arith);
     }
+
+pub fresh_is_sound : (s : State) → s ≡ fresh_state → sound (fresh_in s) ≡ true
+fresh_is_sound s e = ap sound (fresh_in_lem s e) ∙ fresh_sound
+
+pub fresh_room : output_words ≤ length (replicate {A = ℕ} 4096 0)
+fresh_room = subst (λ (n : ℕ). output_words ≤ n) (sym (length-replicate {A = ℕ} 4096 0)) (omega arith)
 
 pub on_fresh_book : (s : State) → s ≡ fresh_state → (ws : List ℕ) (i a : ℕ) →
     statement_over i a (turns_from most_span (fresh_in s) ws) ≡ statement_on ws i a

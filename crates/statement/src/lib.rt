@@ -3,16 +3,18 @@
 #![tactic(auto)]
 
 ghost use Rattle.std.specs.Prelude.{◌≡◌};
-ghost use Rattle.book.specs.States.{columns, ready};
+ghost use Rattle.rules.specs.Refusals.{number_in};
+ghost use Rattle.columns.specs.Books.{lent_book, IsReady, SameColumns};
 ghost use Rattle.instructions.specs.Answering.{Begins};
 ghost use Rattle.spans.specs.Span.{turns_from};
 ghost use Rattle.spans.specs.Statement.{most_span, statement_over, statement_on, stated, statement as statementAnswer};
 ghost use Rattle.counting.specs.Counting.{CanAdd};
-ghost use Rattle.statement.specs.Counting.{Within, Stepped};
+ghost use Rattle.statement.specs.Counting.{Within, Stepped, numbers_in};
 
+use columns::LentColumns;
 use rules::{
     ACCOUNT_COUNT, CELL_COUNT, ISSUE_COUNT, Instruction, LAST_ACCOUNT, LAST_ISSUE, LIFT_CELLS,
-    MOST_ENTRIES, OUTPUT_WORDS, Phase, Read, State,
+    MOST_ENTRIES, OUTPUT_WORDS, Phase, Refusal, State,
 };
 use spans::Statement;
 
@@ -34,28 +36,19 @@ fn turn(
     account: u32,
     c: Statement,
     s: State,
-    nets: &mut [i32],
-    delivered: &mut [u32],
-    lifts: &mut [u32],
-    charges: &mut [i64],
-    issues: &mut [u8],
-    froms: &mut [u8],
-    tos: &mut [u8],
-    lots: &mut [u32],
-    days: &mut [u16],
+    columns: &mut LentColumns,
     out: &mut [u32],
 ) -> Step
-    requires { Begins words.now x × ready s nets delivered lifts charges issues froms tos lots days out × Within issue account × CanAdd c }
-    ensures { let k = columns nets delivered lifts charges issues froms tos lots days in Stepped words.now x issue account c (k.before s) result (k.after result.state) }
+    requires { Begins words.now x × IsReady s columns.old out.old × Within issue account × CanAdd c }
+    ensures done { Stepped words.now x issue account c (lent_book s columns.old) result (lent_book result.state columns.new) }
+    ensures same { SameColumns columns.old columns.new }
 {
     let cell = issue as usize * ACCOUNT_COUNT + account as usize;
-    let net = nets[cell];
-    let given = delivered[cell];
-    let t = instructions::answer(
-        words, x, s, nets, delivered, lifts, charges, issues, froms, tos, lots, days, out,
-    );
-    let state = t.state;
-    let statement = counting::added(c, x, t.refusal, net, given, issue, account);
+    let net = columns.nets[cell];
+    let given = columns.delivered[cell];
+    let answer = instructions::answer(words, x, s, columns, out);
+    let statement = counting::added(c, x, answer, net, given, issue, account);
+    let state = instructions::state_after(s, answer);
     Step { statement, state }
 }
 
@@ -65,19 +58,11 @@ fn span(
     issue: u32,
     account: u32,
     s: State,
-    nets: &mut [i32],
-    delivered: &mut [u32],
-    lifts: &mut [u32],
-    charges: &mut [i64],
-    issues: &mut [u8],
-    froms: &mut [u8],
-    tos: &mut [u8],
-    lots: &mut [u32],
-    days: &mut [u16],
+    columns: &mut LentColumns,
     out: &mut [u32],
 ) -> Statement
-    requires { ready s nets delivered lifts charges issues froms tos lots days out × Within issue account }
-    ensures { let k = columns nets delivered lifts charges issues froms tos lots days in result ≡ statement_over issue account (turns_from most_span (k.before s) words.now) }
+    requires { IsReady s columns.old out.old × Within issue account }
+    ensures { result ≡ statement_over issue account (turns_from most_span (lent_book s columns.old) words.now) }
 {
     let mut c = Statement {
         due: 0,
@@ -87,33 +72,14 @@ fn span(
     };
     let mut state = s;
     let mut at: usize = 0;
-    let mut left = MOST_SPAN;
-    while 0 < left {
-        let Read::Instr(x, n) = tape::read(&words[at..]) else {
+    for _turn in 0..MOST_SPAN {
+        let Ok((x, n)) = tape::read(&words[at..]) else {
             return c;
         };
-        let t = turn(
-            &words[at..],
-            x,
-            issue,
-            account,
-            c,
-            state,
-            nets,
-            delivered,
-            lifts,
-            charges,
-            issues,
-            froms,
-            tos,
-            lots,
-            days,
-            out,
-        );
+        let t = turn(&words[at..], x, issue, account, c, state, columns, out);
         c = t.statement;
         state = t.state;
         at += n;
-        left -= 1;
     }
     c
 }
@@ -134,38 +100,29 @@ fn on_fresh(words: &[u32], issue: u32, account: u32) -> Statement
     let mut lots = [0u32; MOST_ENTRIES];
     let mut days = [0u16; MOST_ENTRIES];
     let mut out = [0u32; OUTPUT_WORDS];
-    span(
-        words,
-        issue,
-        account,
-        s,
-        &mut nets,
-        &mut delivered,
-        &mut lifts,
-        &mut charges,
-        &mut issues,
-        &mut froms,
-        &mut tos,
-        &mut lots,
-        &mut days,
-        &mut out,
-    )
+    let mut columns = LentColumns {
+        nets: &mut nets,
+        delivered: &mut delivered,
+        lifts: &mut lifts,
+        charges: &mut charges,
+        issues: &mut issues,
+        froms: &mut froms,
+        tos: &mut tos,
+        lots: &mut lots,
+        days: &mut days,
+    };
+    span(words, issue, account, s, &mut columns, &mut out)
 }
 
-// An account's fails statement in an issue, from a tape's words: lots due to deliver at closes, delivered by
-// cutoffs, failed, resolved; then failed over due as two whole numbers. The refusal's number (4, 5) with 0 for
-// all of them, or 0.
-pub fn day_statement(words: &[u32], issue: u32, account: u32, numbers: &mut [u64; 6]) -> u32
-    ensures { stated result numbers.new ≡ statementAnswer words.now issue account }
+// An account's fails statement in an issue, from a tape's words.
+pub fn day_statement(words: &[u32], issue: u32, account: u32) -> Result<Statement, Refusal>
+    ensures { stated (number_in result) (numbers_in result) ≡ statementAnswer words.now issue account }
 {
-    *numbers = [0; 6];
     if LAST_ISSUE < issue {
-        return 4;
+        return Err(Refusal::Issue);
     }
     if LAST_ACCOUNT < account {
-        return 5;
+        return Err(Refusal::Account);
     }
-    let c = on_fresh(words, issue, account);
-    *numbers = [c.due, c.delivered, c.failed, c.resolved, c.failed, c.due];
-    0
+    Ok(on_fresh(words, issue, account))
 }

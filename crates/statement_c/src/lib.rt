@@ -17,5 +17,14 @@ pub extern "C" fn day_statement(
 ) -> u32
     ensures { stated result numbers.new ≡ statementAnswer words.now issue account }
 {
-    statement::day_statement(words, issue, account, numbers)
+    match statement::day_statement(words, issue, account) {
+        Ok(c) => {
+            *numbers = [c.due, c.delivered, c.failed, c.resolved, c.failed, c.due];
+            0
+        }
+        Err(refusal) => {
+            *numbers = [0; 6];
+            refusal.number()
+        }
+    }
 }

@@ -19,8 +19,24 @@ use Rattle.laws.proofs.Handover.{stock_below, waits_short}
 use Rattle.laws.proofs.Dealt.{lots_in, same_covered, same_stock, same_length, same_sum}
 use Rattle.laws.proofs.SoundRows.{order_lots}
 use Rattle.laws.proofs.Carried.{sound_turn}
+use Rattle.std.specs.Prelude.{Some, None}
+use Rattle.rules.specs.declared.Unit.{Unit}
+use Rattle.runs.specs.Runs.{unit_of, found_of}
 use Rattle.told.specs.Status.{StatusAnswer, is_handed, waits_for, fails_partly, fails_wholly, status_refused, wanted, in_settling, after_cutoff, reason, ask_not_taking, status_asks, status_answer, status}
 use Rattle.status.specs.Columns.{reason_at, status_of}
+
+-- what the unit question finds is the first of the units behind, and none where there is none
+pub record IsFirst (u : Unit) (vs : List AccountLots) : Type 0 where
+  pub there : 0 < length vs
+  pub lots : (first_unit vs).lots ≡ u.lots
+
+pub first_found : (u : Unit) (vs : List AccountLots) → Some u ≡ found_of vs → IsFirst u vs
+first_found u [] e = absurd (cc)
+first_found u (v ∷ vs) e = let w : u ≡ unit_of v.account v.lots = cc in record { there = omega arith; lots = rw w refl }
+
+pub none_found : (vs : List AccountLots) → None ≡ found_of vs → vs ≡ []
+none_found [] e = refl
+none_found (v ∷ vs) e = absurd (cc)
 
 -- a unit is handed exactly if the units up to it, it included, have no more lots than are delivered
 pub record Exactly (us : List AccountLots) (d k : ℕ) : Type 0 where
@@ -80,8 +96,8 @@ module _ (phase : Phase) (us : List AccountLots) (d k : ℕ) where
       unfolding reason_at after_cutoff
       is_cut_lem = simp (cut, lt-ltb k (length us) there, le-ltb k (covered us d) (omega arith), e, f)
 
-      pub is_partly : (a x : ℕ) (vs : List AccountLots) → drop k us ≡ account_lots a x ∷ vs → eqb k h && ltb 0 t ≡ true → fails_partly (x - t) ≡ reason_at phase us d k
-      is_partly a x vs g y = sym (simp (y, g)) ∙ is_cut_lem
+      pub is_partly : (x : ℕ) → (first_unit (drop k us)).lots ≡ x → eqb k h && ltb 0 t ≡ true → fails_partly (x - t) ≡ reason_at phase us d k
+      is_partly x g y = sym (simp (y, g)) ∙ is_cut_lem
 
       pub is_wholly : eqb k h && ltb 0 t ≡ false → fails_wholly ≡ reason_at phase us d k
       is_wholly n = sym (simp n) ∙ is_cut_lem

@@ -1,15 +1,14 @@
 -- The lots of the units up to one, run by run: either a whole run is passed, or the unit stands in it.
 use mathlib.Core.Path.{◌≡◌, ap, ◌∙◌}
-use mathlib.Core.List.{List, ◌++◌}
+use mathlib.Core.List.{List, ◌++◌, map}
 use Prim.Native.Nat.{ℕ, suc, ◌+◌, ◌-◌, ◌*◌, ◌/◌, ◌≤◌, ◌<◌, min}
 use native.Mathlib.Omega.{arith}
-use native.Mathlib.Numerals.{add-one}
 use lib.ListN.{length, take, drop, get_or}
 use Rattle.rules.specs.Units.{AccountLots, sum_lots}
 use Rattle.laws.proofs.Basics.{total_append, total_split}
-use Rattle.runs.specs.Runs.{part_of, runs_in, units_of_run, units_of_runs}
+use Rattle.runs.specs.Runs.{part_of, units_of_run, units_of_runs}
 use Rattle.runs.proofs.Units.{run_lots, run_drop, unit_past}
-use Rattle.runs.proofs.Loops.{units_at}
+use Rattle.runs.proofs.Words.{units_at_word}
 
 abbrev lots_of : AccountLots → ℕ
 lots_of u = u.lots
@@ -42,18 +41,18 @@ module _ (u : AccountLots) (us : List AccountLots) where
         run_lots (record { account = u.account; lots = r }),
       )
 
--- the units of the runs from j on
-abbrev pub from : List ℕ → ℕ → ℕ → List AccountLots
-from runs n j = units_of_runs (drop j (runs_in runs n))
+-- the units of the words from j on
+abbrev pub from : List ℕ → ℕ → List AccountLots
+from runs j = units_of_runs (drop j (map part_of runs))
 
-module _ (runs : List ℕ) (n j : ℕ) (l : n ≤ length runs) (h : j < n) where
-  pub sum_next : sum_lots (from runs n j) ≡ get_or runs j 0 / 64 + sum_lots (from runs n (j + 1))
-  sum_next = rw (units_at runs n j l h, add-one) (run_sum (part_of (get_or runs j 0)) (from runs n (suc j)))
+module _ (runs : List ℕ) (j : ℕ) (h : j < length runs) where
+  pub sum_next : sum_lots (from runs j) ≡ get_or runs j 0 / 64 + sum_lots (from runs (j + 1))
+  sum_next = rw (units_at_word runs j h) (run_sum (part_of (get_or runs j 0)) (from runs (j + 1)))
 
   pub up_next : (k c : ℕ) → c ≡ (get_or runs j 0 / 64 + 99999) / 100000 → c ≤ k →
-      sum_lots (take (suc k) (from runs n j)) ≡ get_or runs j 0 / 64 + sum_lots (take (suc (k - c)) (from runs n (j + 1)))
-  up_next k c e g = rw (units_at runs n j l h, add-one) (up_past (part_of (get_or runs j 0)) (from runs n (suc j)) k c e g)
+      sum_lots (take (suc k) (from runs j)) ≡ get_or runs j 0 / 64 + sum_lots (take (suc (k - c)) (from runs (j + 1)))
+  up_next k c e g = rw (units_at_word runs j h) (up_past (part_of (get_or runs j 0)) (from runs (j + 1)) k c e g)
 
   pub up_last : (k : ℕ) → k * 100000 < get_or runs j 0 / 64 →
-      sum_lots (take (suc k) (from runs n j)) ≡ min ((k + 1) * 100000) (get_or runs j 0 / 64)
-  up_last k g = rw (units_at runs n j l h) (up_here (part_of (get_or runs j 0)) (from runs n (suc j)) k g)
+      sum_lots (take (suc k) (from runs j)) ≡ min ((k + 1) * 100000) (get_or runs j 0 / 64)
+  up_last k g = rw (units_at_word runs j h) (up_here (part_of (get_or runs j 0)) (from runs (j + 1)) k g)

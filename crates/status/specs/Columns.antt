@@ -4,17 +4,13 @@ use Rattle.rules.specs.declared.Phase.{Phase}
 use Rattle.rules.specs.Units.{AccountLots, sum_lots}
 use Rattle.rules.specs.Book.{delivered_total, order_in}
 use Rattle.rules.specs.Questions.{first_no}
-use Rattle.runs.specs.Runs.{units_in, Held}
+use Rattle.runs.specs.Runs.{units_of_words}
 use Rattle.told.specs.Status.{StatusAnswer, reason, ask_unit, status_asks, status_answer}
 
--- units in a lent array whose lots fit a word
-pub record CanSum (runs : List ℕ) (n : ℕ) : Type 0 where
-  pub there : n ≤ length runs
-  pub small : sum_lots (units_in runs n) < 4294967296
-
-pub record CanTell (runs : List ℕ) (n : ℕ) : Type 0 where
-  pub held : Held runs n
-  pub small : sum_lots (units_in runs n) < 4294967296
+-- words that stand for units whose lots fit a word
+pub record CanTell (runs : List ℕ) : Type 0 where
+  pub few : length runs ≤ 144
+  pub small : sum_lots (units_of_words runs) < 4294967296
 
 -- question 16 of unit k, and the reason
 unfoldable pub reason_at : Phase → List AccountLots → ℕ → ℕ → StatusAnswer

@@ -7,6 +7,7 @@ use native.Mathlib.Nat.{zero-add}
 use native.Mathlib.Omega.{arith}
 use lib.ListN.{length, get_or, set, length-set}
 use borrow.Author.Tests.{ne_eqb}
+use Rattle.std.specs.Prelude.{Some, None}
 use Rattle.rules.specs.declared.Entry.{Entry}
 use Rattle.rules.specs.Ledger.{is_from, is_to, appended, pairing}
 use Rattle.rules.specs.Book.{entries, entry_sound}
@@ -18,10 +19,10 @@ use Rattle.laws.proofs.Pairing.{in_and_out}
 use Rattle.ledger.specs.Columns.{entry_at, Held, Kept, without_zeros}
 use Rattle.ledger.proofs.Entries.{entries_length, kept_held, kept_entries}
 use Rattle.ledger.proofs.Lots.{lots_at, entries_lots, held_lots}
-use Rattle.falling.specs.Places.{is_left, place_of, next_in, CanSeek, CanFall, BothFell}
+use Rattle.falling.specs.Places.{is_left, place_of, next_in, within, CanSeek, CanFall, BothFell}
 use Rattle.stepping.specs.Steps.{Pairable, WasMade}
 use Rattle.falling.proofs.Places.{place_most}
-use Rattle.falling.proofs.Seeking.{next_to, next_from}
+use Rattle.falling.proofs.Seeking.{next_to, next_from, within_some, within_none}
 use Rattle.stepping.proofs.Stepping.{SoFar, Done, count_most, none_in, none_out, es₂, new, step_less, step_small, step_room, so_far_more}
 
 -- the ledger now
@@ -38,11 +39,15 @@ pub record Turns (today i a : ℕ) (es₀ : List Entry) (n t f k steps cancelled
 pub record Both (n i a t f : ℕ) (is fs ts xs : List ℕ) : Type 0 where
   pub to : t ≡ next_in n is ts xs i a
   pub from : f ≡ next_in n is fs xs i a
-  pub some_to : t ≡ n → ⊥
-  pub some_from : f ≡ n → ⊥
+  pub some_to : t < n
+  pub some_from : f < n
 
-below : {x n : ℕ} → x ≤ n → (x ≡ n → ⊥) → x < n
-below h k = omega arith
+pub both_there : (n i a : ℕ) (is fs ts xs : List ℕ) {t f : ℕ} → Some t ≡ within n (next_in n is ts xs i a) →
+    Some f ≡ within n (next_in n is fs xs i a) → Both n i a t f is fs ts xs
+both_there n i a is fs ts xs h k =
+    let p = within_some n (next_in n is ts xs i a) h in
+    let q = within_some n (next_in n is fs xs i a) k in
+    record { to = p.0; from = q.0; some_to = p.1; some_from = q.1 }
 
 -- sound entries are not at 0
 pub zeros_none : (es : List Entry) → Every SoundEntry es → without_zeros es ≡ es
@@ -119,17 +124,17 @@ module _ {today i a : ℕ} {es₀ : List Entry} {n t f k steps cancelled : ℕ} 
         more = s.more;
       }
 
-  pub ends_in : {t₁ : ℕ} → t₁ ≡ next_in n is ts xs i a → t₁ ≡ n →
+  pub ends_in : None ≡ within n (next_in n is ts xs i a) →
       WasMade (pairing today i a es₀) n (record { steps = steps; cancelled = cancelled; more = k }) is fs ts xs ds mi mf mt mx md
-  ends_in e h =
+  ends_in h =
       was_made_lem (none_in s.made
-      (omega (arith, e, h, next_to n is fs ts xs ds i a, entries_length n is fs ts xs ds)))
+      (omega (arith, within_none n (next_in n is ts xs i a) h, next_to n is fs ts xs ds i a, entries_length n is fs ts xs ds)))
 
-  pub ends_out : {f₁ : ℕ} → f₁ ≡ next_in n is fs xs i a → f₁ ≡ n →
+  pub ends_out : None ≡ within n (next_in n is fs xs i a) →
       WasMade (pairing today i a es₀) n (record { steps = steps; cancelled = cancelled; more = k }) is fs ts xs ds mi mf mt mx md
-  ends_out e h =
+  ends_out h =
       was_made_lem (none_out s.made
-      (omega (arith, e, h, next_from n is fs ts xs ds i a, entries_length n is fs ts xs ds)))
+      (omega (arith, within_none n (next_in n is fs xs i a) h, next_from n is fs ts xs ds i a, entries_length n is fs ts xs ds)))
 
   -- both are there, at places t₁ and f₁
   module _ {t₁ f₁ : ℕ} (b : Both n i a t₁ f₁ is fs ts xs) where
@@ -146,13 +151,13 @@ module _ {today i a : ℕ} {es₀ : List Entry} {n t f k steps cancelled : ℕ} 
     is_f = b.from ∙ next_from n is fs ts xs ds i a
 
     in_t : T < n
-    in_t = below (omega (arith, place_most (is_left (is_to i a)) es, entries_length n is fs ts xs ds)) (λ e. b.some_to (is_t ∙ e))
+    in_t = omega (arith, is_t, b.some_to)
 
     ht : T < length es
     ht = omega (arith, in_t, entries_length n is fs ts xs ds)
 
     in_f : F < n
-    in_f = below (omega (arith, place_most (is_left (is_from i a)) es, entries_length n is fs ts xs ds)) (λ e. b.some_from (is_f ∙ e))
+    in_f = omega (arith, is_f, b.some_from)
 
     hf : F < length es
     hf = omega (arith, in_f, entries_length n is fs ts xs ds)

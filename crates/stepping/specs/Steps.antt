@@ -2,7 +2,8 @@
 use Rattle.std.specs.Prelude.{◌≡◌, true, List, ◌++◌, ℕ, ◌+◌, ◌≤◌, ◌<◌, length}
 use Rattle.rules.specs.Ledger.{Pairing, pairing}
 use Rattle.rules.specs.Book.{all, entries, entry_sound}
-use Rattle.ledger.specs.Columns.{Held, without_zeros, Lent, Column, Shared, SharedColumn}
+use Rattle.ledger.specs.declared.Ledger.{Ledger}
+use Rattle.ledger.specs.Columns.{Held, without_zeros, held, entries_in}
 use Rattle.stepping.specs.declared.Made.{Made}
 
 -- a ledger whose entries are sound, in its columns, and an issue
@@ -22,15 +23,14 @@ pub record WasMade (p : Pairing) (n : ℕ) (r : Made) (is fs ts xs ds mi mf mt m
 
 -- The same by name
 
-abbrev pub pairable : ℕ → ℕ → Lent → Lent → Lent → Lent → Lent → Type 0
-pairable n i issues froms tos lots days = Pairable n i issues.now froms.now tos.now lots.now days.now
+abbrev pub pairable : ℕ → ℕ → Ledger → Type 0
+pairable n i l = Pairable n i l.issues.now l.froms.now l.tos.now l.lots.now l.days.now
 
-abbrev pub can_pair : ℕ → ℕ → Shared → Shared → Shared → Lent → Shared → Lent → Lent → Lent → Lent → Lent → Type 0
-can_pair n i issues froms tos lots days is fs ts xs ds =
-    Pairable n i issues.now froms.now tos.now lots.now days.now × Held 0 is.now fs.now ts.now xs.now ds.now
+abbrev pub can_pair : ℕ → ℕ → Ledger → Ledger → Type 0
+can_pair n i l m = pairable n i l × held 0 m
 
-abbrev pub was_made : ℕ → ℕ → ℕ → ℕ → Made → SharedColumn → SharedColumn → SharedColumn → Column → SharedColumn → Column → Column → Column → Column → Column → Type 0
-was_made n today i a r issues froms tos lots days is fs ts xs ds =
-    WasMade (pairing today i a (entries n issues.entry.now froms.entry.now tos.entry.now lots.entry.now days.entry.now)) n r
-    issues.exit.now froms.exit.now tos.exit.now lots.exit.now days.exit.now
-    is.exit.now fs.exit.now ts.exit.now xs.exit.now ds.exit.now
+-- of the ledger before and after, and the second after
+abbrev pub was_made : ℕ → ℕ → ℕ → ℕ → Made → Ledger → Ledger → Ledger → Type 0
+was_made n today i a r l l' m =
+    WasMade (pairing today i a (entries_in n l)) n r l'.issues.now l'.froms.now l'.tos.now l'.lots.now l'.days.now
+    m.issues.now m.froms.now m.tos.now m.lots.now m.days.now

@@ -1,15 +1,13 @@
 -- Runs one after the other: what each has of some rounds, behind the stretches of the units before it.
 use mathlib.Core.Path.{◌≡◌, refl, sym, ap, subst, ◌∙◌}
-use mathlib.Core.Bool.{true}
 use mathlib.Core.List.{List, [], ◌++◌, map, append-nil, append_assoc}
-use Prim.Native.Nat.{ℕ, suc, ◌+◌, ◌-◌, ◌*◌, ◌/◌, ◌%◌, ◌≤◌, ◌<◌, min}
+use Prim.Native.Nat.{ℕ, suc, ◌+◌, ◌≤◌, ◌<◌}
 use native.Mathlib.Omega.{arith}
 use native.Mathlib.Numerals.{add-one}
 use lib.Dec.{leb}
 use lib.ListN.{length, drop, get_or}
-use borrow.Author.Tests.{le-leb, lt-leb}
 use Rattle.rules.specs.Measures.{unit_lots}
-use Rattle.rules.specs.Units.{AccountLots, account_lots}
+use Rattle.rules.specs.Units.{AccountLots}
 use Rattle.rules.specs.Fails.{stretches}
 use Rattle.laws.proofs.Basics.{either, each_drop}
 use Rattle.runs.specs.Runs.{part_of, runs_in, units_of_run, units_of_runs, Plain}
@@ -18,25 +16,6 @@ use Rattle.stretching.specs.Adding.{StretchesOf, Indexed, share_of, shares_in, C
 use Rattle.stretching.proofs.Adding.{fits_front}
 
 -- A run's share
-
-pub share_small : (w r n : ℕ) → w < 6400000 → part_of w ≡ share_of r n (part_of w)
-share_small w r n h = rw (lt-leb 100000 (w / 64) (omega arith))
-
-pub share_none : (w r n : ℕ) → 6400000 ≤ w → w / 6400000 ≤ r → part_of (w % 64) ≡ share_of r n (part_of w)
-share_none w r n h g =
-    let t : leb 100000 (w / 64) ≡ true = le-leb 100000 (w / 64) (omega arith) in
-    let a : w % 64 % 64 ≡ w % 64 = omega arith in
-    let x : w % 64 / 64 ≡ 0 = omega arith in
-    let z : min n (w / 64 / 100000 - r) ≡ 0 = omega arith in
-    rw (t, a, x, z)
-
-pub share_some : (w r n q : ℕ) → 6400000 ≤ w → q ≡ min n (w / 6400000 - r) → part_of (q * 6400000 + w % 64) ≡ share_of r n (part_of w)
-share_some w r n q h e =
-    let t : leb 100000 (w / 64) ≡ true = le-leb 100000 (w / 64) (omega arith) in
-    let a : (q * 6400000 + w % 64) % 64 ≡ w % 64 = omega arith in
-    let x : (q * 6400000 + w % 64) / 64 ≡ q * 100000 = omega arith in
-    let d : w / 64 / 100000 ≡ w / 6400000 = omega arith in
-    rw (t, a, x, d) (ap (λ k. account_lots (w % 64) (k * 100000)) e)
 
 pub share_plain : (r n : ℕ) (u : AccountLots) → Plain u → Plain (share_of r n u)
 share_plain r n u p =

@@ -25,7 +25,7 @@ use Rattle.laws.proofs.Overlaps.{skip_skip0}
 use Rattle.laws.proofs.Room.{part_stretches}
 use Rattle.laws.proofs.SoundRows.{order_in_lem, order_lots}
 use Rattle.handover.specs.declared.Handed.{Handed}
-use Rattle.runs.specs.Runs.{part_of, runs_in, units_in, CanOrder, Prepared}
+use Rattle.runs.specs.Runs.{part_of, runs_in, units_of_words, units_in, CanOrder, Prepared}
 use Rattle.handover.specs.Walking.{HandedIs}
 use Rattle.units.specs.Cursor.{position, Started}
 use Rattle.runs.proofs.Loops.{runs_at_lem, dues_small}
@@ -36,7 +36,7 @@ use Rattle.inturn.specs.InTurn.{dealt_runs}
 use Rattle.dealing.specs.Dealing.{lifted_runs, full_number, IsRanked}
 use Rattle.unlifting.specs.Unlifting.{SpanIs}
 use Rattle.unlifting.proofs.Places as places
-use Rattle.dealing.proofs.Dealer.{can_deal_out, order_short, ranked_lifted, ranked_length, ranked_number, ranked_smalls}
+use Rattle.dealing.proofs.Dealer.{words_of, words_fulls, words_plain, can_deal_out, order_short, ranked_lifted, ranked_length, ranked_number, ranked_smalls}
 use Rattle.stretching.specs.declared.Pending.{Pending}
 use Rattle.stretching.specs.declared.Passed.{Passed}
 use Rattle.stretching.specs.Adding.{StretchesOf}
@@ -245,7 +245,7 @@ fulls_front (u ∷ us) =
     by_test (leb unit_lots u.lots) (λ e. simp e ((leb-true unit_lots u.lots e, fulls_front us))) (λ e. simp e tt)
 
 module _ (nets : List ℤ) (lifts : List ℕ) (i : ℕ) (o : CanOrder nets lifts i) (keys : List ℕ) (p : Ranks) (r : IsRanked nets i keys p)
-    (d : ℕ) (before : List ℕ) (b : ℕ) (q : Prepared nets lifts i before b) (h : Handed) (hi : HandedIs (units_in before b) d h) where
+    (d : ℕ) (before : List ℕ) (b : ℕ) (q : Prepared nets lifts i before b) (h : Handed) (hi : HandedIs (units_of_words (take b before)) d h) where
   abbrev us : List AccountLots
   us = order_in true nets lifts i
 
@@ -253,9 +253,11 @@ module _ (nets : List ℤ) (lifts : List ℕ) (i : ℕ) (o : CanOrder nets lifts
   ws = take (i * 18 + 18 - i * 18) (drop (i * 18) lifts)
 
   covers : h.count ≡ covered us d
+  unfolding units_in
   covers = hi.covers ∙ ap (λ vs. covered vs d) q.units ∙ sym (same_covered us (order_in false nets lifts i) (order_lots true nets lifts i) d)
 
   left : h.stock ≡ stock us d
+  unfolding units_in
   left = hi.left ∙ ap (λ vs. stock vs d) q.units ∙ sym (same_stock us (order_in false nets lifts i) (order_lots true nets lifts i) d)
 
   few_part : (k : ℕ) → length (stretches unit_lots (drop k us)) ≤ 128
@@ -277,15 +279,15 @@ module _ (nets : List ℤ) (lifts : List ℕ) (i : ℕ) (o : CanOrder nets lifts
         dues_small nets i (dues_of nets i) refl o.size c,
       )
 
-  pub can_wait : (count : ℕ) → count ≡ length (units_in keys p.n) → (out at : List ℕ) → length out ≡ 144 → length at ≡ 64 →
-      ((a : ℕ) → get_or at a 0 ≡ 0) → CanFeedWaiting keys p.n p.full ws h.count count out at
+  pub can_wait : (count : ℕ) → count ≡ length (units_of_words (words_of keys p)) → (out at : List ℕ) → length out ≡ 144 → length at ≡ 64 →
+      ((a : ℕ) → get_or at a 0 ≡ 0) → CanFeedWaiting (words_of keys p) (length (words_of keys p)) p.full ws h.count count out at
   can_wait count e out at lo la z =
       let w = can_deal_out keys p lifts i 0 [] (record { nets = nets; order = o; ranked = r; there = omega arith }) in
       record {
         parted = record {
           ready = w.ready;
-          plain = r.order.plain;
-          full = rw (runs_front keys p.full p.n w.ready.fulls, r.fulls) (fulls_front (runs_in keys p.n));
+          plain = words_plain nets i keys p r;
+          full = rw (runs_front (words_of keys p) p.full (length (words_of keys p)) w.ready.fulls, words_fulls nets i keys p r) (fulls_front (runs_in (words_of keys p) (length (words_of keys p))));
           small = ranked_smalls nets lifts i o keys p r;
         };
         spans = w.words;
@@ -300,7 +302,7 @@ module _ (nets : List ℤ) (lifts : List ℕ) (i : ℕ) (o : CanOrder nets lifts
         small = rw (ranked_lifted nets lifts i o keys p r) (small_part_lem h.count);
       }
 
-  module _ (out : List ℕ) (c : ℕ) (f : FedWaiting keys p.n p.full ws h.count out c) where
+  module _ (out : List ℕ) (c : ℕ) (f : FedWaiting (words_of keys p) (length (words_of keys p)) p.full ws h.count out c) where
     list : runs_in out c ≡ stretches unit_lots (waiting us d)
     list =
         f.list ∙ ap (λ vs. stretches unit_lots (drop h.count vs)) (ranked_lifted nets lifts i o keys p r)

@@ -8,7 +8,7 @@ use native.Mathlib.Numerals.{add-one}
 use lib.Dec.{leb, ltb, eqb}
 use native.Mathlib.Nat.{add-zero}
 use lib.ListN.{length, take, drop, get_or, set, length-map, length-set, length-take, get_or-map, get_or-append, get_or-eq_default}
-use lib.Seq.{get_or-take, get_or-drop, length-take-le, take-suc, take-suc-set, take-add, drop-cons, drop-drop}
+use lib.Seq.{take_all, get_or-take, get_or-drop, length-take-le, take-suc, take-suc-set, take-add, drop-cons, drop-drop}
 use borrow.Author.Tests.{leb-true, leb-false, ltb-true, ltb-false, eqb-true}
 use Rattle.rules.specs.Measures.{Every, unit_lots, total}
 use Rattle.rules.specs.Units.{AccountLots, account_lots, of_account}
@@ -175,6 +175,10 @@ module _ (runs : List ℕ) (n m : ℕ) (out : List ℕ) (c : ℕ) (at gaps : Lis
   abbrev gs : List ℕ
   gs = take p.gaps gaps
 
+  -- what is lent of the accounts is all of them
+  lent : take (length gs) gs ≡ gs
+  lent = take_all (length gs) gs (omega arith)
+
   own_all : (us : List AccountLots) → Waiting runs n m out c at gaps p us → Every (λ a. (a < 64) × Has unit_lots a (stretches unit_lots us)) gs
   own_all us w =
       each_map (λ a. (a < 64) × Has unit_lots a (stretches unit_lots w.fed)) (λ a. (a < 64) × Has unit_lots a (stretches unit_lots us))
@@ -211,21 +215,24 @@ module _ (runs : List ℕ) (n m : ℕ) (out : List ℕ) (c : ℕ) (at gaps : Lis
         }
 
     module _ (o₁ a₁ : List ℕ) (r : ℕ) (l : length o₁ ≡ length out) (j : FedSpan runs n m p.base p.len out o₁ c a₁ r) where
-      pub pending_take : CanTakeAll o₁ r a₁ gaps p.gaps
+      pub pending_take : CanTakeAll o₁ r a₁ gs (length gs)
       pending_take =
           record {
             whole = l ∙ w.whole;
             there = omega (arith, few_words o₁ r (w.fed ++ span) (l ∙ w.whole) (j.list w.fed w.list) fits, l, w.whole);
             index = j.index;
-            held = omega (arith, w.few, w.held);
+            held = omega arith;
             rest = stretches unit_lots can.units;
-            list = j.list w.fed w.list ∙ w.span;
-            own = own_all can.units w;
+            list = rw lent (j.list w.fed w.list ∙ w.span);
+            own = rw lent (own_all can.units w);
           }
 
-      pub pending_fed : (o₂ : List ℕ) → TakenAll o₁ o₂ r a₁ gaps p.gaps → FedPending runs n m out o₂ c at a₁ gaps p r
+      pub pending_fed : (o₂ : List ℕ) → TakenAll o₁ o₂ r a₁ gs (length gs) → FedPending runs n m out o₂ c at a₁ gaps p r
       pending_fed o₂ k =
-          record { list = λ us v. k.list (stretches unit_lots us) (j.list v.fed v.list ∙ v.span) (own_all us v); index = k.index }
+          record {
+            list = λ us v. k.list (stretches unit_lots us) (rw lent (j.list v.fed v.list ∙ v.span)) (rw lent (own_all us v));
+            index = k.index;
+          }
 
 -- A unit between two spans
 

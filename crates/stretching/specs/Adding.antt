@@ -1,5 +1,5 @@
 -- Stretches of what waits, as words, and where each account's stands.
-use Rattle.std.specs.Prelude.{◌≡◌, true, false, cond, List, ◌++◌, map, ℕ, suc, ◌-◌, ◌*◌, ◌/◌, ◌%◌, ◌≤◌, ◌<◌, min, leb, length, drop, get_or}
+use Rattle.std.specs.Prelude.{◌≡◌, true, false, cond, List, ◌++◌, map, ℕ, suc, ◌-◌, ◌*◌, ◌/◌, ◌≤◌, ◌<◌, min, leb, length, drop, get_or}
 use Rattle.rules.specs.Measures.{Every, unit_lots, total}
 use Rattle.rules.specs.Units.{AccountLots, account_lots, of_account}
 use Rattle.rules.specs.Fails.{is_full_of, stretches}

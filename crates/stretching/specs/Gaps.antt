@@ -1,5 +1,5 @@
 -- Spans side by side but for a unit between them that was lifted away: fed as one, and the unit taken off again.
-use Rattle.std.specs.Prelude.{◌≡◌, cond, false, List, [], ◌∷◌, ◌++◌, ℕ, suc, ◌+◌, ◌-◌, ◌≤◌, ◌<◌, length, take, drop, get_or}
+use Rattle.std.specs.Prelude.{◌≡◌, cond, false, List, [], ◌∷◌, ◌++◌, ℕ, suc, ◌+◌, ◌-◌, ◌≤◌, ◌<◌, length, take, drop, get_or, Option, Some, None}
 use Rattle.rules.specs.Measures.{Every, unit_lots, most_lots, total}
 use Rattle.rules.specs.Units.{AccountLots, account_lots, of_account}
 use Rattle.rules.specs.Fails.{is_full_of, stretches}
@@ -97,8 +97,9 @@ pub record Gap (runs : List ℕ) (n m : ℕ) (at : List ℕ) (p : Pending) (base
   pub seen : 0 < get_or at a 0
   pub unit : drop (p.base + p.len) (dealt_runs runs n m) ≡ account_lots a unit_lots ∷ drop base (dealt_runs runs n m)
 
-abbrev pub GapIs : List ℕ → ℕ → ℕ → List ℕ → Pending → ℕ → ℕ → Type 0
-GapIs runs n m at p base r = r < 64 → Gap runs n m at p base r
+abbrev pub GapIs : List ℕ → ℕ → ℕ → List ℕ → Pending → ℕ → Option ℕ → Type 0
+GapIs runs n m at p base (Some a) = (a < 64) × Gap runs n m at p base a
+GapIs runs n m at p base None = Unit {0}
 
 -- a span more
 pub record CanPass (runs : List ℕ) (n m : ℕ) (out : List ℕ) (c : ℕ) (at gaps : List ℕ) (p : Pending) (base len : ℕ) : Type 0 where

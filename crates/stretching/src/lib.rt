@@ -2,7 +2,7 @@
 // after the other. Units are never listed: of whole rounds each account's are taken together.
 #![tactic(auto)]
 
-ghost use Rattle.std.specs.Prelude.{◌≡◌};
+ghost use Rattle.std.specs.Prelude.{◌≡◌, length};
 ghost use Rattle.runs.specs.Runs.{part_of};
 ghost use Rattle.stretching.specs.Adding.{CanAdd, Added, share_of, CanFeed, Fed};
 ghost use Rattle.stretching.specs.Gaps.{CanTake, Taken, CanTakeAll, TakenAll, CanFeedPending, FedPending, CanGap, GapIs, CanPass, HasPassed};
@@ -12,13 +12,14 @@ use inturn::seat;
 use rules::{ACCOUNT_COUNT, ACCOUNTS, LIFT_WORDS};
 use runs::{RANK_COUNT, UNIT_WORD};
 use units::{Position, stand};
-use unlifting::{before_lifts, least};
+use unlifting::before_lifts;
 
 // at most so many lifted units part the spans that are fed as one
 const MOST_GAPS: usize = 8;
 
 // The units of one run more behind c stretches; answers how many there are then. `at` says of each account
-// where its stretch of full units stands: 0, or one more than its place.
+// where its stretch of full units stands: 0, or one more than its place (an `Option` would double the table that each
+// cutoff of an issue clears). The array of the stretches is lent whole, with their number, and is filled in place.
 fn add(out: &mut [u32], c: usize, at: &mut [usize], word: u32) -> usize
     requires { CanAdd out.old c at.old word }
     ensures { Added out.old out.new c at.new word result }
@@ -37,7 +38,7 @@ fn add(out: &mut [u32], c: usize, at: &mut [usize], word: u32) -> usize
         out[c] = word;
         return c + 1;
     }
-    out[p - 1] = out[p - 1] + word / ACCOUNTS * ACCOUNTS;
+    out[p - 1] += word / ACCOUNTS * ACCOUNTS;
     c
 }
 
@@ -52,10 +53,11 @@ fn share(word: u32, round: u32, rounds: u32) -> u32
     if q <= round {
         return word % ACCOUNTS;
     }
-    least(rounds, q - round) * UNIT_WORD + word % ACCOUNTS
+    rounds.min(q - round) * UNIT_WORD + word % ACCOUNTS
 }
 
-// What the runs from x to y have of so many rounds, behind c stretches; answers how many there are then.
+// What the runs from x to y have of so many rounds, behind c stretches; answers how many there are then. The runs come
+// whole with two places of them, since a seat is such a place and the facts of a seat are about all the runs.
 fn feed(
     runs: &[u32],
     x: usize,
@@ -69,11 +71,9 @@ fn feed(
     requires { CanFeed runs.now x y round rounds out.old c at.old }
     ensures { Fed runs.now x y round rounds out.old out.new c at.new result }
 {
-    let mut j = x;
     let mut k = c;
-    while j < y {
+    for j in x..y {
         k = add(out, k, at, share(runs[j], round, rounds));
-        j += 1;
     }
     k
 }
@@ -83,7 +83,6 @@ fn feed(
 // small units or the front of a round.
 fn feed_span(
     runs: &[u32],
-    n: usize,
     m: usize,
     base: u32,
     len: u32,
@@ -91,10 +90,10 @@ fn feed_span(
     c: usize,
     at: &mut [usize],
 ) -> usize
-    requires { CanFeedSpan runs.now n m base len out.old c at.old }
-    ensures { FedSpan runs.now n m base len out.old out.new c at.new result }
+    requires { CanFeedSpan runs.now (length runs.now) m base len out.old c at.old }
+    ensures { FedSpan runs.now (length runs.now) m base len out.old out.new c at.new result }
 {
-    let d = seat(runs, n, m, base);
+    let d = seat(runs, m, base);
     let r = d.round;
     let w = d.wide;
     let j = d.at;
@@ -105,7 +104,7 @@ fn feed_span(
     if x <= w - j {
         return feed(runs, j, j + x, r, 1, out, c, at);
     }
-    let g = seat(runs, n, m, base + len);
+    let g = seat(runs, m, base + len);
     let q = g.round;
     let v = g.at;
     let a = feed(runs, j, w, r, 1, out, c, at);
@@ -137,17 +136,15 @@ fn take_off(out: &mut [u32], c: usize, at: &[usize], a: usize)
     ensures { Taken out.old out.new c at.now a }
 {
     let p = at[a];
-    out[p - 1] = out[p - 1] - UNIT_WORD;
+    out[p - 1] -= UNIT_WORD;
 }
 
-// A full unit of each of n accounts taken off.
-fn take_all(out: &mut [u32], c: usize, at: &[usize], gaps: &[usize], n: usize)
-    requires { CanTakeAll out.old c at.now gaps.now n }
-    ensures { TakenAll out.old out.new c at.now gaps.now n }
+// A full unit of each of these accounts taken off, the last first.
+fn take_all(out: &mut [u32], c: usize, at: &[usize], gaps: &[usize])
+    requires { CanTakeAll out.old c at.now gaps.now (length gaps.now) }
+    ensures { TakenAll out.old out.new c at.now gaps.now (length gaps.now) }
 {
-    let mut j = n;
-    while 0 < j {
-        j -= 1;
+    for j in (0..gaps.len()).rev() {
         take_off(out, c, at, gaps[j]);
     }
 }
@@ -155,7 +152,6 @@ fn take_all(out: &mut [u32], c: usize, at: &[usize], gaps: &[usize], n: usize)
 // What is still to be fed, behind c stretches; answers how many there are then.
 fn feed_pending(
     runs: &[u32],
-    n: usize,
     m: usize,
     out: &mut [u32],
     c: usize,
@@ -163,45 +159,43 @@ fn feed_pending(
     gaps: &[usize],
     p: Pending,
 ) -> usize
-    requires { CanFeedPending runs.now n m out.old c at.old gaps.now p }
-    ensures { FedPending runs.now n m out.old out.new c at.old at.new gaps.now p result }
+    requires { CanFeedPending runs.now (length runs.now) m out.old c at.old gaps.now p }
+    ensures { FedPending runs.now (length runs.now) m out.old out.new c at.old at.new gaps.now p result }
 {
-    let r = feed_span(runs, n, m, p.base, p.len, out, c, at);
-    take_all(out, r, at, gaps, p.gaps);
+    let r = feed_span(runs, m, p.base, p.len, out, c, at);
+    take_all(out, r, at, &gaps[..p.gaps]);
     r
 }
 
-// The account of the one full unit between a span and a place, where the account has a stretch; else 64.
-fn gap(runs: &[u32], n: usize, m: usize, at: &[usize], p: Pending, base: u32) -> usize
-    requires { CanGap runs.now n m at.now p base }
-    ensures { GapIs runs.now n m at.now p base result }
+// The account of the one full unit between a span and a place, where the account has a stretch.
+fn gap(runs: &[u32], m: usize, at: &[usize], p: Pending, base: u32) -> Option<usize>
+    requires { CanGap runs.now (length runs.now) m at.now p base }
+    ensures { GapIs runs.now (length runs.now) m at.now p base result }
 {
     if base == 0 {
-        return ACCOUNT_COUNT;
+        return None;
     }
     if base - 1 != p.base + p.len {
-        return ACCOUNT_COUNT;
+        return None;
     }
     if MOST_GAPS <= p.gaps {
-        return ACCOUNT_COUNT;
+        return None;
     }
-    let d = seat(runs, n, m, base - 1);
-    let j = d.at;
+    let d = seat(runs, m, base - 1);
     if d.wide == 0 {
-        return ACCOUNT_COUNT;
+        return None;
     }
-    let a = (runs[j] % ACCOUNTS) as usize;
+    let a = (runs[d.at] % ACCOUNTS) as usize;
     if at[a] == 0 {
-        return ACCOUNT_COUNT;
+        return None;
     }
-    a
+    Some(a)
 }
 
 // A span more. Where only a full unit stands between it and the one before, of an account that has a stretch, both
 // are fed as one later, and the unit is taken off; else the one before is fed now.
 fn pass(
     runs: &[u32],
-    n: usize,
     m: usize,
     out: &mut [u32],
     c: usize,
@@ -211,29 +205,27 @@ fn pass(
     base: u32,
     len: u32,
 ) -> Passed
-    requires { CanPass runs.now n m out.old c at.old gaps.old p base len }
-    ensures { HasPassed runs.now n m out.old out.new c at.old at.new gaps.old gaps.new p base len result }
+    requires { CanPass runs.now (length runs.now) m out.old c at.old gaps.old p base len }
+    ensures { HasPassed runs.now (length runs.now) m out.old out.new c at.old at.new gaps.old gaps.new p base len result }
 {
-    let a = gap(runs, n, m, at, p, base);
-    let g = p.gaps;
-    if a < ACCOUNT_COUNT {
-        gaps[g] = a;
+    if let Some(a) = gap(runs, m, at, p, base) {
+        gaps[p.gaps] = a;
         let pending = Pending {
             base: p.base,
             len: p.len + 1 + len,
-            gaps: g + 1,
+            gaps: p.gaps + 1,
         };
         return Passed { count: c, pending };
     }
-    let count = feed_pending(runs, n, m, out, c, at, gaps, p);
+    let count = feed_pending(runs, m, out, c, at, gaps, p);
     let pending = Pending { base, len, gaps: 0 };
     Passed { count, pending }
 }
 
-// The stretches of the units from unit k on, of so many, dealt in turn and then lifted; answers how many.
+// The stretches of the units from unit k on, of so many, dealt in turn and then lifted; answers how many. A turn passes a
+// whole span, as long as lifts leave it, so no range counts the turns of the loop.
 fn feed_waiting(
     runs: &[u32],
-    n: usize,
     m: usize,
     words: &[u32],
     k: u32,
@@ -241,8 +233,8 @@ fn feed_waiting(
     out: &mut [u32],
     at: &mut [usize],
 ) -> usize
-    requires { CanFeedWaiting runs.now n m words.now k count out.old at.old }
-    ensures { FedWaiting runs.now n m words.now k out.new result }
+    requires { CanFeedWaiting runs.now (length runs.now) m words.now k count out.old at.old }
+    ensures { FedWaiting runs.now (length runs.now) m words.now k out.new result }
 {
     let mut gaps = [0usize; MOST_GAPS];
     let mut c: usize = 0;
@@ -254,13 +246,13 @@ fn feed_waiting(
     let mut p = k;
     while p < count {
         let s = before_lifts(words, p);
-        let x = least(s.len, count - p);
-        let r = pass(runs, n, m, out, c, at, &mut gaps, q, s.base, x);
+        let x = s.len.min(count - p);
+        let r = pass(runs, m, out, c, at, &mut gaps, q, s.base, x);
         c = r.count;
         q = r.pending;
         p += x;
     }
-    feed_pending(runs, n, m, out, c, at, &gaps, q)
+    feed_pending(runs, m, out, c, at, &gaps, q)
 }
 
 // An issue at its cutoff: how many stretches wait, and the position in front of all fails.
@@ -279,13 +271,20 @@ pub fn start(nets: &[i32], lifts: &[u32], i: usize, d: u32, out: &mut [u32]) -> 
     let mut keys = [0u32; RANK_COUNT];
     let mut at = [0usize; ACCOUNT_COUNT];
     let p = dealing::prepare(nets, lifts, i, &mut keys, out);
-    let h = handover::handover(out, p.lifted, d);
-    let k = p.ranks;
-    let n = k.n;
-    let count = handover::number(&keys, n);
+    let h = handover::handover(&out[..p.lifted], d);
+    let ranked = &keys[..p.ranks.n];
+    let count = handover::number(ranked);
     let s = i * LIFT_WORDS;
     let e = s + LIFT_WORDS;
-    let c = feed_waiting(&keys, n, k.full, &lifts[s..e], h.count, count, out, &mut at);
+    let c = feed_waiting(
+        ranked,
+        p.ranks.full,
+        &lifts[s..e],
+        h.count,
+        count,
+        out,
+        &mut at,
+    );
     if c == 0 {
         return Begun {
             n: c,

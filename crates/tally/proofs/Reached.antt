@@ -16,7 +16,7 @@ use Rattle.rules.specs.Tally.{Tallied, answered, after, after_all, start}
 use Rattle.laws.proofs.Sound.{SoundBook, sound_parts, parts_sound}
 use Rattle.laws.proofs.Ledger.{length_column}
 use Rattle.laws.proofs.Answers.{by_answer}
-use Rattle.laws.proofs.Called.{Standing, stands, fresh_sound}
+use Rattle.laws.proofs.Called.{Sizes, Standing, stands, fresh_sound}
 use Rattle.tally.proofs.Taking.{starts}
 
 start_standing : Standing start.book
@@ -95,6 +95,22 @@ reached cs =
         ledger = ledger_all start cs start_standing start_ledger;
       };
       sound = reached_sound cs;
+    }
+
+-- after any call on a sound book in columns of a book's lengths, so is the book
+pub called_reached : (b : Book) (c : Call) → Reached b → Reached (called b c).book
+called_reached b c r =
+    let l = r.lengths in
+    let z : Sizes b = record { nets = l.cells.nets; delivered = l.cells.delivered; lifts = l.lifts; charges = l.charges } in
+    let h = stands b c (record { sizes = z; parts = sound_parts b r.sound }) in
+    record {
+      lengths = record {
+        cells = record { nets = h.sizes.nets; delivered = h.sizes.delivered };
+        lifts = h.sizes.lifts;
+        charges = h.sizes.charges;
+        ledger = by_answer (λ a. SoundBook a.book → LedgerOf a.book) b c (λ y k. ledger_kept b c k l.ledger) (λ n k. l.ledger) h.parts;
+      };
+      sound = parts_sound (called b c).book h.parts;
     }
 
 -- a refused call leaves everything as it was

@@ -5,11 +5,11 @@ use Prim.Native.Nat.{ℕ, ◌≤◌, ◌<◌}
 use native.Mathlib.Omega.{arith}
 use lib.ListN.{length, drop, length-drop}
 use borrow.Author.Tests.{le-leb, lt-leb, lt-ltb, le-ltb}
-use Rattle.rules.specs.declared.Found.{Found}
-use Rattle.rules.specs.declared.Found.TheVariants as found
+use Rattle.std.specs.Prelude.{Option, Some, None}
+use Rattle.rules.specs.declared.Unit.{Unit}
 use Rattle.rules.specs.Units.{AccountLots, account_lots}
-use Rattle.rules.specs.Calls.{AskAnswer, ticket_for, some_ticket, no_ticket}
-use Rattle.runs.specs.Runs.{found_of}
+use Rattle.rules.specs.Calls.{ticket_for, some_ticket, no_ticket}
+use Rattle.runs.specs.Runs.{unit_of, found_of}
 use Rattle.tickets.specs.Tickets.{unhanded_ticket}
 
 module _ (us : List AccountLots) (h today n i k : ℕ) where
@@ -29,20 +29,21 @@ module _ (us : List AccountLots) (h today n i k : ℕ) where
   unfolding unhanded_ticket
   is_waiting a x vs l e = simp (le-leb h k l, lt-ltb k (length us) (omega (arith, length-drop k us, ap length e)), e)
 
--- of units and a count that are others by name
-pub ticket_as : (us vs : List AccountLots) (h today n m i k : ℕ) → us ≡ vs → n ≡ m → unhanded_ticket us h today n i k ≡ unhanded_ticket vs h today m i k
-ticket_as us vs h today n m i k e f = ap (λ ws. unhanded_ticket ws h today n i k) e ∙ ap (λ c. unhanded_ticket vs h today c i k) f
-
--- the ticket of what the unit question finds
-abbrev pub found_ticket : ℕ → ℕ → ℕ → ℕ → Found → AskAnswer
-found_ticket today n i k (found.Unit a x) = some_ticket (ticket_for i k (account_lots a x) today n)
-found_ticket today n i k found.Nothing = no_ticket 16
-found_ticket today n i k (found.Refused r) = no_ticket r
-
-pub of_found : (us : List AccountLots) (h today n i k : ℕ) (f : Found) → h ≤ k → f ≡ found_of (drop k us) →
-    found_ticket today n i k f ≡ unhanded_ticket us h today n i k
-of_found us h today n i k f l e = ap (found_ticket today n i k) e ∙ by_list (drop k us) refl
+-- by what the unit question finds
+pub found_some : (us : List AccountLots) (h today n m i k : ℕ) (u : Unit) → h ≤ k → Some u ≡ found_of (drop k us) → n ≡ m →
+    some_ticket (ticket_for i k (account_lots u.account u.lots) today n) ≡ unhanded_ticket us h today m i k
+found_some us h today n m i k u l e c = by_list (drop k us) refl
   where
-    by_list : (vs : List AccountLots) → drop k us ≡ vs → found_ticket today n i k (found_of vs) ≡ unhanded_ticket us h today n i k
-    by_list [] e = is_missing us h today n i k l e
-    by_list (v ∷ vs) e = is_waiting us h today n i k v.account v.lots vs l e
+    by_list : (vs : List AccountLots) → drop k us ≡ vs → some_ticket (ticket_for i k (account_lots u.account u.lots) today n) ≡ unhanded_ticket us h today m i k
+    by_list [] q = absurd (let z : Some u ≡ None = e ∙ ap found_of q in cc)
+    by_list (v ∷ vs) q =
+        let z : Some u ≡ Some (unit_of v.account v.lots) = e ∙ ap found_of q in
+        let w : u ≡ unit_of v.account v.lots = cc in
+        rw (w, c) (is_waiting us h today m i k v.account v.lots vs l q)
+
+pub found_none : (us : List AccountLots) (h today n i k : ℕ) → h ≤ k → None ≡ found_of (drop k us) → no_ticket 16 ≡ unhanded_ticket us h today n i k
+found_none us h today n i k l e = by_list (drop k us) refl
+  where
+    by_list : (vs : List AccountLots) → drop k us ≡ vs → no_ticket 16 ≡ unhanded_ticket us h today n i k
+    by_list [] q = is_missing us h today n i k l q
+    by_list (v ∷ vs) q = absurd (let z : None ≡ Some (unit_of v.account v.lots) = e ∙ ap found_of q in cc)

@@ -1,7 +1,9 @@
 -- The reason a unit has not come: for issue and unit number the book tells one of four things.
-use Rattle.std.specs.Prelude.{Bool, not, cond, ◌&&◌, List, [], ◌∷◌, ℕ, zero, suc, ◌-◌, ltb, eqb, length, take, drop}
+use Rattle.std.specs.Prelude.{Bool, not, cond, ◌&&◌, List, [], ◌∷◌, ℕ, zero, suc, ◌-◌, ltb, eqb, length, take, drop, Result, Ok, Err}
 use Rattle.rules.specs.declared.Book.{Book}
 use Rattle.rules.specs.declared.Phase.{Phase}
+use Rattle.rules.specs.declared.Refusal.{Refusal}
+use Rattle.rules.specs.Refusals.{number_of}
 use Rattle.rules.specs.Units.{AccountLots, sum_lots}
 use Rattle.rules.specs.Handover.{covered, stock, first_unit}
 use Rattle.rules.specs.Book.{is_taking, is_cut, delivered_total, Orders, order_of}
@@ -18,13 +20,13 @@ pub data StatusAnswer : Type 0 where
   fails_wholly : StatusAnswer
   status_refused : ℕ → StatusAnswer
 
--- the paper's answer for each case of the enum
-abbrev pub told_answer : Told → StatusAnswer
-told_answer told.Handed = is_handed
-told_answer (told.Waiting n) = waits_for n
-told_answer (told.PartlyFailed x) = fails_partly x
-told_answer told.WhollyFailed = fails_wholly
-told_answer (told.Refused r) = status_refused r
+-- the paper's answer for each answer of the code
+abbrev pub told_answer : Result Told Refusal → StatusAnswer
+told_answer (Ok told.Handed) = is_handed
+told_answer (Ok (told.Waiting n)) = waits_for n
+told_answer (Ok (told.PartlyFailed x)) = fails_partly x
+told_answer (Ok told.WhollyFailed) = fails_wholly
+told_answer (Err r) = status_refused (number_of r)
 
 -- unit k of some units, of which d lots are delivered
 

@@ -1,14 +1,13 @@
 // What is told of a unit: definitions and worked days.
 
 // What is told of a unit: handed; waiting, with so many lots; partly failed, with the lots lacking; wholly
-// failed; or the refusal's number.
+// failed.
 #![tactic(auto)]
 
-#[derive(Clone, Copy, Drop)]
+#[derive(Clone, Copy, PartialEq, Eq, Drop)]
 pub enum Told {
     Handed,
     Waiting(u32),
     PartlyFailed(u32),
     WhollyFailed,
-    Refused(u32),
 }

@@ -1,23 +1,25 @@
 -- The code's two groups, by columns of sizes and counterparties, are those of the definitions.
 use mathlib.Core.Path.{◌≡◌, refl, sym, ap, ◌∙◌}
-use mathlib.Core.Bool.{Bool, true, false, cond, not, ◌&&◌}
+use mathlib.Core.Bool.{Bool, true, cond, not, ◌&&◌}
 use mathlib.Core.List.{List, [], ◌∷◌, ◌++◌}
 use Prim.Native.Nat.{ℕ, zero, suc, ◌≤◌, ◌<◌}
 use native.Mathlib.Omega.{arith}
 use lib.Dec.{leb, ltb, eqb}
 use lib.ListN.{length, get_or, drop, replicate, length-replicate}
-use lib.IntN.{ℤ}
 use borrow.Author.Tests.{le-leb, lt-leb, leb-true, eqb-true}
 use Rattle.rules.specs.Book.{all}
+use Rattle.rules.specs.declared.Refusal.{Refusal}
+use Rattle.rules.specs.Refusals.{number_of as refusal_number}
+use Rattle.laws.proofs.Refused.{above_0}
 use Rattle.rules.specs.Records.{over}
 use Rattle.rules.specs.Questions.{first_no}
 use Rattle.laws.proofs.Basics.{by_test, and_left, and_right}
 use Rattle.laws.proofs.Answers.{all_yes, said_yes, said_no}
-use Rattle.reports.specs.Reports.{most_reports, last_sub, Reports, reports, number_of, receipts, deliveries, net_receiver, kept, sub_at, received_by, eligible, size_of, eligible_lots, faces}
+use Rattle.reports.specs.Reports.{most_reports, last_sub, Reports, number_of, net_receiver, kept, sub_at, received_by, eligible, size_of, eligible_lots, faces}
 use Rattle.reports.specs.Allotting.{Allotment, allotment, allot}
 use Rattle.reports.specs.Trust.{columns_right, draw_right, ask_eligible, report_asks, trust_asks, facing, others, no_shares, shares_of, answered, trust_answer, trust}
-use Rattle.eligible.specs.Steps.{unfaced}
-use Rattle.sharing.specs.Steps.{in_group, group, allot_group, shared_out}
+use Rattle.sharing.specs.Steps.{in_group, grouped, allot_group, shared_out}
+use Rattle.sharing.specs.declared.Group.TheVariants as the
 use Rattle.reports.proofs.Allotting.{those_below, those_same, allot_same, allot_length, allot_beyond}
 use Rattle.trust.proofs.Asks.{no_before, yes_before}
 use Rattle.reports.proofs.Shares.{facing_below, others_below, shares_length}
@@ -33,50 +35,41 @@ eligible_size : (rs : Reports) (k : ℕ) → ltb 0 (size_of rs k) ≡ eligible r
 unfolding size_of eligible
 eligible_size rs k = sized (kept rs k) (net_receiver rs (sub_at rs k)) (received_by rs k)
 
--- counterparties have no part in sizes
-pub size_unfaced : (subs parties : List ℕ) (lots : List ℤ) (earlier : List ℕ) (k : ℕ) →
-    size_of (unfaced subs lots earlier) k ≡ size_of (reports subs parties lots earlier) k
-unfolding size_of eligible receipts deliveries
-size_unfaced subs parties lots earlier k = refl
-
-pub lots_unfaced : (subs parties : List ℕ) (lots : List ℤ) (earlier : List ℕ) →
-    eligible_lots (unfaced subs lots earlier) ≡ eligible_lots (reports subs parties lots earlier)
-unfolding eligible_lots size_of eligible receipts deliveries
-lots_unfaced subs parties lots earlier = refl
-
 module _ (rs : Reports) (sizes draw : List ℕ) (failing : ℕ)
     (each : (k : ℕ) → k < number_of rs → get_or sizes k 0 ≡ size_of rs k) (below : all (λ k. ltb k (number_of rs)) draw ≡ true) where
-  group_facing : (a : Allotment) → allot_group true failing sizes rs.parties draw a ≡ allot (size_of rs) (facing rs failing draw) a
+  group_facing : (a : Allotment) → allot_group the.Facing failing sizes rs.parties draw a ≡ allot (size_of rs) (facing rs failing draw) a
   unfolding facing
   group_facing a =
-      allot_same (λ k. get_or sizes k 0) (size_of rs) (number_of rs) each (group true failing sizes rs.parties draw) a
-      (those_below (λ k. in_group true failing (get_or sizes k 0) (get_or rs.parties k 0)) (number_of rs) draw below)
+      allot_same (λ k. get_or sizes k 0) (size_of rs) (number_of rs) each (grouped the.Facing failing sizes rs.parties draw) a
+      (those_below (λ k. in_group the.Facing failing (get_or sizes k 0) (get_or rs.parties k 0)) (number_of rs) draw below)
       ∙ ap (λ l. allot (size_of rs) l a)
-      (those_same (λ k. in_group true failing (get_or sizes k 0) (get_or rs.parties k 0)) (λ k. eligible rs k && faces rs failing k) (number_of rs)
+      (those_same (λ k. in_group the.Facing failing (get_or sizes k 0) (get_or rs.parties k 0)) (λ k. eligible rs k && faces rs failing k) (number_of rs)
       (λ k h. rw (each k h, eligible_size rs k)) draw below)
 
-  group_others : (a : Allotment) → allot_group false failing sizes rs.parties draw a ≡ allot (size_of rs) (others rs failing draw) a
+  group_others : (a : Allotment) → allot_group the.Others failing sizes rs.parties draw a ≡ allot (size_of rs) (others rs failing draw) a
   unfolding others
   group_others a =
-      allot_same (λ k. get_or sizes k 0) (size_of rs) (number_of rs) each (group false failing sizes rs.parties draw) a
-      (those_below (λ k. in_group false failing (get_or sizes k 0) (get_or rs.parties k 0)) (number_of rs) draw below)
+      allot_same (λ k. get_or sizes k 0) (size_of rs) (number_of rs) each (grouped the.Others failing sizes rs.parties draw) a
+      (those_below (λ k. in_group the.Others failing (get_or sizes k 0) (get_or rs.parties k 0)) (number_of rs) draw below)
       ∙ ap (λ l. allot (size_of rs) l a)
-      (those_same (λ k. in_group false failing (get_or sizes k 0) (get_or rs.parties k 0)) (λ k. eligible rs k && not (faces rs failing k)) (number_of rs)
+      (those_same (λ k. in_group the.Others failing (get_or sizes k 0) (get_or rs.parties k 0)) (λ k. eligible rs k && not (faces rs failing k)) (number_of rs)
       (λ k h. rw (each k h, eligible_size rs k)) draw below)
 
   -- the shares over the lent output
-  pub shared_over : (fail : ℕ) (out : List ℕ) →
-      shared_out failing (number_of rs) sizes rs.parties draw fail out ≡ over (shares_of rs draw fail failing) out
+  pub shared_over : length sizes ≡ number_of rs → (fail : ℕ) (out : List ℕ) →
+      shared_out failing sizes rs.parties draw fail out ≡ over (shares_of rs draw fail failing) out
   unfolding shared_out shares_of
-  shared_over fail out =
+  shared_over places fail out =
       let n = number_of rs in
       let z : List ℕ = replicate n 0 in
       let rest = drop n out in
       let first = allot (size_of rs) (facing rs failing draw) (no_shares rs fail) in
-      let one : allot_group true failing sizes rs.parties draw (allotment fail (z ++ rest)) ≡ allotment first.left (first.shares ++ rest) =
+      let one : allot_group the.Facing failing sizes rs.parties draw (allotment fail (z ++ rest)) ≡ allotment first.left (first.shares ++ rest) =
       group_facing (allotment fail (z ++ rest))
       ∙ allot_beyond (size_of rs) n (facing rs failing draw) fail z rest (length-replicate n 0) (facing_below rs failing draw n below) in
-      ap (λ x. (allot_group false failing sizes rs.parties draw x).shares) one
+      ap (λ m. (allot_group the.Others failing sizes rs.parties draw
+      (allot_group the.Facing failing sizes rs.parties draw (allotment fail (replicate m 0 ++ drop m out)))).shares) places
+      ∙ ap (λ x. (allot_group the.Others failing sizes rs.parties draw x).shares) one
       ∙ ap (λ x. x.shares)
       (group_others (allotment first.left (first.shares ++ rest))
       ∙ allot_beyond (size_of rs) n (others rs failing draw) first.left first.shares rest
@@ -105,6 +98,10 @@ module _ (rs : Reports) (draw : List ℕ) (fail failing : ℕ) (out : List ℕ) 
       answer_refused r (shares_of rs draw fail failing) out h
       ∙ ap (λ m. trust_answer m (shares_of rs draw fail failing) out)
       (e ∙ sym (no_before (report_asks rs draw fail failing out) (ask_eligible rs fail ∷ []) (λ z. h (e ∙ z))))
+
+  pub refused_by : (r : Refusal) → refusal_number r ≡ first_no (report_asks rs draw fail failing out) →
+      answered (refusal_number r) out ≡ trust rs draw fail failing out
+  refused_by r e = refused_first (refusal_number r) e (λ z. let o = above_0 r in omega arith)
 
   module _ (yes : first_no (report_asks rs draw fail failing out) ≡ 0) where
     last : first_no (trust_asks rs draw fail failing out) ≡ first_no (ask_eligible rs fail ∷ [])

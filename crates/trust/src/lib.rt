@@ -5,12 +5,14 @@ ghost use Rattle.std.specs.Prelude.{◌≡◌};
 ghost use Rattle.rules.specs.Measures.{most_lots};
 ghost use Rattle.rules.specs.Book.{all, within_size};
 ghost use Rattle.rules.specs.Questions.{first_no};
-ghost use Rattle.reports.specs.Reports.{reports};
+ghost use Rattle.rules.specs.Refusals.{number_in};
+ghost use Rattle.reports.specs.Lent.{reports_in};
 ghost use Rattle.reports.specs.Trust.{drawn_right, few_right, report_asks, answered, trust};
 
 use drawing::{below, draw_right};
 use eligible::sizes_of;
-use rules::{ACCOUNT_COUNT, LAST_ACCOUNT, MOST_LOTS};
+use reports::Columns;
+use rules::{ACCOUNT_COUNT, LAST_ACCOUNT, MOST_LOTS, Refusal};
 use sharing::share;
 
 // at most so many reports, and as many words of output
@@ -23,104 +25,81 @@ const SUB_COUNT: usize = 32;
 fn lots_right(lots: &[i32]) -> bool
     ensures { result ≡ all (within_size most_lots) lots.now }
 {
-    let mut good = true;
-    let mut i: usize = 0;
-    while i < lots.len() {
-        let x = lots[i];
-        good = good & book::within(x);
-        i += 1;
-    }
-    good
+    lots.iter().all(|x| book::within(*x))
 }
 
 // Has every column a place for each report, and is the draw each report number just once?
-fn drawn(subs: &[u32], parties: &[u32], lots: &[i32], earlier: &[u8], draw: &[u32]) -> bool
-    ensures { result ≡ drawn_right (reports subs.now parties.now lots.now earlier.now) draw.now }
+fn drawn(columns: Columns, draw: &[u32]) -> bool
+    ensures { result ≡ drawn_right (reports_in columns.entry) draw.now }
 {
-    if parties.len() != subs.len() {
-        return false;
-    }
-    if lots.len() != subs.len() {
-        return false;
-    }
-    if earlier.len() != subs.len() {
-        return false;
-    }
-    draw_right(subs.len(), draw)
+    let n = columns.subs.len();
+    columns.parties.len() == n
+        && columns.lots.len() == n
+        && columns.earlier.len() == n
+        && draw_right(n, draw)
 }
 
 // Are there at most 256 reports, of sub-accounts 0 to 31?
 fn few(subs: &[u32]) -> bool
     ensures { result ≡ few_right subs.now }
 {
-    if MOST_REPORTS < subs.len() {
-        return false;
-    }
-    below(subs, SUB_COUNT)
+    subs.len() <= MOST_REPORTS && below(subs, SUB_COUNT)
 }
 
-// The questions but the last, that of the eligible lots: the number of the first 'no', 0 where there is none.
+// The questions but the last, that of the eligible lots: the first 'no'.
 fn report_asks(
-    subs: &[u32],
-    parties: &[u32],
-    lots: &[i32],
-    earlier: &[u8],
+    columns: Columns,
     draw: &[u32],
     fail: u32,
     failing: u32,
     out: &[u32],
-) -> u32
-    ensures { result ≡ first_no (report_asks (reports subs.now parties.now lots.now earlier.now) draw.now fail failing out.now) }
+) -> Result<(), Refusal>
+    ensures { number_in result ≡ first_no (report_asks (reports_in columns.entry) draw.now fail failing out.now) }
 {
     if out.len() < MOST_REPORTS {
-        return 1;
+        return Err(Refusal::Output);
     }
     if LAST_ACCOUNT < failing {
-        return 5;
+        return Err(Refusal::Account);
     }
-    if !below(parties, ACCOUNT_COUNT) {
-        return 5;
+    if !below(columns.parties, ACCOUNT_COUNT) {
+        return Err(Refusal::Account);
     }
     if fail < 1 {
-        return 7;
+        return Err(Refusal::Lots);
     }
     if MOST_LOTS < fail {
-        return 7;
+        return Err(Refusal::Lots);
     }
-    if !lots_right(lots) {
-        return 7;
+    if !lots_right(columns.lots) {
+        return Err(Refusal::Lots);
     }
-    if !drawn(subs, parties, lots, earlier, draw) {
-        return 21;
+    if !drawn(columns, draw) {
+        return Err(Refusal::Draw);
     }
-    if !few(subs) {
-        return 22;
+    if !few(columns.subs) {
+        return Err(Refusal::Reports);
     }
-    0
+    Ok(())
 }
 
-// Each report's share of the fail, at the place of its number: the refusal's number, 0 where it is done.
+// Each report's share of the fail, at the place of its number.
 pub fn day_trust(
-    subs: &[u32],
-    parties: &[u32],
-    lots: &[i32],
-    earlier: &[u8],
+    columns: Columns,
     draw: &[u32],
     fail: u32,
     failing: u32,
     out: &mut [u32],
-) -> u32
-    ensures { answered result out.new ≡ trust (reports subs.now parties.now lots.now earlier.now) draw.now fail failing out.old }
+) -> Result<(), Refusal>
+    ensures { answered (number_in result) out.new ≡ trust (reports_in columns.entry) draw.now fail failing out.old }
 {
-    let no = report_asks(subs, parties, lots, earlier, draw, fail, failing, out);
-    if no != 0 {
-        return no;
-    }
+    report_asks(columns, draw, fail, failing, out)?;
+    let n = columns.subs.len();
     let mut sizes = [0u32; MOST_REPORTS];
-    let sum = sizes_of(subs, lots, earlier, &mut sizes);
+    let sum = sizes_of(columns, &mut sizes);
     if sum < fail as u64 {
-        return 23;
+        return Err(Refusal::Eligible);
     }
-    share(failing, subs.len(), &sizes, parties, draw, fail, out);
-    0
+    share(failing, &sizes[..n], columns.parties, draw, fail, out);
+    Ok(())
 }

@@ -3,8 +3,22 @@
 #![tactic(auto)]
 
 ghost use Rattle.std.specs.Prelude.{◌≡◌};
+ghost use Rattle.rules.specs.Refusals.{number_in};
 ghost use Rattle.reports.specs.Reports.{reports};
 ghost use Rattle.reports.specs.Trust.{answered, trust};
+
+use reports::Columns;
+use rules::Refusal;
+
+// The refusal's number, 0 where it is done.
+fn number(outcome: Result<(), Refusal>) -> u32
+    ensures { result ≡ number_in outcome }
+{
+    match outcome {
+        Ok(()) => 0,
+        Err(refusal) => refusal.number(),
+    }
+}
 
 // Each report's share of the fail, at the place of its number: the refusal's number, 0 where it is done.
 #[unsafe(no_mangle)]
@@ -20,5 +34,11 @@ pub extern "C" fn day_trust(
 ) -> u32
     ensures { answered result out.new ≡ trust (reports subs.now parties.now lots.now earlier.now) draw.now fail failing out.old }
 {
-    trust::day_trust(subs, parties, lots, earlier, draw, fail, failing, out)
+    let columns = Columns {
+        subs,
+        parties,
+        lots,
+        earlier,
+    };
+    number(trust::day_trust(columns, draw, fail, failing, out))
 }

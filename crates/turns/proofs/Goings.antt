@@ -8,15 +8,13 @@ use native.Mathlib.Omega.{arith}
 use native.Mathlib.Nat.{add-zero}
 use borrow.Author.Tests.{leb-true, leb-false, ltb-true, ltb-false}
 use lib.ListN.{length, take, drop, length-drop}
-use lib.Seq.{drop-append-le, drop-drop, take_all, sets}
+use lib.Seq.{drop-append-le, drop-drop, take_all}
 use Rattle.rules.specs.declared.Book.{Book}
 use Rattle.rules.specs.declared.Instruction.{Instruction}
-use Rattle.rules.specs.declared.Instruction.TheVariants as instruction
 use Rattle.rules.specs.declared.Line.{Line}
 use Rattle.rules.specs.declared.Name.{Name}
 use Rattle.rules.specs.declared.Name.TheVariants.{Tape}
-use Rattle.rules.specs.declared.Read.TheVariants.{Instr, Refused}
-use Rattle.rules.specs.Measures.{output_words}
+use Rattle.std.specs.Prelude.{Ok, Err}
 use Rattle.rules.specs.Book.{sound}
 use Rattle.rules.specs.Calls.{Call, Answer, called}
 use Rattle.rules.specs.Tape.{read_of, quotes_of}
@@ -24,50 +22,23 @@ use Rattle.rules.specs.Run.{Ran, call_of, name_of, line, any_output, answer_of, 
 use Rattle.rules.specs.Text.{line_text, lines_text}
 use Rattle.report.specs.Added.{Added}
 use Rattle.laws.proofs.Called.{Sizes, called_sound}
-use Rattle.rereading.proofs.Rolls.{roll_quotes}
-use Rattle.rereading.proofs.Run.{run_ended, run_refused, run_instruction, not_ended, answer_lent}
+use Rattle.rereading.proofs.Run.{run_ended, run_refused, run_instruction, not_ended}
 use Rattle.rereading.proofs.Sized.{read_sized}
 use Rattle.rereading.proofs.Window.{read_append, quotes_append}
-use Rattle.answers.specs.declared.Turn.{Turn}
-use Rattle.answers.specs.Turns.{Gives}
-use Rattle.turns.specs.declared.Step.{Step}
-use Rattle.turns.specs.Going.{Begins, rolls_of, Quoted, Stepped, enough, stray_text, Follows, Goes, onward, Went, Going}
+use Rattle.rules.specs.Refusals.{number_in}
+use Rattle.answers.specs.Turns.{Given, count_in}
+use Rattle.turns.specs.Going.{Stepped, enough, stray_text, Follows, Goes, onward, Went, Going}
 
--- The answer to the instruction that some words begin with
+-- An answer
 
 -- number, count and book are an answer's
-pub record Says (d : Answer) (t : Turn) (b : Book) : Type 0 where
-  pub refusal : t.refusal ≡ d.refusal
-  pub count : t.count ≡ d.count
+pub record Says (d : Answer) (t : Given) (b : Book) : Type 0 where
+  pub refusal : number_in t ≡ d.refusal
+  pub count : count_in t ≡ d.count
   pub book : b ≡ d.book
 
--- a roll's quotes are read out of its words, and no other instruction has any
-pub quoted : (ws lent quotes : List ℕ) (x : Instruction) → Begins ws x → length lent ≡ 32 → (rolls_of x ≡ true → quotes ≡ sets lent 0 (quotes_of ws)) →
-    Quoted ws x quotes
-quoted ws lent quotes (instruction.Roll d r) g h p =
-    λ out. ap (λ (ps : List ℕ). call_of (instruction.Roll d r) ps out) (p refl ∙ roll_quotes ws lent d r g.count g.read h)
-quoted ws lent quotes (instruction.Mark i m) g h p = λ out. refl
-quoted ws lent quotes (instruction.Turn d) g h p = λ out. refl
-quoted ws lent quotes (instruction.Trade i f t x) g h p = λ out. refl
-quoted ws lent quotes (instruction.Deliver i a x) g h p = λ out. refl
-quoted ws lent quotes (instruction.Resolve i a x) g h p = λ out. refl
-quoted ws lent quotes (instruction.PairOff i a) g h p = λ out. refl
-quoted ws lent quotes instruction.Close g h p = λ out. refl
-quoted ws lent quotes instruction.Cutoff g h p = λ out. refl
-
--- number, count and book are those of the run
-pub run_answer : (b b' : Book) (t : Turn) (ws quotes out : List ℕ) (x : Instruction) → Quoted ws x quotes → output_words ≤ length out →
-    (lent : List ℕ) → Gives b (call_of x quotes out) t b' out lent → Says (answer_of b x ws) t b'
-run_answer b b' t ws quotes out x p room lent i =
-    let a = answer_lent b out room x ws in
-    record {
-      refusal = i.refusal ∙ ap (λ (k : Call). (called b k).refusal) (p out) ∙ a.refusal;
-      count = i.count ∙ ap (λ (k : Call). (called b k).count) (p out) ∙ a.count;
-      book = i.book ∙ ap (λ (k : Call). (called b k).book) (p out) ∙ a.book;
-    }
-
 -- which keeps the book sound
-pub answer_sound : (b b' : Book) (t : Turn) (x : Instruction) (ws : List ℕ) → Sizes b → sound b ≡ true → Says (answer_of b x ws) t b' → sound b' ≡ true
+pub answer_sound : (b b' : Book) (t : Given) (x : Instruction) (ws : List ℕ) → Sizes b → sound b ≡ true → Says (answer_of b x ws) t b' → sound b' ≡ true
 unfolding answer_of
 answer_sound b b' t x ws z h i = ap sound i.book ∙ called_sound b (call_of x (quotes_of ws) any_output) z h
 
@@ -110,7 +81,7 @@ goes_none a text r g = subst (λ (t : List ℕ). Goes a t r) (sym (append-nil te
 
 module _ (a : Ran) (text : List ℕ) (i : ℕ) (b : Book) (last : Bool) (rest more : List ℕ) (then : Bool) where
   -- an instruction is answered
-  pub goes_turn : (x : Instruction) (k : ℕ) → enough (length rest) last ≡ true → (last ≡ true → more ≡ []) → read_of rest ≡ Instr x k →
+  pub goes_turn : (x : Instruction) (k : ℕ) → enough (length rest) last ≡ true → (last ≡ true → more ≡ []) → read_of rest ≡ Ok (x, k) →
       Goes a text (run_rest i b (rest ++ more) then) →
       Goes a (text ++ line_text (line i (name_of x) (answer_of b x rest).refusal (answer_of b x rest).count))
       (run_rest (i + k) (answer_of b x rest).book (drop k rest ++ more) then)
@@ -131,7 +102,7 @@ module _ (a : Ran) (text : List ℕ) (i : ℕ) (b : Book) (last : Bool) (rest mo
       g)
 
   -- the reader refuses: the run is over
-  pub goes_refused : (r : ℕ) → enough (length rest) last ≡ true → (last ≡ true → more ≡ []) → read_of rest ≡ Refused r →
+  pub goes_refused : (r : ℕ) → enough (length rest) last ≡ true → (last ≡ true → more ≡ []) → read_of rest ≡ Err r →
       Goes a text (run_rest i b (rest ++ more) then) → Goes a (text ++ line_text (line i Tape r 0)) (stopped [] b)
   goes_refused r h e q g =
       goes_line a text (line i Tape r 0) (stopped [] b)
@@ -139,7 +110,7 @@ module _ (a : Ran) (text : List ℕ) (i : ℕ) (b : Book) (last : Bool) (rest mo
       (run_refused i b (rest ++ more) then r (going_on rest more then (some_words last (length rest) h)) (same_read last rest more h e ∙ q)) g)
 
 -- no words are left, and none follow
-empty_read : read_of [] ≡ Refused 13
+empty_read : read_of [] ≡ Err 13
 unfolding read_of
 empty_read = refl
 
@@ -181,19 +152,11 @@ few_left false n h e = leb-false 33 n h
 
 -- A run on its way
 
-pub going_starts : (ws : List ℕ) (last stray : Bool) (index : ℕ) (b : Book) (text : List ℕ) → Going ws last stray index b b text 0 0
-going_starts ws last stray index b text =
-    record {
-      within = omega arith;
-      short = omega arith;
-      run = λ more then f. rw (add-zero index) (record { printed = refl; book = refl });
-    }
-
 module _ (ws : List ℕ) (last stray : Bool) (index : ℕ) (b₀ b : Book) (text text' : List ℕ) (at end : ℕ)
     (g : Going ws last stray index b₀ b text at end) where
-  pub going_again : (x : Instruction) (k : ℕ) (r : Step) (b' : Book) → enough (length (drop at ws)) last ≡ true → read_of (drop at ws) ≡ Instr x k →
-      Stepped (drop at ws) x (index + at) b text text' end r b' → Going ws last stray index b₀ b' text' (at + k) r.end
-  going_again x k r b' h q d =
+  pub going_again : (x : Instruction) (k e : ℕ) (b' : Book) → enough (length (drop at ws)) last ≡ true → read_of (drop at ws) ≡ Ok (x, k) →
+      Stepped (drop at ws) x (index + at) b text text' end e b' → Going ws last stray index b₀ b' text' (at + k) e
+  going_again x k e b' h q d =
       let z = read_sized (drop at ws) x k q in
       let i : index + (at + k) ≡ index + at + k = omega arith in
       record {
@@ -204,7 +167,7 @@ module _ (ws : List ℕ) (last stray : Bool) (index : ℕ) (b₀ b : Book) (text
             (goes_turn (run_rest index b₀ (ws ++ more) then) (take end text) (index + at) b last (drop at ws) more then x k h f.none q (g.run more then f));
       }
 
-  pub going_refused : (n e : ℕ) → enough (length (drop at ws)) last ≡ true → read_of (drop at ws) ≡ Refused n →
+  pub going_refused : (n e : ℕ) → enough (length (drop at ws)) last ≡ true → read_of (drop at ws) ≡ Err n →
       Added 72 text text' end e (line_text (line (index + at) Tape n 0)) → sound b ≡ true →
       Went ws last stray index b₀ text' at e true b
   going_refused n e h q d o =

@@ -2,14 +2,14 @@
 use mathlib.Core.Path.{◌≡◌, refl, sym, ap, subst, ◌∙◌}
 use mathlib.Core.Bool.{Bool, true, cond}
 use mathlib.Core.List.{List, [], ◌∷◌}
-use Prim.Native.Nat.{ℕ, zero, suc, ◌+◌, ◌%◌, ◌≤◌, ◌<◌}
+use Prim.Native.Nat.{ℕ, zero, suc, ◌+◌, ◌/◌, ◌%◌, ◌≤◌, ◌<◌}
 use native.Mathlib.Omega.{arith}
 use lib.IntN.{ℤ}
 use lib.ListN.{length, get_or, drop}
 use Rattle.rules.specs.declared.Book.{Book}
 use Rattle.rules.specs.declared.Instruction.TheVariants as instruction
 use Rattle.rules.specs.declared.Name.TheVariants as name
-use Rattle.rules.specs.declared.Read.TheVariants.{Instr}
+use Rattle.std.specs.Prelude.{Option, Some, Ok}
 use Rattle.rules.specs.declared.State.{State}
 use Rattle.rules.specs.declared.Word.{Word}
 use Rattle.rules.specs.declared.Word.TheVariants.{Head}
@@ -22,17 +22,20 @@ use Rattle.rules.specs.Tape.{kind_of, word_as, is_after, read_as, read_from, rea
 use Rattle.rules.specs.Text.{line_text}
 use Rattle.report.specs.Added.{Added}
 use Rattle.report.proofs.Texts.{added_as}
-use Rattle.tape.proofs.Reading.{div_one, mod_one}
-use Rattle.answers.specs.declared.Turn.{Turn}
-use Rattle.answers.specs.Turns.{TurnIs, within_nets}
-use Rattle.turns.specs.declared.First.{First}
-use Rattle.turns.specs.declared.First.TheVariants as first
-use Rattle.turns.specs.Going.{enough, Going, Found, Held, Passed}
+use Rattle.rules.specs.Refusals.{number_in}
+use Rattle.answers.specs.Turns.{TurnIs, Given, count_in, state_after, within_nets}
+use Rattle.turns.specs.Going.{enough, Going, Held, Passed}
 use Rattle.turns.proofs.Goings.{Says, answer_sound, same_line, going_again}
+
+div_one : (x : ℕ) → x / 1 ≡ x
+div_one x = omega arith
+
+mod_one : (x : ℕ) → x % 1 ≡ 0
+mod_one x = omega arith
 
 -- the words of a trade
 trade_head : (w x : ℕ) → kind_of w ≡ 1 → w % 4096 ≡ 0 →
-    word_as w x ≡ Head (instruction.Trade (of_field issue_bits w) (of_field from_bits w) (of_field to_bits w) x) 8 2
+    word_as w x ≡ Some (Head (instruction.Trade (of_field issue_bits w) (of_field from_bits w) (of_field to_bits w) x) 8 2)
 trade_head w x k u = simp (k, u, div_one)
 
 lots_word_lem : (y : ℕ) → kind_of y ≡ 8 → is_after 8 (word_as y 0) ≡ true
@@ -40,16 +43,13 @@ lots_word_lem y h = simp (h, mod_one)
 
 pub read_trade : (ws : List ℕ) → 2 ≤ length ws → kind_of (get_or ws 0 0) ≡ 1 → get_or ws 0 0 % 4096 ≡ 0 → kind_of (get_or ws 1 0) ≡ 8 →
     read_of ws
-    ≡ Instr (instruction.Trade (of_field issue_bits (get_or ws 0 0)) (of_field from_bits (get_or ws 0 0)) (of_field to_bits (get_or ws 0 0)) (of_field lots_bits (get_or ws 1 0))) 2
+    ≡ Ok (instruction.Trade (of_field issue_bits (get_or ws 0 0)) (of_field from_bits (get_or ws 0 0)) (of_field to_bits (get_or ws 0 0)) (of_field lots_bits (get_or ws 1 0)), 2)
 unfolding read_of
 read_trade [] l k u h = absurd (omega arith)
 read_trade (w ∷ []) l k u h = absurd (omega arith)
 read_trade (w ∷ y ∷ ws) l k u h =
     let x = instruction.Trade (of_field issue_bits w) (of_field from_bits w) (of_field to_bits w) (of_field lots_bits y) in
-    ap (λ (f : Word). read_from f (y ∷ ws)) (trade_head w (of_field lots_bits y) k u) ∙ ap (λ (t : Bool). read_as (cond t 0 14) x 2) (lots_word_lem y h)
-
-pub found_trade : (ws : List ℕ) (r : First) (i f t x : ℕ) → r ≡ first.Trade i f t x → Found ws r → read_of ws ≡ Instr (instruction.Trade i f t x) 2
-found_trade ws r i f t x e h = subst (λ (q : First). Found ws q) e h
+    ap (λ (f : Option Word). read_from f (y ∷ ws)) (trade_head w (of_field lots_bits y) k u) ∙ ap (λ (t : Bool). read_as (cond t 0 14) x 2) (lots_word_lem y h)
 
 -- a trade leaves the state as it is
 answer_state : (n : ℕ) (b : Book) (out : List ℕ) (e : Effect) → e.book.state ≡ b.state → (answer n b out e).book.state ≡ b.state
@@ -61,12 +61,12 @@ unfolding called
 trade_state b i f t x = answer_state (first_no (asks b (Trade i f t x))) b (lent_to (Trade i f t x)) (effect b (Trade i f t x)) refl
 
 -- so its answer on the nets is that of any book with this state and these nets
-trade_says : (s : State) (nets nets' : List ℤ) (b : Book) (i f t x : ℕ) (r : Turn) (ws : List ℕ) →
-    TurnIs (called (within_nets s nets b) (Trade i f t x)) r (within_nets r.state nets' b) [] →
+trade_says : (s : State) (nets nets' : List ℤ) (b : Book) (i f t x : ℕ) (r : Given) (ws : List ℕ) →
+    TurnIs (called (within_nets s nets b) (Trade i f t x)) r (within_nets (state_after s r) nets' b) [] →
     Says (answer_of (within_nets s nets b) (instruction.Trade i f t x) ws) r (within_nets s nets' b)
 unfolding answer_of
 trade_says s nets nets' b i f t x r ws d =
-    let e : r.state ≡ s = ap (λ (c : Book). c.state) d.book ∙ trade_state (within_nets s nets b) i f t x in
+    let e : state_after s r ≡ s = ap (λ (c : Book). c.state) d.book ∙ trade_state (within_nets s nets b) i f t x in
     record { refusal = d.refusal; count = d.count; book = ap (λ (u : State). within_nets u nets' b) (sym e) ∙ d.book }
 
 -- no trade is passed yet
@@ -76,9 +76,9 @@ passed_none ws last index s nets text at end = record { on = omega arith; held =
 
 -- one more
 module _ (ws : List ℕ) (last : Bool) (index : ℕ) (s : State) (nets₀ nets nets' : List ℤ) (text₀ text text' : List ℕ) (from to at end end' : ℕ)
-    (i f t x : ℕ) (r : Turn) where
+    (i f t x : ℕ) (r : Given) where
   abbrev OnNets : Type 0
-  OnNets = (b : Book) → sound (within_nets s nets b) ≡ true → TurnIs (called (within_nets s nets b) (Trade i f t x)) r (within_nets r.state nets' b) []
+  OnNets = (b : Book) → sound (within_nets s nets b) ≡ true → TurnIs (called (within_nets s nets b) (Trade i f t x)) r (within_nets (state_after s r) nets' b) []
 
   kept : length nets' ≡ length nets → OnNets → (b : Book) → Held s nets b → Held s nets' b
   kept e d b h =
@@ -91,9 +91,9 @@ module _ (ws : List ℕ) (last : Bool) (index : ℕ) (s : State) (nets₀ nets n
       }
 
   pub passed_on : Passed ws last index s nets₀ nets text₀ text from to at end → enough (length (drop at ws)) last ≡ true →
-      read_of (drop at ws) ≡ Instr (instruction.Trade i f t x) 2 → length nets' ≡ length nets →
-      ((b : Book) → sound (within_nets s nets b) ≡ true → TurnIs (called (within_nets s nets b) (Trade i f t x)) r (within_nets r.state nets' b) []) →
-      Added 72 text text' end end' (line_text (line (index + at) name.Trade r.refusal r.count)) →
+      read_of (drop at ws) ≡ Ok (instruction.Trade i f t x, 2) → length nets' ≡ length nets →
+      ((b : Book) → sound (within_nets s nets b) ≡ true → TurnIs (called (within_nets s nets b) (Trade i f t x)) r (within_nets (state_after s r) nets' b) []) →
+      Added 72 text text' end end' (line_text (line (index + at) name.Trade (number_in r) (count_in r))) →
       Passed ws last index s nets₀ nets' text₀ text' from to (at + 2) end'
   passed_on p q g e d a =
       record {
@@ -103,10 +103,11 @@ module _ (ws : List ℕ) (last : Bool) (index : ℕ) (s : State) (nets₀ nets n
             let k = p.held b h in
             let y = trade_says s nets nets' b i f t x r (drop at ws) (d b k.sound) in
             going_again ws last stray index b₀ (within_nets s nets b) text text' at end (p.going stray b₀ b h m) (instruction.Trade i f t x) 2
-            (record { end = end'; state = s }) (within_nets s nets' b) q g
+            end' (within_nets s nets' b) q g
             (record {
               printed = added_as 72 72 _ _ _ _ _ _ (omega arith) (same_line (index + at) _ _ _ _ _ _ refl y.refusal y.count) a;
               book = y.book;
+              lengths = (kept e d b k).lengths;
               sound = (kept e d b k).sound;
             });
       }

@@ -1,53 +1,24 @@
 -- A run part by part: what is printed of the words that are there, and the run from where it stands then.
-use Rattle.std.specs.Prelude.{◌≡◌, Bool, true, false, cond, List, [], ◌++◌, ℕ, ◌+◌, ◌*◌, ◌≤◌, ◌<◌, leb, ltb, length, take, drop, ℤ}
+use Rattle.std.specs.Prelude.{◌≡◌, Bool, true, false, cond, List, [], ◌++◌, ℕ, ◌+◌, ◌*◌, ◌≤◌, ◌<◌, leb, ltb, length, take, drop, ℤ, Option, IfSome, Ok}
 use Rattle.rules.specs.declared.Book.{Book}
 use Rattle.rules.specs.declared.Instruction.{Instruction}
 use Rattle.rules.specs.declared.Instruction.TheVariants as instruction
 use Rattle.rules.specs.declared.Name.TheVariants.{Tape}
-use Rattle.rules.specs.declared.Read.{Read}
-use Rattle.rules.specs.declared.Read.TheVariants.{Instr, Refused}
 use Rattle.rules.specs.declared.State.{State}
 use Rattle.rules.specs.Book.{sound, Lengths}
-use Rattle.rules.specs.Tape.{read_of, quotes_of}
-use Rattle.rules.specs.Run.{Ran, line, name_of, call_of, answer_of, stopped, run_rest}
+use Rattle.rules.specs.Tape.{read_of}
+use Rattle.rules.specs.Run.{Ran, line, name_of, answer_of, stopped, run_rest}
 use Rattle.rules.specs.Text.{line_text, lines_text}
 use Rattle.report.specs.Added.{Added}
 use Rattle.answers.specs.Turns.{within_nets}
-use Rattle.turns.specs.declared.First.{First}
-use Rattle.turns.specs.declared.First.TheVariants as first
-use Rattle.turns.specs.declared.Step.{Step}
-
--- the words begin with an instruction
-pub record Begins (ws : List ℕ) (x : Instruction) : Type 0 where
-  pub count : ℕ
-  pub read : read_of ws ≡ Instr x count
-
--- an instruction that has quotes
-abbrev pub rolls_of : Instruction → Bool
-rolls_of (instruction.Trade i f t x) = false
-rolls_of (instruction.Deliver i a x) = false
-rolls_of (instruction.Resolve i a x) = false
-rolls_of (instruction.PairOff i a) = false
-rolls_of instruction.Close = false
-rolls_of instruction.Cutoff = false
-rolls_of (instruction.Roll days rate) = true
-rolls_of (instruction.Mark i m) = false
-rolls_of (instruction.Turn d) = false
-
--- quotes with which it is the call of the words
-abbrev pub Quoted : List ℕ → Instruction → List ℕ → Type 0
-Quoted ws x quotes = (out : List ℕ) → call_of x quotes out ≡ call_of x (quotes_of ws) out
+use Rattle.turns.specs.declared.Trade.{Trade}
 
 -- one turn: the instruction's line is put down, and the book is the answer's
-pub record Stepped (ws : List ℕ) (x : Instruction) (index : ℕ) (b : Book) (text text' : List ℕ) (at : ℕ) (r : Step) (b' : Book) : Type 0 where
-  pub printed : Added 72 text text' at r.end (line_text (line index (name_of x) (answer_of b x ws).refusal (answer_of b x ws).count))
+pub record Stepped (ws : List ℕ) (x : Instruction) (index : ℕ) (b : Book) (text text' : List ℕ) (at end : ℕ) (b' : Book) : Type 0 where
+  pub printed : Added 72 text text' at end (line_text (line index (name_of x) (answer_of b x ws).refusal (answer_of b x ws).count))
   pub book : b' ≡ (answer_of b x ws).book
+  pub lengths : Lengths b'.nets b'.delivered b'.lifts b'.charges b'.issues b'.froms b'.tos b'.lots b'.days
   pub sound : sound b' ≡ true
-
--- the number of a reader's refusal, 0 where it reads an instruction
-abbrev pub refusal_of : Read → ℕ
-refusal_of (Instr x k) = 0
-refusal_of (Refused r) = r
 
 -- a whole instruction can be read: thirty-three words hold any, and the last words are all there are
 abbrev pub enough : ℕ → Bool → Bool
@@ -91,9 +62,8 @@ pub record Going (ws : List ℕ) (last stray : Bool) (index : ℕ) (b₀ b : Boo
       Goes (run_rest index b₀ (ws ++ more) then) (take end text) (run_rest (index + at) b (drop at ws ++ more) then)
 
 -- a trade that is found is the instruction that the words begin with, and has two of them
-abbrev pub Found : List ℕ → First → Type 0
-Found ws (first.Trade i f t x) = read_of ws ≡ Instr (instruction.Trade i f t x) 2
-Found ws first.Other = Unit {0}
+abbrev pub Found : List ℕ → Option Trade → Type 0
+Found ws r = IfSome r (λ t. read_of ws ≡ Ok (instruction.Trade t.issue t.from t.to t.lots, 2))
 
 -- a sound book with this state and these nets
 pub record Held (s : State) (nets : List ℤ) (b : Book) : Type 0 where

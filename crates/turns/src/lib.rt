@@ -3,15 +3,22 @@
 #![tactic(auto)]
 
 ghost use Rattle.std.specs.Prelude.{◌≡◌, ◌+◌, ◌*◌, ◌≤◌, ◌<◌, ◌^◌, length, true};
-ghost use Rattle.rules.specs.Run.{name_of};
-ghost use Rattle.book.specs.States.{columns, ready};
+ghost use Rattle.rules.specs.Refusals.{number_in};
+ghost use Rattle.rules.specs.Run.{line, name_of};
+ghost use Rattle.rules.specs.Text.{line_text};
+ghost use Rattle.columns.specs.Books.{lent_book, IsReady, SameColumns};
+ghost use Rattle.answers.specs.Turns.{count_in, state_after};
 ghost use Rattle.report.specs.Added.{Added};
-ghost use Rattle.turns.specs.Going.{Begins, rolls_of, Quoted, Stepped, refusal_of, enough, stray_text, Went, Found, SomeHeld, Passed};
+ghost use Rattle.instructions.specs.Answering.{Begins};
+ghost use Rattle.turns.specs.Going.{Stepped, enough, stray_text, Went, Found, SomeHeld, Passed};
 ghost use Rattle.rules.specs.Measures.{output_words};
 ghost use Rattle.rules.specs.Book.{sound};
 
+use answers::Turn;
+use columns::LentColumns;
 use report::text;
-use rules::{Book, Instruction, Name, QUOTE_COUNT, Read, State, TAPE_WORDS};
+use rules::{Book, Instruction, Name, Refusal, State, TAPE_WORDS};
+use words::Field;
 
 // After an instruction: where the text ends, and the state.
 #[derive(Clone, Copy, Drop)]
@@ -20,20 +27,23 @@ pub struct Step {
     pub state: State,
 }
 
-// After a part of a run: the words used, where the text ends, whether the run is over, the state.
+// After a part of a run: the words used, where the text ends, whether the run is over, and the state or
+// the book. `over` stays a flag: both places and the state are there either way.
 #[derive(Clone, Copy, Drop)]
-pub struct Part {
+pub struct Part<T> {
     pub used: usize,
     pub end: usize,
     pub over: bool,
-    pub state: State,
+    pub after: T,
 }
 
-// What some words begin with: a trade, whole and right, or anything else.
+// The numbers of a trade.
 #[derive(Clone, Copy, Drop)]
-pub enum First {
-    Trade(u32, u32, u32, u32),
-    Other,
+pub struct Trade {
+    pub issue: u32,
+    pub from: u32,
+    pub to: u32,
+    pub lots: u32,
 }
 
 // Where a run stands: at which word, and where its text ends.
@@ -60,30 +70,20 @@ fn name_of(x: Instruction) -> Name
     }
 }
 
-// Does the instruction have quotes?
-fn rolls(x: Instruction) -> bool
-    ensures { result ≡ rolls_of x }
+// The line of an answer: its number and its count.
+fn answer_line(
+    text: &mut [u8],
+    at: usize,
+    index: u64,
+    n: Name,
+    answer: Result<Turn, Refusal>,
+) -> usize
+    requires { at + 72 ≤ length text.old }
+    ensures { Added 72 text.old text.new at result (line_text (line index n (number_in answer) (count_in answer))) }
 {
-    match x {
-        Instruction::Trade(_, _, _, _) => false,
-        Instruction::Deliver(_, _, _) => false,
-        Instruction::Resolve(_, _, _) => false,
-        Instruction::PairOff(_, _) => false,
-        Instruction::Close => false,
-        Instruction::Cutoff => false,
-        Instruction::Roll(_, _) => true,
-        Instruction::Mark(_, _) => false,
-        Instruction::Turn(_) => false,
-    }
-}
-
-// A roll's quotes, from the words after its head.
-fn quotes_of(words: &[u32], x: Instruction, quotes: &mut [u32])
-    requires { Begins words.now x × (length quotes.old ≡ 32) }
-    ensures { Quoted words.now x quotes.new }
-{
-    if rolls(x) {
-        tape::quotes(words, quotes);
+    match answer {
+        Ok(t) => text::line(text, at, index, n, 0, t.count),
+        Err(r) => text::line(text, at, index, n, r.number(), 0),
     }
 }
 
@@ -93,50 +93,26 @@ fn turn(
     x: Instruction,
     index: u64,
     s: State,
-    nets: &mut [i32],
-    delivered: &mut [u32],
-    lifts: &mut [u32],
-    charges: &mut [i64],
-    issues: &mut [u8],
-    froms: &mut [u8],
-    tos: &mut [u8],
-    lots: &mut [u32],
-    days: &mut [u16],
+    columns: &mut LentColumns,
     out: &mut [u32],
     text: &mut [u8],
     at: usize,
 ) -> Step
-    requires { Begins words.now x × ready s nets delivered lifts charges issues froms tos lots days out × (at + 72 ≤ length text.old) }
-    ensures { let c = columns nets delivered lifts charges issues froms tos lots days in Stepped words.now x index (c.before s) text.old text.new at result (c.after result.state) }
+    requires { Begins words.now x × IsReady s columns.old out.old × (at + 72 ≤ length text.old) }
+    ensures done { Stepped words.now x index (lent_book s columns.old) text.old text.new at result.end (lent_book result.state columns.new) }
+    ensures same { SameColumns columns.old columns.new }
 {
-    let mut quotes = [0u32; QUOTE_COUNT];
-    quotes_of(words, x, &mut quotes);
-    let t = running::answer(
-        x, &quotes, s, nets, delivered, lifts, charges, issues, froms, tos, lots, days, out,
-    );
-    let state = t.state;
-    let end = text::line(text, at, index, name_of(x), t.refusal, t.count);
+    let answer = instructions::answer(words, x, s, columns, out);
+    let end = answer_line(text, at, index, name_of(x), answer);
+    let state = instructions::state_after(s, answer);
     Step { end, state }
-}
-
-// The number of a reader's refusal.
-fn refusal_of(r: Read) -> u32
-    ensures { result ≡ refusal_of r }
-{
-    match r {
-        Read::Instr(_, _) => 0,
-        Read::Refused(n) => n,
-    }
 }
 
 // Can a whole instruction be read out of so many words? Any can where no more will come.
 fn is_enough(left: usize, last: bool) -> bool
     ensures { result ≡ enough left last }
 {
-    if last {
-        return 0 < left;
-    }
-    TAPE_WORDS <= left
+    if last { 0 < left } else { TAPE_WORDS <= left }
 }
 
 // The line of a last word of 1 to 3 bytes, if there is one.
@@ -145,35 +121,29 @@ fn stray_line(text: &mut [u8], at: usize, index: u64, stray: bool) -> usize
     ensures { Added 72 text.old text.new at result (stray_text stray index) }
 {
     if stray {
-        return text::line(text, at, index, Name::Tape, 13, 0);
+        return answer_line(text, at, index, Name::Tape, Err(Refusal::Cut));
     }
     at
 }
 
-// The trade that some words begin with.
-fn trade_of(ws: &[u32]) -> First
+// The trade that some words begin with, if they begin with one, whole and right.
+fn trade_of(ws: &[u32]) -> Option<Trade>
     ensures { Found ws.now result }
 {
     if ws.len() < 2 {
-        return First::Other;
+        return None;
     }
     let head = ws[0];
     let lots = ws[1];
-    if words::kind_of(head) != 1 {
-        return First::Other;
+    if Field::Kind.of(head) != 1 || head % 4096 != 0 || Field::Kind.of(lots) != 8 {
+        return None;
     }
-    if head % 4096 != 0 {
-        return First::Other;
-    }
-    if words::kind_of(lots) != 8 {
-        return First::Other;
-    }
-    First::Trade(
-        words::issue_of(head),
-        words::from_of(head),
-        words::to_of(head),
-        words::lots_of(lots),
-    )
+    Some(Trade {
+        issue: Field::Issue.of(head),
+        from: Field::From.of(head),
+        to: Field::To.of(head),
+        lots: Field::Lots.of(lots),
+    })
 }
 
 // The trades from a place on, up to another instruction, each answered on the nets alone, and their lines.
@@ -192,15 +162,13 @@ fn trades(
 {
     let mut at = from;
     let mut end = to;
+    // It goes on by two words a trade, up to another instruction, and hands on both places.
     while is_enough(words.len() - at, last) {
-        let found = trade_of(&words[at..]);
-        let First::Trade(i, f, t, x) = found else {
+        let Some(t) = trade_of(&words[at..]) else {
             return Place { at, end };
         };
-        let r = trading::trade(s, nets, i, f, t, x);
-        let refusal = r.refusal;
-        let count = r.count;
-        end = text::line(text, end, index + at as u64, Name::Trade, refusal, count);
+        let r = trading::trade(s, nets, t.issue, t.from, t.to, t.lots);
+        end = answer_line(text, end, index + at as u64, Name::Trade, r);
         at += 2;
     }
     Place { at, end }
@@ -214,50 +182,37 @@ pub fn run(
     stray: bool,
     index: u64,
     s: State,
-    nets: &mut [i32],
-    delivered: &mut [u32],
-    lifts: &mut [u32],
-    charges: &mut [i64],
-    issues: &mut [u8],
-    froms: &mut [u8],
-    tos: &mut [u8],
-    lots: &mut [u32],
-    days: &mut [u16],
+    columns: &mut LentColumns,
     out: &mut [u32],
     text: &mut [u8],
-) -> Part
-    requires { ready s nets delivered lifts charges issues froms tos lots days out × (72 * (length words.now + 1) ≤ length text.old) × (index + length words.now < 2 ^ 64) }
-    ensures { let c = columns nets delivered lifts charges issues froms tos lots days in Went words.now last stray index (c.before s) text.new result.used result.end result.over (c.after result.state) }
+) -> Part<State>
+    requires { IsReady s columns.old out.old × (72 * (length words.now + 1) ≤ length text.old) × (index + length words.now < 2 ^ 64) }
+    ensures done { Went words.now last stray index (lent_book s columns.old) text.new result.used result.end result.over (lent_book result.after columns.new) }
+    ensures same { SameColumns columns.old columns.new }
 {
     let mut at = 0;
     let mut end = 0;
     let mut state = s;
+    // No range or iterator goes on by as many words as an instruction has: this loop counts its own.
     while is_enough(words.len() - at, last) {
-        let found = tape::read(&words[at..]);
-        let Read::Instr(x, n) = found else {
-            let no = refusal_of(found);
-            end = text::line(text, end, index + at as u64, Name::Tape, no, 0);
-            return Part {
-                used: at,
-                end,
-                over: true,
-                state,
-            };
+        let (x, n) = match tape::read(&words[at..]) {
+            Ok(read) => read,
+            Err(no) => {
+                end = answer_line(text, end, index + at as u64, Name::Tape, Err(no));
+                return Part {
+                    used: at,
+                    end,
+                    over: true,
+                    after: state,
+                };
+            }
         };
         let t = turn(
             &words[at..],
             x,
             index + at as u64,
             state,
-            nets,
-            delivered,
-            lifts,
-            charges,
-            issues,
-            froms,
-            tos,
-            lots,
-            days,
+            columns,
             out,
             text,
             end,
@@ -265,7 +220,7 @@ pub fn run(
         end = t.end;
         state = t.state;
         at += n;
-        let p = trades(words, last, index, state, nets, text, at, end);
+        let p = trades(words, last, index, state, &mut *columns.nets, text, at, end);
         at = p.at;
         end = p.end;
     }
@@ -274,20 +229,11 @@ pub fn run(
         used: at,
         end,
         over: last,
-        state,
+        after: state,
     }
 }
 
-// Behind some words: how many were used, where their lines end, whether the run is over, and the book.
-#[derive(Clone, Copy, Drop)]
-pub struct Ran {
-    pub used: usize,
-    pub end: usize,
-    pub over: bool,
-    pub book: Book,
-}
-
-// The book's columns are lent to the run of some words, and put together again.
+// The book's columns are lent to the run of some words.
 pub fn run_on(
     b: Book,
     words: &[u32],
@@ -296,46 +242,30 @@ pub fn run_on(
     index: u64,
     text: &mut [u8],
     out: &mut [u32],
-) -> Ran
+) -> Part<Book>
     requires { (sound b ≡ true) × (output_words ≤ length out.old) × (72 * (length words.now + 1) ≤ length text.old) × (index + length words.now < 2 ^ 64) }
-    ensures { Went words.now last stray index b text.new result.used result.end result.over result.book }
+    ensures { Went words.now last stray index b text.new result.used result.end result.over result.after }
 {
-    let s = b.state;
-    let mut nets = b.nets;
-    let mut delivered = b.delivered;
-    let mut lifts = b.lifts;
-    let mut charges = b.charges;
-    let mut issues = b.issues;
-    let mut froms = b.froms;
-    let mut tos = b.tos;
-    let mut lots = b.lots;
-    let mut days = b.days;
-    let t = run(
-        words,
-        last,
-        stray,
-        index,
-        s,
-        &mut nets,
-        &mut delivered,
-        &mut lifts,
-        &mut charges,
-        &mut issues,
-        &mut froms,
-        &mut tos,
-        &mut lots,
-        &mut days,
-        out,
-        text,
-    );
-    let after = t.state;
-    let book = book::book_in(
-        after, nets, delivered, lifts, charges, issues, froms, tos, lots, days,
-    );
-    Ran {
+    let mut book = b;
+    let mut columns = LentColumns {
+        nets: &mut book.nets,
+        delivered: &mut book.delivered,
+        lifts: &mut book.lifts,
+        charges: &mut book.charges,
+        issues: &mut book.issues,
+        froms: &mut book.froms,
+        tos: &mut book.tos,
+        lots: &mut book.lots,
+        days: &mut book.days,
+    };
+    let t = run(words, last, stray, index, b.state, &mut columns, out, text);
+    Part {
         used: t.used,
         end: t.end,
         over: t.over,
-        book,
+        after: Book {
+            state: t.after,
+            ..book
+        },
     }
 }

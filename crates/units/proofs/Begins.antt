@@ -19,7 +19,7 @@ use Rattle.laws.proofs.Gather.{gathered, gather_stretches, run_join}
 use Rattle.runs.specs.Runs.{part_of, runs_in, units_of_run, units_of_runs, units_in, Plain}
 use Rattle.gathering.specs.Gathering.{HandsOn, CanGather, spent, laid, fulls_of}
 use Rattle.gathering.specs.declared.Waiting.{Waiting}
-use Rattle.units.specs.Cursor.{overlaps_from, position, Started}
+use Rattle.units.specs.Cursor.{overlaps_in, overlaps_from, position, Started}
 use Rattle.runs.proofs.Units.{covered_run, first_run}
 use Rattle.runs.proofs.Loops.{runs_at_lem, runs_end}
 use Rattle.gathering.proofs.Gathers.{drop_map}
@@ -109,7 +109,7 @@ gathered_stretches vs ps =
 
 pub cursor_lacks : (runs : List ℕ) (n j a x st : ℕ) (vs : List AccountLots) → drop_lots 0 (account_lots a x ∷ drop j (runs_in runs n)) ≡ drop_lots 0 vs →
     (missing : List ℕ) → overlaps_from runs n missing (position j a x st).cursor ≡ overlaps (by_account 0 missing) vs
-unfolding overlaps_from
+unfolding overlaps_in
 cursor_lacks runs n j a x st vs e missing =
     let us = account_lots a x ∷ drop j (runs_in runs n) in
     overlaps_short0 (by_account 0 missing) us 0

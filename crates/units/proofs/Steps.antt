@@ -1,8 +1,8 @@
 -- The cursor's steps: a shortfall or a run of 0 lots in front changes no overlap, so the cursor may go on to the next;
 -- and what a step says of the list of overlaps that are left.
-use mathlib.Core.Path.{◌≡◌, refl, sym, ap, ◌∙◌}
-use mathlib.Core.List.{List, [], ◌∷◌}
-use Prim.Native.Nat.{ℕ, zero, suc, ◌+◌, ◌-◌, ◌/◌, ◌%◌, ◌≤◌, ◌<◌, min}
+use mathlib.Core.Path.{◌≡◌, ap, ◌∙◌}
+use mathlib.Core.List.{List, [], ◌∷◌, map}
+use Prim.Native.Nat.{ℕ, suc, ◌+◌, ◌-◌, ◌/◌, ◌%◌, ◌≤◌, ◌<◌, min}
 use native.Mathlib.Numerals.{add-one}
 use native.Mathlib.Omega.{arith}
 use lib.Dec.{leb}
@@ -10,49 +10,47 @@ use lib.ListN.{length, drop, get_or, drop_of_length-le}
 use borrow.Author.Tests.{leb-true, leb-false}
 use Rattle.rules.specs.Units.{AccountLots, account_lots, prepend, by_account}
 use Rattle.rules.specs.Fails.{Fail, fail_of, overlaps}
-use Rattle.laws.proofs.Basics.{by_test}
+use Rattle.laws.proofs.Basics.{by_test, put_pos}
 use Rattle.laws.proofs.Overlaps.{overlaps_short0, overlaps_lack0, overlaps_end, overlaps_short, overlaps_lack}
 use Rattle.units.specs.declared.Cursor.{Cursor}
-use Rattle.units.specs.declared.Next.{Next}
-use Rattle.units.specs.declared.Next.TheVariants.{Overlap, Done}
-use Rattle.runs.specs.Runs.{runs_in}
-use Rattle.units.specs.Cursor.{overlaps_from, overlaps_of, overlap_at, AtShort, AtRun, Advanced, OverlapInRange}
+use Rattle.runs.specs.Runs.{part_of}
+use Rattle.units.specs.Cursor.{overlaps_on, overlaps_in, overlap_at, IsShort, IsLacking, Advanced}
 use Rattle.sorting.proofs.Ranking.{parts_at}
-use Rattle.runs.proofs.Loops.{runs_at_lem, runs_end}
+use Rattle.runs.proofs.Words.{word_at, words_end}
+use Rattle.std.specs.Prelude.{Some, None}
 
--- what is left of the shortfalls, and of the runs
-abbrev pub ahead : ℕ → ℕ → ℕ → List ℕ → List AccountLots
-ahead f x a ss = account_lots f x ∷ by_account a (drop a ss)
+-- a shortfall of 0 lots, one that is not, and none left
+module _ (ss : List ℕ) (a : ℕ) where
+  pub short_none : a < length ss → get_or ss a 0 ≡ 0 → by_account a (drop a ss) ≡ by_account (a + 1) (drop (a + 1) ss)
+  short_none h e = rw add-one (parts_at ss a h ∙ ap (λ x. prepend a x (by_account (suc a) (drop (suc a) ss))) e)
 
-abbrev pub behind : ℕ → ℕ → ℕ → List AccountLots → List AccountLots
-behind t y j us = account_lots t y ∷ drop j us
+  pub short_some : a < length ss → 0 < get_or ss a 0 → by_account a (drop a ss) ≡ account_lots a (get_or ss a 0) ∷ by_account (a + 1) (drop (a + 1) ss)
+  short_some h g = rw add-one (parts_at ss a h ∙ put_pos a (get_or ss a 0) (by_account (suc a) (drop (suc a) ss)) g)
 
-overlaps_put : (a x : ℕ) (ss vs : List AccountLots) → overlaps (prepend a x ss) vs ≡ overlaps (account_lots a x ∷ ss) vs
-overlaps_put a zero ss vs = sym (overlaps_short0 ss vs a)
-overlaps_put a (suc n) ss vs = refl
+  pub short_end : length ss ≤ a → by_account a (drop a ss) ≡ []
+  short_end h = ap (by_account a) (drop_of_length-le ss h)
 
-pub short_next : (ss : List ℕ) (vs : List AccountLots) (f x a : ℕ) → x ≡ 0 → a < length ss →
-    overlaps (ahead f x a ss) vs ≡ overlaps (ahead a (get_or ss a 0) (a + 1) ss) vs
-short_next ss vs f x a e h =
-    rw (e, add-one)
-    (overlaps_short0 (by_account a (drop a ss)) vs f
-    ∙ ap (λ l. overlaps l vs) (parts_at ss a h)
-    ∙ overlaps_put a (get_or ss a 0) (by_account (suc a) (drop (suc a) ss)) vs)
+-- from a cursor whose shortfall is 0
+module _ (ss : List ℕ) (c : Cursor) (z : c.short ≡ 0) where
+  pub front_short : (us : List AccountLots) → overlaps_on us ss c ≡ overlaps (by_account c.account (drop c.account ss)) (account_lots c.to c.lack ∷ drop c.run us)
+  front_short us = rw z (overlaps_short0 (by_account c.account (drop c.account ss)) (account_lots c.to c.lack ∷ drop c.run us) c.from)
 
-pub short_end : (ss : List ℕ) (vs : List AccountLots) (f x a : ℕ) → x ≡ 0 → length ss ≤ a → overlaps (ahead f x a ss) vs ≡ []
-short_end ss vs f x a e h =
-    rw e (overlaps_short0 (by_account a (drop a ss)) vs f ∙ ap (λ l. overlaps (by_account a l) vs) (drop_of_length-le ss h))
+-- and from one whose run lacks nothing
+module _ (us : List AccountLots) (c : Cursor) (z : c.lack ≡ 0) where
+  pub front_run : (ss : List ℕ) → overlaps_on us ss c ≡ overlaps (account_lots c.from c.short ∷ by_account c.account (drop c.account ss)) (drop c.run us)
+  front_run ss = rw z (overlaps_lack0 (account_lots c.from c.short ∷ by_account c.account (drop c.account ss)) (drop c.run us) c.to)
 
-module _ (ss : List AccountLots) (runs : List ℕ) (n j : ℕ) (l : n ≤ length runs) where
-  pub run_next : (t y : ℕ) → y ≡ 0 → j < n →
-      overlaps ss (behind t y j (runs_in runs n))
-      ≡ overlaps ss (behind (get_or runs j 0 % 64) (get_or runs j 0 / 64) (j + 1) (runs_in runs n))
-  run_next t y e h =
-      rw (e, add-one) (overlaps_lack0 ss (drop j (runs_in runs n)) t ∙ ap (overlaps ss) (runs_at_lem runs n j l h))
+module _ (ss : List AccountLots) (runs : List ℕ) (j : ℕ) where
+  pub run_none : j < length runs → get_or runs j 0 < 64 → overlaps ss (drop j (map part_of runs)) ≡ overlaps ss (drop (j + 1) (map part_of runs))
+  run_none h g =
+      let z : get_or runs j 0 / 64 ≡ 0 = omega arith in
+      ap (overlaps ss) (word_at runs j h) ∙ rw z (overlaps_lack0 ss (drop (j + 1) (map part_of runs)) (get_or runs j 0 % 64))
 
-  pub run_end : (t y : ℕ) → y ≡ 0 → n ≤ j → overlaps ss (behind t y j (runs_in runs n)) ≡ []
-  run_end t y e h =
-      rw e (overlaps_lack0 ss (drop j (runs_in runs n)) t ∙ ap (overlaps ss) (runs_end runs n j l h) ∙ overlaps_end ss)
+  pub run_some : j < length runs → overlaps ss (drop j (map part_of runs)) ≡ overlaps ss (part_of (get_or runs j 0) ∷ drop (j + 1) (map part_of runs))
+  run_some h = ap (overlaps ss) (word_at runs j h)
+
+  pub run_end : length runs ≤ j → overlaps ss (drop j (map part_of runs)) ≡ []
+  run_end h = ap (overlaps ss) (words_end runs j h) ∙ overlaps_end ss
 
 -- the smaller of a shortfall and a lack is laid
 overlaps_least : (ss vs : List AccountLots) (a x b y z : ℕ) → 0 < x → 0 < y → z ≡ min x y →
@@ -72,26 +70,24 @@ overlaps_least ss vs a x b y z p q m =
     overlaps_lack ss vs a x b y q l ∙ ap (λ v. F y (x - y) v) i ∙ ap (λ w. F w (x - w) (y - w)) j)
 
 -- one step: on to a shortfall, on to a run, then the overlap of the two is handed out
-module _ (runs : List ℕ) (n : ℕ) (ss : List ℕ) (c s : Cursor) (p : AtShort ss c s) where
-  abbrev us : List AccountLots
-  us = runs_in runs n
+module _ (runs ss : List ℕ) (c : Cursor) where
+  pub none_short : ((us : List AccountLots) → overlaps_on us ss c ≡ []) → Advanced runs ss c None
+  unfolding overlaps_in
+  none_short e = record { list = e (map part_of runs); range = tt }
 
-  pub none_short : s.short ≡ 0 → Advanced runs n ss c Done
-  unfolding overlaps_from
-  none_short e = record { list = p.same us ∙ p.none e us; range = tt }
+  module _ (s : Cursor) (p : IsShort ss c s) where
+    pub none_run : ((missing : List ℕ) → overlaps_on (map part_of runs) missing s ≡ []) → Advanced runs ss c None
+    unfolding overlaps_in
+    none_run e = record { list = p.same (map part_of runs) ∙ e ss; range = tt }
 
-  module _ (v : Cursor) (q : AtRun us s v) where
-    pub none_run : v.lack ≡ 0 → Advanced runs n ss c Done
-    unfolding overlaps_from
-    none_run e = record { list = p.same us ∙ q.same ss ∙ q.none e ss; range = tt }
-
-    pub hand_least : (x : ℕ) → 0 < v.short → 0 < v.lack → x ≡ min v.short v.lack → Advanced runs n ss c (overlap_at v x)
-    unfolding overlaps_from
-    hand_least x some lacking least =
+    pub hand_least : (v : Cursor) → IsLacking (map part_of runs) s v → (x : ℕ) → x ≡ min v.short v.lack → Advanced runs ss c (Some (overlap_at v x))
+    unfolding overlaps_in
+    hand_least v q x least =
         let r = q.range in
         record {
-          list = p.same us ∙ q.same ss
-              ∙ overlaps_least (by_account v.account (drop v.account ss)) (drop v.run us) v.from v.short v.to v.lack x some lacking least;
+          list = p.same (map part_of runs) ∙ q.same ss
+              ∙ overlaps_least (by_account v.account (drop v.account ss)) (drop v.run (map part_of runs)) v.from v.short v.to v.lack x
+              (omega (arith, p.some, q.short)) q.some least;
           range = record {
             from = r.from;
             to = r.to;
@@ -99,14 +95,3 @@ module _ (runs : List ℕ) (n : ℕ) (ss : List ℕ) (c s : Cursor) (p : AtShort
             cursor = record { from = r.from; to = r.to; short = omega (arith, r.short) };
           };
         }
-
--- what a step says
-module _ (runs : List ℕ) (n : ℕ) (ss : List ℕ) (c : Cursor) (r : Next) (l : Advanced runs n ss c r) where
-  pub step_list : (c' : Cursor) (f t x : ℕ) → r ≡ Overlap f t x c' → overlaps_from runs n ss c ≡ overlaps_of runs n ss (Overlap f t x c')
-  step_list c' f t x e = l.list ∙ ap (overlaps_of runs n ss) e
-
-  pub step_range : (c' : Cursor) (f t x : ℕ) → r ≡ Overlap f t x c' → OverlapInRange f t x c'
-  step_range c' f t x e = rw e at l.range
-
-  pub step_end : r ≡ Done → overlaps_from runs n ss c ≡ []
-  step_end e = l.list ∙ ap (overlaps_of runs n ss) e

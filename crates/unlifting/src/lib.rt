@@ -1,7 +1,7 @@
 // Where units stood before all lifts.
 #![tactic(auto)]
 
-ghost use Rattle.std.specs.Prelude.{◌≡◌, ◌≤◌, min};
+ghost use Rattle.std.specs.Prelude.{◌≤◌};
 ghost use Rattle.unlifting.specs.Unlifting.{BackIs, SpanIs, CanSpan};
 
 // Places from `base` on, so many of them.
@@ -11,22 +11,13 @@ pub struct Span {
     pub len: u32,
 }
 
-pub fn least(x: u32, y: u32) -> u32
-    ensures { result ≡ min x y }
-{
-    if x < y {
-        return x;
-    }
-    y
-}
-
 // The places before a lift of units that stand side by side after it: those of the first of them.
 fn before_lift(s: Span, old: u32, new: u32) -> Span
     requires { 1 ≤ s.len }
     ensures { BackIs s old new result }
 {
     if s.base < new {
-        let x = least(s.len, new - s.base);
+        let x = s.len.min(new - s.base);
         return Span {
             base: s.base,
             len: x,
@@ -36,7 +27,7 @@ fn before_lift(s: Span, old: u32, new: u32) -> Span
         return Span { base: old, len: 1 };
     }
     if s.base <= old {
-        let x = least(s.len, old - s.base + 1);
+        let x = s.len.min(old - s.base + 1);
         return Span {
             base: s.base - 1,
             len: x,
@@ -51,9 +42,7 @@ pub fn before_lifts(words: &[u32], k: u32) -> Span
     ensures { SpanIs words.now k result }
 {
     let mut s = Span { base: k, len: 6500 };
-    let mut j = words[0] as usize;
-    while 0 < j {
-        j -= 1;
+    for j in (0..words[0] as usize).rev() {
         s = before_lift(s, words[2 * j + 2], words[2 * j + 3]);
     }
     s

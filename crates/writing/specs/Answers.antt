@@ -1,6 +1,7 @@
 -- The tape writer's answers: its own, and those of the parts that it is made of.
-use Rattle.std.specs.Prelude.{◌≡◌, Bool, true, cond, ◌&&◌, List, [], ◌∷◌, ℕ, ◌≤◌, ◌<◌, ◌^◌, length}
-use Rattle.rules.specs.declared.Written.{Written}
+use Rattle.std.specs.Prelude.{◌≡◌, Bool, true, ◌&&◌, Option, Some, None, Result, Ok, Err, List, [], ◌∷◌, unwrap_or, ℕ, ◌≤◌, ◌<◌, ◌^◌, length}
+use Rattle.rules.specs.declared.Refusal.{Refusal}
+use Rattle.rules.specs.Refusals.{number_of}
 use Rattle.rules.specs.declared.Instruction.TheVariants.{Roll}
 use Rattle.rules.specs.Measures.{quote_count, tape_words}
 use Rattle.rules.specs.Book.{all}
@@ -8,20 +9,23 @@ use Rattle.rules.specs.Records.{issue_bits, mark_bits, day_bits, quote_bits, hea
 use Rattle.rules.specs.Questions.{ask, first_no}
 use Rattle.rules.specs.Tape.{mark_word, turn_word, fits, head_fits, fields_fit, WriteAnswer, write_answer, words_of}
 
--- number and count as returned, and the lent output, are an answer
-pub record WriteAnswerIs (d : WriteAnswer) (r : Written) (lent : List ℕ) : Type 0 where
-  pub refusal : r.refusal ≡ d.refusal
-  pub count : r.count ≡ d.count
-  pub out : lent ≡ d.out
+-- what the code answers and the lent output, as the paper's answer: a refusal counts no words
+abbrev pub written : Result ℕ Refusal → List ℕ → WriteAnswer
+written (Ok n) lent = record { refusal = 0; count = n; out = lent }
+written (Err r) lent = record { refusal = number_of r; count = 0; out = lent }
 
 -- the words where the fields fit, else 15
 abbrev pub fitted : Bool → List ℕ → List ℕ → WriteAnswer
 fitted fit ws out = write_answer (first_no (ask 15 fit ∷ [])) ws out
 
--- a head, alone or with its kind 8 word
-abbrev pub head_words : ℕ → ℕ → ℕ → ℕ → ℕ → Bool → List ℕ → WriteAnswer
-head_words kind i f t x alone out =
-    fitted (head_fits i f t x) (head_word kind i f t ∷ cond alone [] (lots_word x ∷ [])) out
+-- a head, with a kind 8 word where there are lots
+abbrev pub lots_words : Option ℕ → List ℕ
+lots_words None = []
+lots_words (Some x) = lots_word x ∷ []
+
+abbrev pub head_words : ℕ → ℕ → ℕ → ℕ → Option ℕ → List ℕ → WriteAnswer
+head_words kind i f t lots out =
+    fitted (head_fits i f t (unwrap_or lots 0)) (head_word kind i f t ∷ lots_words lots) out
 
 -- a mark's word
 abbrev pub mark_words : ℕ → ℕ → List ℕ → WriteAnswer

@@ -98,7 +98,7 @@ loop-sent-preserved g c =
       omega (arith, few.0, i.2),
       omega (arith, size, few.1, e, i.3),
       omega (arith, t.reads),
-      sofar_on l.p k.result l.bytes _ _ k.ensures.0 l.sent.count l.reads t.over i.5 c.show-sent.result.count e t.failed i.1 (omega (arith, i.0.input)),
+      sofar_on l.p k.result l.bytes _ _ k.ensures.0 l.sent.count l.reads t.over i.5 c.show-sent.result.count e t.failed,
       λ z. absurd (omega (arith, z)),
     )
 

@@ -2,7 +2,9 @@
 use mathlib.Core.Path.{◌≡◌, sym, ap, ◌∙◌}
 use mathlib.Core.Bool.{false}
 use native.Mathlib.Omega.{arith}
+use lib.Seq.{length-take-le}
 use Rattle.rules.specs.Measures.{sum}
+use Rattle.runs.specs.Runs.{units_in}
 use Rattle.laws.proofs.SoundRows.{order_in_lem}
 use Rattle.runs.proofs.Cells.{row_part, can_order, dues_sum, total_small}
 use Rattle.status.proofs.Telling.{is_taking_lem, no_issue, of_unit}
@@ -33,16 +35,17 @@ total-d-requires c =
     (total_small c.args.nets.now c.args.delivered.now c.args.lifts.now c.requires c.args.i (omega arith))
 
 pub tell-requires : goal.tell-requires
+unfolding units_in
 tell-requires c =
-    let s = c in
-    let a = s.args in
+    let a = c.args in
     let p = c.prepare-n.ensures in
     record {
-      held = p.held;
-      small = rw p.units (omega (arith, (order_in_lem false a.nets.now a.lifts.now a.i).whole, dues_sum a.nets.now a.i s.requires.size s.requires.cells (omega arith)));
+      few = omega (arith, p.held.few, length-take-le c.prepare-n.result c.prepare-n.new.runs p.held.there);
+      small = rw (p.units) (omega (arith, (order_in_lem false a.nets.now a.lifts.now a.i).whole, dues_sum a.nets.now a.i c.requires.size c.requires.cells (omega arith)));
     }
 
 pub returns : goal.returns
+unfolding units_in
 returns c new =
     let a = c.args in
     c.tell.ensures

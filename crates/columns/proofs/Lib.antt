@@ -1,0 +1,2 @@
+-- Laws of lent columns.
+pub mod Same
