@@ -19,6 +19,16 @@ pub struct SharedColumns<'a> {
     pub days: &'a [u16],
 }
 
+// Those of the ledger, only read.
+#[derive(Clone, Copy, Drop)]
+pub struct SharedLedger<'a> {
+    pub issues: &'a [u8],
+    pub froms: &'a [u8],
+    pub tos: &'a [u8],
+    pub lots: &'a [u32],
+    pub days: &'a [u16],
+}
+
 // The columns, lent to be changed.
 #[derive(Drop)]
 pub struct LentColumns<'a> {
