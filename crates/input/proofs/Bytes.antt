@@ -65,6 +65,7 @@ refilled before shifted back start left room r h l m k t =
     record {
       said = t.said;
       came = take n (drop left after);
+      within = omega (arith, t.within);
       took = t.took;
       fits = omega (arith, t.took.end, t.within);
       many = length-take-le n (drop left after) (omega (arith, length-drop left after, t.within));

@@ -64,6 +64,7 @@ pub record Received (left room : ℕ) (r : Fill) : Type 0 where
 pub record Refilled (before after : List ℕ) (start left : ℕ) (r : Fill) : Type 0 where
   pub said : Option ℕ
   pub came : List ℕ
+  pub within : brought said ≤ length before - left
   pub took : Took said left r
   pub fits : r.end ≤ length after
   pub many : length came ≡ brought said

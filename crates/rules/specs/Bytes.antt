@@ -1,5 +1,5 @@
--- A tape as bytes: little-endian words, and what a read of it answers.
-use Rattle.std.specs.Prelude.{Bool, true, false, not, List, [], ◌∷◌, ℕ, ◌+◌, ◌*◌, ◌%◌, eqb, ℤ, pos, negsuc, length}
+-- A tape as bytes: little-endian words.
+use Rattle.std.specs.Prelude.{Bool, not, List, [], ◌∷◌, ℕ, ◌+◌, ◌*◌, ◌%◌, eqb, length}
 
 -- the word of four bytes, the least first
 abbrev pub word_of : ℕ → ℕ → ℕ → ℕ → ℕ
@@ -16,13 +16,3 @@ words_in (a ∷ b ∷ c ∷ d ∷ bytes) = word_of a b c d ∷ words_in bytes
 -- a last word of 1 to 3 bytes is not whole
 abbrev pub stray_in : List ℕ → Bool
 stray_in bytes = not (eqb (length bytes % 4) 0)
-
--- a read answers how many bytes it brought: 0 is the end of the tape, and nothing else is
-abbrev pub says_end : ℤ → Bool
-says_end (pos n) = eqb n 0
-says_end (negsuc n) = false
-
--- a negative answer is a failure
-abbrev pub says_failed : ℤ → Bool
-says_failed (pos n) = false
-says_failed (negsuc n) = true

@@ -1,12 +1,12 @@
 // The types of the settlement-day book: measures, book, answers, instructions; and its limits, each by the name that it
-// has in specs/Measures. The one function here gives a refusal's number; what all of it means is in specs/, which reads
+// has in specs/Measures. The two functions here give a refusal's number; what all of it means is in specs/, which reads
 // beside document 01 from top to bottom.
 
 // 16 issues, 0 to 15
 #![tactic(auto)]
 
 ghost use Rattle.std.specs.Prelude.{◌≡◌};
-ghost use Rattle.rules.specs.Refusals.{number_of};
+ghost use Rattle.rules.specs.Refusals.{number_of, number_in};
 
 pub const ISSUE_COUNT: usize = 16;
 
@@ -152,6 +152,16 @@ impl Refusal {
             Refusal::Turn => 26,
             Refusal::Right => 27,
         }
+    }
+}
+
+// the number in an answer, 0 where it is done
+pub fn number_in<T: Drop>(answer: Result<T, Refusal>) -> u32
+    ensures { result ≡ number_in answer }
+{
+    match answer {
+        Ok(_) => 0,
+        Err(refusal) => refusal.number(),
     }
 }
 
