@@ -3,28 +3,17 @@
 #![tactic(auto)]
 
 ghost use Rattle.std.specs.Prelude.{◌≡◌};
-ghost use Rattle.rules.specs.Refusals.{number_in};
 ghost use Rattle.contributions.specs.Funds.{answered, bases as basesAnswer, shares as sharesAnswer, funds as funds_answer};
 
 use funds::PARTICIPANTS;
-use rules::Refusal;
-
-// The refusal's number, 0 where it is done.
-fn number(outcome: Result<(), Refusal>) -> u32
-    ensures { result ≡ number_in outcome }
-{
-    match outcome {
-        Ok(()) => 0,
-        Err(refusal) => refusal.number(),
-    }
-}
+use rules::number_in;
 
 // The base contributions of averages, for a factor in tenths: the refusal's number, 0 where it is done.
 #[unsafe(no_mangle)]
 pub extern "C" fn day_bases(averages: &[u64], tenths: u64, out: &mut [u64; PARTICIPANTS]) -> u32
     ensures { answered result out.new ≡ basesAnswer averages.now tenths out.old }
 {
-    number(funds::day_bases(averages, tenths, out))
+    number_in(funds::day_bases(averages, tenths, out))
 }
 
 // The shares of the funds among participants with given bases: the refusal's number, 0 where it is done.
@@ -37,7 +26,7 @@ pub extern "C" fn day_shares(
 ) -> u32
     ensures { answered result out.new ≡ sharesAnswer averages.now bases.now funds out.old }
 {
-    number(funds::day_shares(averages, bases, funds, out))
+    number_in(funds::day_shares(averages, bases, funds, out))
 }
 
 // The shares of the funds among participants with the bases of their averages: the refusal's number, 0 where it is done.
@@ -50,5 +39,5 @@ pub extern "C" fn day_funds(
 ) -> u32
     ensures { answered result out.new ≡ funds_answer averages.now tenths funds out.old }
 {
-    number(funds::day_funds(averages, tenths, funds, out))
+    number_in(funds::day_funds(averages, tenths, funds, out))
 }
