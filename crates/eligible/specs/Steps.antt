@@ -1,22 +1,26 @@
 -- What the functions of this crate may count on, and what they leave.
-use Rattle.std.specs.Prelude.{◌≡◌, cond, ◌&&◌, List, ℕ, ◌≤◌, ◌<◌, eqb, length, get_or}
-use Rattle.reports.specs.Reports.{most_reports, Reports, number_of, size_of, eligible_lots}
+use Rattle.std.specs.Prelude.{◌≡◌, cond, ◌&&◌, List, [], ℕ, ◌≤◌, ◌<◌, eqb, length, get_or, ℤ}
+use Rattle.reports.specs.Reports.{most_reports, Reports, reports, size_of, eligible_lots}
+
+-- the reports without their counterparties
+abbrev pub unfaced : List ℕ → List ℤ → List ℕ → Reports
+unfaced subs lots earlier = reports subs [] lots earlier
 
 -- at most 256 reports, in columns of one length
-pub record Few (rs : Reports) : Type 0 where
-  pub places : length rs.lots ≡ number_of rs
-  pub fails : length rs.earlier ≡ number_of rs
-  pub few : number_of rs ≤ most_reports
+pub record Few (subs : List ℕ) (lots : List ℤ) (earlier : List ℕ) : Type 0 where
+  pub places : length lots ≡ length subs
+  pub fails : length earlier ≡ length subs
+  pub few : length subs ≤ most_reports
 
 -- one of them
-pub record OneOf (rs : Reports) (k : ℕ) : Type 0 where
-  pub columns : Few rs
-  pub there : k < number_of rs
+pub record OneOf (subs : List ℕ) (lots : List ℤ) (earlier : List ℕ) (k : ℕ) : Type 0 where
+  pub columns : Few subs lots earlier
+  pub there : k < length subs
 
 -- and a place for the size of each
-pub record Sizable (rs : Reports) (sizes : List ℕ) : Type 0 where
-  pub columns : Few rs
-  pub room : number_of rs ≤ length sizes
+pub record Sizable (subs : List ℕ) (lots : List ℤ) (earlier sizes : List ℕ) : Type 0 where
+  pub columns : Few subs lots earlier
+  pub room : length subs ≤ length sizes
 
 -- each report's size at the place of its number, and the eligible lots
 pub record Sized (rs : Reports) (sizes : List ℕ) (sum : ℕ) : Type 0 where

@@ -6,6 +6,7 @@ use Prim.Native.Nat.{ℕ, zero, suc, ◌≤◌, ◌<◌}
 use native.Mathlib.Omega.{arith}
 use lib.Dec.{leb, ltb, eqb}
 use lib.ListN.{length, get_or, drop, replicate, length-replicate}
+use lib.IntN.{ℤ}
 use borrow.Author.Tests.{le-leb, lt-leb, leb-true, eqb-true}
 use Rattle.rules.specs.Book.{all}
 use Rattle.rules.specs.declared.Refusal.{Refusal}
@@ -15,9 +16,10 @@ use Rattle.rules.specs.Records.{over}
 use Rattle.rules.specs.Questions.{first_no}
 use Rattle.laws.proofs.Basics.{by_test, and_left, and_right}
 use Rattle.laws.proofs.Answers.{all_yes, said_yes, said_no}
-use Rattle.reports.specs.Reports.{most_reports, last_sub, Reports, number_of, net_receiver, kept, sub_at, received_by, eligible, size_of, eligible_lots, faces}
+use Rattle.reports.specs.Reports.{most_reports, last_sub, Reports, reports, number_of, receipts, deliveries, net_receiver, kept, sub_at, received_by, eligible, size_of, eligible_lots, faces}
 use Rattle.reports.specs.Allotting.{Allotment, allotment, allot}
 use Rattle.reports.specs.Trust.{columns_right, draw_right, ask_eligible, report_asks, trust_asks, facing, others, no_shares, shares_of, answered, trust_answer, trust}
+use Rattle.eligible.specs.Steps.{unfaced}
 use Rattle.sharing.specs.Steps.{in_group, grouped, allot_group, shared_out}
 use Rattle.sharing.specs.declared.Group.TheVariants as the
 use Rattle.reports.proofs.Allotting.{those_below, those_same, allot_same, allot_length, allot_beyond}
@@ -34,6 +36,17 @@ sized a n r =
 eligible_size : (rs : Reports) (k : ℕ) → ltb 0 (size_of rs k) ≡ eligible rs k
 unfolding size_of eligible
 eligible_size rs k = sized (kept rs k) (net_receiver rs (sub_at rs k)) (received_by rs k)
+
+-- counterparties have no part in sizes
+pub size_unfaced : (subs parties : List ℕ) (lots : List ℤ) (earlier : List ℕ) (k : ℕ) →
+    size_of (unfaced subs lots earlier) k ≡ size_of (reports subs parties lots earlier) k
+unfolding size_of eligible receipts deliveries
+size_unfaced subs parties lots earlier k = refl
+
+pub lots_unfaced : (subs parties : List ℕ) (lots : List ℤ) (earlier : List ℕ) →
+    eligible_lots (unfaced subs lots earlier) ≡ eligible_lots (reports subs parties lots earlier)
+unfolding eligible_lots size_of eligible receipts deliveries
+lots_unfaced subs parties lots earlier = refl
 
 module _ (rs : Reports) (sizes draw : List ℕ) (failing : ℕ)
     (each : (k : ℕ) → k < number_of rs → get_or sizes k 0 ≡ size_of rs k) (below : all (λ k. ltb k (number_of rs)) draw ≡ true) where

@@ -96,7 +96,7 @@ pub fn day_trust(
     report_asks(columns, draw, fail, failing, out)?;
     let n = columns.subs.len();
     let mut sizes = [0u32; MOST_REPORTS];
-    let sum = sizes_of(columns, &mut sizes);
+    let sum = sizes_of(columns.subs, columns.lots, columns.earlier, &mut sizes);
     if sum < fail as u64 {
         return Err(Refusal::Eligible);
     }

@@ -3,22 +3,11 @@
 #![tactic(auto)]
 
 ghost use Rattle.std.specs.Prelude.{◌≡◌};
-ghost use Rattle.rules.specs.Refusals.{number_in};
 ghost use Rattle.reports.specs.Reports.{reports};
 ghost use Rattle.reports.specs.Trust.{answered, trust};
 
 use reports::Columns;
-use rules::Refusal;
-
-// The refusal's number, 0 where it is done.
-fn number(outcome: Result<(), Refusal>) -> u32
-    ensures { result ≡ number_in outcome }
-{
-    match outcome {
-        Ok(()) => 0,
-        Err(refusal) => refusal.number(),
-    }
-}
+use rules::number_in;
 
 // Each report's share of the fail, at the place of its number: the refusal's number, 0 where it is done.
 #[unsafe(no_mangle)]
@@ -40,5 +29,5 @@ pub extern "C" fn day_trust(
         lots,
         earlier,
     };
-    number(trust::day_trust(columns, draw, fail, failing, out))
+    number_in(trust::day_trust(columns, draw, fail, failing, out))
 }

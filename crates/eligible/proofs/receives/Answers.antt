@@ -1,10 +1,9 @@
 -- A report more in each sum, and the whole of them.
 use Rattle.std.proofs.Common.{rules, ◌≡◌, ℕ, zero, suc, ◌+◌, ◌-◌, ◌*◌, ◌/◌, ◌%◌, ◌≤◌, ◌<◌, min, List, [], ◌∷◌, ◌++◌, map, length, get_or, take, drop, set, replicate, refl, sym, ap, ◌∙◌, arith, Bool, true, false, cond, ◌&&◌, not, length-set, add-one, leb, ltb, eqb, eq-eqb, ne_eqb, le-leb, lt-ltb, le-ltb, ltb-true, ltb-false, leb-true, leb-false, eqb-true, subst, get_or-set_other, get_or-set_same}
 use borrow.Author.Tests.{lt-leb}
-use Rattle.reports.specs.Lent.{reports_in}
 use Rattle.reports.specs.Reports.{numbers, receipt_of, delivery_of, receipts, deliveries}
 use Rattle.rules.specs.Measures.{total, due_of, owed_of}
-use Rattle.eligible.specs.Steps.{counted_for}
+use Rattle.eligible.specs.Steps.{unfaced, counted_for}
 use Rattle.reports.proofs.Sums.{total_number, total_numbers_end}
 use lib.IntN.{pos}
 use mir.Syntax.{w32}
@@ -18,7 +17,7 @@ loop-k-init c = (search rules, search rules, omega arith, omega arith)
 pub loop-k-preserved : goal.loop-k-preserved
 loop-k-preserved c =
     let l = c.loop-k in
-    let rs = reports_in c.args.columns in
+    let rs = unfaced c.args.subs.now c.args.lots.now c.args.earlier.now in
     let s = c.args.s in
     let n = length rs.subs in
     let z = to_z-of_z w32 (get_or rs.lots l.k (pos 0)) (search rules) in
@@ -37,7 +36,7 @@ loop-k-preserved c =
 pub returns : goal.returns
 returns c =
     let l = c.loop-k in
-    let rs = reports_in c.args.columns in
+    let rs = unfaced c.args.subs.now c.args.lots.now c.args.earlier.now in
     let s = c.args.s in
     let n = length rs.subs in
     let r : l.received ≡ receipts rs s = omega (arith, l.invariant.2, total_numbers_end (receipt_of rs s) n l.k (omega arith)) in

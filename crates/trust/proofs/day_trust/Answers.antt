@@ -6,7 +6,7 @@ use Rattle.reports.specs.Reports.{number_of, size_of}
 use Rattle.reports.specs.Trust.{answered}
 use Rattle.reports.proofs.Draws.{right_draw}
 use lib.Seq.{length-take-le, get_or-take}
-use Rattle.trust.proofs.Sharing.{shared_over, refused_by, refused_last, allotted, admitted}
+use Rattle.trust.proofs.Sharing.{size_unfaced, lots_unfaced, shared_over, refused_by, refused_last, allotted, admitted}
 use Rattle.trust.proofs.day_trust.Goals as goal
 
 pub returns-in_err-report_asks : goal.returns-in_err-report_asks
@@ -25,7 +25,7 @@ pub returns-then-sum-fail : goal.returns-then-sum-fail
 returns-then-sum-fail c =
     let a = c.args in
     refused_last (reports_in a.columns) a.draw.now a.fail a.failing a.out.now (sym c.in_ok-report_asks.ensures)
-    (omega (arith, c.sizes_of-sum.ensures.lots, c.if-sum-fail.true))
+    (omega (arith, c.sizes_of-sum.ensures.lots, lots_unfaced a.columns.subs.now a.columns.parties.now a.columns.lots.now a.columns.earlier.now, c.if-sum-fail.true))
 
 pub slice_bounds-share-end : goal.slice_bounds-share-end
 slice_bounds-share-end c =
@@ -56,8 +56,9 @@ returns c =
     let z = c.sizes_of-sum in
     let places = length-take-le n z.new.sizes (omega (arith, h.few, z.auto.sizes)) in
     let each : (k : ℕ) → k < n → get_or (take n z.new.sizes) k 0 ≡ size_of rs k = λ k l.
-    get_or-take n z.new.sizes k 0 l ∙ z.ensures.each k l in
+    get_or-take n z.new.sizes k 0 l ∙ z.ensures.each k l
+    ∙ size_unfaced a.columns.subs.now a.columns.parties.now a.columns.lots.now a.columns.earlier.now k in
     ap (answered 0)
     (c.share.ensures
     ∙ shared_over rs (take n z.new.sizes) a.draw.now a.failing each (right_draw n a.draw.now h.drawn).below places a.fail a.out.now)
-    ∙ allotted rs a.draw.now a.fail a.failing a.out.now yes (omega (arith, z.ensures.lots, c.if-sum-fail.false))
+    ∙ allotted rs a.draw.now a.fail a.failing a.out.now yes (omega (arith, z.ensures.lots, lots_unfaced a.columns.subs.now a.columns.parties.now a.columns.lots.now a.columns.earlier.now, c.if-sum-fail.false))
