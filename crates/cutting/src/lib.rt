@@ -104,7 +104,7 @@ fn prepare(
     let n = units::prepare(nets, lifts, i, runs);
     let d = book::total(&delivered[s..e]);
     book::missing_of(&nets[s..e], &delivered[s..e], missing);
-    let p = units::start(runs, n, d);
+    let p = units::start(&mut runs[..n], d);
     let c = p.cursor;
     Ready {
         n,

@@ -2,7 +2,7 @@
 // its first full run, however many lifts have parted them.
 #![tactic(auto)]
 
-ghost use Rattle.std.specs.Prelude.{◌≡◌, map, get_or};
+ghost use Rattle.std.specs.Prelude.{◌≡◌, map, length, get_or};
 ghost use Rattle.runs.specs.Runs.{part_of, Held};
 ghost use Rattle.gathering.specs.Gathering.{laid, fulls_of, SumsAre, HandsOn, CanGather, CanSum, CanSpread};
 
@@ -16,14 +16,13 @@ pub struct Waiting {
     pub stock: u32,
 }
 
-// The runs that wait after a delivered total: in the run where it ends stays what is not handed. The array is lent whole,
-// with how many of its words are runs, since it is changed in place and there is no heap.
-pub fn hand(runs: &mut [u32], n: usize, d: u32) -> Waiting
-    requires { Held runs.old n }
-    ensures { HandsOn runs.old runs.new n d result }
+// The runs that wait after a delivered total: in the run where it ends stays what is not handed.
+pub fn hand(runs: &mut [u32], d: u32) -> Waiting
+    requires { Held runs.old (length runs.old) }
+    ensures { HandsOn runs.old runs.new (length runs.old) d result }
 {
     let mut left = d;
-    for j in 0..n {
+    for j in 0..runs.len() {
         let held = runs[j] / ACCOUNTS;
         if left < held {
             runs[j] -= left / UNIT_LOTS * UNIT_WORD;
@@ -35,7 +34,7 @@ pub fn hand(runs: &mut [u32], n: usize, d: u32) -> Waiting
         left -= held;
     }
     Waiting {
-        run: n,
+        run: runs.len(),
         stock: left,
     }
 }

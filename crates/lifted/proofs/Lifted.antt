@@ -7,7 +7,7 @@ use native.Mathlib.Omega.{arith}
 use native.Mathlib.Nat.{min-eq_left, min-eq_right, suc-sub-suc, sub-zero}
 use lib.Dec.{leb}
 use lib.ListN.{length, length-append, take, drop, get_or, set, length-set, length-drop, take-append-drop}
-use lib.Seq.{take-set-le, take-set-lt, take-take, take_all, take-append_seam, take-append-le, take-append-add}
+use lib.Seq.{take_at, take-set-le, take-set-lt, take-take, take_all, take-append_seam, take-append-le, take-append-add}
 use lib.Seq.{drop-set-lt, get_or-set_same, get_or-take, get_or-drop, drop-drop, drop-append_seam, split_at, length-take-le, drop-append-le, drop-append-add}
 use lib.IntN.{ℤ}
 use borrow.Author.Tests.{leb-true, leb-false}
@@ -41,6 +41,22 @@ lent_at runs n k s h u =
       below = l;
       within = rw (get_or-take n runs s.run 0 l) at u.within;
       place = rw (take-take s.run n runs (omega arith)) at u.place;
+    }
+
+-- and given back without it, in front of the others
+pub taken_front : (runs part : List ℕ) (n k r : ℕ) → n ≤ length runs → length part ≡ length (take n runs) →
+    TakenOut (take n runs) part (length (take n runs)) k r → TakenOut runs (part ++ drop n runs) n k r
+unfolding units_in
+taken_front runs part n k r h l t =
+    let L = length (take n runs) in
+    let whole : take L (take n runs) ≡ take n runs = take_all L (take n runs) (omega arith) in
+    let front : take n (part ++ drop n runs) ≡ take L part =
+    take_at part (drop n runs) n (l ∙ length-take-le n runs h) ∙ sym (take_all L part (omega arith)) in
+    record {
+      rest = ap units_of front ∙ rw whole at t.rest;
+      unit = rw whole at t.unit;
+      plain = λ ps. rw front (t.plain (rw whole ps));
+      one = t.one;
     }
 
 -- unit m of a run as a run of its own, and the run without it

@@ -43,13 +43,12 @@ fn piece(key: u32, m: u32) -> u32
     UNIT_WORD + key % ACCOUNTS
 }
 
-// Unit k taken out of n runs: its run falls by its lots; answers the unit as a word. Here and below the array is lent
-// whole, with the number of its words that are runs: a lift makes two runs more in place, and there is no heap.
-fn take_out(runs: &mut [u32], n: usize, k: u32) -> u32
-    requires { HasUnit runs.old n k }
-    ensures { TakenOut runs.old runs.new n k result }
+// Unit k taken out of the runs: its run falls by its lots; answers the unit as a word.
+fn take_out(runs: &mut [u32], k: u32) -> u32
+    requires { HasUnit runs.old (length runs.old) k }
+    ensures { TakenOut runs.old runs.new (length runs.old) k result }
 {
-    let s = find(&runs[..n], k);
+    let s = find(runs, k);
     let j = s.run;
     let key = runs[j];
     let word = piece(key, s.passed);
@@ -57,7 +56,8 @@ fn take_out(runs: &mut [u32], n: usize, k: u32) -> u32
     word
 }
 
-// A word's units put in front of unit k, whose run is split there: two runs more.
+// A word's units put in front of unit k, whose run is split there: two runs more. Here and below the array is lent whole,
+// with the number of its words that are runs: the two take the places behind them, and there is no heap.
 fn put_in(runs: &mut [u32], n: usize, k: u32, word: u32)
     requires { CanPut runs.old n k }
     ensures { PutIn runs.old runs.new n k word }
@@ -79,7 +79,7 @@ pub fn lift(runs: &mut [u32], n: usize, old: u32, new: u32) -> usize
     if old == new {
         return n;
     }
-    let word = take_out(runs, n, old);
+    let word = take_out(&mut runs[..n], old);
     put_in(runs, n, new, word);
     n + 2
 }

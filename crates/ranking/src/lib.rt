@@ -2,43 +2,25 @@
 // one word, lots * 64 + account, and its small unit another.
 #![tactic(auto)]
 
-ghost use Rattle.std.specs.Prelude.{◌≡◌, map, ◌≤◌, length};
+ghost use Rattle.std.specs.Prelude.{◌≡◌, ◌≤◌};
 ghost use Rattle.runs.specs.Runs.{runs_in};
-ghost use Rattle.ranking.specs.Orders.{full_word, small_at, runs_at, CanOrder, CanRankAt, RankedAt, CanRankAll, Table};
+ghost use Rattle.ranking.specs.Orders.{runs_at, CanOrder, CanRankAt, RankedAt, CanRankAll, Table};
 
-use rules::{ACCOUNT_COUNT, ACCOUNTS, ISSUE_COUNT};
+use rules::{ACCOUNT_COUNT, ISSUE_COUNT};
 use runs::RANK_COUNT;
+use sorting::{fulls, rank, rests};
 
-// Of each account's lots, those of its small unit, at any size; `ordering::rests` has the size of document 01.
-fn rests(lots: &[u32], out: &mut [u32], size: u32)
-    requires { (1 ≤ size) × (length out.old ≡ length lots.now) }
-    ensures { out.new ≡ map (small_at size) lots.now }
-{
-    for (i, x) in lots.iter().enumerate() {
-        out[i] = *x % size;
-    }
-}
-
-// Of each key the lots of its full units.
-fn fulls(keys: &mut [u32], size: u32)
-    requires { 1 ≤ size }
-    ensures { keys.new ≡ map (full_word size) keys.old }
-{
-    for k in keys.iter_mut() {
-        *k -= *k / ACCOUNTS % size * ACCOUNTS;
-    }
-}
-
-// The runs of accounts with these dues, in unit order; answers their number.
+// The runs of accounts with these dues, in unit order; answers their number. The steps are those of `ordering::order`, whose
+// contract says more at document 01's size.
 fn order(dues: &[u32], runs: &mut [u32], size: u32) -> usize
     requires { CanOrder size dues.now runs.old }
     ensures { (result ≤ 128) × (runs_in runs.new result ≡ runs_at size dues.now) }
 {
-    let n = sorting::rank(dues, runs, size);
+    let n = rank(dues, runs, size);
     fulls(&mut runs[..n], size);
     let mut small = [0u32; ACCOUNT_COUNT];
     rests(dues, &mut small, size);
-    let m = sorting::rank(&small, &mut runs[n..], 1);
+    let m = rank(&small, &mut runs[n..], 1);
     n + m
 }
 

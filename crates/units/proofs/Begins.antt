@@ -7,7 +7,7 @@ use native.Mathlib.Omega.{arith}
 use native.Mathlib.Nat.{sub-zero, zero-sub, suc-sub-suc}
 use lib.Dec.{leb, eqb, lit<}
 use lib.ListN.{length, take, drop, get_or, replicate, length-drop, get_or-append}
-use lib.Seq.{drop-cons, length-take-le, take-nil, get_or-append-add, take-append-add, take-append_seam, drop-append-add}
+use lib.Seq.{drop-cons, length-take-le, take-nil, take_all, take_at, get_or-append-add, take-append-add, take-append_seam, drop-append-add}
 use borrow.Author.Tests.{leb-true, leb-false, eq-eqb}
 use Rattle.rules.specs.Measures.{total, unit_lots}
 use Rattle.rules.specs.Units.{AccountLots, account_lots, prepend, by_account, of_account}
@@ -16,10 +16,11 @@ use Rattle.rules.specs.Fails.{is_full_of, full_lots, without_fulls, join, stretc
 use Rattle.laws.proofs.Basics.{by_test, Every, put_pos, total_append, total_split, total_replicate, total_put}
 use Rattle.laws.proofs.Overlaps.{skip_skip0, skip_put, overlaps_skip0, overlaps_short0}
 use Rattle.laws.proofs.Gather.{gathered, gather_stretches, run_join}
-use Rattle.runs.specs.Runs.{part_of, runs_in, units_of_run, units_of_runs, units_in, Plain}
+use Rattle.runs.specs.Runs.{part_of, runs_in, units_of_run, units_of_runs, units_of_words, units_in, Plain, Held}
 use Rattle.gathering.specs.Gathering.{HandsOn, CanGather, spent, laid, fulls_of}
 use Rattle.gathering.specs.declared.Waiting.{Waiting}
 use Rattle.units.specs.Cursor.{overlaps_in, overlaps_from, position, Started}
+use Rattle.units.specs.declared.Position.{Position}
 use Rattle.runs.proofs.Units.{covered_run, first_run}
 use Rattle.runs.proofs.Loops.{runs_at_lem, runs_end}
 use Rattle.gathering.proofs.Gathers.{drop_map}
@@ -281,3 +282,33 @@ module _ (before runs : List ℕ) (n d : ℕ) (s : Waiting) (h : HandsOn before 
         ap_begun : {k k' : ℕ} → k ≡ k' → Started (units_in before n) final n d (position (j + 1) (k % 64) (k / 64 - s.stock) s.stock) →
             Started (units_in before n) final n d (position (j + 1) (k' % 64) (k' / 64 - s.stock) s.stock)
         ap_begun q b = subst (λ k. Started (units_in before n) final n d (position (j + 1) (k % 64) (k / 64 - s.stock) s.stock)) q b
+
+-- The first n words lent as a list of their own
+
+pub units_front : (runs : List ℕ) (n : ℕ) → units_in (take n runs) (length (take n runs)) ≡ units_in runs n
+unfolding units_in
+units_front runs n = ap units_of_words (take_all (length (take n runs)) (take n runs) (omega arith))
+
+pub held_front : (runs : List ℕ) (n : ℕ) → Held runs n → Held (take n runs) (length (take n runs))
+held_front runs n h =
+    record {
+      few = omega (arith, length-take-le n runs h.there, h.few);
+      there = omega arith;
+      plain = rw (take_all (length (take n runs)) (take n runs) (omega arith)) h.plain;
+      small = λ a. rw (units_front runs n) (h.small a);
+    }
+
+-- and given back, in front of the others
+pub started_front : (us : List AccountLots) (part rest : List ℕ) (n d : ℕ) (r : Position) → length part ≡ n → Started us part n d r →
+    Started us (part ++ rest) n d r
+started_front us part rest n d r l s =
+    let e : take n (part ++ rest) ≡ take n part = take_at part rest n l ∙ sym (take_all n part (omega arith)) in
+    record {
+      lacking = λ missing. ap (λ ws. overlaps_in ws missing r.cursor) e ∙ s.lacking missing;
+      left = s.left;
+      next = s.next;
+      range = s.range;
+    }
+
+pub started_as : (before after : List ℕ) (m n d : ℕ) (r : Position) → m ≡ n → Started (units_in before m) after m d r → Started (units_in before n) after n d r
+started_as before after m n d r e s = subst (λ (k : ℕ). Started (units_in before k) after k d r) e s

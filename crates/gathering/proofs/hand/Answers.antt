@@ -3,7 +3,7 @@ use mathlib.Core.Path.{◌≡◌, refl}
 use Prim.Native.Nat.{suc}
 use native.Mathlib.Omega.{arith}
 use native.Mathlib.Numerals.{add-one}
-use lib.ListN.{drop, get_or}
+use lib.ListN.{length, drop, get_or}
 use Rattle.runs.specs.Runs.{part_of, runs_in}
 use Rattle.runs.proofs.Loops.{runs_at_lem}
 use Rattle.gathering.proofs.Gathers.{seeking_starts, seeking_more, hand_stops, hand_ends}
@@ -18,13 +18,13 @@ overflow_mul-runs c = omega (arith, c.slice_known-1.given c.loop-j.j)
 pub returns-then-left-held : goal.returns-then-left-held
 returns-then-left-held c =
     let l = c.loop-j in
-    hand_stops c.args.runs.now l.runs c.args.n l.j c.args.d l.left (omega (arith, c.requires.there)) l.invariant.1 l.invariant.2
+    hand_stops c.args.runs.now l.runs (length c.args.runs.now) l.j c.args.d l.left (omega (arith, c.requires.there)) l.invariant.1 l.invariant.2
     (omega arith) (omega arith) _ refl
 
 pub loop-j-preserved : goal.loop-j-preserved
 loop-j-preserved c =
     let l = c.loop-j in
-    let n = c.args.n in
+    let n = length c.args.runs.now in
     let e = runs_at_lem l.runs n l.j (omega (arith, c.requires.there)) (omega arith) in (
       l.invariant.0,
       rw add-one
@@ -36,7 +36,7 @@ loop-j-preserved c =
 pub returns : goal.returns
 returns c =
     let l = c.loop-j in
-    let e : l.j ≡ c.args.n = omega arith in
+    let e : l.j ≡ length l.runs = omega (arith, l.invariant.0) in
     rw e
-    at (hand_ends c.args.runs.now l.runs c.args.n l.j c.args.d l.left (omega (arith, c.requires.there)) l.invariant.1 l.invariant.2
+    at (hand_ends c.args.runs.now l.runs (length c.args.runs.now) l.j c.args.d l.left (omega (arith, c.requires.there)) l.invariant.1 l.invariant.2
     (omega arith))

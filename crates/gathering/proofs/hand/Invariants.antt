@@ -7,5 +7,5 @@ use Rattle.gathering.proofs.hand.Given as goal
 
 abbrev pub invariant-loop-j : goal.invariant-loop-j
 invariant-loop-j l =
-    (length l.runs ≡ length l.fn.runs) × Seeking (runs_in l.fn.runs l.n) (drop l.j (runs_in l.runs l.n)) l.d l.left
-    × Every Plain (drop l.j (runs_in l.runs l.n))
+    let n = length l.fn.runs in
+    (length l.runs ≡ n) × Seeking (runs_in l.fn.runs n) (drop l.j (runs_in l.runs n)) l.d l.left × Every Plain (drop l.j (runs_in l.runs n))

@@ -1,0 +1,2 @@
+-- Laws of the full units' words.
+pub mod Words
