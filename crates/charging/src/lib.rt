@@ -15,9 +15,10 @@ fn pay(charges: &mut [i64], f: usize, t: usize, y: u64)
     charges[t] += y as i64;
 }
 
-// Each entry is charged: its charge is taken from 'from' and given to 'to'. Four of the ledger's columns, one by one:
-// they are only read, and `Ledger` lends all five to be changed. They come whole, as C lends them; how many entries they
-// hold is in the state.
+// Each entry is charged: its charge is taken from 'from' and given to 'to'. Four of the ledger's columns, one by one: a roll
+// is lent these four only to be read, so no `Ledger` can be made of them, and it would ask for the days too. The number of
+// entries stands beside them: the definitions take whole columns and the number of entries, and cutting each column at each
+// call is no plainer.
 pub fn charge_entries<'a>(
     days: u32,
     rate: u32,

@@ -10,7 +10,7 @@ ghost use Rattle.host.specs.Questions.{sound_number, UnitIs, day_unit, StatusIs,
 
 use crate::{DayState, held, sound_at, state_in};
 use columns::SharedColumns;
-use rules::{ISSUE_COUNT, LAST_ISSUE, Refusal, Unit};
+use rules::{ISSUE_COUNT, LAST_ISSUE, Refusal, Unit, number_in};
 use told::Told;
 
 // Is the book sound? 1 sound, 0 not: the C interface has a number here.
@@ -80,10 +80,7 @@ pub fn plain(told: Result<Told, Refusal>, answer: &mut [u32; 2]) -> u32
         Ok(Told::WhollyFailed) => [4, 0],
         Err(_) => [0, 0],
     };
-    match told {
-        Ok(_) => 0,
-        Err(r) => r.number(),
-    }
+    number_in(told)
 }
 
 // What is told of unit k of an issue, k from 0.

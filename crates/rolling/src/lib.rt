@@ -50,8 +50,8 @@ fn roll_asks(s: State, days: u32, rate: u32, quotes: &[u32]) -> Result<(), Refus
 }
 
 // Eight of the nine columns, one by one, and four of them only read: the struct of all would ask for the entries'
-// days, of which a roll needs nothing, and lend what it may not change. They come whole, as C lends them; how many
-// entries they hold is in the state.
+// days, of which a roll needs nothing, and lend what it may not change. The number of entries stands beside them: the
+// definitions take whole columns and the number of entries, and cutting each column at each call is no plainer.
 
 // Entries are charged; then nets and delivered lots are 0, and lifts and counts are cleared.
 fn roll_in<'a>(

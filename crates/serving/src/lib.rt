@@ -39,7 +39,8 @@ fn serve_dealt(nets: &[i32], lifts: &[u32], i: u32, d: u32, x: u32, out: &mut [u
 }
 
 // The units of an issue that x more lots hand over, full units dealt in turn or not. The order is a fact of the day, one
-// Bool as in the rules (`order_in`), and is told apart here alone; what is run for each is a function of its own.
+// Bool as in the rules (`order_in`). For a delivery it is looked at here and nowhere else: the callers pass it on, and what
+// is run for each order is a function of its own.
 pub fn serve_in(
     dealt: bool,
     nets: &[i32],

@@ -44,7 +44,7 @@ pub fn stand_of<'a>(
 }
 
 // Unit k of an issue, full units dealt in turn, or as they stand in the lent array: a fact of the day that the
-// definitions take (`order_in`), told apart here alone.
+// definitions take (`order_in`). For a ticket it is looked at here and nowhere else: the callers pass it on.
 #[tactic(auto, unfolding(runs::specs::Runs::units_in))]
 fn unit_in<'a>(
     dealt: bool,
