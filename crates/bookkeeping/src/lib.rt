@@ -8,7 +8,7 @@ ghost use Rattle.bookkeeping.specs.Columns.{issue_sound, sides_sound, lots_sound
 
 use balancing::{LAST_ISSUE, zeros};
 use book::taking;
-use columns::SharedColumns;
+use columns::SharedLedger;
 use rules::{MOST_ENTRIES, MOST_LOTS, Phase, State};
 
 // the last account, as the ledger's columns have it
@@ -74,45 +74,45 @@ fn days_sound(today: u16, days: &[u16]) -> bool
 
 // Are the entries right, do days never fall along them, nor lie above today? Each column is looked at by itself, every
 // place of it: so the compiler compares many at once.
-fn entries_sound(s: State, columns: SharedColumns) -> bool
-    requires { (s.entries ≤ 2048) × LedgerLengths columns.issues.now columns.froms.now columns.tos.now columns.lots.now columns.days.now }
-    ensures { result ≡ entries_sound s.day (entries s.entries columns.entry.issues.now columns.entry.froms.now columns.entry.tos.now columns.entry.lots.now columns.entry.days.now) }
+fn entries_sound(s: State, ledger: SharedLedger) -> bool
+    requires { (s.entries ≤ 2048) × LedgerLengths ledger.issues.now ledger.froms.now ledger.tos.now ledger.lots.now ledger.days.now }
+    ensures { result ≡ entries_sound s.day (entries s.entries ledger.entry.issues.now ledger.entry.froms.now ledger.entry.tos.now ledger.entry.lots.now ledger.entry.days.now) }
 {
     let today = s.day;
     let n = s.entries;
-    let i = issues_sound(&columns.issues[..n]);
-    let a = sides_sound(&columns.froms[..n], &columns.tos[..n]);
-    let x = lots_sound(&columns.lots[..n]);
-    let d = days_sound(today, &columns.days[..n]);
+    let i = issues_sound(&ledger.issues[..n]);
+    let a = sides_sound(&ledger.froms[..n], &ledger.tos[..n]);
+    let x = lots_sound(&ledger.lots[..n]);
+    let d = days_sound(today, &ledger.days[..n]);
     i & a & x & d
 }
 
-// Are the unused entries zero?
+// Are the unused entries zero? The number of entries stands beside the columns: it is in the state.
 #[tactic(auto, unfolding(balancing::specs::Scan::unused_zero))]
-fn unused_zero(entries: usize, columns: SharedColumns) -> bool
-    requires { (entries ≤ 2048) × LedgerLengths columns.issues.now columns.froms.now columns.tos.now columns.lots.now columns.days.now }
-    ensures { result ≡ unused_zero entries columns.entry.issues.now columns.entry.froms.now columns.entry.tos.now columns.entry.lots.now columns.entry.days.now }
+fn unused_zero(entries: usize, ledger: SharedLedger) -> bool
+    requires { (entries ≤ 2048) × LedgerLengths ledger.issues.now ledger.froms.now ledger.tos.now ledger.lots.now ledger.days.now }
+    ensures { result ≡ unused_zero entries ledger.entry.issues.now ledger.entry.froms.now ledger.entry.tos.now ledger.entry.lots.now ledger.entry.days.now }
 {
-    let i = zeros(&columns.issues[entries..]);
-    let f = zeros(&columns.froms[entries..]);
-    let t = zeros(&columns.tos[entries..]);
-    let x = zeros(&columns.lots[entries..]);
-    let d = zeros(&columns.days[entries..]);
+    let i = zeros(&ledger.issues[entries..]);
+    let f = zeros(&ledger.froms[entries..]);
+    let t = zeros(&ledger.tos[entries..]);
+    let x = zeros(&ledger.lots[entries..]);
+    let d = zeros(&ledger.days[entries..]);
     i & f & t & x & d
 }
 
 // Is the ledger sound? A number of entries above 2,048 is not.
 #[tactic(auto, unfolding(balancing::specs::Scan::ledger_sound))]
-pub fn ledger_sound(s: State, columns: SharedColumns) -> bool
-    requires { LedgerLengths columns.issues.now columns.froms.now columns.tos.now columns.lots.now columns.days.now }
-    ensures { result ≡ ledger_sound s.day s.entries columns.entry.issues.now columns.entry.froms.now columns.entry.tos.now columns.entry.lots.now columns.entry.days.now }
+pub fn ledger_sound(s: State, ledger: SharedLedger) -> bool
+    requires { LedgerLengths ledger.issues.now ledger.froms.now ledger.tos.now ledger.lots.now ledger.days.now }
+    ensures { result ≡ ledger_sound s.day s.entries ledger.entry.issues.now ledger.entry.froms.now ledger.entry.tos.now ledger.entry.lots.now ledger.entry.days.now }
 {
     let n = s.entries;
     if MOST_ENTRIES < n {
         return false;
     }
-    let used = entries_sound(s, columns);
-    let unused = unused_zero(n, columns);
+    let used = entries_sound(s, ledger);
+    let unused = unused_zero(n, ledger);
     used & unused
 }
 

@@ -6,6 +6,7 @@ use Rattle.rules.specs.Measures.{output_words}
 use Rattle.rules.specs.Book.{book_of, sound, Lengths}
 use Rattle.columns.specs.declared.SharedColumns.{SharedColumns}
 use Rattle.columns.specs.declared.LentColumns.{LentColumns}
+use Rattle.columns.specs.declared.SharedLedger.{SharedLedger}
 
 -- the book of a state and columns that are only read
 abbrev pub shared_book : State → SharedColumns → Book
@@ -16,6 +17,10 @@ shared_book s c =
 abbrev pub lent_book : State → LentColumns → Book
 lent_book s c =
     book_of s c.nets.now c.delivered.now c.lifts.now c.charges.now c.issues.now c.froms.now c.tos.now c.lots.now c.days.now
+
+-- the ledger's columns among the nine
+abbrev pub ledger_in : SharedColumns → SharedLedger
+ledger_in c = record { issues = c.issues; froms = c.froms; tos = c.tos; lots = c.lots; days = c.days }
 
 -- lent columns before and after a call are the same references
 pub record SameColumns (c d : LentColumns) : Type 0 where

@@ -3,7 +3,7 @@
 
 ghost use Rattle.std.specs.Prelude.{◌≡◌};
 ghost use Rattle.rules.specs.declared.State.{State};
-ghost use Rattle.columns.specs.Books.{shared_book, lent_book};
+ghost use Rattle.columns.specs.Books.{shared_book, lent_book, ledger_in};
 
 // The columns, only read.
 #[derive(Clone, Copy, Drop)]
@@ -57,5 +57,18 @@ pub fn shared<'a>(columns: &'a LentColumns<'a>) -> SharedColumns<'a>
         tos: &*columns.tos,
         lots: &*columns.lots,
         days: &*columns.days,
+    }
+}
+
+// The ledger's columns among the nine.
+pub fn ledger_of<'a>(columns: SharedColumns<'a>) -> SharedLedger<'a>
+    ensures { result ≡ ledger_in columns.entry }
+{
+    SharedLedger {
+        issues: columns.issues,
+        froms: columns.froms,
+        tos: columns.tos,
+        lots: columns.lots,
+        days: columns.days,
     }
 }

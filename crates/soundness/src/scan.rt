@@ -5,7 +5,7 @@ ghost use Rattle.columns.specs.Books.{shared_book, SharedLengths};
 
 use balancing::{cells_even, entries_even, nets_sound};
 use bookkeeping::{charges_sound, delivered_sound, ledger_sound};
-use columns::SharedColumns;
+use columns::{SharedColumns, ledger_of};
 use placing::lifts_sound;
 use rules::State;
 
@@ -20,7 +20,7 @@ pub fn sound_columns(s: State, columns: SharedColumns) -> bool
     let delivered = columns.delivered;
     let cells = nets_sound(nets, delivered);
     let taken = delivered_sound(phase, delivered);
-    let ledger = ledger_sound(s, columns);
+    let ledger = ledger_sound(s, ledger_of(columns));
     let yen = charges_sound(day, columns.charges);
     if !(cells & taken & ledger & yen) {
         return false;

@@ -8,13 +8,13 @@ use Rattle.soundness.proofs.scan.sound_columns.Goals as goal
 pub returns-then-not-cells-taken : goal.returns-then-not-cells-taken
 returns-then-not-cells-taken c =
     let b = shared_book c.args.s c.args.columns in
-    let told = others_as b _ _ _ _ c.nets_sound-cells.ensures c.delivered_sound-taken.ensures c.ledger_sound-ledger.ensures c.charges_sound-yen.ensures in
+    let told = others_as b _ _ _ _ c.nets_sound-cells.ensures c.delivered_sound-taken.ensures (rw c.ledger_of.ensures at c.ledger_sound-ledger.ensures) c.charges_sound-yen.ensures in
     others_no b (sym told ∙ c.if-not-cells-taken.true)
 
 pub lifts_sound-lifted-requires : goal.lifts_sound-lifted-requires
 lifts_sound-lifted-requires c =
     let b = shared_book c.args.s c.args.columns in
-    let told = others_as b _ _ _ _ c.nets_sound-cells.ensures c.delivered_sound-taken.ensures c.ledger_sound-ledger.ensures c.charges_sound-yen.ensures in
+    let told = others_as b _ _ _ _ c.nets_sound-cells.ensures c.delivered_sound-taken.ensures (rw c.ledger_of.ensures at c.ledger_sound-ledger.ensures) c.charges_sound-yen.ensures in
     record {
       nets = c.requires.cells.nets;
       delivered = c.requires.cells.delivered;
@@ -25,14 +25,14 @@ lifts_sound-lifted-requires c =
 pub entries_even-entries-requires : goal.entries_even-entries-requires
 entries_even-entries-requires c =
     let b = shared_book c.args.s c.args.columns in
-    let told = others_as b _ _ _ _ c.nets_sound-cells.ensures c.delivered_sound-taken.ensures c.ledger_sound-ledger.ensures c.charges_sound-yen.ensures in
+    let told = others_as b _ _ _ _ c.nets_sound-cells.ensures c.delivered_sound-taken.ensures (rw c.ledger_of.ensures at c.ledger_sound-ledger.ensures) c.charges_sound-yen.ensures in
     let n = count_yes b (sym told ∙ c.if-not-cells-taken.false) in
     (omega (arith, c.requires.ledger.issues), omega (arith, c.requires.ledger.lots))
 
 pub returns : goal.returns
 returns c =
     let b = shared_book c.args.s c.args.columns in
-    let told = others_as b _ _ _ _ c.nets_sound-cells.ensures c.delivered_sound-taken.ensures c.ledger_sound-ledger.ensures c.charges_sound-yen.ensures in
+    let told = others_as b _ _ _ _ c.nets_sound-cells.ensures c.delivered_sound-taken.ensures (rw c.ledger_of.ensures at c.ledger_sound-ledger.ensures) c.charges_sound-yen.ensures in
     others_yes b (sym told ∙ c.if-not-cells-taken.false) c.lifts_sound-lifted.result c.cells_even-cells.result c.entries_even-entries.result
     c.lifts_sound-lifted.ensures c.cells_even-cells.ensures
     (lots_entries b.state.marks b.state.entries b.issues b.froms b.tos b.lots b.days c.entries_even-entries.result c.entries_even-entries.ensures)
