@@ -4,6 +4,7 @@ use mathlib.Core.Bool.{Bool, true, false}
 use mathlib.Core.List.{List, [], ◌∷◌}
 use Prim.Native.Nat.{ℕ, suc, ◌+◌, ◌-◌, ◌≤◌, ◌<◌}
 use native.Mathlib.Omega.{arith}
+use lib.IntN.{ℤ}
 use lib.ListN.{get_or, drop}
 use lib.Seq.{drop-nil}
 use borrow.Author.Tests.{le-leb, lt-leb}
@@ -13,7 +14,7 @@ use Rattle.ledger.proofs.Left.{left_next}
 use Rattle.rules.specs.declared.Caller.{Caller}
 use Rattle.rules.specs.Questions.{ask, first_no, ask_issue, ask_account}
 use Rattle.rules.specs.Access.{with_right, entries_at, charge_at, LookAnswer, seen, none_seen, look_refused, first_seen, look_answer, may_read}
-use Rattle.columns.specs.declared.SharedColumns.{SharedColumns}
+use Rattle.columns.specs.declared.SharedLedger.{SharedLedger}
 use Rattle.access.specs.Places.{either_end, entries_from, Placed, seen_of, look_of}
 
 -- the entries after the first k are those from place n on after the first `left`
@@ -64,44 +65,44 @@ module _ (count : ℕ) (is fs ts : List ℕ) (i a k : ℕ) where
 
 -- What is seen
 
-module _ (count : ℕ) (c : SharedColumns) (i a k r : ℕ) (p : Placed count c.issues.now c.froms.now c.tos.now i a k r) where
+module _ (count : ℕ) (nets charges : List ℤ) (l : SharedLedger) (i a k r : ℕ) (p : Placed count l.issues.now l.froms.now l.tos.now i a k r) where
   abbrev is : List ℕ
-  is = c.issues.now
+  is = l.issues.now
 
   abbrev fs : List ℕ
-  fs = c.froms.now
+  fs = l.froms.now
 
   abbrev ts : List ℕ
-  ts = c.tos.now
+  ts = l.tos.now
 
   abbrev xs : List ℕ
-  xs = c.lots.now
+  xs = l.lots.now
 
   abbrev ds : List ℕ
-  ds = c.days.now
+  ds = l.days.now
 
-  pub see_none : count ≤ r → none_seen (net_at c.nets.now i a) (charge_at c.charges.now a) ≡ seen_of count c i a k
+  pub see_none : count ≤ r → none_seen (net_at nets i a) (charge_at charges a) ≡ seen_of count nets charges l i a k
   unfolding seen_of
   see_none h =
       let z : count - r ≡ 0 = omega arith in
       let e : drop k (entries_at (entries count is fs ts xs ds) i a) ≡ [] = p.rest xs ds ∙ rw z refl in
-      sym (ap (first_seen (net_at c.nets.now i a) (charge_at c.charges.now a)) e)
+      sym (ap (first_seen (net_at nets i a) (charge_at charges a)) e)
 
   pub see_one : r < count →
-      seen (net_at c.nets.now i a) (charge_at c.charges.now a) (entry (get_or is r 0) (get_or fs r 0) (get_or ts r 0) (get_or xs r 0) (get_or ds r 0))
-      ≡ seen_of count c i a k
+      seen (net_at nets i a) (charge_at charges a) (entry (get_or is r 0) (get_or fs r 0) (get_or ts r 0) (get_or xs r 0) (get_or ds r 0))
+      ≡ seen_of count nets charges l i a k
   unfolding seen_of
   see_one h =
       let e : drop k (entries_at (entries count is fs ts xs ds) i a)
       ≡ entry (get_or is r 0) (get_or fs r 0) (get_or ts r 0) (get_or xs r 0) (get_or ds r 0) ∷ entries_at (entries_from (r + 1) count is fs ts xs ds) i a =
-      p.rest xs ds ∙ ap (λ l. entries_at l i a) (left_next r count is fs ts xs ds h) ∙ (simp (p.there h)) in
-      sym (ap (first_seen (net_at c.nets.now i a) (charge_at c.charges.now a)) e)
+      p.rest xs ds ∙ ap (λ es. entries_at es i a) (left_next r count is fs ts xs ds h) ∙ (simp (p.there h)) in
+      sym (ap (first_seen (net_at nets i a) (charge_at charges a)) e)
 
 -- Reading, by its questions
 
-module _ (w : Caller) (n : ℕ) (c : SharedColumns) (i a k : ℕ) where
+module _ (w : Caller) (n : ℕ) (nets charges : List ℤ) (l : SharedLedger) (i a k : ℕ) where
   abbrev answer : LookAnswer
-  answer = look_of w n c i a k
+  answer = look_of w n nets charges l i a k
 
   pub look_4 : 15 < i → look_refused 4 ≡ answer
   unfolding look_of
@@ -115,15 +116,15 @@ module _ (w : Caller) (n : ℕ) (c : SharedColumns) (i a k : ℕ) where
     module _ (ha : a ≤ 63) where
       -- by the answer to 27
       right_is : (right : Bool) → may_read w a ≡ right →
-          look_answer (first_no (ask 27 right ∷ [])) (seen_of n c i a k) ≡ answer
+          look_answer (first_no (ask 27 right ∷ [])) (seen_of n nets charges l i a k) ≡ answer
       unfolding look_of
       right_is right r =
           sym
-          (ap (λ (x : Bool). look_answer (first_no (with_right x (ask_issue i ∷ ask_account a ∷ []))) (seen_of n c i a k)) r
+          (ap (λ (x : Bool). look_answer (first_no (with_right x (ask_issue i ∷ ask_account a ∷ []))) (seen_of n nets charges l i a k)) r
           ∙ rw (le-leb i 15 hi, le-leb a 63 ha) refl)
 
       pub look_27 : may_read w a ≡ false → look_refused 27 ≡ answer
       look_27 r = right_is false r
 
-      pub look_seen : may_read w a ≡ true → seen_of n c i a k ≡ answer
+      pub look_seen : may_read w a ≡ true → seen_of n nets charges l i a k ≡ answer
       look_seen r = right_is true r

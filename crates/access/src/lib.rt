@@ -11,7 +11,7 @@ ghost use Rattle.rules.specs.Run.{call_of};
 ghost use Rattle.access.specs.Refusals.{refusal_of, without};
 ghost use Rattle.access.specs.Places.{either_end, can_place, placed, CanSee, seen_of, CanLook, look_of};
 
-use columns::SharedColumns;
+use columns::SharedLedger;
 use rules::{
     ACCOUNTS, Caller, Entry, Instruction, LAST_ACCOUNT, LAST_ISSUE, LAST_PARTICIPANT, OPERATOR,
     Refusal, Seen, State,
@@ -110,14 +110,15 @@ fn either_end(issue: u8, from: u8, to: u8, i: u32, a: u32) -> bool
     ledger::is_of(issue, from, i, a) || ledger::is_of(issue, to, i, a)
 }
 
-// The place of the k-th entry of issue i with account a at either end, if there is one.
-fn place_of(count: usize, columns: SharedColumns, i: u32, a: u32, k: u32) -> Option<usize>
-    requires { can_place count columns }
-    ensures { placed count columns.entry i a k result }
+// The place of the k-th entry of issue i with account a at either end, if there is one. Here and below the number of
+// entries stands beside the columns: it is in the state.
+fn place_of(count: usize, ledger: SharedLedger, i: u32, a: u32, k: u32) -> Option<usize>
+    requires { can_place count ledger }
+    ensures { placed count ledger.entry i a k result }
 {
     let mut left = k;
     for n in 0..count {
-        if either_end(columns.issues[n], columns.froms[n], columns.tos[n], i, a) {
+        if either_end(ledger.issues[n], ledger.froms[n], ledger.tos[n], i, a) {
             if left == 0 {
                 return Some(n);
             }
@@ -128,23 +129,31 @@ fn place_of(count: usize, columns: SharedColumns, i: u32, a: u32, k: u32) -> Opt
 }
 
 // What is seen of an account: net, charge and the k-th entry.
-fn see(count: usize, columns: SharedColumns, i: u32, a: u32, k: u32) -> Seen
-    requires { CanSee count columns i a }
-    ensures { seen_answer (Ok result) ≡ seen_of count columns.entry i a k }
+fn see(
+    count: usize,
+    nets: &[i32],
+    charges: &[i64],
+    ledger: SharedLedger,
+    i: u32,
+    a: u32,
+    k: u32,
+) -> Seen
+    requires { CanSee count nets.now charges.now ledger i a }
+    ensures { seen_answer (Ok result) ≡ seen_of count nets.now charges.now ledger.entry i a k }
 {
-    let entry = match place_of(count, columns, i, a, k) {
+    let entry = match place_of(count, ledger, i, a, k) {
         Some(at) => Some(Entry {
-            issue: columns.issues[at],
-            from: columns.froms[at],
-            to: columns.tos[at],
-            lots: columns.lots[at],
-            day: columns.days[at],
+            issue: ledger.issues[at],
+            from: ledger.froms[at],
+            to: ledger.tos[at],
+            lots: ledger.lots[at],
+            day: ledger.days[at],
         }),
         None => None,
     };
     Seen {
-        net: columns.nets[(i * ACCOUNTS + a) as usize],
-        charge: columns.charges[a as usize],
+        net: nets[(i * ACCOUNTS + a) as usize],
+        charge: charges[a as usize],
         entry,
     }
 }
@@ -155,13 +164,15 @@ fn see(count: usize, columns: SharedColumns, i: u32, a: u32, k: u32) -> Seen
 pub fn look_in(
     w: Caller,
     count: usize,
-    columns: SharedColumns,
+    nets: &[i32],
+    charges: &[i64],
+    ledger: SharedLedger,
     i: u32,
     a: u32,
     k: u32,
 ) -> Result<Seen, Refusal>
-    requires { CanLook count columns }
-    ensures { seen_answer result ≡ look_of w count columns.entry i a k }
+    requires { CanLook count nets.now charges.now ledger }
+    ensures { seen_answer result ≡ look_of w count nets.now charges.now ledger.entry i a k }
 {
     if LAST_ISSUE < i {
         return Err(Refusal::Issue);
@@ -172,5 +183,5 @@ pub fn look_in(
     if !may_read(w, a) {
         return Err(Refusal::Right);
     }
-    Ok(see(count, columns, i, a, k))
+    Ok(see(count, nets, charges, ledger, i, a, k))
 }

@@ -25,7 +25,7 @@ use Rattle.desks.specs.Simulation.{Tried, refused, tried_answer, outcome, simula
 use Rattle.secrecy.specs.Requests.{status_by, simulation_by}
 use Rattle.access.specs.Refusals.{without}
 use Rattle.columns.specs.declared.SharedColumns.{SharedColumns}
-use Rattle.columns.specs.Books.{shared_book}
+use Rattle.columns.specs.Books.{shared_book, ledger_in}
 use Rattle.access.specs.Places.{seen_of, look_of}
 use Rattle.host.specs.States.{holds, sound_at}
 use Rattle.host.specs.Lifts.{CommitIs}
@@ -173,9 +173,9 @@ module _ (w : Caller) (phase : ℕ) (s : State) (c : SharedColumns) (i a k : ℕ
   pub look_unsound : sound_at phase b ≡ false → look_refused 2 ≡ day_look w phase b i a k
   look_unsound g = not_held phase b (look w b i a k) (look_refused 2) g (unsound_look w b i a k)
 
-  look_of_book : sound_at phase b ≡ true → look_of w s.entries c i a k ≡ look w b i a k
+  look_of_book : sound_at phase b ≡ true → look_of w s.entries c.nets.now c.charges.now (ledger_in c) i a k ≡ look w b i a k
   unfolding look look_of seen_of
   look_of_book g = rw (sound_book phase b g) refl
 
-  pub look_told : (d : LookAnswer) → sound_at phase b ≡ true → d ≡ look_of w s.entries c i a k → d ≡ day_look w phase b i a k
+  pub look_told : (d : LookAnswer) → sound_at phase b ≡ true → d ≡ look_of w s.entries c.nets.now c.charges.now (ledger_in c) i a k → d ≡ day_look w phase b i a k
   look_told d g e = e ∙ look_of_book g ∙ is_held phase b g (look w b i a k) (look_refused 2)

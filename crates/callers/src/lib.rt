@@ -15,7 +15,7 @@ ghost use Rattle.host.specs.Questions.{UnitIs, StatusIs};
 ghost use Rattle.host.specs.Lifts.{lifting_book, AskIs};
 ghost use Rattle.callers.specs.Callers.{asks_at, unless_unsound, CalledBy, CommittedBy, day_asked_by, day_unit_by, day_status_by, day_simulation_by, early_number, day_look, seen_in};
 
-use columns::{LentColumns, SharedColumns, shared};
+use columns::{LentColumns, SharedColumns, ledger_of, shared};
 use desk::fields::{instruction_of, is_kind};
 use host::calls::{day_call, output_asks, refused};
 use host::lifts::{OtherColumns, beside, day_ask, day_commit, ticket_out};
@@ -257,7 +257,16 @@ pub fn day_look(
     ensures { result ≡ seen_in (day_look w state.phase (shared_book (state_in state) columns.entry) issue account k) }
 {
     let found = match held(state, columns) {
-        Ok(s) => access::look_in(w, s.entries, columns, issue, account, k),
+        Ok(s) => access::look_in(
+            w,
+            s.entries,
+            columns.nets,
+            columns.charges,
+            ledger_of(columns),
+            issue,
+            account,
+            k,
+        ),
         Err(r) => Err(r),
     };
     seen_out(found)

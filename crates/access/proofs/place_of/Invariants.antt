@@ -3,4 +3,4 @@ use Rattle.access.proofs.Placing.{Seeking}
 use Rattle.access.proofs.place_of.Given as goal
 
 abbrev pub invariant-loop-n : goal.invariant-loop-n
-invariant-loop-n l = Seeking l.count l.columns.issues.now l.columns.froms.now l.columns.tos.now l.i l.a l.k l.n l.left
+invariant-loop-n l = Seeking l.count l.ledger.issues.now l.ledger.froms.now l.ledger.tos.now l.i l.a l.k l.n l.left

@@ -11,11 +11,11 @@ use Rattle.access.proofs.see.Goals.{in-Some, in-None}
 pub returns : goal.returns
 returns c =
     let a = c.args in
-    rw (to_z-of_z w32 (net_at a.columns.nets.now a.i a.a) (search rules), to_z-of_z w64 (charge_at a.columns.charges.now a.a) (search rules))
+    rw (to_z-of_z w32 (net_at a.nets.now a.i a.a) (search rules), to_z-of_z w64 (charge_at a.charges.now a.a) (search rules))
     (elim c.match-place_of.branch [
       | in-Some w ↦
           let p = rw w.in-Some.is at c.place_of.ensures in
-          rw w.entry-is (see_one a.count a.columns a.i a.a a.k _ p.place p.within)
+          rw w.entry-is (see_one a.count a.nets.now a.charges.now a.ledger a.i a.a a.k _ p.place p.within)
       | in-None w ↦
-          rw w.entry-is (see_none a.count a.columns a.i a.a a.k _ (rw w.in-None.is at c.place_of.ensures) (omega arith))
+          rw w.entry-is (see_none a.count a.nets.now a.charges.now a.ledger a.i a.a a.k _ (rw w.in-None.is at c.place_of.ensures) (omega arith))
     ])

@@ -3,6 +3,7 @@ use Rattle.std.proofs.Common.{◌≡◌, ◌∙◌, ap}
 use Rattle.rules.specs.declared.State.{State}
 use Rattle.rules.specs.Access.{seen_answer}
 use Rattle.laws.proofs.Sound.{sound_parts}
+use Rattle.columns.specs.declared.SharedLedger.{SharedLedger}
 use Rattle.columns.specs.Books.{shared_book}
 use Rattle.access.specs.Places.{look_of}
 use Rattle.host.specs.States.{state_in}
@@ -18,7 +19,7 @@ look_in-found-requires c =
     let b = shared_book (state_in a.state) a.columns in
     let g = c.in-Ok.ensures.1 in
     let l = sound_lengths a.state.phase b g in
-    rw c.in-Ok.ensures.0
+    rw (c.in-Ok.ensures.0, c.ledger_of.ensures)
     (record {
       most = (sound_parts b (sound_book a.state.phase b g)).ledger.count;
       nets = l.cells.nets;
@@ -35,7 +36,9 @@ found c =
       | in-Ok w ↦
           rw w.found-is
           (look_told a.w a.state.phase (state_in a.state) a.columns a.issue a.account a.k (seen_answer w.look_in-found.result) w.in-Ok.ensures.1
-          (w.look_in-found.ensures ∙ ap (λ (t : State). look_of a.w t.entries a.columns a.issue a.account a.k) w.in-Ok.ensures.0))
+          (w.look_in-found.ensures
+          ∙ ap (λ (t : State). look_of a.w t.entries a.columns.nets.now a.columns.charges.now w.ledger_of.result a.issue a.account a.k) w.in-Ok.ensures.0
+          ∙ ap (λ (l : SharedLedger). look_of a.w (state_in a.state).entries a.columns.nets.now a.columns.charges.now l a.issue a.account a.k) w.ledger_of.ensures))
       | in-Err w ↦
           rw (w.found-is, w.in-Err.ensures.0)
           (look_unsound a.w a.state.phase (state_in a.state) a.columns a.issue a.account a.k w.in-Err.ensures.1)
