@@ -67,7 +67,8 @@ pub fn show<P: Print + Eprint>(rt: &P, s: Sent, text: &[u8]) -> Sent
 }
 
 // How a run ended: whether it was over, whether its last read failed, how many reads it made, what was
-// written of its lines, and the book. `over` and `failed` are those of the last part.
+// written of its lines, and the book. `over` and `failed` are those of the last part (`parts::Place`), two flags as there:
+// where the reader refused, a run is over whatever the last read said, so both can hold.
 #[derive(Clone, Copy, Drop)]
 pub struct End {
     pub over: bool,

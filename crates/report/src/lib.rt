@@ -13,8 +13,8 @@ ghost use Rattle.report.specs.Entries.{shared_entries};
 use columns::SharedColumns;
 use rules::Book;
 
-// A line for each entry, in ledger order. The columns are a book's whole arrays; how many entries they hold is in its
-// state.
+// A line for each entry, in ledger order. The number of entries stands beside the columns: the definitions take whole
+// columns and the number of entries, and cutting each column at each call is no plainer.
 fn fails(text: &mut [u8], entries: usize, columns: SharedColumns) -> usize
     requires { (entries ≤ 2048) × (107 * entries ≤ length text.old) × SharedLengths columns }
     ensures { Added (107 * entries) text.old text.new 0 result (fails_text (shared_entries entries columns.entry)) }

@@ -62,7 +62,8 @@ fn width(n: u64) -> usize
     16 + short_width(n / 10_000_000_000_000_000)
 }
 
-// The digits of a number from `at` to `end`, the last first, two at a time: no `for` goes two places down.
+// The digits of a number from `at` to `end`, the last first, two at a time, and one by itself at the front where they are
+// an odd number: no `for` goes two places down.
 fn spell(text: &mut [u8], at: usize, end: usize, n: u64)
     requires { (at ≤ end) × (end ≤ length text.old) × (n < 10 ^ (end - at)) }
     ensures { take end text.new ≡ take at text.old ++ last_digits 10 (end - at) n }

@@ -15,7 +15,7 @@ use rules::{ISSUE_COUNT, Phase, State};
 use snapshots::{CHARGES, DELIVERED, ENTRIES, LIFTS, LOTS, MARKS, NETS, WORDS};
 
 // A phase of its word. The numbers are the snapshot's, which are said apart from those of the C interface: so it is not
-// `host::phase_of`, of a crate above this one.
+// `host::phase_of`, and neither of the crates `restoring` and `host` stands on the other.
 fn phase_in(w: u32) -> Phase
     ensures { result ≡ phase_in w }
 {
