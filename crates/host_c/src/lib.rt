@@ -1,6 +1,6 @@
 // The settlement-day book for hosts in C, in plain numbers and lent columns. Each call is that of the library `host`, with
-// the same contract; what the state and the nine columns are stands there. A column, the quotes and an output are a pointer
-// and a length (size_t), in this order.
+// the same contract; what the state and the nine columns are stands there. C lends nine columns, each a pointer and a length
+// (size_t), in this order, so they are parameters here; the quotes and an output are lent in the same way.
 //
 // uint32_t day_sound(struct day_state,
 //     const int32_t *nets, size_t, const uint32_t *delivered, size_t, const uint32_t *lifts, size_t,
