@@ -29,7 +29,8 @@ impl Unnoted {
     }
 }
 
-// The number of an answer, 0 where it is done: the C interface has a number here.
+// The number of an answer, 0 where it is done: the C interface has a number here. `rules::number_in` is that of a `Refusal`;
+// one function of both would ask for a trait of the two enums, and is no plainer.
 fn number_in(answer: Result<(), Unnoted>) -> u32
     ensures { result ≡ number_in answer }
 {

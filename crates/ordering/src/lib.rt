@@ -11,7 +11,8 @@ use sorting::{fulls, rank, rests};
 
 // The runs of accounts with these dues, in unit order; answers their number. The full units are ranked, and
 // behind them the small ones: so all stand as the four cases rank them, full and small among them. `ranking::order` takes
-// the same steps at any size; the two stay apart, since only this contract says the order of the four cases.
+// the same steps at any size: one function of both would ask for a second one here, which turns its answer into these
+// clauses at document 01's size, and is no plainer.
 fn order(dues: &[u32], runs: &mut [u32]) -> usize
     requires { CanRank 128 dues.now runs.old }
     ensures { (result ≤ 128) × (runs_in runs.new result ≡ runs_of dues.now) × OnlyOrder unit_lots dues.now (units_in runs.new result) }

@@ -155,7 +155,7 @@ impl Refusal {
     }
 }
 
-// the number in an answer, 0 where it is done
+// the number in an answer, 0 where it is done: the C interface has a number here
 pub fn number_in<T: Drop>(answer: Result<T, Refusal>) -> u32
     ensures { result ≡ number_in answer }
 {
