@@ -5,8 +5,6 @@ use Rattle.rules.specs.Measures.{most_entries}
 use Rattle.rules.specs.Ledger.{is_to}
 use Rattle.rules.specs.Book.{is_zero, entries}
 use Rattle.book.specs.States as book
-use Rattle.ledger.specs.declared.Ledger.{Ledger}
-use Rattle.ledger.specs.Columns.{Whole, ButLots}
 
 -- an entry that passes and is not at 0
 abbrev pub is_left : (Entry → Bool) → Entry → Bool
@@ -30,11 +28,12 @@ pub record CanSeek (n k i a : ℕ) (is cs xs : List ℕ) : Type 0 where
   pub start : k ≤ next_in n is cs xs i a
   pub inside : k ≤ n
 
--- two places
-pub record CanFall (t f : ℕ) (is fs ts xs ds : List ℕ) : Type 0 where
-  pub to : t < most_entries
-  pub from : f < most_entries
-  pub whole : Whole is fs ts xs ds
+-- two places, and the entries whose lots stand there
+pub record CanFall (t : ℕ) (d : Entry) (f : ℕ) (e : Entry) (xs : List ℕ) : Type 0 where
+  pub to : t < length xs
+  pub lots_to : d.lots ≡ get_or xs t 0
+  pub from : f < length xs
+  pub lots_from : e.lots ≡ get_or xs f 0
 
 -- the entries there fell by m, the smaller of their lots
 pub record BothFell (t f m : ℕ) (xs xs' : List ℕ) : Type 0 where
@@ -52,9 +51,3 @@ can_seek n k i a issues accounts lots = CanSeek n k i a issues.now accounts.now 
 
 abbrev pub next_of : ℕ → ℕ → ℕ → Option ℕ → book.SharedColumn ℕ → book.SharedColumn ℕ → book.SharedColumn ℕ → Type 0
 next_of n i a r issues accounts lots = r ≡ within n (next_in n issues.entry.now accounts.entry.now lots.entry.now i a)
-
-abbrev pub can_fall : ℕ → ℕ → Ledger → Type 0
-can_fall t f l = CanFall t f l.issues.now l.froms.now l.tos.now l.lots.now l.days.now
-
-abbrev pub both_fell : ℕ → ℕ → ℕ → Ledger → Ledger → Type 0
-both_fell t f m l l' = BothFell t f m l.lots.now l'.lots.now × ButLots l l'

@@ -4,15 +4,17 @@
 ghost use Rattle.std.specs.Prelude.{◌≡◌, ◌++◌, ◌<◌};
 ghost use Rattle.rules.specs.Ledger.{appended};
 ghost use Rattle.ledger.specs.Columns.{Same, held, entries_in, kept};
-ghost use Rattle.falling.specs.Places.{can_seek, next_of, CanSeek, next_in, within, can_fall, both_fell};
+ghost use Rattle.falling.specs.Places.{can_seek, next_of, CanSeek, next_in, within, CanFall, BothFell};
 
+use columns::SharedLedger;
 use ledger::Ledger;
 use rules::Entry;
 use seeking::seek;
 
 // The place of the first entry not at 0 of issue i with account a in the column of accounts, where there
 // is one. Before place `at` there is none. It jumps from one entry that `seek` finds to the next: no range says that.
-// The columns come whole, as C lends them; how many entries they hold is in the state.
+// The columns come whole with the number of entries: the definitions take whole columns and the number of entries,
+// and cutting each column at each call is no plainer.
 pub fn next_of(
     entries: usize,
     at: usize,
@@ -35,36 +37,35 @@ pub fn next_of(
     }
 }
 
-// The first to the account, and the first from it: the same search, each over the column that its contract names.
-pub fn next_to(ledger: &Ledger, entries: usize, at: usize, i: u32, a: u32) -> Option<usize>
-    requires { CanSeek entries at i a ledger.now.issues.now ledger.now.tos.now ledger.now.lots.now }
-    ensures { result ≡ within entries (next_in entries ledger.now.issues.now ledger.now.tos.now ledger.now.lots.now i a) }
+// The place of the first entry of issue i to account a that is not at 0: `next_of` over the accounts that receive.
+pub fn next_to(ledger: SharedLedger, entries: usize, at: usize, i: u32, a: u32) -> Option<usize>
+    requires { CanSeek entries at i a ledger.issues.now ledger.tos.now ledger.lots.now }
+    ensures { result ≡ within entries (next_in entries ledger.entry.issues.now ledger.entry.tos.now ledger.entry.lots.now i a) }
 {
     next_of(entries, at, ledger.issues, ledger.tos, ledger.lots, i, a)
 }
 
-pub fn next_from(ledger: &Ledger, entries: usize, at: usize, i: u32, a: u32) -> Option<usize>
-    requires { CanSeek entries at i a ledger.now.issues.now ledger.now.froms.now ledger.now.lots.now }
-    ensures { result ≡ within entries (next_in entries ledger.now.issues.now ledger.now.froms.now ledger.now.lots.now i a) }
+// The place of the first entry of issue i from account a that is not at 0: `next_of` over the accounts that deliver.
+pub fn next_from(ledger: SharedLedger, entries: usize, at: usize, i: u32, a: u32) -> Option<usize>
+    requires { CanSeek entries at i a ledger.issues.now ledger.froms.now ledger.lots.now }
+    ensures { result ≡ within entries (next_in entries ledger.entry.issues.now ledger.entry.froms.now ledger.entry.lots.now i a) }
 {
     next_of(entries, at, ledger.issues, ledger.froms, ledger.lots, i, a)
 }
 
-// The entries at places t and f fall by the smaller of their lots; answers those.
-pub fn fall_both(ledger: &mut Ledger, t: usize, f: usize) -> u32
-    requires { can_fall t f ledger.old }
-    ensures done { both_fell t f result ledger.old ledger.new }
-    ensures same { Same ledger.old ledger.new }
+// The entries at places t and f fall by the smaller of their lots; answers those. Of the ledger only the lots change.
+pub fn fall_both(lots: &mut [u32], t: usize, to: Entry, f: usize, from: Entry) -> u32
+    requires { CanFall t to f from lots.old }
+    ensures { BothFell t f result lots.old lots.new }
 {
-    let to = ledger::entry_at(ledger, t);
-    let from = ledger::entry_at(ledger, f);
     let m = to.lots.min(from.lots);
-    ledger.lots[f] = ledger::left_of(from, m);
-    ledger.lots[t] = ledger::left_of(to, m);
+    lots[f] = ledger::left_of(from, m);
+    lots[t] = ledger::left_of(to, m);
     m
 }
 
-// An entry behind the others, where its accounts differ; answers the number of entries.
+// An entry behind the others, where its accounts differ; answers the number of entries. That stands beside the ledger:
+// it changes between calls, and the caller has it.
 pub fn append_between(ledger: &mut Ledger, entries: usize, e: Entry) -> usize
     requires { (entries < 2048) × held entries ledger.old }
     ensures done { kept (entries_in entries ledger.old ++ appended e.day e.issue e.from e.to e.lots) result ledger.new }

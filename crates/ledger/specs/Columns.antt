@@ -4,6 +4,7 @@ use Rattle.rules.specs.declared.Entry.{Entry}
 use Rattle.rules.specs.Measures.{most_entries}
 use Rattle.rules.specs.Ledger.{entry}
 use Rattle.rules.specs.Book.{is_zero, column, entries}
+use Rattle.columns.specs.declared.SharedLedger.{SharedLedger}
 use Rattle.ledger.specs.declared.Ledger.{Ledger}
 
 -- the entry that stands at a place of five columns
@@ -76,10 +77,7 @@ unused n l = Unused n l.issues.now l.froms.now l.tos.now l.lots.now l.days.now
 abbrev pub held : ℕ → Ledger → Type 0
 held n l = Held n l.issues.now l.froms.now l.tos.now l.lots.now l.days.now
 
--- the entry at a place, and the first n entries
-abbrev pub place : ℕ → Ledger → Entry
-place k l = entry_at k l.issues.now l.froms.now l.tos.now l.lots.now l.days.now
-
+-- the first n entries
 abbrev pub entries_in : ℕ → Ledger → List Entry
 entries_in n l = entries n l.issues.now l.froms.now l.tos.now l.lots.now l.days.now
 
@@ -93,12 +91,24 @@ abbrev pub changed :
 changed P a b =
     P a.issues.now a.froms.now a.tos.now a.lots.now a.days.now b.issues.now b.froms.now b.tos.now b.lots.now b.days.now
 
--- all but the lots are as they were
-pub record ButLots (a b : Ledger) : Type 0 where
-  pub issues : b.issues.now ≡ a.issues.now
-  pub froms : b.froms.now ≡ a.froms.now
-  pub tos : b.tos.now ≡ a.tos.now
-  pub days : b.days.now ≡ a.days.now
+-- The same of columns that are only read: their numbers, the entry at a place, the first n entries
+
+abbrev pub shared_whole : SharedLedger → Type 0
+shared_whole l = Whole l.issues.now l.froms.now l.tos.now l.lots.now l.days.now
+
+abbrev pub shared_place : ℕ → SharedLedger → Entry
+shared_place k l = entry_at k l.issues.now l.froms.now l.tos.now l.lots.now l.days.now
+
+abbrev pub shared_entries : ℕ → SharedLedger → List Entry
+shared_entries n l = entries n l.issues.now l.froms.now l.tos.now l.lots.now l.days.now
+
+-- columns that are only read are those of a ledger
+pub record Reads (s : SharedLedger) (l : Ledger) : Type 0 where
+  pub issues : s.issues.now ≡ l.issues.now
+  pub froms : s.froms.now ≡ l.froms.now
+  pub tos : s.tos.now ≡ l.tos.now
+  pub lots : s.lots.now ≡ l.lots.now
+  pub days : s.days.now ≡ l.days.now
 
 -- the same columns: what a function writes behind them reaches who lent them
 pub record Same (a b : Ledger) : Type 0 where

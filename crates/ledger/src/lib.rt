@@ -4,11 +4,13 @@
 
 ghost use Rattle.std.specs.Prelude.{◌≡◌, ◌&&◌, [], ◌∷◌, ◌++◌, ◌+◌, ◌-◌, ◌≤◌, ◌<◌, min, eqb};
 ghost use Rattle.rules.specs.Ledger.{entry};
-ghost use Rattle.ledger.specs.Columns.{Same, Stored, Cleared, whole, unused, held, entries_in, place, kept, changed};
+ghost use Rattle.ledger.specs.Columns.{Same, Stored, Cleared, whole, unused, held, entries_in, kept, changed, Reads, shared_whole, shared_place, shared_entries};
 
+use columns::SharedLedger;
 use rules::Entry;
 
-// The columns. C lends them whole; how many entries they hold stands beside them, in the state, and so in each function.
+// The columns. C lends them whole; how many entries they hold stands beside them, in the state, and so in each function:
+// the number changes between calls, and the state has it.
 #[derive(Drop)]
 pub struct Ledger<'a> {
     pub issues: &'a mut [u8],
@@ -18,10 +20,24 @@ pub struct Ledger<'a> {
     pub days: &'a mut [u16],
 }
 
+// The columns, only read. Of a column that is lent alone, as `&*ledger.lots`, the check does not know that it stays as
+// it was: so what reads a column of a ledger that is changed later reads it here.
+pub fn shared<'a>(ledger: &'a Ledger) -> SharedLedger<'a>
+    ensures { Reads result ledger.now }
+{
+    SharedLedger {
+        issues: &*ledger.issues,
+        froms: &*ledger.froms,
+        tos: &*ledger.tos,
+        lots: &*ledger.lots,
+        days: &*ledger.days,
+    }
+}
+
 // The entry at a place.
-pub fn entry_at(ledger: &Ledger, k: usize) -> Entry
-    requires { (k < 2048) × whole ledger.now }
-    ensures { result ≡ place k ledger.now }
+pub fn entry_at(ledger: SharedLedger, k: usize) -> Entry
+    requires { (k < 2048) × shared_whole ledger }
+    ensures { result ≡ shared_place k ledger.entry }
 {
     Entry {
         issue: ledger.issues[k],
@@ -84,9 +100,9 @@ pub fn clear(ledger: &mut Ledger, w: usize, entries: usize)
 }
 
 // The entries of a second ledger behind those of the first.
-pub fn append_all(ledger: &mut Ledger, entries: usize, other: &Ledger, more: usize)
-    requires { (entries + more ≤ 2048) × held entries ledger.old × whole other.now }
-    ensures done { kept (entries_in entries ledger.old ++ entries_in more other.now) (entries + more) ledger.new }
+pub fn append_all(ledger: &mut Ledger, entries: usize, other: SharedLedger, more: usize)
+    requires { (entries + more ≤ 2048) × held entries ledger.old × shared_whole other }
+    ensures done { kept (entries_in entries ledger.old ++ shared_entries more other.entry) (entries + more) ledger.new }
     ensures same { Same ledger.old ledger.new }
 {
     for j in 0..more {

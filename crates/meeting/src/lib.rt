@@ -3,10 +3,8 @@
 
 ghost use Rattle.std.specs.Prelude.{◌≡◌, cond, ◌&&◌, ℕ, ◌+◌, ◌*◌, ◌≤◌, ◌<◌, min, eqb, length};
 ghost use Rattle.rules.specs.Ledger.{entry};
-ghost use Rattle.ledger.specs.Columns.{Same};
-ghost use Rattle.meeting.specs.Meeting.{Recorded, can_meet, was_met};
+ghost use Rattle.meeting.specs.Meeting.{Recorded, CanMeet, WasMet};
 
-use ledger::Ledger;
 use rules::Entry;
 
 // After one entry: the number of records, and the lots left.
@@ -47,25 +45,24 @@ fn hand(out: &mut [u32], n: usize, e: Entry, x: u32) -> usize
     n + 1
 }
 
-// The entry at place k met by x lots of account a in issue i: its lots fall by what meets it, and the
-// record of that stands behind n others.
+// The entry e at place k met by x lots of account a in issue i: its lots fall by what meets it, and the
+// record of that stands behind n others. Of the ledger only the lots change.
 pub fn meet_at(
-    ledger: &mut Ledger,
+    lots: &mut [u32],
     k: usize,
+    e: Entry,
     n: usize,
     i: u32,
     a: u32,
     x: u32,
     out: &mut [u32],
 ) -> Met
-    requires { can_meet k n ledger.old out.old }
-    ensures done { was_met i a x k n result ledger.old ledger.new out.old out.new }
-    ensures same { Same ledger.old ledger.new }
+    requires { CanMeet k e n lots.old out.old }
+    ensures { WasMet i a x k n result e lots.old lots.new out.old out.new }
 {
-    let e = ledger::entry_at(ledger, k);
     let m = met_by(e, i, a, x);
     let records = hand(out, n, e, m);
-    ledger.lots[k] = e.lots - m;
+    lots[k] = e.lots - m;
     Met {
         records,
         left: x - m,

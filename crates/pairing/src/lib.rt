@@ -6,7 +6,7 @@ ghost use Rattle.rules.specs.Ledger.{pairing};
 ghost use Rattle.rules.specs.Refusals.{number_in};
 ghost use Rattle.rules.specs.Questions.{first_no};
 ghost use Rattle.rules.specs.Calls.{pair_off_asks, PairOff};
-ghost use Rattle.ledger.specs.Columns.{Same, entries_in};
+ghost use Rattle.ledger.specs.Columns.{Same, held, entries_in};
 ghost use Rattle.ledger.specs.Within.{on_ledger, ledger_ready};
 ghost use Rattle.answers.specs.Turns.{Turns};
 ghost use Rattle.stepping.specs.Steps.{pairable};
@@ -40,13 +40,63 @@ fn pair_off_asks(i: u32, a: u32) -> Result<(), Refusal>
 }
 
 // Pair-off in place: all steps, then entries at 0 go and later ones move up, and the entries P to Q
-// follow them. Those stand in arrays of this call till then: memory is fixed.
-fn pair_all(ledger: &mut Ledger, entries: usize, today: u16, i: u32, a: u32) -> Steps
+// follow them. Those stand in a second ledger till then. How many entries the first holds stands beside it: the number
+// changes between calls, and the state has it. A column that is only read is lent by `&mut *` too: beside a lent field
+// the check knows no `&*` of another.
+fn pair_all(
+    ledger: &mut Ledger,
+    second: &mut Ledger,
+    entries: usize,
+    today: u16,
+    i: u32,
+    a: u32,
+) -> Steps
+    requires { pairable entries i ledger.old × held 0 second.old }
+    ensures paired { was_paired (pairing today i a (entries_in entries ledger.old)) result ledger.new }
+    ensures few { few_steps i a (entries_in entries ledger.old) result }
+    ensures same { Same ledger.old ledger.new }
+{
+    let made = make_steps(
+        &mut *ledger.issues,
+        &mut *ledger.froms,
+        &mut *ledger.tos,
+        &mut *ledger.lots,
+        &mut *ledger.days,
+        entries,
+        today,
+        i,
+        a,
+        second,
+    );
+    let stay = removing::remove_zeros(ledger, entries, 0, entries);
+    ledger::append_all(ledger, stay, ledger::shared(second), made.more);
+    Steps {
+        steps: made.steps,
+        cancelled: made.cancelled,
+        entries: stay + made.more,
+    }
+}
+
+// Pair-off in place. Where the account has no entry to it, or none from it, nothing is done. The second ledger stands in
+// arrays of this call: memory is fixed. The number of entries stands beside the ledger, as in `pair_all`.
+fn pair_off_in(ledger: &mut Ledger, entries: usize, today: u16, i: u32, a: u32) -> Steps
     requires { pairable entries i ledger.old }
     ensures paired { was_paired (pairing today i a (entries_in entries ledger.old)) result ledger.new }
     ensures few { few_steps i a (entries_in entries ledger.old) result }
     ensures same { Same ledger.old ledger.new }
 {
+    let none = Steps {
+        steps: 0,
+        cancelled: 0,
+        entries,
+    };
+    let now = ledger::shared(ledger);
+    let Some(_) = next_to(now, entries, 0, i, a) else {
+        return none;
+    };
+    let Some(_) = next_from(now, entries, 0, i, a) else {
+        return none;
+    };
     let mut issues: [u8; MOST_ENTRIES] = [0; MOST_ENTRIES];
     let mut froms: [u8; MOST_ENTRIES] = [0; MOST_ENTRIES];
     let mut tos: [u8; MOST_ENTRIES] = [0; MOST_ENTRIES];
@@ -59,35 +109,7 @@ fn pair_all(ledger: &mut Ledger, entries: usize, today: u16, i: u32, a: u32) -> 
         lots: &mut lots,
         days: &mut days,
     };
-    let made = make_steps(ledger, entries, today, i, a, &mut second);
-    let stay = removing::remove_zeros(ledger, entries, 0, entries);
-    ledger::append_all(ledger, stay, &second, made.more);
-    Steps {
-        steps: made.steps,
-        cancelled: made.cancelled,
-        entries: stay + made.more,
-    }
-}
-
-// Pair-off in place. Where the account has no entry to it, or none from it, nothing is done.
-fn pair_off_in(ledger: &mut Ledger, entries: usize, today: u16, i: u32, a: u32) -> Steps
-    requires { pairable entries i ledger.old }
-    ensures paired { was_paired (pairing today i a (entries_in entries ledger.old)) result ledger.new }
-    ensures few { few_steps i a (entries_in entries ledger.old) result }
-    ensures same { Same ledger.old ledger.new }
-{
-    let none = Steps {
-        steps: 0,
-        cancelled: 0,
-        entries,
-    };
-    let Some(_) = next_to(ledger, entries, 0, i, a) else {
-        return none;
-    };
-    let Some(_) = next_from(ledger, entries, 0, i, a) else {
-        return none;
-    };
-    pair_all(ledger, entries, today, i, a)
+    pair_all(ledger, &mut second, entries, today, i, a)
 }
 
 // pair-off: the ledger's entries, unless it is refused; the count is that of the steps.

@@ -4,7 +4,7 @@
 ghost use Rattle.std.specs.Prelude.{◌≡◌, true};
 ghost use Rattle.ledger.specs.Columns.{Same, without_zeros, entries_in, kept, changed};
 ghost use Rattle.seeking.specs.Places.{Sought};
-ghost use Rattle.removing.specs.Moves.{zero_at, CanLookFor, can_look_for, none_at_zero, passed_zeros, CanMove, Moved, can_move_all, MovedAll, removable};
+ghost use Rattle.removing.specs.Moves.{zero_at, can_look_for, none_at_zero, passed_zeros, CanMove, Moved, can_move_all, MovedAll, removable};
 
 use ledger::Ledger;
 
@@ -41,13 +41,13 @@ fn pass_zeros(end: usize, at: usize, lots: &[u32]) -> usize
 }
 
 // The first place from `at` on with an entry at 0, where there is one before `end`.
-fn first_zero(ledger: &Ledger, end: usize, at: usize) -> Option<usize>
-    requires { CanLookFor end at ledger.now.lots.now }
-    ensures { Sought (zero_at ledger.now.lots.now) end at result }
+fn first_zero(end: usize, at: usize, lots: &[u32]) -> Option<usize>
+    requires { can_look_for end at lots }
+    ensures { Sought (zero_at lots.now) end at result }
 {
-    let k = pass_zeros(end, at, ledger.lots);
+    let k = pass_zeros(end, at, lots);
     for j in k..end {
-        if ledger.lots[j] == 0 {
+        if lots[j] == 0 {
             return Some(j);
         }
     }
@@ -79,20 +79,21 @@ fn move_all(ledger: &mut Ledger, w: usize, s: usize, e: usize)
 
 // Entries at 0, which stand from place `at` to before place `end`, go and later ones move up; answers the
 // number of those that stay. What stands before an entry at 0 ends there, and at the last entry where no more
-// is at 0. It jumps from one entry at 0 to the next: no range says that.
+// is at 0. It jumps from one entry at 0 to the next: no range says that. The number of entries stands beside the ledger:
+// it changes between calls, and the state has it.
 pub fn remove_zeros(ledger: &mut Ledger, entries: usize, at: usize, end: usize) -> usize
     requires { removable entries at end ledger.old }
     ensures done { kept (without_zeros (entries_in entries ledger.old)) result ledger.new }
     ensures same { Same ledger.old ledger.new }
 {
-    let Some(first) = first_zero(ledger, end, at) else {
+    let Some(first) = first_zero(end, at, ledger::shared(ledger).lots) else {
         return entries;
     };
     let mut w = first;
     let mut k = first;
     while k < entries {
         let s = k + 1;
-        let e = first_zero(ledger, end, s).unwrap_or(entries);
+        let e = first_zero(end, s, ledger::shared(ledger).lots).unwrap_or(entries);
         move_all(ledger, w, s, e);
         w += e - s;
         k = e;

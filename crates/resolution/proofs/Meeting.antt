@@ -1,21 +1,21 @@
 -- Entries met one by one where they stand. What the definition makes of the whole ledger is what it makes of
 -- the ledger now, from place k on.
 use mathlib.Core.Path.{◌≡◌, refl, sym, ap, ◌∙◌, subst}
-use mathlib.Core.Bool.{Bool, true, false, cond, ◌&&◌}
+use mathlib.Core.Bool.{Bool, true, false, cond}
 use mathlib.Core.List.{List, [], ◌∷◌, ◌++◌, map}
 use Prim.Native.Nat.{ℕ, zero, suc, ◌+◌, ◌-◌, ◌*◌, ◌≤◌, ◌<◌}
 use native.Mathlib.Numerals.{add-one}
 use native.Mathlib.Omega.{arith}
-use lib.Dec.{leb, ltb}
+use lib.Dec.{leb}
 use lib.ListN.{length, get_or, set, drop, length-map, length-drop}
 use lib.Seq.{sets, length-sets, sets-eq, get_or-drop, get_or-set_other}
-use borrow.Author.Tests.{ne_eqb, leb-true, leb-false, ltb-true, ltb-false}
+use borrow.Author.Tests.{ne_eqb, leb-true, leb-false}
 use Rattle.rules.specs.declared.Entry.{Entry}
 use Rattle.rules.specs.Measures.{output_words}
 use Rattle.rules.specs.Ledger.{put_entry, is_from, met_by, meet, met}
 use Rattle.rules.specs.Book.{is_zero, entries, entry_sound}
 use Rattle.rules.specs.Records.{record_of, words, over}
-use Rattle.laws.proofs.Basics.{by_test, and_left, Every, each_map, each_at}
+use Rattle.laws.proofs.Basics.{by_test, Every, each_map, each_at}
 use Rattle.laws.proofs.Sound.{SoundEntry, all_each, entry_parts, parts_entry}
 use Rattle.laws.proofs.Ledger.{no_entry, entry_at_lem}
 use Rattle.laws.proofs.Meeting.{with_lots, length_put_entry, length_met}
@@ -24,7 +24,7 @@ use Rattle.ledger.specs.Columns.{entry_at, Held, Kept, without_zeros}
 use Rattle.ledger.proofs.Entries.{entries_length}
 use Rattle.ledger.proofs.Zeros.{put_zeros}
 use Rattle.ledger.proofs.Lots.{lots_at, entries_lots, held_lots}
-use Rattle.seeking.specs.Places.{is_at, NoneIn, Passed, CanLook}
+use Rattle.seeking.specs.Places.{is_at, NoneIn, Passed}
 use Rattle.removing.specs.Moves.{zero_at, Removable}
 use Rattle.meeting.specs.declared.Met.{Met}
 use Rattle.meeting.specs.Meeting.{alone, CanMeet, WasMet}
@@ -104,23 +104,6 @@ module _ (p : Entry → Bool) where
   mets_none [] = refl
   mets_none (e ∷ es) = rw (none_by e) (mets_none es)
 
--- a pass that goes on is before the last entry
-pub goes_on : (k n x : ℕ) → ltb k n && ltb 0 x ≡ true → k < n
-goes_on k n x h = ltb-true k n (and_left (ltb k n) (ltb 0 x) h)
-
--- and a place behind is nearer to the end
-pub nearer : (k m n x : ℕ) → ltb k n && ltb 0 x ≡ true → k + 1 ≤ m → n - m < n - k
-nearer k m n x h l = omega (arith, goes_on k n x h)
-
--- a ledger's columns can be looked at
-pub can_look_lem : (n k : ℕ) {is fs ts xs ds : List ℕ} → Held n is fs ts xs ds → k ≤ n → CanLook n k is fs
-can_look_lem n k held h =
-    record {
-      start = h;
-      issues = omega (arith, held.most, held.whole.issues);
-      accounts = omega (arith, held.most, held.whole.froms);
-    }
-
 -- entries from place k on are sound: the one there, and those behind it
 sound_here : (k : ℕ) (es : List Entry) → k < length es → Every SoundEntry (drop k es) → SoundEntry (get_or es k no_entry)
 sound_here k [] h ss = absurd (omega arith)
@@ -186,24 +169,24 @@ module _ {i a x₀ : ℕ} {es₀ : List Entry} {n k r x : ℕ} {is fs ts xs ds o
     here : get_or es k no_entry ≡ entry_at k is fs ts xs ds
     here = entry_at_lem n is fs ts xs ds k h
 
-    pub meets_can : CanMeet k r is fs ts xs ds o
-    meets_can =
+    pub meets_can : {e : Entry} → e ≡ entry_at k is fs ts xs ds → CanMeet k e r xs o
+    meets_can q =
         record {
-          place = omega (arith, s.held.most);
+          place = omega (arith, s.held.most, s.held.whole.lotss);
+          here = ap (λ d. d.lots) q;
           room = omega (arith, s.few, s.held.most, s.room);
-          whole = s.held.whole;
-          sound = ap entry_sound (sym here) ∙ parts_entry (get_or es k no_entry) (sound_here k es inside s.sound);
+          sound = ap entry_sound (q ∙ sym here) ∙ parts_entry (get_or es k no_entry) (sound_here k es inside s.sound);
         }
 
     -- one entry further
-    pub meets_more : {t : Met} {xs' o' : List ℕ} → WasMet i a x k r t (entry_at k is fs ts xs ds) xs xs' o o' →
+    pub meets_more : {d : Entry} → d ≡ entry_at k is fs ts xs ds → {t : Met} {xs' o' : List ℕ} → WasMet i a x k r t d xs xs' o o' →
         Meets i a x₀ es₀ n (k + 1) t.records t.left is fs ts xs' ds o₀ o'
-    meets_more {t} {xs'} {o'} w₀ =
+    meets_more q₀ {t} {xs'} {o'} w₀ =
         let p = is_from i a in
         let e = get_or es k no_entry in
         let m = met_by p x e in
         let y = e.lots - m in
-        let w : WasMet i a x k r t e xs xs' o o' = subst (λ d. WasMet i a x k r t d xs xs' o o') (sym here) w₀ in
+        let w : WasMet i a x k r t e xs xs' o o' = subst (λ d. WasMet i a x k r t d xs xs' o o') (q₀ ∙ sym here) w₀ in
         let v : xs' ≡ set xs k y = w.lots ∙ ap (λ z. set xs k (z - m)) (sym (ap (λ d. d.lots) here)) in
         let q : entries n is fs ts xs' ds ≡ lots_at k y es =
         ap (λ z. entries n is fs ts z ds) v ∙ entries_lots n k y is fs ts xs ds (omega (arith, s.held.whole.lotss, s.held.most)) in
@@ -265,18 +248,19 @@ module _ {i a x₀ : ℕ} {es₀ : List Entry} {n k r x : ℕ} {is fs ts xs ds o
         written = sym (s.written ∙ ap (λ y. sets o (2 * r) (words (map (record_of 11) y))) c);
       }
 
-  -- behind the last entry, or where the lots are used up
-  pub meets_end : ltb k n && ltb 0 x ≡ false → {w : ℕ} {is' fs' ts' xs' ds' : List ℕ} → Kept (without_zeros es) w is' fs' ts' xs' ds' →
+  -- where the lots are used up, or behind the last entry
+  pub meets_spent : x ≡ 0 → {w : ℕ} {is' fs' ts' xs' ds' : List ℕ} → Kept (without_zeros es) w is' fs' ts' xs' ds' →
       Resolved es₀ i a x₀ (record { entries = w; records = r }) is' fs' ts' xs' ds' o₀ o
-  meets_end h q =
+  meets_spent z q =
       let p = is_from i a in
-      by_test (ltb k n)
-      (λ e.
-      let z : x ≡ 0 = omega (arith, ltb-false 0 x (subst (λ t. t && ltb 0 x ≡ false) e h)) in
-      ended (rw z (meets_none p k es)) (rw z (mets_none p (drop k es))) q)
-      (λ e.
-      let l : length es ≤ k = omega (arith, entries_length n is fs ts xs ds, ltb-false k n e) in
-      ended (meets_ends p k x es l) (mets_ends p k x es l) q)
+      ended (rw z (meets_none p k es)) (rw z (mets_none p (drop k es))) q
+
+  meets_over_all : n ≤ k → {w : ℕ} {is' fs' ts' xs' ds' : List ℕ} → Kept (without_zeros es) w is' fs' ts' xs' ds' →
+      Resolved es₀ i a x₀ (record { entries = w; records = r }) is' fs' ts' xs' ds' o₀ o
+  meets_over_all h q =
+      let p = is_from i a in
+      let l : length es ≤ k = omega (arith, entries_length n is fs ts xs ds) in
+      ended (meets_ends p k x es l) (mets_ends p k x es l) q
 
 -- the entries up to the next of the issue and the account
 meets_over : {i a x₀ : ℕ} {es₀ : List Entry} {n k r x : ℕ} {is fs ts xs ds o₀ o : List ℕ} → Meets i a x₀ es₀ n k r x is fs ts xs ds o₀ o →
@@ -292,6 +276,13 @@ meets_over {k = k} s (suc m) h l z =
 pub meets_skip : {i a x₀ : ℕ} {es₀ : List Entry} {n k m r x : ℕ} {is fs ts xs ds o₀ o : List ℕ} → Passed (is_at is fs i a) n k m →
     Meets i a x₀ es₀ n k r x is fs ts xs ds o₀ o → Meets i a x₀ es₀ n m r x is fs ts xs ds o₀ o
 meets_skip {m = m} p s = meets_over s m p.start p.most p.none
+
+-- where there is no entry more of the issue and the account
+pub meets_last : {i a x₀ : ℕ} {es₀ : List Entry} {n k r x : ℕ} {is fs ts xs ds o₀ o : List ℕ} → Passed (is_at is fs i a) n k n →
+    Meets i a x₀ es₀ n k r x is fs ts xs ds o₀ o → {w : ℕ} {is' fs' ts' xs' ds' : List ℕ} →
+    Kept (without_zeros (entries n is fs ts xs ds)) w is' fs' ts' xs' ds' →
+    Resolved es₀ i a x₀ (record { entries = w; records = r }) is' fs' ts' xs' ds' o₀ o
+meets_last p s q = meets_over_all (meets_skip p s) (omega arith) q
 
 -- entries from place k on are not at 0 where they are sound
 none_from : (k n : ℕ) (is fs ts xs ds : List ℕ) → k ≤ n → Every SoundEntry (drop k (entries n is fs ts xs ds)) → NoneIn (zero_at xs) k n

@@ -8,7 +8,6 @@ ghost use Rattle.rules.specs.Questions.{first_no};
 ghost use Rattle.rules.specs.Calls.{resolve_asks, Resolve};
 ghost use Rattle.ledger.specs.Columns.{Same, whole, entries_in};
 ghost use Rattle.ledger.specs.Within.{on_ledger, ledger_ready};
-ghost use Rattle.seeking.specs.Places.{is_at, Passed, CanLook};
 ghost use Rattle.answers.specs.Turns.{Turns};
 ghost use Rattle.resolution.specs.Resolving.{resolvable, resolved};
 
@@ -16,6 +15,7 @@ use answers::Turn;
 use ledger::Ledger;
 use meeting::meet_at;
 use rules::{LAST_ACCOUNT, LAST_ISSUE, MOST_LOTS, Refusal, State};
+use seeking::{owes, seek};
 
 // What a resolve leaves: the number of entries in the ledger, and of records written.
 #[derive(Clone, Copy, Drop)]
@@ -24,21 +24,10 @@ pub struct Counts {
     pub records: usize,
 }
 
-// The next place from `at` on with an entry of issue i from account a, the end where there is none; where no
-// lots are left to meet it, `at`.
-fn next_from(ledger: &Ledger, left: u32, entries: usize, at: usize, i: u32, a: u32) -> usize
-    requires { CanLook entries at ledger.now.issues.now ledger.now.froms.now }
-    ensures { Passed (is_at ledger.now.issues.now ledger.now.froms.now i a) entries at result }
-{
-    if left == 0 {
-        return at;
-    }
-    seeking::seek(entries, at, ledger.issues, ledger.froms, i, a).unwrap_or(entries)
-}
-
 // Entries of issue i from account a met by x lots in ledger order, and each that is met gives one
 // record; then entries at 0 go and later ones move up. It jumps from one that was found to the next, while lots are
-// left: no range says that.
+// left: no range says that. How many entries there are stands beside the ledger: the number changes between calls, and
+// the state has it.
 fn resolve_in(
     ledger: &mut Ledger,
     entries: usize,
@@ -51,17 +40,31 @@ fn resolve_in(
     ensures done { resolved (entries_in entries ledger.old) i a x result ledger.new out.old out.new }
     ensures same { Same ledger.old ledger.new }
 {
+    let now = ledger::shared(ledger);
+    let Some(first) = seek(entries, 0, now.issues, now.froms, i, a) else {
+        return Counts {
+            entries,
+            records: 0,
+        };
+    };
     let mut n = 0;
     let mut left = x;
-    let first = next_from(ledger, left, entries, 0, i, a);
     let mut k = first;
-    while (k < entries) & (0 < left) {
-        let t = meet_at(ledger, k, n, i, a, left, out);
+    loop {
+        let e = ledger::entry_at(ledger::shared(ledger), k);
+        let t = meet_at(&mut *ledger.lots, k, e, n, i, a, left, out);
         n = t.records;
         left = t.left;
-        k = next_from(ledger, left, entries, k + 1, i, a);
+        if left == 0 {
+            break;
+        }
+        let now = ledger::shared(ledger);
+        let Some(next) = seek(entries, k + 1, now.issues, now.froms, i, a) else {
+            break;
+        };
+        k = next;
     }
-    let stay = removing::remove_zeros(ledger, entries, first, k);
+    let stay = removing::remove_zeros(ledger, entries, first, k + 1);
     Counts {
         entries: stay,
         records: n,
@@ -85,7 +88,7 @@ fn resolve_asks(ledger: &Ledger, s: State, i: u32, a: u32, x: u32) -> Result<(),
     if !book::even_in(s, i, x) {
         return Err(Refusal::OddLots);
     }
-    if !seeking::owes(ledger, s.entries, i, a, x) {
+    if !owes(s.entries, ledger.issues, ledger.froms, ledger.lots, i, a, x) {
         return Err(Refusal::Owed);
     }
     Ok(())

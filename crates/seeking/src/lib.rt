@@ -1,13 +1,12 @@
-// Entries of an issue and an account looked for along the ledger's columns, by blocks. The columns come whole, as C
-// lends them; how many entries they hold is in the state.
+// Entries of an issue and an account looked for along the ledger's columns, by blocks. The columns come whole with the
+// number of entries: the definitions take whole columns and the number of entries, and cutting each column at each
+// call is no plainer.
 #![tactic(auto)]
 
-ghost use Rattle.std.specs.Prelude.{◌≡◌, true, ◌≤◌, ◌<◌, leb};
+ghost use Rattle.std.specs.Prelude.{◌≡◌, true, List, ℕ, ◌≤◌, ◌<◌, leb, length};
 ghost use Rattle.rules.specs.Ledger.{is_from, lots_of};
-ghost use Rattle.ledger.specs.Columns.{whole, entries_in};
+ghost use Rattle.rules.specs.Book.{entries as entries_of};
 ghost use Rattle.seeking.specs.Places.{none_of, can_look, passed_by, found_by};
-
-use ledger::Ledger;
 
 // Places that are looked at together, many of them and few.
 const MANY: usize = 64;
@@ -91,17 +90,25 @@ pub fn seek(
 // Whether account a owes at least x lots in issue i: of all entries from it. Whoever is owed and since
 // when does not matter. Entries behind those that make up x lots are not looked at, and from one that is found the
 // search jumps to the next: no range says that.
-pub fn owes(ledger: &Ledger, entries: usize, i: u32, a: u32, x: u32) -> bool
-    requires { (entries ≤ 2048) × whole ledger.now }
-    ensures { result ≡ leb x (lots_of (is_from i a) (entries_in entries ledger.now)) }
+pub fn owes(
+    entries: usize,
+    issues: &[u8],
+    froms: &[u8],
+    lots: &[u32],
+    i: u32,
+    a: u32,
+    x: u32,
+) -> bool
+    requires { (entries ≤ 2048) × (length issues.now ≡ 2048) × (length froms.now ≡ 2048) × (length lots.now ≡ 2048) }
+    ensures { (ts ds : List ℕ) → result ≡ leb x (lots_of (is_from i a) (entries_of entries issues.now froms.now ts lots.now ds)) }
 {
     let mut left = x;
     let mut k = 0;
     while 0 < left {
-        let Some(m) = seek(entries, k, ledger.issues, ledger.froms, i, a) else {
+        let Some(m) = seek(entries, k, issues, froms, i, a) else {
             return false;
         };
-        left = left.saturating_sub(ledger.lots[m]);
+        left = left.saturating_sub(lots[m]);
         k = m + 1;
     }
     true

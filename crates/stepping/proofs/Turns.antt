@@ -19,7 +19,7 @@ use Rattle.laws.proofs.Pairing.{in_and_out}
 use Rattle.ledger.specs.Columns.{entry_at, Held, Kept, without_zeros}
 use Rattle.ledger.proofs.Entries.{entries_length, kept_held, kept_entries}
 use Rattle.ledger.proofs.Lots.{lots_at, entries_lots, held_lots}
-use Rattle.falling.specs.Places.{is_left, place_of, next_in, within, CanSeek, CanFall, BothFell}
+use Rattle.falling.specs.Places.{is_left, place_of, next_in, within, CanSeek, BothFell}
 use Rattle.stepping.specs.Steps.{Pairable, WasMade}
 use Rattle.falling.proofs.Places.{place_most}
 use Rattle.falling.proofs.Seeking.{next_to, next_from, within_some, within_none}
@@ -167,10 +167,6 @@ module _ {today i a : ℕ} {es₀ : List Entry} {n t f k steps cancelled : ℕ} 
 
     at_f : get_or es F no_entry ≡ entry_at F is fs ts xs ds
     at_f = entry_at_lem n is fs ts xs ds F in_f
-
-    pub turn_can : CanFall t₁ f₁ is fs ts xs ds
-    turn_can =
-        record { to = omega (arith, is_t, in_t, s.held.most); from = omega (arith, is_f, in_f, s.held.most); whole = s.held.whole }
 
     pub turn_room : k < 2048
     turn_room =

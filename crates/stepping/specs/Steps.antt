@@ -2,8 +2,9 @@
 use Rattle.std.specs.Prelude.{◌≡◌, true, List, ◌++◌, ℕ, ◌+◌, ◌≤◌, ◌<◌, length}
 use Rattle.rules.specs.Ledger.{Pairing, pairing}
 use Rattle.rules.specs.Book.{all, entries, entry_sound}
+use Rattle.book.specs.States as book
 use Rattle.ledger.specs.declared.Ledger.{Ledger}
-use Rattle.ledger.specs.Columns.{Held, without_zeros, held, entries_in}
+use Rattle.ledger.specs.Columns.{Held, without_zeros, held}
 use Rattle.stepping.specs.declared.Made.{Made}
 
 -- a ledger whose entries are sound, in its columns, and an issue
@@ -26,11 +27,16 @@ pub record WasMade (p : Pairing) (n : ℕ) (r : Made) (is fs ts xs ds mi mf mt m
 abbrev pub pairable : ℕ → ℕ → Ledger → Type 0
 pairable n i l = Pairable n i l.issues.now l.froms.now l.tos.now l.lots.now l.days.now
 
-abbrev pub can_pair : ℕ → ℕ → Ledger → Ledger → Type 0
-can_pair n i l m = pairable n i l × held 0 m
+abbrev pub can_pair :
+    ℕ → ℕ → book.Shared ℕ → book.Shared ℕ → book.Shared ℕ → book.Lent ℕ → book.Shared ℕ → Ledger → Type 0
+can_pair n i issues froms tos lots days m =
+    Pairable n i issues.now froms.now tos.now lots.now days.now × held 0 m
 
--- of the ledger before and after, and the second after
-abbrev pub was_made : ℕ → ℕ → ℕ → ℕ → Made → Ledger → Ledger → Ledger → Type 0
-was_made n today i a r l l' m =
-    WasMade (pairing today i a (entries_in n l)) n r l'.issues.now l'.froms.now l'.tos.now l'.lots.now l'.days.now
+-- of the columns before and after, and the second ledger after
+abbrev pub was_made :
+    ℕ → ℕ → ℕ → ℕ → Made → book.SharedColumn ℕ → book.SharedColumn ℕ → book.SharedColumn ℕ → book.Column ℕ → book.SharedColumn ℕ →
+    Ledger → Type 0
+was_made n today i a r issues froms tos lots days m =
+    WasMade (pairing today i a (entries n issues.entry.now froms.entry.now tos.entry.now lots.entry.now days.entry.now)) n r
+    issues.exit.now froms.exit.now tos.exit.now lots.exit.now days.exit.now
     m.issues.now m.froms.now m.tos.now m.lots.now m.days.now

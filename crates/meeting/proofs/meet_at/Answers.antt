@@ -1,35 +1,27 @@
 use Prim.Native.Nat.{◌-◌}
+use mathlib.Core.Path.{ap}
 use native.Mathlib.Omega.{arith}
-use mathlib.Core.Path.{refl, ap}
 use lib.ListN.{set}
-use Rattle.rules.specs.declared.Entry.{Entry}
 use Rattle.rules.specs.Ledger.{is_from}
 use Rattle.laws.proofs.Sound.{entry_parts}
 use Rattle.laws.proofs.Meeting.{met_by_le}
-use Rattle.ledger.specs.Columns.{place}
 use Rattle.meeting.proofs.Recording.{was_met_lem}
 use Rattle.meeting.proofs.meet_at.Goals as goal
 
 pub hand-records-requires : goal.hand-records-requires
 hand-records-requires c =
-    let e = place c.args.k c.args.ledger.now in
-    let g = entry_parts e c.requires.sound in
-    rw c.entry_at-e.ensures (
+    let a = c.args in
+    let g = entry_parts a.e c.requires.sound in (
       c.requires.room,
       g.issue,
       g.from,
       g.to,
-      omega (arith, g.most, met_by_le (is_from c.args.i c.args.a) c.args.x e, rw c.entry_at-e.ensures at c.met_by-m.ensures),
+      omega (arith, g.most, met_by_le (is_from a.i a.a) a.x a.e, c.met_by-m.ensures),
     )
 
 -- what meets the entry is at most its lots and at most x
-pub returns-clause-done : goal.returns-clause-done
-returns-clause-done c =
+pub returns : goal.returns
+returns c =
     let a = c.args in
-    let e = place a.k a.ledger.now in
-    let s = c.entry_at-e.ensures in (
-      was_met_lem a.i a.a a.x a.k a.n c.met_by-m.result _ e a.ledger.now.lots.now _ _ _ (rw s at c.met_by-m.ensures)
-          (rw s at c.hand-records.ensures)
-          (ap (λ (d : Entry). set a.ledger.now.lots.now a.k (d.lots - c.met_by-m.result)) s),
-      record { issues = refl; froms = refl; tos = refl; days = refl },
-    )
+    was_met_lem a.i a.a a.x a.k a.n c.met_by-m.result _ a.e a.lots.now _ _ _ c.met_by-m.ensures c.hand-records.ensures
+    (ap (λ y. set a.lots.now a.k (y - c.met_by-m.result)) c.requires.here)

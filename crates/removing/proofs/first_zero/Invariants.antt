@@ -4,4 +4,4 @@ use Rattle.removing.proofs.first_zero.Given as goal
 
 -- none stands before place j
 abbrev pub invariant-loop-j : goal.invariant-loop-j
-invariant-loop-j l = Passed (zero_at l.ledger.lots.now) l.end l.at l.j
+invariant-loop-j l = Passed (zero_at l.lots) l.end l.at l.j

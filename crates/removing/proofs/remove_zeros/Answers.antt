@@ -4,17 +4,17 @@ use Rattle.removing.proofs.Sweeping.{none_goes, sweep_starts, sweep_ends_at, swe
 use Rattle.removing.proofs.remove_zeros.Goals as goal
 
 pub returns-in_default-clause-done : goal.returns-in_default-clause-done
-returns-in_default-clause-done c = none_goes c.requires c.in_default.ensures
+returns-in_default-clause-done c = none_goes c.requires (rw c.shared.ensures.lots at c.in_default.ensures)
 
 pub loop-k-init : goal.loop-k-init
-loop-k-init c = record { done = sweep_starts c.requires c.in-Some.ensures; same = search rules }
+loop-k-init c = record { done = sweep_starts c.requires (rw c.shared.ensures.lots at c.in-Some.ensures); same = search rules }
 
 pub loop-k-preserved : goal.loop-k-preserved
 loop-k-preserved c =
     let s = c.loop-k.invariant.done in
     let h = c.loop-k-test.true in
     record {
-      done = sweep_more s h (rw c.unwrap_or-e.ensures (sweep_ends_at s h _ c.first_zero-in-loop-k.ensures)) c.move_all.ensures.done;
+      done = sweep_more s h (rw c.unwrap_or-e.ensures (sweep_ends_at s h _ (rw c.shared-in-loop-k.ensures.lots at c.first_zero-in-loop-k.ensures))) c.move_all.ensures.done;
       same = same_then c.loop-k.invariant.same c.move_all.ensures.same;
     }
 

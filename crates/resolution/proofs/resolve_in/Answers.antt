@@ -1,46 +1,60 @@
 use Rattle.std.proofs.Common.{rules}
 use native.Mathlib.Omega.{arith}
-use Rattle.ledger.proofs.Same.{same_then}
-use Rattle.resolution.proofs.Meeting.{meets_starts, goes_on, nearer, can_look_lem, meets_can, meets_more, meets_skip, meets_end, front_starts, front_more, meets_removable}
+use Rattle.seeking.proofs.Passing.{passed_start}
+use Rattle.removing.proofs.Sweeping.{none_goes}
+use Rattle.resolution.proofs.Meeting.{meets_starts, meets_can, meets_more, meets_skip, meets_spent, meets_last, front_starts, front_more, meets_removable}
 use Rattle.resolution.proofs.resolve_in.Goals as goal
+use Rattle.resolution.proofs.resolve_in.Goals.{then-left-eq0, else-left-eq0+in_default-seek}
 
-pub next_from-first-requires : goal.next_from-first-requires
-next_from-first-requires c = can_look_lem _ _ c.requires.held (omega arith)
-
-pub loop-k-init : goal.loop-k-init
-loop-k-init c =
+pub returns-in_default-clause-done : goal.returns-in_default-clause-done
+returns-in_default-clause-done c =
     let s = meets_starts _ _ _ _ _ _ _ _ _ _ c.requires in
-    (meets_skip c.next_from-first.ensures s, front_starts s _ c.next_from-first.ensures.most, search rules)
+    meets_last (rw (c.shared-now.ensures.issues, c.shared-now.ensures.froms) at c.in_default.ensures) s
+    (none_goes (meets_removable s (front_starts s 0 (omega arith))) (passed_start _ 0 0 (omega arith)))
+
+pub loop-left-init : goal.loop-left-init
+loop-left-init c =
+    let s = meets_starts _ _ _ _ _ _ _ _ _ _ c.requires in
+    let f = rw (c.shared-now.ensures.issues, c.shared-now.ensures.froms) at c.in-Some.ensures in
+    (f.inside, meets_skip f.passed s, front_starts s _ f.passed.most, search rules)
 
 pub meet_at-t-requires : goal.meet_at-t-requires
-meet_at-t-requires c = meets_can c.loop-k.invariant.0 (goes_on _ _ c.loop-k.left c.loop-k-test.true)
+meet_at-t-requires c =
+    let v = c.loop-left.invariant in
+    let r = c.shared.ensures in
+    meets_can v.1 v.0 (rw (r.issues, r.froms, r.tos, r.lots, r.days) at c.entry_at-e.ensures)
 
-pub next_from-k-requires : goal.next_from-k-requires
-next_from-k-requires c =
-    let b = c.meet_at-t.ensures.done.1 in
-    rw (b.issues, b.froms)
-    (can_look_lem _ _ c.loop-k.invariant.0.held (omega (arith, goes_on _ _ c.loop-k.left c.loop-k-test.true)))
-
-pub loop-k-smaller : goal.loop-k-smaller
-loop-k-smaller c = nearer _ _ _ c.loop-k.left c.loop-k-test.true c.next_from-k.ensures.start
-
-pub loop-k-preserved : goal.loop-k-preserved
-loop-k-preserved c =
-    let v = c.loop-k.invariant in
-    let w = c.meet_at-t.ensures.done.0 in
-    let b = c.meet_at-t.ensures.done.1 in
-    let p = rw (b.issues, b.froms) at c.next_from-k.ensures in
-    let m = same_then v.2 c.meet_at-t.ensures.same in (
-      rw (b.issues, b.froms, b.tos, b.days) (meets_skip p (meets_more v.0 (goes_on _ _ c.loop-k.left c.loop-k-test.true) w)),
-      front_more v.1 w p.start,
-      m,
+pub loop-left-preserved : goal.loop-left-preserved
+loop-left-preserved c =
+    let v = c.loop-left.invariant in
+    let r = c.shared.ensures in
+    let w = c.meet_at-t.ensures in
+    let m = meets_more v.1 v.0 (rw (r.issues, r.froms, r.tos, r.lots, r.days) at c.entry_at-e.ensures) w in
+    let f = rw (c.shared-now-in-loop-left.ensures.issues, c.shared-now-in-loop-left.ensures.froms) at c.in-Some-seek.ensures in (
+      f.inside,
+      meets_skip f.passed m,
+      front_more v.2 w f.passed.start,
+      record { issues = v.3.issues; froms = v.3.froms; tos = v.3.tos; lots = v.3.lots; days = v.3.days },
     )
 
 pub remove_zeros-stay-requires : goal.remove_zeros-stay-requires
-remove_zeros-stay-requires c = let v = c.loop-k.invariant in meets_removable v.0 v.1
+remove_zeros-stay-requires c =
+    let v = c.loop-left.invariant in
+    let r = c.shared.ensures in
+    let w = c.meet_at-t.ensures in
+    meets_removable (meets_more v.1 v.0 (rw (r.issues, r.froms, r.tos, r.lots, r.days) at c.entry_at-e.ensures) w)
+    (front_more v.2 w (omega arith))
 
 pub returns-clause-done : goal.returns-clause-done
-returns-clause-done c = meets_end c.loop-k.invariant.0 c.loop-k-test.false c.remove_zeros-stay.ensures.done
-
-pub returns-clause-same : goal.returns-clause-same
-returns-clause-same c = same_then c.loop-k.invariant.2 c.remove_zeros-stay.ensures.same
+returns-clause-done c =
+    let v = c.loop-left.invariant in
+    let r = c.shared.ensures in
+    let m = meets_more v.1 v.0 (rw (r.issues, r.froms, r.tos, r.lots, r.days) at c.entry_at-e.ensures) c.meet_at-t.ensures in
+    elim c.if-left-eq0.branch [
+      | then-left-eq0 w ↦ meets_spent m w.if-left-eq0.true c.remove_zeros-stay.ensures.done
+      | else-left-eq0+in_default-seek w ↦
+          meets_last
+          (rw (w.shared-now-in-loop-left.ensures.issues, w.shared-now-in-loop-left.ensures.froms) at w.in_default-seek.ensures)
+          m
+          c.remove_zeros-stay.ensures.done
+    ]
