@@ -218,5 +218,5 @@ module _ (w : Caller) (kind : ℕ) (h : DayState) (b : Book) (x : Instruction) (
       refused_so n (rw m (some_number h.phase b made))
       (ap (λ i. refusal i b made) m ∙ made_without w h.phase b made (sym (right_of w x quotes out) ∙ r) ∙ of_kind_by w kind h.phase b made k)
 
-  pub by_right : has_right w (call_of x [] []) ≡ true → day_called kind h.phase b made ≡ told
-  by_right r = called_right w h.phase b kind made (sym (right_of w x quotes out) ∙ r)
+  pub by_right : is_kind kind ≡ true → has_right w (call_of x [] []) ≡ true → day_made h.phase b made ≡ told
+  by_right k r = made_right w h.phase b made (sym (right_of w x quotes out) ∙ r) ∙ of_kind_by w kind h.phase b made k

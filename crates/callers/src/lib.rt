@@ -16,8 +16,8 @@ ghost use Rattle.host.specs.Lifts.{lifting_book, AskIs};
 ghost use Rattle.callers.specs.Callers.{asks_at, unless_unsound, CalledBy, CommittedBy, day_asked_by, day_unit_by, day_status_by, day_simulation_by, early_number, day_look, seen_in};
 
 use columns::{LentColumns, SharedColumns, ledger_of, shared};
-use desk::fields::{instruction_of, is_kind};
-use host::calls::{day_call, output_asks, refused};
+use desk::fields::instruction_at;
+use host::calls::{instruction_call, output_asks, refused};
 use host::lifts::{OtherColumns, beside, day_ask, day_commit, ticket_out};
 use host::questions::{day_simulate, day_status, day_unit, plain, told};
 use host::{DayState, DayTurned, held, phase_of, sound_at, state_in};
@@ -75,15 +75,14 @@ pub fn day_call_as(
     ensures called { CalledBy w kind (instruction_of kind a b c d) quotes.now state result columns.old columns.new out.old out.new }
     ensures same { SameColumns columns.old columns.new }
 {
-    if !is_kind(kind) {
+    let Some(x) = instruction_at(kind, a, b, c, d) else {
         return refused(Refusal::Word.number(), state);
-    }
-    let x = instruction_of(kind, a, b, c, d);
+    };
     if !access::has_right(w, x) {
         let no = no_right(x, state, shared(columns), out);
         return refused(no.number(), state);
     }
-    day_call(kind, a, b, c, d, quotes, state, columns, out)
+    instruction_call(x, quotes, state, columns, out)
 }
 
 // The k-th unit of an issue, for a caller: the operator's alone.

@@ -50,11 +50,14 @@ pub record CallIs (d : Answer) (phase : ℕ) (r : DayTurned) (after : Book) (wor
 
 -- an instruction, with roll's quotes and an output beside it, made on the book of a host's numbers and columns, before and
 -- after
-abbrev pub Made : Instruction → List ℕ → DayState → Given → LentColumns → LentColumns → List ℕ → List ℕ → Type 0
-Made x quotes h r before after out out' =
+abbrev pub InstructionMade : Instruction → List ℕ → DayState → DayTurned → LentColumns → LentColumns → List ℕ → List ℕ → Type 0
+InstructionMade x quotes h r before after out out' =
     let call = call_of x quotes out in
-    let t = given_of h r in
-    CallIs (beside call out (day_made h.phase (lent_book (state_in h) before) call)) h.phase t (lent_book (state_in t.state) after) out'
+    CallIs (beside call out (day_made h.phase (lent_book (state_in h) before) call)) h.phase r (lent_book (state_in r.state) after) out'
+
+-- the same of what it gave
+abbrev pub Made : Instruction → List ℕ → DayState → Given → LentColumns → LentColumns → List ℕ → List ℕ → Type 0
+Made x quotes h r before after out out' = InstructionMade x quotes h (given_of h r) before after out out'
 
 -- one of a kind
 abbrev pub Called : ℕ → Instruction → List ℕ → DayState → DayTurned → LentColumns → LentColumns → List ℕ → List ℕ → Type 0

@@ -6,12 +6,12 @@ ghost use Rattle.rules.specs.Calls.{output_asks};
 ghost use Rattle.rules.specs.Run.{call_of};
 ghost use Rattle.columns.specs.Books.{SameColumns};
 ghost use Rattle.desk.specs.Fields.{instruction_of};
-ghost use Rattle.host.specs.Calls.{refused_by, turned_of, Made, Called};
+ghost use Rattle.host.specs.Calls.{refused_by, turned_of, Made, InstructionMade, Called};
 
 use crate::{DayState, DayTurned, held, number_of};
 use answers::Turn;
 use columns::LentColumns;
-use desk::fields::{instruction_of, is_kind};
+use desk::fields::instruction_at;
 use rules::{Instruction, OUTPUT_WORDS, Refusal};
 
 // Question 1, of deliver, cutoff and resolve: has the output at least 4,096 words?
@@ -80,6 +80,23 @@ fn made(
 }
 
 // The call of an instruction, with roll's quotes and an output beside it.
+pub fn instruction_call(
+    x: Instruction,
+    quotes: &[u32],
+    state: DayState,
+    columns: &mut LentColumns,
+    out: &mut [u32],
+) -> DayTurned
+    ensures called { InstructionMade x quotes.now state result columns.old columns.new out.old out.new }
+    ensures same { SameColumns columns.old columns.new }
+{
+    match made(x, quotes, state, columns, out) {
+        Ok(t) => turned(t),
+        Err(r) => refused(r.number(), state),
+    }
+}
+
+// The same of plain numbers, where there is an instruction of this kind.
 pub fn day_call(
     kind: u32,
     a: u32,
@@ -94,12 +111,8 @@ pub fn day_call(
     ensures called { Called kind (instruction_of kind a b c d) quotes.now state result columns.old columns.new out.old out.new }
     ensures same { SameColumns columns.old columns.new }
 {
-    if !is_kind(kind) {
-        return refused(Refusal::Word.number(), state);
-    }
-    let x = instruction_of(kind, a, b, c, d);
-    match made(x, quotes, state, columns, out) {
-        Ok(t) => turned(t),
-        Err(r) => refused(r.number(), state),
+    match instruction_at(kind, a, b, c, d) {
+        Some(x) => instruction_call(x, quotes, state, columns, out),
+        None => refused(Refusal::Word.number(), state),
     }
 }

@@ -1,7 +1,6 @@
 -- What is answered to a record that is to be written.
 use mathlib.Core.Path.{◌≡◌, refl, ap, ◌∙◌}
-use mathlib.Core.Bool.{Bool, true, false, cond}
-use Rattle.std.specs.Prelude.{Some, None}
+use mathlib.Core.Bool.{true, false}
 use mathlib.Core.List.{List, ◌∷◌, ◌++◌}
 use Prim.Native.Nat.{ℕ, ◌-◌, ◌≤◌, ◌<◌}
 use native.Mathlib.Omega.{arith}
@@ -36,15 +35,6 @@ module _ (n : ℕ) (ticket out : List ℕ) where
   commit_done mid lent h m e =
       rw (le-leb record_words (length out) h)
       (record { reason = refl; out = over_stored n words out lent (omega arith) h (e ∙ ap (λ l. over (closed (n ∷ padded (take 7 (drop 1 l)))) l) m) })
-
--- whether numbers have an instruction
-pub no_instruction : (b : Bool) (x : Instruction) → None ≡ cond b (Some x) None → b ≡ false
-no_instruction true x e = let z : ◌≡◌ {A = ℕ} 0 1 = cc in absurd (omega arith)
-no_instruction false x e = refl
-
-pub an_instruction : (b : Bool) (x y : Instruction) → Some y ≡ cond b (Some x) None → (b ≡ true) × (y ≡ x)
-an_instruction true x y e = (refl, cc)
-an_instruction false x y e = let z : ◌≡◌ {A = ℕ} 0 1 = cc in absurd (omega arith)
 
 -- an instruction
 module _ (n kind : ℕ) (x : Instruction) (quotes out : List ℕ) where

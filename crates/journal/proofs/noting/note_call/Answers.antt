@@ -3,8 +3,9 @@ use Rattle.std.proofs.Common.{◌∙◌, ◌-◌, refl, ap, arith, length, take,
 use Rattle.rules.specs.declared.Instruction.{Instruction}
 use Rattle.rules.specs.Tape.{write_of}
 use Rattle.desk.specs.Fields.{instruction_of}
+use Rattle.desk.proofs.Numbered.{no_instruction, an_instruction}
 use Rattle.laws.proofs.Refused.{above_0}
-use Rattle.journal.proofs.Stored.{no_instruction, an_instruction, call_short, call_no_kind, call_refused, call_begun, call_done}
+use Rattle.journal.proofs.Stored.{call_short, call_no_kind, call_refused, call_begun, call_done}
 use Rattle.journal.proofs.noting.note_call.Goals as goal
 
 pub returns-then-out-lt36 : goal.returns-then-out-lt36

@@ -1,0 +1,2 @@
+-- Numbers that have an instruction, and numbers that have none.
+pub mod Numbered
