@@ -7,31 +7,39 @@ use std::io::{self, Write};
 #[derive(Clone, Copy, Debug, PartialEq, Eq)]
 pub struct Grouped(pub i128);
 
-/// The digits of a number, the last at the end of the buffer, with a comma before every three where
-/// they are grouped; answers where they begin. A number has at most 20 digits and 6 commas.
-fn digits(number: u64, grouped: bool, written: &mut [u8; 26]) -> usize {
-    let (mut left, mut at) = (number, written.len());
+/// The digits of each number below 1,000, three of each.
+const THREES: [[u8; 3]; 1_000] = threes();
+
+const fn threes() -> [[u8; 3]; 1_000] {
+    let mut all = [[0; 3]; 1_000];
+    let mut n = 0;
+    while n < all.len() {
+        all[n] = [b'0' + (n / 100) as u8, b'0' + (n / 10 % 10) as u8, b'0' + (n % 10) as u8];
+        n += 1;
+    }
+    all
+}
+
+/// The room that the digits of a number take: seven times three, and the six commas between them.
+const ROOM: usize = 27;
+
+/// The digits of a number, three at a time, the last at the end of the buffer, with a comma before every
+/// three where they are grouped; answers where they begin.
+fn digits(number: u64, grouped: bool, written: &mut [u8; ROOM]) -> usize {
+    let (mut left, mut at) = (number, ROOM);
     while left >= 1_000 {
-        let three = (left % 1_000) as u16;
-        left /= 1_000;
         at -= 3;
-        written[at] = b'0' + (three / 100) as u8;
-        written[at + 1] = b'0' + (three / 10 % 10) as u8;
-        written[at + 2] = b'0' + (three % 10) as u8;
+        written[at..at + 3].copy_from_slice(&THREES[(left % 1_000) as usize]);
+        left /= 1_000;
         if grouped {
             at -= 1;
             written[at] = b',';
         }
     }
-    let mut first = left as u16;
-    loop {
-        at -= 1;
-        written[at] = b'0' + (first % 10) as u8;
-        first /= 10;
-        if first == 0 {
-            return at;
-        }
-    }
+    at -= 3;
+    written[at..at + 3].copy_from_slice(&THREES[left as usize]);
+    // The first three may begin with zeros, of which one is kept where the number is 0.
+    at + usize::from(left < 100) + usize::from(left < 10)
 }
 
 /// A line that is put together piece by piece, without the cost of a format, and written at once. It
@@ -60,14 +68,14 @@ impl Line {
 
     /// Puts a number.
     pub fn number(&mut self, number: u64) -> &mut Line {
-        let mut written = [0; 26];
+        let mut written = [0; ROOM];
         let at = digits(number, false, &mut written);
         self.put(&written[at..])
     }
 
     /// Puts a number with a comma before every three digits.
     pub fn grouped(&mut self, number: u64) -> &mut Line {
-        let mut written = [0; 26];
+        let mut written = [0; ROOM];
         let at = digits(number, true, &mut written);
         self.put(&written[at..])
     }
@@ -91,7 +99,7 @@ impl Default for Line {
 
 /// Writes a number, without the cost of a format.
 pub fn write_number(out: &mut impl Write, number: u64) -> io::Result<()> {
-    let mut written = [0; 26];
+    let mut written = [0; ROOM];
     let at = digits(number, false, &mut written);
     out.write_all(&written[at..])
 }
@@ -103,7 +111,7 @@ impl fmt::Display for Grouped {
         }
         let size = self.0.unsigned_abs();
         let Ok(number) = u64::try_from(size) else { return write!(text, "{size}") };
-        let mut written = [0; 26];
+        let mut written = [0; ROOM];
         let at = digits(number, true, &mut written);
         text.write_str(std::str::from_utf8(&written[at..]).unwrap_or_default())
     }
