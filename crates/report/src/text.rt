@@ -164,7 +164,8 @@ fn rest(text: &mut [u8], at: usize, n: Name, refusal: u32, count: usize) -> usiz
     put(text, d, b"\n")
 }
 
-// The line of an instruction: index, name, refusal number, count.
+// The line of an instruction: index, name, refusal number, count. In place at each call, for speed.
+#[inline(always)]
 pub fn line(text: &mut [u8], at: usize, index: u64, n: Name, refusal: u32, count: usize) -> usize
     requires { at + 72 ≤ length text.old }
     ensures { Added 72 text.old text.new at result (line_text (line_of index n refusal count)) }

@@ -70,7 +70,9 @@ fn name_of(x: Instruction) -> Name
     }
 }
 
-// The line of an answer: its number and its count.
+// The line of an answer: its number and its count. In place at each call, for speed: a tape of trades spends most of its
+// time here.
+#[inline(always)]
 fn answer_line(
     text: &mut [u8],
     at: usize,
@@ -246,26 +248,45 @@ pub fn run_on(
     requires { (sound b ≡ true) × (output_words ≤ length out.old) × (72 * (length words.now + 1) ≤ length text.old) × (index + length words.now < 2 ^ 64) }
     ensures { Went words.now last stray index b text.new result.used result.end result.over result.after }
 {
-    let mut book = b;
+    let Book {
+        state,
+        mut nets,
+        mut delivered,
+        mut lifts,
+        mut charges,
+        mut issues,
+        mut froms,
+        mut tos,
+        mut lots,
+        mut days,
+    } = b;
     let mut columns = LentColumns {
-        nets: &mut book.nets,
-        delivered: &mut book.delivered,
-        lifts: &mut book.lifts,
-        charges: &mut book.charges,
-        issues: &mut book.issues,
-        froms: &mut book.froms,
-        tos: &mut book.tos,
-        lots: &mut book.lots,
-        days: &mut book.days,
+        nets: &mut nets,
+        delivered: &mut delivered,
+        lifts: &mut lifts,
+        charges: &mut charges,
+        issues: &mut issues,
+        froms: &mut froms,
+        tos: &mut tos,
+        lots: &mut lots,
+        days: &mut days,
     };
-    let t = run(words, last, stray, index, b.state, &mut columns, out, text);
+    let t = run(words, last, stray, index, state, &mut columns, out, text);
     Part {
         used: t.used,
         end: t.end,
         over: t.over,
         after: Book {
             state: t.after,
-            ..book
+            nets,
+            delivered,
+            lifts,
+            charges,
+            issues,
+            froms,
+            tos,
+            lots,
+            days,
         },
     }
 }
