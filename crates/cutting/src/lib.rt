@@ -31,7 +31,8 @@ fn fail(i: u8, o: Overlap, day: u16) -> Entry
     }
 }
 
-// One fail: its entry behind n others, its record at the front of the lent part of the output.
+// One fail: its entry behind n others, its record at the front of the lent part of the output. Here and below n stands
+// beside the ledger: it goes on from fail to fail and from issue to issue, and the state has it only after the cutoff.
 fn enter(ledger: &mut Ledger, n: usize, e: Entry, out: &mut [u32])
     requires { CanEnter e n (lending ledger.old out.old) }
     ensures done { Wrote (e ∷ []) (fail_records (e ∷ [])) n (lending ledger.old out.old) (n + 1) (lending ledger.new out.new) }

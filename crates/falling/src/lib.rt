@@ -37,7 +37,8 @@ pub fn next_of(
     }
 }
 
-// The place of the first entry of issue i to account a that is not at 0: `next_of` over the accounts that receive.
+// The place of the first entry of issue i to account a that is not at 0: `next_of` over the accounts that receive. The two
+// stay apart, for each names its own column in its contract; how many entries the columns hold is in the state.
 pub fn next_to(ledger: SharedLedger, entries: usize, at: usize, i: u32, a: u32) -> Option<usize>
     requires { CanSeek entries at i a ledger.issues.now ledger.tos.now ledger.lots.now }
     ensures { result ≡ within entries (next_in entries ledger.entry.issues.now ledger.entry.tos.now ledger.entry.lots.now i a) }

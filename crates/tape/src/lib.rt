@@ -31,7 +31,7 @@ fn head(unused: u32, x: Instruction, kind: u32, count: usize) -> Option<Word>
 }
 
 // What a word is taken as, with the lots of the word after it: by its kind the head of a call or a word
-// after a head; none where it is wrong.
+// after a head; none where it is wrong. In place at each call, for speed.
 #[inline(always)]
 fn word_as(w: u32, lots: u32) -> Option<Word>
     ensures { result ≡ word_as w lots }
