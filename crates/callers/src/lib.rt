@@ -1,5 +1,7 @@
 // The calls and the questions on a host's book with their caller, by value: any numbers, any columns. A caller that has the
 // right is answered as without one; another is refused by 27, or by what is asked before it.
+// A function answers as the C interface has it, a refusal's number and what it writes at references: the claims of every
+// host are of these.
 #![tactic(auto)]
 
 ghost use Rattle.std.specs.Prelude.{◌≡◌, []};
@@ -122,7 +124,8 @@ pub fn day_status_as(
     plain(Err(no), answer)
 }
 
-// Asks for a unit of an issue, for a caller: the operator's alone.
+// Asks for a unit of an issue, for a caller: the operator's alone. As `day_status_as` but for what is asked and written:
+// one function of both would take the question as a closure, which is no plainer.
 pub fn day_ask_as(
     w: Caller,
     state: DayState,

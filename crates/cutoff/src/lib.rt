@@ -19,7 +19,8 @@ use rules::{ISSUE_COUNT, MOST_ENTRIES, Phase, Refusal, State};
 // The most fails of an issue.
 const ISSUE_FAILS: usize = 126;
 
-// `dealt`, whether full units are dealt in turn today, is a fact of the day that the definitions take.
+// Nets, delivered lots and lifts come one by one, of the nine columns those that are asked for. `dealt`, whether full units
+// are dealt in turn today, is a fact of the day that the definitions take.
 
 // Is there room for the entries of a cutoff of all issues behind so many old ones? Counting stops where the issues
 // that are left cannot make too many, and where there are too many already.

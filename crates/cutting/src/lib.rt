@@ -50,7 +50,7 @@ pub struct Ready {
     pub stock: u32,
 }
 
-// Each overlap from a cursor on becomes an entry and a record; answers their number.
+// Each overlap from a cursor on becomes an entry and a record; answers their number, which no range says before.
 fn lay(
     runs: &[u32],
     missing: &[u32],
@@ -142,7 +142,8 @@ fn prepare_dealt(
 }
 
 // The same in the order of the day: `dealt`, whether full units are dealt in turn today, is a fact of the day that the
-// definitions take. So it is below.
+// definitions take. So it is below. Nets, delivered lots and lifts come one by one, of the nine columns those that are asked
+// for.
 fn prepare_for(
     dealt: bool,
     nets: &[i32],

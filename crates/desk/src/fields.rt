@@ -1,4 +1,5 @@
-// Plain numbers as instructions, and back.
+// Plain numbers as instructions, and back: C hands an instruction over as five numbers, and what lies below takes an
+// `Instruction`.
 ghost use Rattle.std.specs.Prelude.{◌≡◌};
 ghost use Rattle.desk.specs.Fields.{is_kind, instruction_of, instruction_at, fields_of};
 

@@ -1,5 +1,5 @@
 // What a host asks without a book, in plain numbers: value and charge of lots, and the tape's reader and writer. The
-// number returned is the refusal's, 0 where it is done. `desk_c` exports these functions to C.
+// number returned is the refusal's, 0 where it is done, as the C interface has it: the claims of every host are of it. `desk_c` exports these functions to C.
 //
 // An instruction is its kind and four numbers a, b, c, d, 0 where there is none:
 //   1 trade     issue, from, to, lots

@@ -1,4 +1,4 @@
-// The tape's reader and writer on plain numbers.
+// The tape's reader and writer on plain numbers, which the C interface has, the number of a refusal among them.
 ghost use Rattle.std.specs.Prelude.{◌≡◌, replicate};
 ghost use Rattle.std.proofs.lemmas.List.Edits.{sets};
 ghost use Rattle.rules.specs.Refusals.{numbered};

@@ -1,4 +1,6 @@
 // The nine calls of a tape on a host's book: any numbers, any columns.
+// A function answers as the C interface has it, a refusal's number and what it writes at references: the claims of every
+// host are of these.
 ghost use Rattle.std.specs.Prelude.{◌≡◌, []};
 ghost use Rattle.rules.specs.Questions.{first_no};
 ghost use Rattle.rules.specs.Refusals.{number_in};
@@ -29,7 +31,8 @@ pub fn output_asks(x: Instruction, out: &[u32]) -> Result<(), Refusal>
     }
 }
 
-// A refusal: its number, 0 for every other number, and the state as it came.
+// A refusal: its number, 0 for every other number, and the state as it came. It is handed the number, as C has it: a
+// `Refusal` would be a narrower type, and ask more.
 pub fn refused(no: u32, state: DayState) -> DayTurned
     ensures { result ≡ refused_by no state }
 {

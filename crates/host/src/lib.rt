@@ -56,7 +56,7 @@ pub struct DayTurned {
     pub state: DayState,
 }
 
-// The phase of a number of 0 to 2.
+// The phase of a number of 0 to 2, which the C interface has.
 pub fn phase_of(n: u32) -> Phase
     ensures { result ≡ phase_of n }
 {
@@ -67,7 +67,7 @@ pub fn phase_of(n: u32) -> Phase
     }
 }
 
-// The number of a phase.
+// The number of a phase, as the C interface has it.
 pub fn number_of(p: Phase) -> u32
     ensures { result ≡ number_of p }
 {

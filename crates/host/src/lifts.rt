@@ -1,4 +1,6 @@
 // The two calls of a lift on a host's book: any numbers, any columns.
+// A function answers as the C interface has it, a refusal's number and what it writes at references: the claims of every
+// host are of these.
 ghost use Rattle.std.specs.Prelude.{◌≡◌};
 ghost use Rattle.rules.specs.declared.State.{State};
 ghost use Rattle.rules.specs.Calls.{asked_answer};

@@ -1,5 +1,5 @@
 // The questions on a host's book, which change nothing: any numbers, any columns. An answer goes to C as the refusal's
-// number, 0 where there is none, and as numbers beside it.
+// number, 0 where there is none, and as numbers beside it: the claims of every host are of these.
 ghost use Rattle.std.specs.Prelude.{◌≡◌};
 ghost use Rattle.rules.specs.Calls.{found_answer};
 ghost use Rattle.columns.specs.Books.{shared_book};

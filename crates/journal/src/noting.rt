@@ -1,4 +1,5 @@
-// A record written to a lent output.
+// A record written to a lent output. An open function answers as the C interface has it, a number and a count that it writes
+// at a reference.
 ghost use Rattle.std.specs.Prelude.{◌≡◌, ◌∷◌, ◌-◌, ◌≤◌, length, take, drop, replicate};
 ghost use Rattle.std.proofs.lemmas.List.Edits.{sets};
 ghost use Rattle.rules.specs.Records.{over};
@@ -52,7 +53,7 @@ fn clear(out: &mut [u32], from: usize)
 }
 
 // A record of the `count` words of a call that stand behind the place of its number: zeros behind them, the number, the
-// checksum.
+// checksum. The record is lent whole, since all its words are written.
 fn finish(number: u32, count: usize, out: &mut [u32])
     requires { Begun count out.old }
     ensures { out.new ≡ over (closed (number ∷ padded (take count (drop 1 out.old)))) out.old }

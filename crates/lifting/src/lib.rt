@@ -13,7 +13,8 @@ use rules::{LAST_ISSUE, LIFT_WORDS, Phase, Refusal, Ticket};
 use runs::RUN_COUNT;
 use tickets::{stand_of, ticket_asks, ticket_in};
 
-// `dealt`, whether full units are dealt in turn today, is a fact of the day that the definitions take.
+// Nets, delivered lots and lifts come one by one, of the nine columns those that are asked for. `dealt`, whether full units
+// are dealt in turn today, is a fact of the day that the definitions take.
 
 // Questions 3, 4 and 16 of an ask, of a sound book; then the ticket.
 pub fn ask_in<'a>(

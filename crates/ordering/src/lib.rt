@@ -25,7 +25,8 @@ fn order(dues: &[u32], runs: &mut [u32]) -> usize
     n + m
 }
 
-// The units of an issue in the order without lifts, into a lent array; answers how many words they take.
+// The units of an issue in the order without lifts, into a lent array; answers how many words they take. The same lines
+// stand in `ranking` for any size of units; each calls its own `order`.
 pub fn ranked(nets: &[i32], i: usize, runs: &mut [u32]) -> usize
     requires { CanRankNets nets.now i runs.old }
     ensures { RankedNets nets.now i runs.new result }

@@ -12,7 +12,8 @@ use ledger::Ledger;
 const MANY: usize = 64;
 
 // Whether none of the entries at places s to before e is at 0. Every place is looked at: so the compiler
-// compares many at once.
+// compares many at once. `seeking` looks by blocks too: one function of both would take the comparison as a closure with
+// a contract of its own, which is no plainer.
 fn none_zero(s: usize, e: usize, lots: &[u32]) -> bool
     requires { can_look_for e s lots }
     ensures { result ≡ true → none_at_zero s e lots }

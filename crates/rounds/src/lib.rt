@@ -10,6 +10,9 @@ use joining::join;
 use rules::{ACCOUNT_COUNT, CELL_COUNT, ISSUE_COUNT};
 use runs::RANK_COUNT;
 
+// Nets, settlement accounts, delivered lots and inventories stay side by side here and in `sizes`: some are only read and
+// some change, others in each function, and a struct of all would ask for more than is needed.
+
 // The smaller of the inventory of an account's settlement account and what it still owes of an issue.
 fn amount(
     nets: &[i32],

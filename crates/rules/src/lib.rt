@@ -173,8 +173,8 @@ pub enum Phase {
 }
 
 // What of a book stands beside its columns: the day, the phase, the number of the ledger's entries, the
-// first day on which full units are dealt in turn (0 where none is named), and of each issue its mark: 0,
-// or another number where it is marked.
+// first day on which full units are dealt in turn (0 where none is named, as the C interface has it), and of each issue its
+// mark: 0, or another number where it is marked.
 #[derive(Clone, Copy, Drop)]
 pub struct State {
     pub day: u16,

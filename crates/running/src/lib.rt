@@ -14,7 +14,8 @@ use rules::{Instruction, Refusal, State};
 
 // Each call on the columns of a sound book: of all columns it is lent those that it reads or changes, and they
 // stay the same ones. A column that is only read is lent by `&mut *` too: beside a lent field the check knows no
-// `&*` of another.
+// `&*` of another. The ledger's five stand in each call that is lent them: beside them it is lent others of the nine, and a
+// function that hands the five out holds all nine lent.
 fn trade(
     s: State,
     columns: &mut LentColumns,

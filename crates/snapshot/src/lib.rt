@@ -1,4 +1,5 @@
-// A snapshot of the book for hosts in C and Rust: any numbers, any columns, any words.
+// A snapshot of the book for hosts in C and Rust: any numbers, any columns, any words. An answer is as the C interface has it,
+// the number of a reason among it.
 #![tactic(auto)]
 
 ghost use Rattle.std.specs.Prelude.{◌≡◌};

@@ -20,8 +20,8 @@ pub struct Made {
 // All steps: while issue i has an entry to account a and one from it, the first of each fall where
 // they stand. The entries P to Q go to a second ledger. Both places jump to what was found, until none is: no range
 // says that. The first ledger comes in its columns: only the lots change, and a Ledger would ask for the other columns
-// to be lent to be changed too. Of a struct of both kinds the check does not know, where it is made, that the columns
-// that are only read stay. How many entries there are stands beside them: the number changes between calls, and the
+// to be lent to be changed too. A struct of both kinds was tried: where it is made, the check does not know that the
+// columns that are only read stay. How many entries there are stands beside them: the number changes between calls, and the
 // state has it.
 pub fn make_steps(
     issues: &[u8],

@@ -19,7 +19,8 @@ const MOST_GAPS: usize = 8;
 
 // The units of one run more behind c stretches; answers how many there are then. `at` says of each account
 // where its stretch of full units stands: 0, or one more than its place (an `Option` would double the table that each
-// cutoff of an issue clears). The array of the stretches is lent whole, with their number, and is filled in place.
+// cutoff of an issue clears). The array of the stretches is lent whole, with their number, and is filled in place, here and
+// below: there is no heap.
 fn add(out: &mut [u32], c: usize, at: &mut [usize], word: u32) -> usize
     requires { CanAdd out.old c at.old word }
     ensures { Added out.old out.new c at.new word result }
