@@ -22,10 +22,10 @@ pub fn hand(runs: &mut [u32], d: u32) -> Waiting
     ensures { HandsOn runs.old runs.new (length runs.old) d result }
 {
     let mut left = d;
-    for j in 0..runs.len() {
-        let held = runs[j] / ACCOUNTS;
+    for (j, key) in runs.iter_mut().enumerate() {
+        let held = *key / ACCOUNTS;
         if left < held {
-            runs[j] -= left / UNIT_LOTS * UNIT_WORD;
+            *key -= left / UNIT_LOTS * UNIT_WORD;
             return Waiting {
                 run: j,
                 stock: left % UNIT_LOTS,

@@ -4,6 +4,7 @@ use Prim.Native.Nat.{suc}
 use native.Mathlib.Omega.{arith}
 use native.Mathlib.Numerals.{add-one}
 use lib.ListN.{length, drop, get_or}
+use Rattle.std.proofs.lemmas.List.{set-get_or}
 use Rattle.runs.specs.Runs.{part_of, runs_in}
 use Rattle.runs.proofs.Loops.{runs_at_lem}
 use Rattle.gathering.proofs.Gathers.{seeking_starts, seeking_more, hand_stops, hand_ends}
@@ -11,9 +12,6 @@ use Rattle.gathering.proofs.hand.Goals as goal
 
 pub loop-j-init : goal.loop-j-init
 loop-j-init c = (refl, seeking_starts _ _, c.requires.plain)
-
-pub overflow_mul-runs : goal.overflow_mul-runs
-overflow_mul-runs c = omega (arith, c.slice_known-1.given c.loop-j.j)
 
 pub returns-then-left-held : goal.returns-then-left-held
 returns-then-left-held c =
@@ -25,7 +23,8 @@ pub loop-j-preserved : goal.loop-j-preserved
 loop-j-preserved c =
     let l = c.loop-j in
     let n = length c.args.runs.now in
-    let e = runs_at_lem l.runs n l.j (omega (arith, c.requires.there)) (omega arith) in (
+    let e = runs_at_lem l.runs n l.j (omega (arith, c.requires.there)) (omega arith) in
+    rw (set-get_or l.runs l.j 0) (
       l.invariant.0,
       rw add-one
           (seeking_more (runs_in c.args.runs.now n) (part_of (get_or l.runs l.j 0)) (drop (suc l.j) (runs_in l.runs n)) c.args.d
