@@ -7,7 +7,6 @@ ghost use Rattle.rules.specs.Questions.{first_no};
 ghost use Rattle.columns.specs.Books.{lent_book, LentLengths, SameColumns};
 ghost use Rattle.snapshots.specs.Snapshot.{snapshot_words, seal_questions};
 ghost use Rattle.snapshots.specs.Faults.{fault_in};
-ghost use Rattle.restoring.specs.Taking.{CanTake};
 ghost use Rattle.opening.specs.Judging.{book_with, opened_state, Judges, Opens};
 
 use checksums::checksum;
@@ -36,7 +35,7 @@ fn sealed(words: &[u32]) -> Result<(), Fault>
 
 // The columns of words, taken into lent ones: are they a sound book with this state?
 fn sound_in(words: &[u32], s: State, columns: &mut LentColumns) -> bool
-    requires { CanTake words.now columns.old }
+    requires { (length words.now ≡ snapshot_words) × LentLengths columns.old }
     ensures { result ≡ sound (book_with words.now s) }
 {
     take_columns(words, columns);

@@ -1,9 +1,8 @@
 -- Columns taken from the places of a snapshot's words.
 use Rattle.std.specs.Prelude.{◌≡◌, Bool, ◌&&◌, List, map, ℕ, length, get_or, take, drop, ℤ}
 use Rattle.rules.specs.declared.State.{State}
-use Rattle.rules.specs.Book.{all, state_of}
+use Rattle.rules.specs.Book.{all, state_of, CellLengths, LedgerLengths}
 use Rattle.columns.specs.declared.LentColumns.{LentColumns}
-use Rattle.columns.specs.Books.{LentLengths}
 use Rattle.checksums.specs.Sums.{below}
 use Rattle.snapshots.specs.Words.{phase_in, signed_in, longs_in, field_in, issue_in, from_in, to_in, day_in}
 use Rattle.snapshots.specs.Snapshot.{snapshot_words}
@@ -22,9 +21,15 @@ field_of field.From = from_in
 field_of field.To = to_in
 
 -- columns of a book's lengths
-pub record CanTake (ws : List ℕ) (c : LentColumns) : Type 0 where
+pub record CanTake (ws : List ℕ) (nets : List ℤ) (delivered lifts : List ℕ) (charges : List ℤ) : Type 0 where
   pub long : length ws ≡ snapshot_words
-  pub lengths : LentLengths c
+  pub cells : CellLengths nets delivered
+  pub lift_words : length lifts ≡ 288
+  pub accounts : length charges ≡ 64
+
+pub record CanTakeLedger (ws issues froms tos lots days : List ℕ) : Type 0 where
+  pub long : length ws ≡ snapshot_words
+  pub lengths : LedgerLengths issues froms tos lots days
 
 -- the columns but for the ledger's
 pub record TakenCells (ws : List ℕ) (nets : List ℤ) (delivered lifts : List ℕ) (charges : List ℤ) : Type 0 where

@@ -4,10 +4,10 @@
 ghost use Rattle.std.specs.Prelude.{◌≡◌, ℕ, true, false, map, ◌*◌, length, MatchOption};
 ghost use Rattle.rules.specs.Book.{all};
 ghost use Rattle.checksums.specs.Sums.{below};
-ghost use Rattle.columns.specs.Books.{SameColumns};
+ghost use Rattle.columns.specs.Books.{LentLengths, SameColumns};
 ghost use Rattle.snapshots.specs.Words.{phase_in, signed_in, long_in, longs_in, day_in};
 ghost use Rattle.snapshots.specs.Snapshot.{snapshot_words};
-ghost use Rattle.restoring.specs.Taking.{field_of, CanTake, Taken, numbers_fit, taken_state};
+ghost use Rattle.restoring.specs.Taking.{field_of, CanTake, TakenCells, CanTakeLedger, TakenLedger, Taken, numbers_fit, taken_state};
 
 use book::state_of;
 use columns::LentColumns;
@@ -138,22 +138,65 @@ fn take_charges(words: &[u32], column: &mut [i64])
     }
 }
 
-// The columns of their words.
+// All columns but the ledger's, of their words. Four columns side by side: a struct of all nine would ask for the
+// others too.
+pub fn take_cells(
+    words: &[u32],
+    nets: &mut [i32],
+    delivered: &mut [u32],
+    lifts: &mut [u32],
+    charges: &mut [i64],
+)
+    requires { CanTake words.now nets.old delivered.old lifts.old charges.old }
+    ensures { TakenCells words.now nets.new delivered.new lifts.new charges.new }
+{
+    take(Net, &words[NETS..DELIVERED], nets);
+    take32(&words[DELIVERED..LIFTS], delivered);
+    take32(&words[LIFTS..CHARGES], lifts);
+    take_charges(&words[CHARGES..ENTRIES], charges);
+}
+
+// The ledger's columns, of their words. Five side by side: a struct of all nine would ask for the others too.
+pub fn take_ledger(
+    words: &[u32],
+    issues: &mut [u8],
+    froms: &mut [u8],
+    tos: &mut [u8],
+    lots: &mut [u32],
+    days: &mut [u16],
+)
+    requires { CanTakeLedger words.now issues.old froms.old tos.old lots.old days.old }
+    ensures { TakenLedger words.now issues.new froms.new tos.new lots.new days.new }
+{
+    let entries = &words[ENTRIES..LOTS];
+    take(Field::Issue, entries, issues);
+    take(Field::From, entries, froms);
+    take(Field::To, entries, tos);
+    take32(&words[LOTS..WORDS], lots);
+    take(Day, entries, days);
+}
+
+// All nine, of their words.
 pub fn take_columns(words: &[u32], columns: &mut LentColumns)
-    requires { CanTake words.now columns.old }
+    requires { (length words.now ≡ snapshot_words) × LentLengths columns.old }
     ensures taken { Taken words.now columns.new }
     ensures same { SameColumns columns.old columns.new }
 {
-    let entries = &words[ENTRIES..LOTS];
-    take(Net, &words[NETS..DELIVERED], columns.nets);
-    take32(&words[DELIVERED..LIFTS], columns.delivered);
-    take32(&words[LIFTS..CHARGES], columns.lifts);
-    take_charges(&words[CHARGES..ENTRIES], columns.charges);
-    take(Field::Issue, entries, columns.issues);
-    take(Field::From, entries, columns.froms);
-    take(Field::To, entries, columns.tos);
-    take32(&words[LOTS..WORDS], columns.lots);
-    take(Day, entries, columns.days);
+    take_cells(
+        words,
+        columns.nets,
+        columns.delivered,
+        columns.lifts,
+        columns.charges,
+    );
+    take_ledger(
+        words,
+        columns.issues,
+        columns.froms,
+        columns.tos,
+        columns.lots,
+        columns.days,
+    );
 }
 
 // The state of its words, if its numbers fit.

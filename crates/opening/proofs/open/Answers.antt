@@ -6,7 +6,7 @@ use Rattle.opening.proofs.open.Goals as goal
 
 pub take_columns-requires : goal.take_columns-requires
 take_columns-requires c =
-    record { long = long_enough c.args.words.now 0 c.in_ok-state.state c.in_ok-state.ensures refl; lengths = c.requires }
+    (long_enough c.args.words.now 0 c.in_ok-state.state c.in_ok-state.ensures refl, c.requires)
 
 pub returns : goal.returns
 returns c =

@@ -8,7 +8,7 @@ use Rattle.opening.proofs.sound_in.Goals as goal
 pub sound_columns-requires : goal.sound_columns-requires
 sound_columns-requires c =
     same_lengths (shared_book c.args.s c.shared.result) (lent_book c.args.s c.take_columns.new.columns) (c.shared.ensures c.args.s)
-    (taken_lengths c.args.words.now _ _ _ _ _ _ _ _ _ c.requires.long c.take_columns.ensures.taken.cells c.take_columns.ensures.taken.ledger)
+    (taken_lengths c.args.words.now _ _ _ _ _ _ _ _ _ c.requires.0 c.take_columns.ensures.taken.cells c.take_columns.ensures.taken.ledger)
 
 pub returns : goal.returns
 returns c =
