@@ -51,8 +51,8 @@ fn charges(text: &mut [u8], at: usize, charges: &[i64]) -> usize
     ensures { Added (45 * length charges.now) text.old text.new at result (charges_text (charge_lines_from 0 charges.now)) }
 {
     let mut end = at;
-    for a in 0..charges.len() {
-        end = charge(text, end, a, charges[a]);
+    for (a, yen) in charges.iter().enumerate() {
+        end = charge(text, end, a, *yen);
     }
     end
 }
