@@ -15,8 +15,8 @@ fn find(runs: &[u32], k: u32) -> Seat
     ensures { UnitAt runs.now (length runs.now) k result }
 {
     let mut left = k;
-    for j in 0..runs.len() {
-        let c = (runs[j] / ACCOUNTS + MOST_SMALL) / UNIT_LOTS;
+    for (j, key) in runs.iter().enumerate() {
+        let c = (*key / ACCOUNTS + MOST_SMALL) / UNIT_LOTS;
         if left < c {
             return Seat {
                 run: j,
