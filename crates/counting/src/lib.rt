@@ -6,7 +6,6 @@ ghost use Rattle.rules.specs.Measures.{owed_of};
 ghost use Rattle.rules.specs.Refusals.{number_in};
 ghost use Rattle.counting.specs.Counting.{CanAdd, Grown, cut_in, resolved_in, added_in};
 
-use answers::Turn;
 use rules::{Instruction, Refusal};
 use spans::Statement;
 
@@ -37,10 +36,10 @@ fn resolved(c: Statement, lots: u32) -> Statement
 
 // A statement with what an instruction adds, from its answer and from the account's net and delivered lots
 // before it. A refused one adds nothing.
-pub fn added(
+pub fn added<T: Drop>(
     c: Statement,
     x: Instruction,
-    answer: Result<Turn, Refusal>,
+    answer: Result<T, Refusal>,
     net: i32,
     given: u32,
     issue: u32,

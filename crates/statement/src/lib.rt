@@ -72,6 +72,7 @@ fn span(
     };
     let mut state = s;
     let mut at: usize = 0;
+    // the place counts by hand: it goes on by as many words as an instruction has, and the instructions are at most so many
     for _turn in 0..MOST_SPAN {
         let Ok((x, n)) = tape::read(&words[at..]) else {
             return c;
