@@ -163,13 +163,13 @@ fn prepare_for(
 }
 
 // Has each account delivered all that it owes?
-fn all_delivered(net: &[i32], delivered: &[u32]) -> bool
+fn all_delivered<'a>(net: &'a [i32], delivered: &'a [u32]) -> bool
     requires { length delivered.now ≡ length net.now }
     ensures { result ≡ all_delivered net.now delivered.now }
 {
     let mut good = true;
-    for i in 0..net.len() {
-        good = good & (delivered[i] == owed(net[i]));
+    for (n, d) in net.iter().zip(delivered) {
+        good &= *d == owed(*n);
     }
     good
 }
