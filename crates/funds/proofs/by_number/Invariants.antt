@@ -4,4 +4,6 @@ use Rattle.contributions.specs.Funds.{numbered}
 use Rattle.funds.proofs.by_number.Given as goal
 
 abbrev pub invariant-loop-k : goal.invariant-loop-k
-invariant-loop-k l = (length l.out ≡ length l.fn.out) × (l.out ≡ take l.k (numbered l.order l.given) ++ drop l.k l.fn.out)
+invariant-loop-k l =
+    let places = take (length l.order) l.fn.out in
+    (length l.place-items ≡ length places) × (l.place-items ≡ take l.k (numbered l.order l.given) ++ drop l.k places)
