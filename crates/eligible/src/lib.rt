@@ -47,9 +47,9 @@ pub fn sizes_of(subs: &[u32], lots: &[i32], earlier: &[u8], sizes: &mut [u32]) -
     ensures { Sized (unfaced subs.now lots.now earlier.now) sizes.new result }
 {
     let mut sum: u64 = 0;
-    for k in 0..subs.len() {
+    for (k, place) in sizes[..subs.len()].iter_mut().enumerate() {
         let size = size_of(subs, lots, earlier, k);
-        sizes[k] = size;
+        *place = size;
         sum += size as u64;
     }
     sum

@@ -1,8 +1,7 @@
 -- A report more in each sum, and the whole of them.
-use Rattle.std.proofs.Common.{rules, ◌≡◌, ℕ, zero, suc, ◌+◌, ◌-◌, ◌*◌, ◌/◌, ◌%◌, ◌≤◌, ◌<◌, min, List, [], ◌∷◌, ◌++◌, map, length, get_or, take, drop, set, replicate, refl, sym, ap, ◌∙◌, arith, Bool, true, false, cond, ◌&&◌, not, length-set, add-one, leb, ltb, eqb, eq-eqb, ne_eqb, le-leb, lt-ltb, le-ltb, ltb-true, ltb-false, leb-true, leb-false, eqb-true, subst, get_or-set_other, get_or-set_same}
-use borrow.Author.Tests.{lt-leb}
+use Rattle.std.proofs.Common.{rules, ◌≡◌, ◌<◌, length, get_or, ap, ◌∙◌, arith}
 use Rattle.reports.specs.Reports.{numbers, receipt_of, delivery_of, receipts, deliveries}
-use Rattle.rules.specs.Measures.{total, due_of, owed_of}
+use Rattle.rules.specs.Measures.{due_of, owed_of}
 use Rattle.eligible.specs.Steps.{unfaced, counted_for}
 use Rattle.reports.proofs.Sums.{total_number, total_numbers_end}
 use lib.IntN.{pos}

@@ -1,6 +1,5 @@
 -- The three tests of a report that takes part; one without lots has size 0 either way.
-use Rattle.std.proofs.Common.{rules, ◌≡◌, ℕ, zero, suc, ◌+◌, ◌-◌, ◌*◌, ◌/◌, ◌%◌, ◌≤◌, ◌<◌, min, List, [], ◌∷◌, ◌++◌, map, length, get_or, take, drop, set, replicate, refl, sym, ap, ◌∙◌, arith, Bool, true, false, cond, ◌&&◌, not, length-set, add-one, leb, ltb, eqb, eq-eqb, ne_eqb, le-leb, lt-ltb, le-ltb, ltb-true, ltb-false, leb-true, leb-false, eqb-true, subst, get_or-set_other, get_or-set_same}
-use borrow.Author.Tests.{lt-leb}
+use Rattle.std.proofs.Common.{rules, get_or, sym, ap, ◌∙◌, eq-eqb, ne_eqb}
 use Rattle.eligible.specs.Steps.{unfaced}
 use Rattle.rules.specs.Measures.{due_of}
 use Rattle.eligible.proofs.Sizes.{size_own, size_earlier, size_no_receiver}
