@@ -1,4 +1,5 @@
 // An issue's units where full ones are dealt in turn and then lifted.
+// Nets and lifts come one by one, of the nine columns those that an order is made of.
 #![tactic(auto)]
 
 ghost use Rattle.std.specs.Prelude.{◌≡◌, map, length, take, drop, true};

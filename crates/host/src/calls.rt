@@ -31,8 +31,7 @@ pub fn output_asks(x: Instruction, out: &[u32]) -> Result<(), Refusal>
     }
 }
 
-// A refusal: its number, 0 for every other number, and the state as it came. It is handed the number, as C has it: a
-// `Refusal` would be a narrower type, and ask more.
+// A refusal: its number, 0 for every other number, and the state as it came. It is handed the number, as C has it.
 pub fn refused(no: u32, state: DayState) -> DayTurned
     ensures { result ≡ refused_by no state }
 {

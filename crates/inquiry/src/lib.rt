@@ -1,4 +1,5 @@
 // The unit question: of units in a lent array, and of a sound book in either order.
+// Nets and lifts come one by one, of the nine columns those that an order is made of.
 #![tactic(auto)]
 
 ghost use Rattle.std.specs.Prelude.{◌≡◌, drop};

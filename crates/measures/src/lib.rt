@@ -1,4 +1,5 @@
 // Value and charge of lots, and the questions 7 and 11 on the numbers that they take.
+// The numbers stand one by one: the questions are about each.
 #![tactic(auto)]
 
 ghost use Rattle.std.specs.Prelude.{◌≡◌, ◌&&◌, [], ◌∷◌, ◌/◌};

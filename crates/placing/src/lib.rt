@@ -1,5 +1,6 @@
 // The scan of lifts for soundness, where nets and delivered lots are sound: places are tested before
 // units are lifted by them, and again beside the units that are then handed.
+// Nets, delivered lots and lifts come one by one, of the nine columns those that are asked for.
 #![tactic(auto)]
 
 ghost use Rattle.std.specs.Prelude.{◌≡◌, false, ◌≤◌, ◌<◌, length, get_or, drop};

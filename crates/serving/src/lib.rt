@@ -1,4 +1,5 @@
 // The units of an issue that more lots hand over, in the order of the day.
+// Nets and lifts come one by one, of the nine columns those that an order is made of.
 #![tactic(auto)]
 
 ghost use Rattle.std.specs.Prelude.{true, false};

@@ -1,4 +1,5 @@
 // A fail's lots shared out in the drawn order: reports facing the failing account first, then the others.
+// The draw, the fail and the failing account are the definition's own arguments, one by one.
 #![tactic(auto)]
 
 ghost use Rattle.std.specs.Prelude.{◌≡◌, ◌++◌, ◌≤◌, length, drop, replicate};

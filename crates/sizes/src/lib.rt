@@ -28,6 +28,7 @@ pub struct Step {
 }
 
 // A round, and as many more as deliver the same.
+// What it takes stands one by one, as in `rounds::round`, which says why.
 fn round_and_leap(
     nets: &[i32],
     settles: &[u32],

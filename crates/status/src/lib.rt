@@ -1,6 +1,7 @@
 // The reason a unit has not come: for issue and unit number the book tells one of handed, waiting, partly
 // failed and wholly failed. The units are those of the order as lifted, in Settling and in Cut. It goes by
 // lots alone, and those are the same, place by place, whether full units are dealt in turn or not.
+// Nets, delivered lots and lifts come one by one, of the nine columns those that are asked for.
 #![tactic(auto)]
 
 ghost use Rattle.std.specs.Prelude.{◌≡◌, ◌<◌, suc, take};

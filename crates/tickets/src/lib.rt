@@ -1,4 +1,5 @@
 // The ticket of an unhanded unit, and whether it still holds.
+// Nets, delivered lots and lifts come one by one, of the nine columns those that are asked for.
 #![tactic(auto)]
 
 ghost use Rattle.std.specs.Prelude.{◌≡◌, drop};

@@ -1,4 +1,5 @@
 // trade and close: of each its own questions, and trade's effect in place.
+// A trade's numbers stand one by one, as document 01 lists them: its questions are about each.
 #![tactic(auto)]
 
 ghost use Rattle.std.specs.Prelude.{◌≡◌, []};
