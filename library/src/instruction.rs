@@ -86,6 +86,7 @@ impl Instruction {
     }
 
     /// The instruction of fields; none where the kind is not 1 to 7, 13 or 14.
+    #[inline]
     pub fn of_fields([kind, a, b, c, d]: Fields) -> Option<Instruction> {
         Some(match kind {
             1 => Instruction::Trade { issue: a, from: b, to: c, lots: d },

@@ -445,6 +445,7 @@ pub fn look(caller: &Caller, book: &Columns, issue: u32, account: u32, k: u32) -
 }
 
 /// Reads the instruction that begins at the first word.
+#[inline]
 pub fn read(words: &[u32]) -> ReadAnswer {
     let (mut fields, mut count) = ([u32::MAX; 5], NOT_WRITTEN);
     // SAFETY: the words are given with their length, and the fields have the five that are written.

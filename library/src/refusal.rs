@@ -110,6 +110,7 @@ impl Refusal {
     }
 
     /// Done where the number is 0, otherwise its refusal.
+    #[inline]
     pub fn check(number: u32) -> Result<(), Refusal> {
         Refusal::of(number).map_or(Ok(()), Err)
     }

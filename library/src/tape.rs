@@ -4,6 +4,7 @@ pub use crate::raw::quotes;
 use crate::{raw, Instruction, Refusal};
 
 /// Reads the instruction that begins at the first word: it and its word count, or 13 or 14.
+#[inline]
 pub fn read(words: &[u32]) -> Result<(Instruction, usize), Refusal> {
     let answer = raw::read(words);
     Refusal::check(answer.refusal)?;

@@ -20,26 +20,53 @@ const fn threes() -> [[u8; 3]; 1_000] {
     all
 }
 
-/// The room that the digits of a number take: seven times three, and the six commas between them.
+/// The same without zeros in front; what stands behind the digits does not count.
+const FIRSTS: [[u8; 3]; 1_000] = firsts();
+
+const fn firsts() -> [[u8; 3]; 1_000] {
+    let mut all = THREES;
+    let mut n = 0;
+    while n < 100 {
+        let [_, tens, ones] = all[n];
+        all[n] = if n < 10 { [ones, b' ', b' '] } else { [tens, ones, b' '] };
+        n += 1;
+    }
+    all
+}
+
+/// The room that a number takes at most: seven times three digits, and the six commas between them.
 const ROOM: usize = 27;
 
-/// The digits of a number, three at a time, the last at the end of the buffer, with a comma before every
-/// three where they are grouped; answers where they begin.
-fn digits(number: u64, grouped: bool, written: &mut [u8; ROOM]) -> usize {
-    let (mut left, mut at) = (number, ROOM);
-    while left >= 1_000 {
-        at -= 3;
-        written[at..at + 3].copy_from_slice(&THREES[(left % 1_000) as usize]);
-        left /= 1_000;
-        if grouped {
-            at -= 1;
-            written[at] = b',';
-        }
+/// Writes a number below 1,000 at the front of a room; answers how many digits it has.
+#[inline(always)]
+fn first(number: usize, room: &mut [u8; ROOM]) -> usize {
+    room[..3].copy_from_slice(&FIRSTS[number]);
+    1 + usize::from(number >= 10) + usize::from(number >= 100)
+}
+
+/// Writes a number from the front of a room, three digits at a time, with a comma before every three behind
+/// the first where they are grouped; answers how many bytes it takes. What stands behind them does not count.
+#[inline(always)]
+fn digits(number: u64, grouped: bool, room: &mut [u8; ROOM]) -> usize {
+    if number < 1_000 {
+        return first(number as usize, room);
     }
-    at -= 3;
-    written[at..at + 3].copy_from_slice(&THREES[left as usize]);
-    // The first three may begin with zeros, of which one is kept where the number is 0.
-    at + usize::from(left < 100) + usize::from(left < 10)
+    let (mut left, mut threes, mut count) = (number, [0_u16; 6], 0);
+    while left >= 1_000 && count < threes.len() {
+        threes[count] = (left % 1_000) as u16;
+        left /= 1_000;
+        count += 1;
+    }
+    let mut at = first(left as usize, room);
+    for three in threes[..count].iter().rev() {
+        if grouped {
+            room[at] = b',';
+            at += 1;
+        }
+        room[at..at + 3].copy_from_slice(&THREES[usize::from(*three)]);
+        at += 3;
+    }
+    at
 }
 
 /// A line that is put together piece by piece, without the cost of a format, and written at once. It
@@ -67,17 +94,24 @@ impl Line {
     }
 
     /// Puts a number.
+    #[inline(always)]
     pub fn number(&mut self, number: u64) -> &mut Line {
-        let mut written = [0; ROOM];
-        let at = digits(number, false, &mut written);
-        self.put(&written[at..])
+        self.digits(number, false)
     }
 
     /// Puts a number with a comma before every three digits.
     pub fn grouped(&mut self, number: u64) -> &mut Line {
-        let mut written = [0; ROOM];
-        let at = digits(number, true, &mut written);
-        self.put(&written[at..])
+        self.digits(number, true)
+    }
+
+    /// Puts the digits of a number where they are to stand, if there is room for the longest.
+    #[inline(always)]
+    fn digits(&mut self, number: u64, grouped: bool) -> &mut Line {
+        let room = self.bytes.get_mut(self.length..).and_then(|rest| rest.first_chunk_mut());
+        if let Some(room) = room {
+            self.length += digits(number, grouped, room);
+        }
+        self
     }
 
     /// Takes away what was put.
@@ -100,8 +134,8 @@ impl Default for Line {
 /// Writes a number, without the cost of a format.
 pub fn write_number(out: &mut impl Write, number: u64) -> io::Result<()> {
     let mut written = [0; ROOM];
-    let at = digits(number, false, &mut written);
-    out.write_all(&written[at..])
+    let size = digits(number, false, &mut written);
+    out.write_all(&written[..size])
 }
 
 impl fmt::Display for Grouped {
@@ -112,8 +146,8 @@ impl fmt::Display for Grouped {
         let size = self.0.unsigned_abs();
         let Ok(number) = u64::try_from(size) else { return write!(text, "{size}") };
         let mut written = [0; ROOM];
-        let at = digits(number, true, &mut written);
-        text.write_str(std::str::from_utf8(&written[at..]).unwrap_or_default())
+        let size = digits(number, true, &mut written);
+        text.write_str(std::str::from_utf8(&written[..size]).unwrap_or_default())
     }
 }
 

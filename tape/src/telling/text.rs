@@ -53,6 +53,7 @@ pub fn tell(out: &mut impl Write, told: &Told, stands: Stands) -> io::Result<()>
 
 /// The beginning of an instruction's line: its first word, and where it stands. A name is written at
 /// once, for it may be long.
+#[inline(always)]
 fn head(
     out: &mut impl Write,
     line: &mut Line,
@@ -76,6 +77,7 @@ fn head(
 
 /// The rest of the line of a trade that was done and of which nothing is named, without the cost of a
 /// format: a tape may have a million.
+#[inline(always)]
 fn trade(out: &mut impl Write, line: &mut Line, instruction: &Instruction) -> io::Result<()> {
     let Instruction::Trade { issue, from, to, lots } = *instruction else { return Ok(()) };
     let lots = u64::from(lots);
