@@ -15,7 +15,7 @@ state_book s = book_of s [] [] [] [] [] [] [] [] []
 
 -- the refusal of an instruction after 1 and 2
 abbrev pub refusal_of : State → Instruction → ℕ
-refusal_of s x = first_no (with_right false (own_asks (state_book s) (call_of x [] [])))
+refusal_of s x = first_no (with_right false (own_asks (state_book s) (call_of x [])))
 
 -- 3, 4 and 5, and then 27
 abbrev pub without : Bool → ℕ → ℕ → ℕ → List Question

@@ -34,7 +34,7 @@ pub fn is_own(w: Caller, a: u32) -> bool
 
 // May a participant make the call of this instruction: a deliver or a resolve for its own account?
 fn own_call(w: Caller, x: Instruction) -> bool
-    ensures { result ≡ own_call w (call_of x [] []) }
+    ensures { result ≡ own_call w (call_of x []) }
 {
     match x {
         Instruction::Deliver(_, a, _) => is_own(w, a),
@@ -45,7 +45,7 @@ fn own_call(w: Caller, x: Instruction) -> bool
 
 // Has the caller the right to the call of this instruction?
 pub fn has_right(w: Caller, x: Instruction) -> bool
-    ensures { result ≡ has_right w (call_of x [] []) }
+    ensures { result ≡ has_right w (call_of x []) }
 {
     is_operator(w) || own_call(w, x)
 }

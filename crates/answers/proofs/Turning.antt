@@ -16,38 +16,33 @@ use Rattle.rules.specs.Measures.{output_words}
 use Rattle.rules.specs.Book.{sound}
 use Rattle.rules.specs.Records.{words, over}
 use Rattle.rules.specs.Questions.{first_no, ask_output}
-use Rattle.rules.specs.Calls.{Call, Effect, lent_to, HasRoom, own_asks, effect, called}
+use Rattle.rules.specs.Calls.{Call, Effect, HasRoom, own_asks, effect, called}
 use Rattle.laws.proofs.Answers.{said_yes, own_first, refused_as, accepted_as}
 use Rattle.laws.proofs.Refused.{some_number}
-use Rattle.answers.specs.Turns.{turn_of, Given, TurnIs, Gives, out_after}
+use Rattle.answers.specs.Turns.{turn_of, TurnIs}
 
 -- an output that is long enough has room
 pub room_out : (out : List ℕ) → output_words ≤ length out → first_no (ask_output output_words out ∷ []) ≡ 0
 room_out out h = said_yes 1 (leb output_words (length out)) [] (le-leb output_words (length out) h)
 
 -- what a call that is not refused has to leave
-pub record Does (e : Effect) (lent : List ℕ) (k x : ℕ) (b : Book) (words' : List ℕ) : Type 0 where
+pub record Does (e : Effect) (out : List ℕ) (k x : ℕ) (b : Book) (out' : List ℕ) : Type 0 where
   pub count : k ≡ e.count
   pub cancelled : x ≡ e.cancelled
   pub book : b ≡ e.book
-  pub out : words' ≡ over (words e.records) lent
+  pub written : out' ≡ over (words e.records) out
 
-module _ (b : Book) (c : Call) (room : HasRoom c) (q : sound b ≡ true) where
+module _ (b : Book) (c : Call) (out : List ℕ) (room : HasRoom c out) (q : sound b ≡ true) where
   -- a question is answered 'no'
-  pub turn_no : (r : Refusal) → number_of r ≡ first_no (own_asks b c) → TurnIs (called b c) (Err r) b (lent_to c)
+  pub turn_no : (r : Refusal) → number_of r ≡ first_no (own_asks b c) → TurnIs (called b c out) (Err r) b out
   turn_no r e =
       let k = pred (number_of r) in
-      rw (refused_as b c k (own_first b c room q ∙ sym e ∙ some_number r))
+      rw (refused_as b c out k (own_first b c out room q ∙ sym e ∙ some_number r))
       (record { refusal = some_number r; count = refl; cancelled = refl; book = refl; out = refl })
 
   -- none is
-  pub turn_yes : (k x : ℕ) (s : State) (b' : Book) (out : List ℕ) → 0 ≡ first_no (own_asks b c) → Does (effect b c) (lent_to c) k x b' out →
-      TurnIs (called b c) (Ok (turn_of k x s)) b' out
-  turn_yes k x s b' out e d =
-      rw (accepted_as b c (own_first b c room q ∙ sym e))
-      (record { refusal = refl; count = d.count; cancelled = d.cancelled; book = d.book; out = d.out })
-
--- a call's turn, and what the output holds after it
-pub gives : (b : Book) (c : Call) (out : List ℕ) {r : Given} {b' : Book} {words' out' : List ℕ} → out' ≡ out_after c out (called b c) →
-    TurnIs (called b c) r b' words' → Gives b c r b' out out'
-gives b c out e t = record { refusal = t.refusal; count = t.count; cancelled = t.cancelled; book = t.book; out = e }
+  pub turn_yes : (k x : ℕ) (s : State) (b' : Book) (out' : List ℕ) → 0 ≡ first_no (own_asks b c) → Does (effect b c) out k x b' out' →
+      TurnIs (called b c out) (Ok (turn_of k x s)) b' out'
+  turn_yes k x s b' out' e d =
+      rw (accepted_as b c out (own_first b c out room q ∙ sym e))
+      (record { refusal = refl; count = d.count; cancelled = d.cancelled; book = d.book; out = d.written })

@@ -1,6 +1,6 @@
 -- What an instruction answers in place. It is lent the columns that it reads or changes: its answer is the call's, of
 -- every sound book that has them.
-use Rattle.std.specs.Prelude.{◌≡◌, true, cond, List, ℕ, ◌≤◌, length, ℤ, Result, Ok, Err}
+use Rattle.std.specs.Prelude.{◌≡◌, true, List, ℕ, ◌≤◌, length, ℤ, Result, Ok, Err}
 use Rattle.rules.specs.declared.Book.{Book}
 use Rattle.rules.specs.declared.Instruction.{Instruction}
 use Rattle.rules.specs.declared.Refusal.{Refusal}
@@ -8,7 +8,7 @@ use Rattle.rules.specs.declared.State.{State}
 use Rattle.rules.specs.Refusals.{number_in}
 use Rattle.rules.specs.Measures.{lift_cells, output_words}
 use Rattle.rules.specs.Book.{sound, CellLengths, LedgerLengths, book_of}
-use Rattle.rules.specs.Calls.{Call, Answer, lends, called}
+use Rattle.rules.specs.Calls.{Call, Answer, called}
 use Rattle.rules.specs.Run.{call_of}
 use Rattle.book.specs.States.{Lent, Column, SharedColumn, Shared}
 use Rattle.columns.specs.declared.LentColumns.{LentColumns}
@@ -45,27 +45,17 @@ pub record TurnIs (d : Answer) (r : Given) (b : Book) (words : List ℕ) : Type 
 
 -- Any instruction, on all columns
 
--- what an output holds after a call: only a call that is lent one writes to it
-abbrev pub out_after : Call → List ℕ → Answer → List ℕ
-out_after c out d = cond (lends c) d.out out
+-- a call made on the book of a state and its columns, before and after, and the output beside it, before and after
+abbrev pub Makes : State → Call → Given → LentColumns → LentColumns → List ℕ → List ℕ → Type 0
+Makes s c r before after out out' = TurnIs (called (lent_book s before) c out) r (lent_book (state_after s r) after) out'
 
--- an answer, with what an output that stands beside the call holds after it
-abbrev pub beside : Call → List ℕ → Answer → Answer
-beside c out d =
-    record { refusal = d.refusal; count = d.count; cancelled = d.cancelled; book = d.book; out = out_after c out d }
+-- the same where none is lent: any that stands beside it is left as it was
+abbrev pub MakesAlone : State → Call → Given → LentColumns → LentColumns → Type 0
+MakesAlone s c r before after = (out : List ℕ) → Makes s c r before after out out
 
--- a call made on a book: number, count, lots cancelled, book and output are the call's
-abbrev pub Gives : Book → Call → Given → Book → List ℕ → List ℕ → Type 0
-Gives b c r b' out out' = TurnIs (beside c out (called b c)) r b' out'
-
--- a call made on the book of a state and its columns, before and after, with the words that it leaves in what it is lent
-abbrev pub Makes : State → Call → Given → LentColumns → LentColumns → List ℕ → Type 0
-Makes s c r before after words = TurnIs (called (lent_book s before) c) r (lent_book (state_after s r) after) words
-
--- an instruction, with roll's quotes and an output beside it, made on the book of a state and its columns, before and after
+-- an instruction, with roll's quotes
 abbrev pub Answered : Instruction → List ℕ → State → Given → LentColumns → LentColumns → List ℕ → List ℕ → Type 0
-Answered x quotes s r before after out out' =
-    Gives (lent_book s before) (call_of x quotes out) r (lent_book (state_after s r) after) out out'
+Answered x quotes s r before after out out' = Makes s (call_of x quotes) r before after out out'
 
 -- One call, on the columns that it reads or changes
 
@@ -135,10 +125,14 @@ abbrev pub on_marks : SharedColumn ℤ → SharedColumn ℕ → Within
 on_marks nets issues =
     record { before = λ s. within_use s nets.entry.now issues.entry.now; after = λ s. within_use s nets.entry.now issues.entry.now }
 
--- the answer of a call, of every sound book with what is lent
-abbrev pub Turns : Within → State → Call → Given → List ℕ → Type 0
-Turns w s c r words =
-    (b : Book) → sound (w.before s b) ≡ true → TurnIs (called (w.before s b) c) r (w.after (state_after s r) b) words
+-- the answer of a call, of every sound book with what is lent, and the output beside it, before and after
+abbrev pub Turns : Within → State → Call → Given → List ℕ → List ℕ → Type 0
+Turns w s c r out out' =
+    (b : Book) → sound (w.before s b) ≡ true → TurnIs (called (w.before s b) c out) r (w.after (state_after s r) b) out'
+
+-- the same where none is lent: any that stands beside it is left as it was
+abbrev pub TurnsAlone : Within → State → Call → Given → Type 0
+TurnsAlone w s c r = (out : List ℕ) → Turns w s c r out out
 
 -- what a call in place asks: some book with what is lent is sound, and the lengths are right
 pub record SomeSound (within : Book → Book) : Type 0 where

@@ -74,7 +74,7 @@ module _ (w : Caller) (o : is_operator w ≡ false) (phase : ℕ) (b : Book) (i 
       let qs = lift_asks b.state.phase (order_of b) b.delivered i k in
       question_without ticket_answer no_ticket (λ m u. refl) phase b n qs t (is_number p e)
       (e ∙ ap (λ c. first_no (without c i 0 0)) g ∙ lift_early (is_settling b.state.phase) (leb i 15) ∙ sym (stops_there qs))
-      ∙ sym (ap (λ x. cond (holds phase b) (ticket_answer (first_no (with_right x (asks b (Ask i k)))) t) (no_ticket 2)) o)
+      ∙ sym (ap (λ x. cond (holds phase b) (ticket_answer (first_no (with_right x (asks b (Ask i k) []))) t) (no_ticket 2)) o)
 
   pub status_without : (p : Bool) → p ≡ not (is_taking b.state.phase) → n ≡ first_no (without p i 0 0) → status_refused (unless_unsound n phase b) ≡ day_status_by w phase b i k
   unfolding status_by
@@ -95,20 +95,20 @@ module _ (w : Caller) (o : is_operator w ≡ false) (phase : ℕ) (b : Book) (i 
 -- Commit
 
 module _ (w : Caller) (o : is_operator w ≡ false) (phase : ℕ) (b : Book) (t : Ticket) (out : List ℕ) where
-  commit_refused : (n : ℕ) → 0 < n → n ≡ first_no (asks_at phase b (Commit t out)) → CommitIs b (day_made_by w phase b (Commit t out)) n 0 b.lifts out
+  commit_refused : (n : ℕ) → 0 < n → n ≡ first_no (asks_at phase b (Commit t) out) → CommitIs b (day_made_by w phase b (Commit t) out) n 0 b.lifts out
   commit_refused zero z e = absurd (omega arith)
   commit_refused (suc n) z e =
-      rw (← ap (λ m. refusal m b (Commit t out)) e ∙ made_without w phase b (Commit t out) (rw o refl))
+      rw (← ap (λ m. refusal m b (Commit t) out) e ∙ made_without w phase b (Commit t) out (rw o refl))
       (record { refusal = refl; count = refl; cancelled = refl; book = refl; out = refl })
 
-  pub commit_short_by : length out < output_words → CommitIs b (day_made_by w phase b (Commit t out)) 1 0 b.lifts out
+  pub commit_short_by : length out < output_words → CommitIs b (day_made_by w phase b (Commit t) out) 1 0 b.lifts out
   commit_short_by h = commit_refused 1 (omega arith) (rw (lt-leb output_words (length out) h) refl)
 
   abbrev qs : List Question
-  qs = own_asks b (Commit t out)
+  qs = own_asks b (Commit t)
 
   pub commit_without : output_words ≤ length out → (p : Bool) (n : ℕ) → p ≡ is_settling b.state.phase → n ≡ first_no (without p t.issue 0 0) →
-      CommitIs b (day_made_by w phase b (Commit t out)) (unless_unsound n phase b) 0 b.lifts out
+      CommitIs b (day_made_by w phase b (Commit t) out) (unless_unsound n phase b) 0 b.lifts out
   commit_without h p n g e =
       by_test (sound_at phase b)
       (λ s. rw s (commit_refused n (is_number w o phase b t.issue 0 n p e) (own ∙ sym (room ∙ said_yes 2 (sound_at phase b) (with_right false qs) s))))
@@ -117,7 +117,7 @@ module _ (w : Caller) (o : is_operator w ≡ false) (phase : ℕ) (b : Book) (t 
       own : n ≡ first_no (with_right false qs)
       own = e ∙ ap (λ c. first_no (without c t.issue 0 0)) g ∙ lift_early (is_settling b.state.phase) (leb t.issue 15) ∙ sym (stops_there qs)
 
-      room : first_no (asks_at phase b (Commit t out)) ≡ first_no (ask 2 (sound_at phase b) ∷ with_right false qs)
+      room : first_no (asks_at phase b (Commit t) out) ≡ first_no (ask 2 (sound_at phase b) ∷ with_right false qs)
       room = said_yes 1 (leb output_words (length out)) (ask 2 (sound_at phase b) ∷ with_right false qs) (le-leb output_words (length out) h)
 
 -- A simulated desk

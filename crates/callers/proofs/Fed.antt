@@ -3,7 +3,7 @@
 -- its contract is known and nothing else: it answers as the definitions do, or refuses (a kind that is none, a number that is no
 -- phase, columns of another length, a caller without the right) and leaves the book.
 use mathlib.Core.Path.{◌≡◌, refl, sym, ap, ◌∙◌}
-use mathlib.Core.Bool.{true, false}
+use mathlib.Core.Bool.{Bool, true, false}
 use mathlib.Core.List.{List, [], ◌∷◌, ◌++◌}
 use Prim.Native.Nat.{ℕ, zero, suc, ◌≤◌, ◌<◌}
 use native.Mathlib.Omega.{arith}
@@ -15,16 +15,14 @@ use Rattle.rules.specs.declared.Instruction.{Instruction}
 use Rattle.rules.specs.declared.Ticket.{Ticket}
 use Rattle.rules.specs.Book.{order_of, with_lifts}
 use Rattle.rules.specs.Questions.{Question, ask, first_no}
-use Rattle.rules.specs.Calls.{Call, Trade, Close, Deliver, Ask, Commit, Cutoff, Resolve, PairOff, Roll, Mark, Turn as NameTurn, Answer, answer, output_asks, effect, called, AskAnswer, no_ticket, ticket_answer, ticket_of, asked, asks as allAsks}
+use Rattle.rules.specs.Calls.{Call, Ask, Commit, Answer, answer, lends, output_asks, effect, called, AskAnswer, no_ticket, ticket_answer, ticket_of, asked, asks as allAsks}
 use Rattle.rules.specs.Access.{is_operator, has_right}
 use Rattle.rules.specs.Run.{call_of}
 use Rattle.rules.specs.Tally.{Tallied, Demand3}
 use Rattle.laws.proofs.Basics.{by_test, cond_true, cond_false}
-use Rattle.laws.proofs.Answers.{Numbered, by_answer}
+use Rattle.laws.proofs.Answers.{Numbered, by_answer, asked_of}
 use Rattle.tally.proofs.Made.{Made, Step, as_called, leaves, demand3_of, made_reached}
 use Rattle.book.specs.States.{Column, SharedColumn, Columns}
-use Rattle.answers.specs.Turns.{beside}
-use Rattle.running.proofs.Fed.{words_lent, words_called}
 use Rattle.desk.specs.Fields.{is_kind}
 use Rattle.host.specs.declared.DayState.{DayState}
 use Rattle.host.specs.declared.DayTurned.{DayTurned}
@@ -37,58 +35,56 @@ use Rattle.host.proofs.Calling.{refusal, of_kind, not_kind}
 use Rattle.callers.proofs.ByCaller.{made_right, called_right, operator_ask, made_without, some_number, asked_number, of_kind_by, not_kind_by}
 
 -- what a host was given, the book and the words that it left, as an answer
-abbrev pub gave : Call → DayTurned → Book → List ℕ → Answer
-gave c r b out =
-    record { refusal = r.refusal; count = r.count; cancelled = r.cancelled; book = b; out = words_lent c out }
+abbrev pub gave : DayTurned → Book → List ℕ → Answer
+gave r b out = record { refusal = r.refusal; count = r.count; cancelled = r.cancelled; book = b; out = out }
 
 -- a call made through one of these functions on the book in the lent columns, and what that gave, as its contract says;
 -- a kind that is none is fed as a call that was refused
-pub data ByHost : Book → Call → Answer → Type 0 where
+pub data ByHost : Book → Call → List ℕ → Answer → Type 0 where
   told : (kind : ℕ) (x : Instruction) (quotes : SharedColumn ℕ) (out : Column ℕ) (h : DayState) (r : DayTurned) (c : Columns) → DayCalled kind x quotes out h r c →
-      ByHost (book_at h c) (call_of x quotes.entry.now out.entry.now)
-      (gave (call_of x quotes.entry.now out.entry.now) r (c.after (state_in r.state)) out.exit.now)
-  asks : (phase : ℕ) (b : Book) (issue unit n : ℕ) (ticket : List ℕ) → AskIs (day_asked phase b issue unit) n ticket →
-      ByHost b (Ask issue unit) (record { refusal = n; count = 0; cancelled = 0; book = b; out = [] })
+      ByHost (book_at h c) (call_of x quotes.entry.now) out.entry.now (gave r (c.after (state_in r.state)) out.exit.now)
+  asks : (phase : ℕ) (b : Book) (issue unit n : ℕ) (ticket out : List ℕ) → AskIs (day_asked phase b issue unit) n ticket →
+      ByHost b (Ask issue unit) out (record { refusal = n; count = 0; cancelled = 0; book = b; out = out })
   commits : (phase : ℕ) (b : Book) (ticket : List ℕ) (out lifts : Column ℕ) (n : ℕ) (count : Place) → DayCommitted phase b ticket out lifts n count →
-      ByHost b (Commit (ticket_in ticket) out.entry.now)
+      ByHost b (Commit (ticket_in ticket)) out.entry.now
       (record { refusal = n; count = count.exit.now; cancelled = 0; book = with_lifts b lifts.exit.now; out = out.exit.now })
   told_by : (w : Caller) (kind : ℕ) (x : Instruction) (quotes : SharedColumn ℕ) (out : Column ℕ) (h : DayState) (r : DayTurned) (c : Columns) →
       DayCalledBy w kind x quotes out h r c →
-      ByHost (book_at h c) (call_of x quotes.entry.now out.entry.now)
-      (gave (call_of x quotes.entry.now out.entry.now) r (c.after (state_in r.state)) out.exit.now)
-  asks_by : (w : Caller) (phase : ℕ) (b : Book) (issue unit n : ℕ) (ticket : List ℕ) → AskIs (day_asked_by w phase b issue unit) n ticket →
-      ByHost b (Ask issue unit) (record { refusal = n; count = 0; cancelled = 0; book = b; out = [] })
+      ByHost (book_at h c) (call_of x quotes.entry.now) out.entry.now (gave r (c.after (state_in r.state)) out.exit.now)
+  asks_by : (w : Caller) (phase : ℕ) (b : Book) (issue unit n : ℕ) (ticket out : List ℕ) → AskIs (day_asked_by w phase b issue unit) n ticket →
+      ByHost b (Ask issue unit) out (record { refusal = n; count = 0; cancelled = 0; book = b; out = out })
   commits_by : (w : Caller) (phase : ℕ) (b : Book) (ticket : List ℕ) (out lifts : Column ℕ) (n : ℕ) (count : Place) →
       DayCommittedBy w phase b ticket out lifts n count →
-      ByHost b (Commit (ticket_in ticket) out.entry.now)
+      ByHost b (Commit (ticket_in ticket)) out.entry.now
       (record { refusal = n; count = count.exit.now; cancelled = 0; book = with_lifts b lifts.exit.now; out = out.exit.now })
 
 -- Numbers and columns that can be a book's: the answer is the call's
 
-pub same_made : (phase : ℕ) (b : Book) (c : Call) → holds phase b ≡ true → day_made phase b c ≡ called b c
+pub same_made : (phase : ℕ) (b : Book) (c : Call) (out : List ℕ) → holds phase b ≡ true → day_made phase b c out ≡ called b c out
 unfolding day_made
-same_made phase b c g = cond_true (holds phase b) _ _ g
+same_made phase b c out g = cond_true (holds phase b) _ _ g
 
 same_ask_lem : (phase : ℕ) (b : Book) (i k : ℕ) → holds phase b ≡ true → day_asked phase b i k ≡ asked b i k
 same_ask_lem phase b i k g = cond_true (holds phase b) _ _ g
 
 -- an ask's number is the call's, and it changes nothing
-ask_number : (b : Book) (i k : ℕ) → (asked b i k).refusal ≡ (called b (Ask i k)).refusal
+ask_number : (b : Book) (i k : ℕ) (out : List ℕ) → (asked b i k).refusal ≡ (called b (Ask i k) out).refusal
 unfolding asked called
-ask_number b i k = by_number (first_no (allAsks b (Ask i k)))
+ask_number b i k out = by_number (first_no (allAsks b (Ask i k) out))
   where
-    by_number : (n : ℕ) → (ticket_answer n (ticket_of b.state.day (order_of b) b.lifts i k)).refusal ≡ (answer n b [] (effect b (Ask i k))).refusal
+    by_number : (n : ℕ) → (ticket_answer n (ticket_of b.state.day (order_of b) b.lifts i k)).refusal ≡ (answer n b out (effect b (Ask i k))).refusal
     by_number zero = refl
     by_number (suc n) = refl
 
-nothing : (b : Book) (i k n : ℕ) → n ≡ (called b (Ask i k)).refusal → record { refusal = n; count = 0; cancelled = 0; book = b; out = [] } ≡ called b (Ask i k)
-nothing b i k n e =
+nothing : (b : Book) (i k n : ℕ) (out : List ℕ) → n ≡ (called b (Ask i k) out).refusal →
+    record { refusal = n; count = 0; cancelled = 0; book = b; out = out } ≡ called b (Ask i k) out
+nothing b i k n out e =
     λ j. record {
       refusal = e j;
-      count = by_answer (λ d. 0 ≡ d.count) b (Ask i k) (λ y. refl) (λ m. refl) j;
-      cancelled = by_answer (λ d. 0 ≡ d.cancelled) b (Ask i k) (λ y. refl) (λ m. refl) j;
-      book = by_answer (λ d. b ≡ d.book) b (Ask i k) (λ y. refl) (λ m. refl) j;
-      out = by_answer (λ d. [] ≡ d.out) b (Ask i k) (λ y. refl) (λ m. refl) j;
+      count = by_answer (λ d. 0 ≡ d.count) b (Ask i k) out (λ y. refl) (λ m. refl) j;
+      cancelled = by_answer (λ d. 0 ≡ d.cancelled) b (Ask i k) out (λ y. refl) (λ m. refl) j;
+      book = by_answer (λ d. b ≡ d.book) b (Ask i k) out (λ y. refl) (λ m. refl) j;
+      out = by_answer (λ d. out ≡ d.out) b (Ask i k) out (λ y. refl) (λ m. refl) j;
     }
 
 -- Any others are refused
@@ -99,127 +95,114 @@ some_no [] ks = omega arith
 some_no (ask m true ∷ ps) ks = some_no ps ks.1
 some_no (ask m false ∷ ps) ks = ks.0
 
-pub numbered : (c : Call) → Numbered (output_asks c)
-numbered (Trade i f t x) = tt
-numbered Close = tt
-numbered (Deliver i a x out) = omega arith
-numbered (Ask i k) = tt
-numbered (Commit t out) = omega arith
-numbered (Cutoff out) = omega arith
-numbered (Resolve i a x out) = omega arith
-numbered (PairOff i a) = tt
-numbered (Roll days rate quotes) = tt
-numbered (Mark i m) = tt
-numbered (NameTurn d) = tt
+number_if : (l : Bool) (out : List ℕ) → Numbered (asked_of l out)
+number_if true out = omega arith
+number_if false out = tt
+
+pub numbered : (c : Call) (out : List ℕ) → Numbered (output_asks c out)
+numbered c out = number_if (lends c) out
 
 -- an answer with a number leaves the book
-module _ (b : Book) (c : Call) (r : Answer) where
-  stays : (n : ℕ) → 0 < n → r.refusal ≡ (refusal n b c).refusal → r.book ≡ (refusal n b c).book → Step b c r
+module _ (b : Book) (c : Call) (out : List ℕ) (r : Answer) where
+  stays : (n : ℕ) → 0 < n → r.refusal ≡ (refusal n b c out).refusal → r.book ≡ (refusal n b c out).book → Step b c out r
   stays zero h p q = absurd (omega arith)
   stays (suc n) h p q = leaves (omega (arith, p)) q
 
   module _ (phase : ℕ) (g : holds phase b ≡ false) where
-    other : day_made phase b c ≡ refusal (first_no (output_asks c ++ (ask 2 false ∷ []))) b c
+    other : day_made phase b c out ≡ refusal (first_no (output_asks c out ++ (ask 2 false ∷ []))) b c out
     unfolding day_made
     other = cond_false (holds phase b) _ _ g
 
-    not_made : r.refusal ≡ (day_made phase b c).refusal → r.book ≡ (day_made phase b c).book → Step b c r
-    not_made p q = stays (first_no (output_asks c ++ (ask 2 false ∷ []))) (some_no (output_asks c) (numbered c)) (p ∙ ap (λ d. d.refusal) other) (q ∙ ap (λ d. d.book) other)
+    not_made : r.refusal ≡ (day_made phase b c out).refusal → r.book ≡ (day_made phase b c out).book → Step b c out r
+    not_made p q = stays (first_no (output_asks c out ++ (ask 2 false ∷ []))) (some_no (output_asks c out) (numbered c out)) (p ∙ ap (λ d. d.refusal) other) (q ∙ ap (λ d. d.book) other)
 
 -- Each of the three
 
 module _ (kind : ℕ) (x : Instruction) (quotes out : List ℕ) (phase : ℕ) (b : Book) (r : DayTurned) (after : Book) (words : List ℕ) where
   abbrev c : Call
-  c = call_of x quotes out
+  c = call_of x quotes
 
   abbrev given : Answer
-  given = gave c r after words
+  given = gave r after words
 
-  pub answers : CallIs (beside c out (called b c)) phase r after words → given ≡ called b c
-  answers t =
-      λ j. record {
-        refusal = t.refusal j;
-        count = t.count j;
-        cancelled = t.cancelled j;
-        book = t.book j;
-        out = words_called b c out words t.out j;
-      }
+  pub answers : CallIs (called b c out) phase r after words → given ≡ called b c out
+  answers t = λ j. record { refusal = t.refusal j; count = t.count j; cancelled = t.cancelled j; book = t.book j; out = t.out j }
 
-  step_made : CallIs (beside c out (day_made phase b c)) phase r after words → Step b c given
+  step_made : CallIs (day_made phase b c out) phase r after words → Step b c out given
   step_made t =
       by_test (holds phase b)
-      (λ g. as_called (answers (rw (same_made phase b c g) at t)))
-      (λ g. not_made b c given phase g t.refusal t.book)
+      (λ g. as_called (answers (rw (same_made phase b c out g) at t)))
+      (λ g. not_made b c out given phase g t.refusal t.book)
 
-  step_called : CallIs (beside c out (day_called kind phase b c)) phase r after words → Step b c given
+  step_called : CallIs (day_called kind phase b c out) phase r after words → Step b c out given
   step_called t =
       by_test (is_kind kind)
-      (λ i. step_made (rw (← of_kind kind phase b c i) at t))
-      (λ i. let u = rw (← not_kind kind phase b c i) at t in stays b c given 14 (omega arith) u.refusal u.book)
+      (λ i. step_made (rw (← of_kind kind phase b c out i) at t))
+      (λ i. let u = rw (← not_kind kind phase b c out i) at t in stays b c out given 14 (omega arith) u.refusal u.book)
 
-step_asked : (phase : ℕ) (b : Book) (i k n : ℕ) (ticket : List ℕ) → AskIs (day_asked phase b i k) n ticket →
-    Step b (Ask i k) (record { refusal = n; count = 0; cancelled = 0; book = b; out = [] })
-step_asked phase b i k n ticket t =
+step_asked : (phase : ℕ) (b : Book) (i k n : ℕ) (ticket out : List ℕ) → AskIs (day_asked phase b i k) n ticket →
+    Step b (Ask i k) out (record { refusal = n; count = 0; cancelled = 0; book = b; out = out })
+step_asked phase b i k n ticket out t =
     by_test (holds phase b)
-    (λ g. as_called (nothing b i k n (t.refusal ∙ ap (λ d. d.refusal) (same_ask_lem phase b i k g) ∙ ask_number b i k)))
+    (λ g. as_called (nothing b i k n out (t.refusal ∙ ap (λ d. d.refusal) (same_ask_lem phase b i k g) ∙ ask_number b i k out)))
     (λ g. leaves (rw (t.refusal ∙ ap (λ (d : AskAnswer). d.refusal) (cond_false (holds phase b) (asked b i k) (no_ticket 2) g)) (omega arith)) refl)
 
 step_committed : (phase : ℕ) (b : Book) (t : Ticket) (out : List ℕ) (n k : ℕ) (lifts words : List ℕ) →
-    CommitIs b (day_made phase b (Commit t out)) n k lifts words →
-    Step b (Commit t out) (record { refusal = n; count = k; cancelled = 0; book = with_lifts b lifts; out = words })
+    CommitIs b (day_made phase b (Commit t) out) n k lifts words →
+    Step b (Commit t) out (record { refusal = n; count = k; cancelled = 0; book = with_lifts b lifts; out = words })
 step_committed phase b t out n k lifts words u =
     by_test (holds phase b)
-    (λ g. as_called (answers (rw (same_made phase b (Commit t out) g) at u)))
-    (λ g. not_made b (Commit t out) _ phase g u.refusal u.book)
+    (λ g. as_called (answers (rw (same_made phase b (Commit t) out g) at u)))
+    (λ g. not_made b (Commit t) out _ phase g u.refusal u.book)
   where
-    answers : CommitIs b (called b (Commit t out)) n k lifts words →
-        record { refusal = n; count = k; cancelled = 0; book = with_lifts b lifts; out = words } ≡ called b (Commit t out)
+    answers : CommitIs b (called b (Commit t) out) n k lifts words →
+        record { refusal = n; count = k; cancelled = 0; book = with_lifts b lifts; out = words } ≡ called b (Commit t) out
     answers c = λ j. record { refusal = c.refusal j; count = c.count j; cancelled = c.cancelled j; book = c.book j; out = c.out j }
 
 -- and with a caller: with the right the same, without it a refusal
 
 module _ (w : Caller) (kind : ℕ) (x : Instruction) (quotes out : List ℕ) (phase : ℕ) (b : Book) (r : DayTurned) (after : Book) (words : List ℕ) where
   abbrev made : Call
-  made = call_of x quotes out
+  made = call_of x quotes
 
-  step_called_by : CallIs (beside made out (day_called_by w kind phase b made)) phase r after words → Step b made (gave made r after words)
+  step_called_by : CallIs (day_called_by w kind phase b made out) phase r after words → Step b made out (gave r after words)
   step_called_by t =
       by_test (has_right w made)
-      (λ h. step_called kind x quotes out phase b r after words (rw (← called_right w phase b kind made h) at t))
+      (λ h. step_called kind x quotes out phase b r after words (rw (← called_right w phase b kind made out h) at t))
       (λ h. by_test (is_kind kind)
       (λ i.
-      let e = made_without w phase b made h ∙ of_kind_by w kind phase b made i in
-      stays b made _ (first_no (asks_at phase b made)) (some_number phase b made) (t.refusal ∙ ap (λ d. d.refusal) (sym e)) (t.book ∙ ap (λ d. d.book) (sym e)))
+      let e = made_without w phase b made out h ∙ of_kind_by w kind phase b made out i in
+      stays b made out _ (first_no (asks_at phase b made out)) (some_number phase b made out) (t.refusal ∙ ap (λ d. d.refusal) (sym e)) (t.book ∙ ap (λ d. d.book) (sym e)))
       (λ i.
-      let e = not_kind_by w kind phase b made i in
-      stays b made _ 14 (omega arith) (t.refusal ∙ ap (λ d. d.refusal) (sym e)) (t.book ∙ ap (λ d. d.book) (sym e))))
+      let e = not_kind_by w kind phase b made out i in
+      stays b made out _ 14 (omega arith) (t.refusal ∙ ap (λ d. d.refusal) (sym e)) (t.book ∙ ap (λ d. d.book) (sym e))))
 
-step_asked_by : (w : Caller) (phase : ℕ) (b : Book) (i k n : ℕ) (ticket : List ℕ) → AskIs (day_asked_by w phase b i k) n ticket →
-    Step b (Ask i k) (record { refusal = n; count = 0; cancelled = 0; book = b; out = [] })
-step_asked_by w phase b i k n ticket t =
+step_asked_by : (w : Caller) (phase : ℕ) (b : Book) (i k n : ℕ) (ticket out : List ℕ) → AskIs (day_asked_by w phase b i k) n ticket →
+    Step b (Ask i k) out (record { refusal = n; count = 0; cancelled = 0; book = b; out = out })
+step_asked_by w phase b i k n ticket out t =
     by_test (is_operator w)
-    (λ h. step_asked phase b i k n ticket (rw (← operator_ask w phase b h i k) at t))
+    (λ h. step_asked phase b i k n ticket out (rw (← operator_ask w phase b h i k) at t))
     (λ h. leaves (rw t.refusal (asked_number w phase b i k h)) refl)
 
 step_committed_by : (w : Caller) (phase : ℕ) (b : Book) (t : Ticket) (out : List ℕ) (n k : ℕ) (lifts words : List ℕ) →
-    CommitIs b (day_made_by w phase b (Commit t out)) n k lifts words →
-    Step b (Commit t out) (record { refusal = n; count = k; cancelled = 0; book = with_lifts b lifts; out = words })
+    CommitIs b (day_made_by w phase b (Commit t) out) n k lifts words →
+    Step b (Commit t) out (record { refusal = n; count = k; cancelled = 0; book = with_lifts b lifts; out = words })
 step_committed_by w phase b t out n k lifts words u =
-    by_test (has_right w (Commit t out))
-    (λ h. step_committed phase b t out n k lifts words (rw (← made_right w phase b (Commit t out) h) at u))
-    (λ h. stays b (Commit t out) _ (first_no (asks_at phase b (Commit t out))) (some_number phase b (Commit t out))
-    (u.refusal ∙ ap (λ d. d.refusal) (sym (made_without w phase b (Commit t out) h))) (u.book ∙ ap (λ d. d.book) (sym (made_without w phase b (Commit t out) h))))
+    by_test (has_right w (Commit t))
+    (λ h. step_committed phase b t out n k lifts words (rw (← made_right w phase b (Commit t) out h) at u))
+    (λ h. stays b (Commit t) out _ (first_no (asks_at phase b (Commit t) out)) (some_number phase b (Commit t) out)
+    (u.refusal ∙ ap (λ d. d.refusal) (sym (made_without w phase b (Commit t) out h))) (u.book ∙ ap (λ d. d.book) (sym (made_without w phase b (Commit t) out h))))
 
-step : (b : Book) (c : Call) (r : Answer) → ByHost b c r → Step b c r
-step _ _ _ (told kind x quotes out h r c t) =
+step : (b : Book) (c : Call) (out : List ℕ) (r : Answer) → ByHost b c out r → Step b c out r
+step _ _ _ _ (told kind x quotes out h r c t) =
     step_called kind x quotes.entry.now out.entry.now h.phase (book_at h c) r (c.after (state_in r.state)) out.exit.now t
-step _ _ _ (asks phase b issue unit n ticket t) = step_asked phase b issue unit n ticket t
-step _ _ _ (commits phase b ticket out lifts n count t) =
+step _ _ _ _ (asks phase b issue unit n ticket out t) = step_asked phase b issue unit n ticket out t
+step _ _ _ _ (commits phase b ticket out lifts n count t) =
     step_committed phase b (ticket_in ticket) out.entry.now n count.exit.now lifts.exit.now out.exit.now t
-step _ _ _ (told_by w kind x quotes out h r c t) =
+step _ _ _ _ (told_by w kind x quotes out h r c t) =
     step_called_by w kind x quotes.entry.now out.entry.now h.phase (book_at h c) r (c.after (state_in r.state)) out.exit.now t
-step _ _ _ (asks_by w phase b issue unit n ticket t) = step_asked_by w phase b issue unit n ticket t
-step _ _ _ (commits_by w phase b ticket out lifts n count t) =
+step _ _ _ _ (asks_by w phase b issue unit n ticket out t) = step_asked_by w phase b issue unit n ticket out t
+step _ _ _ _ (commits_by w phase b ticket out lifts n count t) =
     step_committed_by w phase b (ticket_in ticket) out.entry.now n count.exit.now lifts.exit.now out.exit.now t
 
 -- so demand 3 holds after every list of calls that a host makes
@@ -247,14 +230,14 @@ module _ {s : Tallied} (m : Made ByHost s) where
     hosts_sound = rw (in_range, (made_reached ByHost step m).sound)
 
     -- so with a kind and the number of a phase the next call is answered as the definitions say
-    pub hosts_called : (kind : ℕ) (c : Call) → is_kind kind ≡ true → day_called kind phase s.book c ≡ called s.book c
-    hosts_called kind c i = sym (of_kind kind phase s.book c i) ∙ same_made phase s.book c in_range
+    pub hosts_called : (kind : ℕ) (c : Call) (out : List ℕ) → is_kind kind ≡ true → day_called kind phase s.book c out ≡ called s.book c out
+    hosts_called kind c out i = sym (of_kind kind phase s.book c out i) ∙ same_made phase s.book c out in_range
 
     pub hosts_asked : (i k : ℕ) → day_asked phase s.book i k ≡ asked s.book i k
     hosts_asked i k = same_ask_lem phase s.book i k in_range
 
-    pub hosts_committed : (t : Ticket) (out : List ℕ) → day_made phase s.book (Commit t out) ≡ called s.book (Commit t out)
-    hosts_committed t out = same_made phase s.book (Commit t out) in_range
+    pub hosts_committed : (t : Ticket) (out : List ℕ) → day_made phase s.book (Commit t) out ≡ called s.book (Commit t) out
+    hosts_committed t out = same_made phase s.book (Commit t) out in_range
 
 -- and the number that a call leaves is that of its book's phase
 pub phase_left : (kind : ℕ) (x : Instruction) (quotes : SharedColumn ℕ) (out : Column ℕ) (h : DayState) (r : DayTurned) (c : Columns) → h.phase ≤ 2 →

@@ -1,6 +1,6 @@
 -- What the functions with a caller promise keeps others' numbers secret: on two sound books alike to it they tell a caller that
 -- is not the operator the same. Of a call that is the refusal's number, of the questions and of reading all of the answer.
-use mathlib.Core.Path.{◌≡◌, refl, sym, ap, ◌∙◌}
+use mathlib.Core.Path.{◌≡◌, sym, ap, ◌∙◌}
 use mathlib.Core.Bool.{true, false}
 use mathlib.Core.List.{List}
 use Prim.Native.Nat.{ℕ}
@@ -8,17 +8,15 @@ use lib.ListN.{length}
 use Rattle.rules.specs.declared.Book.{Book}
 use Rattle.rules.specs.declared.Caller.{Caller}
 use Rattle.rules.specs.declared.Instruction.{Instruction}
-use Rattle.rules.specs.declared.Instruction.TheVariants as instruction
 use Rattle.rules.specs.declared.Ticket.{Ticket}
-use Rattle.rules.specs.Calls.{Call, Commit, lent_to, no_ticket, unit_refused}
+use Rattle.rules.specs.Calls.{Call, Commit, lends, no_ticket, unit_refused}
 use Rattle.rules.specs.Access.{is_operator, called_by, asked_by, unit_by, look_refused, look}
 use Rattle.rules.specs.Run.{call_of}
 use Rattle.laws.proofs.Basics.{by_test}
-use Rattle.answers.specs.Turns.{beside}
 use Rattle.told.specs.Status.{status_refused}
 use Rattle.desks.specs.Simulation.{refused}
 use Rattle.secrecy.specs.Requests.{status_by, simulation_by}
-use Rattle.secrecy.specs.Secrecy.{Alike, lending}
+use Rattle.secrecy.specs.Secrecy.{Alike}
 use Rattle.secrecy.proofs.Secret.{same_call_lem, same_ask_lem, same_unit_lem, same_status_lem, same_simulation_lem, same_look}
 use Rattle.desk.specs.Fields.{is_kind}
 use Rattle.host.specs.declared.DayTurned.{DayTurned}
@@ -29,64 +27,36 @@ use Rattle.callers.specs.Callers.{day_made_by, day_called_by, day_asked_by, day_
 use Rattle.host.proofs.Holding.{sound_book, is_held}
 use Rattle.callers.proofs.ByCaller.{of_kind_by, not_kind_by}
 
--- the same call with another output of the same length
-same_lent : (x : Instruction) (quotes out out' : List ℕ) → length out ≡ length out' → length (lent_to (call_of x quotes out)) ≡ length (lent_to (call_of x quotes out'))
-same_lent (instruction.Trade i f t x) quotes out out' h = refl
-same_lent (instruction.Deliver i a x) quotes out out' h = h
-same_lent (instruction.Resolve i a x) quotes out out' h = h
-same_lent (instruction.PairOff i a) quotes out out' h = refl
-same_lent instruction.Close quotes out out' h = refl
-same_lent instruction.Cutoff quotes out out' h = h
-same_lent (instruction.Roll days rate) quotes out out' h = refl
-same_lent (instruction.Mark i m) quotes out out' h = refl
-same_lent (instruction.Turn d) quotes out out' h = refl
-
-lent_so : (x : Instruction) (quotes out out' : List ℕ) → lending (lent_to (call_of x quotes out')) (call_of x quotes out) ≡ call_of x quotes out'
-lent_so (instruction.Trade i f t x) quotes out out' = refl
-lent_so (instruction.Deliver i a x) quotes out out' = refl
-lent_so (instruction.Resolve i a x) quotes out out' = refl
-lent_so (instruction.PairOff i a) quotes out out' = refl
-lent_so instruction.Close quotes out out' = refl
-lent_so instruction.Cutoff quotes out out' = refl
-lent_so (instruction.Roll days rate) quotes out out' = refl
-lent_so (instruction.Mark i m) quotes out out' = refl
-lent_so (instruction.Turn d) quotes out out' = refl
-
 module _ (w : Caller) (isNot : is_operator w ≡ false) (b b' : Book) (phase phase' : ℕ) (g : sound_at phase b ≡ true) (g' : sound_at phase' b' ≡ true) (l : Alike w b b') where
-  made_by : (p : ℕ) (d : Book) → sound_at p d ≡ true → (c : Call) → called_by w d c ≡ day_made_by w p d c
+  made_by : (p : ℕ) (d : Book) → sound_at p d ≡ true → (c : Call) (out : List ℕ) → called_by w d c out ≡ day_made_by w p d c out
   unfolding day_made_by
-  made_by p d h c = is_held p d h (called_by w d c) _
+  made_by p d h c out = is_held p d h (called_by w d c out) _
 
-  same_made : (c : Call) (out : List ℕ) → length (lent_to c) ≡ length out → (day_made_by w phase b c).refusal ≡ (day_made_by w phase' b' (lending out c)).refusal
-  same_made c out h =
-      ap (λ d. d.refusal) (sym (made_by phase b g c))
-      ∙ same_call_lem w b b' (sound_book phase b g) (sound_book phase' b' g') l isNot c out h
-      ∙ ap (λ d. d.refusal) (made_by phase' b' g' (lending out c))
+  same_made : (c : Call) (out out' : List ℕ) → (lends c ≡ true → length out ≡ length out') →
+      (day_made_by w phase b c out).refusal ≡ (day_made_by w phase' b' c out').refusal
+  same_made c out out' h =
+      ap (λ d. d.refusal) (sym (made_by phase b g c out))
+      ∙ same_call_lem w b b' (sound_book phase b g) (sound_book phase' b' g') l isNot c out out' h
+      ∙ ap (λ d. d.refusal) (made_by phase' b' g' c out')
 
-  same_number : (x : Instruction) (quotes out out' : List ℕ) → length out ≡ length out' →
-      (day_made_by w phase b (call_of x quotes out)).refusal ≡ (day_made_by w phase' b' (call_of x quotes out')).refusal
-  same_number x quotes out out' h =
-      same_made (call_of x quotes out) (lent_to (call_of x quotes out')) (same_lent x quotes out out' h)
-      ∙ ap (λ c. (day_made_by w phase' b' c).refusal) (lent_so x quotes out out')
-
-  same_kind : (kind : ℕ) (c c' : Call) → (day_made_by w phase b c).refusal ≡ (day_made_by w phase' b' c').refusal →
-      (day_called_by w kind phase b c).refusal ≡ (day_called_by w kind phase' b' c').refusal
-  same_kind kind c c' e =
+  same_kind : (kind : ℕ) (c : Call) (out out' : List ℕ) → (day_made_by w phase b c out).refusal ≡ (day_made_by w phase' b' c out').refusal →
+      (day_called_by w kind phase b c out).refusal ≡ (day_called_by w kind phase' b' c out').refusal
+  same_kind kind c out out' e =
       by_test (is_kind kind)
-      (λ k. ap (λ d. d.refusal) (sym (of_kind_by w kind phase b c k)) ∙ e ∙ ap (λ d. d.refusal) (of_kind_by w kind phase' b' c' k))
-      (λ k. ap (λ d. d.refusal) (sym (not_kind_by w kind phase b c k)) ∙ ap (λ d. d.refusal) (not_kind_by w kind phase' b' c' k))
+      (λ k. ap (λ d. d.refusal) (sym (of_kind_by w kind phase b c out k)) ∙ e ∙ ap (λ d. d.refusal) (of_kind_by w kind phase' b' c out' k))
+      (λ k. ap (λ d. d.refusal) (sym (not_kind_by w kind phase b c out k)) ∙ ap (λ d. d.refusal) (not_kind_by w kind phase' b' c out' k))
 
   -- `day_call_as`
   pub same_told : (kind : ℕ) (x : Instruction) (quotes out out' : List ℕ) → length out ≡ length out' → (r r' : DayTurned) (a a' : Book) (ws ws' : List ℕ) →
-      CallIs (beside (call_of x quotes out) out (day_called_by w kind phase b (call_of x quotes out))) phase r a ws →
-      CallIs (beside (call_of x quotes out') out' (day_called_by w kind phase' b' (call_of x quotes out'))) phase' r' a' ws' → r.refusal ≡ r'.refusal
+      CallIs (day_called_by w kind phase b (call_of x quotes) out) phase r a ws →
+      CallIs (day_called_by w kind phase' b' (call_of x quotes) out') phase' r' a' ws' → r.refusal ≡ r'.refusal
   same_told kind x quotes out out' h r r' a a' ws ws' t t' =
-      t.refusal ∙ same_kind kind (call_of x quotes out) (call_of x quotes out') (same_number x quotes out out' h) ∙ sym t'.refusal
+      t.refusal ∙ same_kind kind (call_of x quotes) out out' (same_made (call_of x quotes) out out' (λ e. h)) ∙ sym t'.refusal
 
   -- `day_commit_as`
   pub same_committed : (t : Ticket) (out out' : List ℕ) → length out ≡ length out' → (n n' k k' : ℕ) (ls ls' ws ws' : List ℕ) →
-      CommitIs b (day_made_by w phase b (Commit t out)) n k ls ws → CommitIs b' (day_made_by w phase' b' (Commit t out')) n' k' ls' ws' → n ≡ n'
-  same_committed t out out' h n n' k k' ls ls' ws ws' u u' = u.refusal ∙ same_made (Commit t out) out' h ∙ sym u'.refusal
+      CommitIs b (day_made_by w phase b (Commit t) out) n k ls ws → CommitIs b' (day_made_by w phase' b' (Commit t) out') n' k' ls' ws' → n ≡ n'
+  same_committed t out out' h n n' k k' ls ls' ws ws' u u' = u.refusal ∙ same_made (Commit t) out out' (λ e. h) ∙ sym u'.refusal
 
   -- the questions, and `day_look`
   pub same_asked : (i k : ℕ) → day_asked_by w phase b i k ≡ day_asked_by w phase' b' i k

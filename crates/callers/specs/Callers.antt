@@ -6,13 +6,12 @@ use Rattle.rules.specs.declared.Entry.{Entry}
 use Rattle.rules.specs.declared.Instruction.{Instruction}
 use Rattle.rules.specs.Ledger.{entry}
 use Rattle.rules.specs.Questions.{Question, ask, first_no}
-use Rattle.rules.specs.Calls.{Call, Commit, Answer, AskAnswer, UnitAnswer, answer, lent_to, output_asks, own_asks, effect, no_ticket, unit_refused}
+use Rattle.rules.specs.Calls.{Call, Commit, Answer, AskAnswer, UnitAnswer, answer, output_asks, own_asks, effect, no_ticket, unit_refused}
 use Rattle.rules.specs.Access.{with_right, called_by, asked_by, unit_by, LookAnswer, seen, none_seen, look_refused, look}
 use Rattle.rules.specs.Run.{call_of}
 use Rattle.book.specs.States.{Column, SharedColumn, Columns}
 use Rattle.columns.specs.declared.LentColumns.{LentColumns}
 use Rattle.columns.specs.Books.{lent_book}
-use Rattle.answers.specs.Turns.{beside}
 use Rattle.told.specs.Status.{StatusAnswer, status_refused}
 use Rattle.desks.specs.Simulation.{Tried, refused}
 use Rattle.secrecy.specs.Requests.{status_by, simulation_by}
@@ -25,30 +24,28 @@ use Rattle.host.specs.Calls.{Place, CallIs}
 use Rattle.host.specs.Lifts.{ticket_in, CommitIs}
 
 -- a call by a caller
-unfoldable pub day_made_by : Caller → ℕ → Book → Call → Answer
-day_made_by w phase b c =
-    cond (holds phase b) (called_by w b c) (answer (first_no (output_asks c ++ (ask 2 false ∷ []))) b (lent_to c) (effect b c))
+unfoldable pub day_made_by : Caller → ℕ → Book → Call → List ℕ → Answer
+day_made_by w phase b c out =
+    cond (holds phase b) (called_by w b c out) (answer (first_no (output_asks c out ++ (ask 2 false ∷ []))) b out (effect b c))
 
 -- of a kind
-unfoldable pub day_called_by : Caller → ℕ → ℕ → Book → Call → Answer
-day_called_by w kind phase b c = cond (is_kind kind) (day_made_by w phase b c) (answer 14 b (lent_to c) (effect b c))
+unfoldable pub day_called_by : Caller → ℕ → ℕ → Book → Call → List ℕ → Answer
+day_called_by w kind phase b c out = cond (is_kind kind) (day_made_by w phase b c out) (answer 14 b out (effect b c))
 
 -- of an instruction, with roll's quotes and an output beside it, made on the book of a host's numbers and columns, before and
 -- after
 abbrev pub CalledBy : Caller → ℕ → Instruction → List ℕ → DayState → DayTurned → LentColumns → LentColumns → List ℕ → List ℕ → Type 0
 CalledBy w kind x quotes h r before after out out' =
-    let call = call_of x quotes out in
-    CallIs (beside call out (day_called_by w kind h.phase (lent_book (state_in h) before) call)) h.phase r (lent_book (state_in r.state) after) out'
+    CallIs (day_called_by w kind h.phase (lent_book (state_in h) before) (call_of x quotes) out) h.phase r (lent_book (state_in r.state) after) out'
 
 -- the same of columns that are lent one by one
 abbrev pub DayCalledBy : Caller → ℕ → Instruction → SharedColumn ℕ → Column ℕ → DayState → DayTurned → Columns → Type 0
 DayCalledBy w kind x quotes out h r c =
-    let call = call_of x quotes.entry.now out.entry.now in
-    CallIs (beside call out.entry.now (day_called_by w kind h.phase (book_at h c) call)) h.phase r (c.after (state_in r.state)) out.exit.now
+    CallIs (day_called_by w kind h.phase (book_at h c) (call_of x quotes.entry.now) out.entry.now) h.phase r (c.after (state_in r.state)) out.exit.now
 
 -- all that is asked where the caller has not the right
-abbrev pub asks_at : ℕ → Book → Call → List Question
-asks_at phase b c = with_right false (output_asks c ++ (ask 2 (sound_at phase b) ∷ own_asks b c))
+abbrev pub asks_at : ℕ → Book → Call → List ℕ → List Question
+asks_at phase b c out = with_right false (output_asks c out ++ (ask 2 (sound_at phase b) ∷ own_asks b c))
 
 -- question 2, and then a number
 abbrev pub unless_unsound : ℕ → ℕ → Book → ℕ
@@ -57,7 +54,7 @@ unless_unsound n phase b = cond (sound_at phase b) n 2
 -- a ticket's six numbers committed by a caller on a host's book: the lifts and the output afterwards, number and count
 abbrev pub CommittedBy : Caller → ℕ → Book → List ℕ → List ℕ → List ℕ → List ℕ → ℕ → ℕ → Type 0
 CommittedBy w phase b ticket out lifts out' number count =
-    CommitIs b (day_made_by w phase b (Commit (ticket_in ticket) out)) number count lifts out'
+    CommitIs b (day_made_by w phase b (Commit (ticket_in ticket)) out) number count lifts out'
 
 -- the same of columns that are lent one by one
 abbrev pub DayCommittedBy : Caller → ℕ → Book → List ℕ → Column ℕ → Column ℕ → ℕ → Place → Type 0

@@ -39,7 +39,7 @@ pub struct DaySeen {
 
 // The refusal of an instruction whose caller has not the right: 1 and 2, then what it asks before 27, then 27.
 fn no_right(x: Instruction, state: DayState, columns: SharedColumns, out: &[u32]) -> Refusal
-    ensures { number_of result ≡ first_no (asks_at state.phase (shared_book (state_in state) columns.entry) (call_of x [] out.now)) }
+    ensures { number_of result ≡ first_no (asks_at state.phase (shared_book (state_in state) columns.entry) (call_of x []) out.now) }
 {
     if let Err(r) = output_asks(x, out) {
         return r;

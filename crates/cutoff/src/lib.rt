@@ -116,7 +116,7 @@ pub fn cutoff<'a>(
     out: &mut [u32],
 ) -> Result<Turn, Refusal>
     requires { cutoff_ready s nets delivered lifts ledger.old out }
-    ensures done { Turns (on_fails nets delivered lifts ledger.old ledger.new) s (Cutoff out.old) result out.new }
+    ensures done { Turns (on_fails nets delivered lifts ledger.old ledger.new) s Cutoff result out.old out.new }
     ensures same { Same ledger.old ledger.new }
 {
     let dealt = book::dealt_today(s);

@@ -18,41 +18,41 @@ use Rattle.days.specs.Books.{lent, ticket7, traded1, traded2, traded3, closed, d
 use Rattle.days.specs.Days.{numbers}
 
 -- the number that a caller is told
-abbrev pub told_by : ℕ → Book → Call → ℕ
-told_by n b c = (called_by (by n) b c).refusal
+abbrev pub told_by : ℕ → Book → Call → List ℕ → ℕ
+told_by n b c out = (called_by (by n) b c out).refusal
 
 -- P6 with the caller
 abbrev pub delivery_days : List Case
 delivery_days =
     -- its own account, as the operator would make it: number, count and records
-    case (numbers 7 (called_by (by 0) closed.book (Deliver 0 5 345000 lent)))
+    case (numbers 7 (called_by (by 0) closed.book (Deliver 0 5 345000) lent))
     (0 ∷ 3 ∷ 0xa0002000 ∷ 0x800186a0 ∷ 0xa0002000 ∷ 0x800186a0 ∷ 0xa0001000 ∷ 0x800186a0 ∷ 7 ∷ [])
     -- more than it owes, and lots out of range
-    ∷ case (told_by 0 closed.book (Deliver 0 5 400001 lent) ∷ told_by 0 closed.book (Deliver 0 5 0 lent) ∷ []) (9 ∷ 7 ∷ [])
+    ∷ case (told_by 0 closed.book (Deliver 0 5 400001) lent ∷ told_by 0 closed.book (Deliver 0 5 0) lent ∷ []) (9 ∷ 7 ∷ [])
     -- another's and nobody's: whatever the lots
-    ∷ case (told_by 0 closed.book (Deliver 0 2 1 lent) ∷ told_by 0 closed.book (Deliver 0 4 0 lent) ∷ told_by 1 closed.book (Deliver 0 5 345000 lent) ∷ [])
+    ∷ case (told_by 0 closed.book (Deliver 0 2 1) lent ∷ told_by 0 closed.book (Deliver 0 4 0) lent ∷ told_by 1 closed.book (Deliver 0 5 345000) lent ∷ [])
     (27 ∷ 27 ∷ 27 ∷ [])
     -- what is asked before 27
     ∷ case
-    (told_by 0 closed.book (Deliver 0 4 1 []) ∷ told_by 0 cut.book (Deliver 0 4 1 lent) ∷ told_by 0 closed.book (Deliver 16 4 1 lent)
-    ∷ told_by 0 closed.book (Deliver 0 64 1 lent) ∷ [])
+    (told_by 0 closed.book (Deliver 0 4 1) [] ∷ told_by 0 cut.book (Deliver 0 4 1) lent ∷ told_by 0 closed.book (Deliver 16 4 1) lent
+    ∷ told_by 0 closed.book (Deliver 0 64 1) lent ∷ [])
     (1 ∷ 3 ∷ 4 ∷ 5 ∷ [])
     -- 17 has no right to anything, and of the operator no account is asked
-    ∷ case (told_by 17 closed.book (Deliver 0 4 1 lent) ∷ told_by 16 closed.book (Deliver 0 4 1 lent) ∷ []) (27 ∷ 0 ∷ [])
+    ∷ case (told_by 17 closed.book (Deliver 0 4 1) lent ∷ told_by 16 closed.book (Deliver 0 4 1) lent ∷ []) (27 ∷ 0 ∷ [])
     ∷ []
 
 -- calls that are the operator's alone
 abbrev pub operator_days : List Case
 operator_days =
     case
-    (told_by 0 closed.book (Trade 0 5 2 1) ∷ told_by 0 traded3.book (Trade 0 5 5 1) ∷ told_by 0 traded3.book Close
-    ∷ told_by 0 closed.book (Cutoff lent) ∷ told_by 0 closed.book (PairOff 0 5) ∷ told_by 0 closed.book (Roll 0 0 [])
-    ∷ told_by 0 cut.book (Roll 0 0 []) ∷ told_by 0 delivered2.book (Commit ticket7 lent) ∷ [])
+    (told_by 0 closed.book (Trade 0 5 2 1) [] ∷ told_by 0 traded3.book (Trade 0 5 5 1) [] ∷ told_by 0 traded3.book Close []
+    ∷ told_by 0 closed.book Cutoff lent ∷ told_by 0 closed.book (PairOff 0 5) [] ∷ told_by 0 closed.book (Roll 0 0 []) []
+    ∷ told_by 0 cut.book (Roll 0 0 []) [] ∷ told_by 0 delivered2.book (Commit ticket7) lent ∷ [])
     (3 ∷ 27 ∷ 27 ∷ 27 ∷ 27 ∷ 3 ∷ 27 ∷ 27 ∷ [])
     -- for mark ahead of 20, for turn after 26
     ∷ case
-    (told_by 0 closed.book (Mark 0 1) ∷ told_by 16 closed.book (Mark 0 1) ∷ told_by 0 closed.book (Mark 16 1) ∷ told_by 0 closed.book (Turn 0)
-    ∷ told_by 0 closed.book (Turn 1) ∷ [])
+    (told_by 0 closed.book (Mark 0 1) [] ∷ told_by 16 closed.book (Mark 0 1) [] ∷ told_by 0 closed.book (Mark 16 1) [] ∷ told_by 0 closed.book (Turn 0) []
+    ∷ told_by 0 closed.book (Turn 1) [] ∷ [])
     (27 ∷ 20 ∷ 4 ∷ 26 ∷ 27 ∷ [])
     -- a lift and a unit
     ∷ case (asked_by (by 1) delivered2.book 0 7 ∷ asked_by (by 1) delivered2.book 16 7 ∷ []) (no_ticket 27 ∷ no_ticket 4 ∷ [])

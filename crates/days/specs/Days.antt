@@ -51,7 +51,7 @@ ledger_days =
     -- P10: 1→2 5, 1→3 20; 2 steps, 25 lots
     case (ledger_of paired_off.book) (fail 1 2 5 ∷ fail 1 3 20 ∷ [])
     ∷ case (paired_off.refusal ∷ paired_off.count ∷ paired_off.cancelled ∷ []) (0 ∷ 2 ∷ 25 ∷ [])
-    ∷ case ((called fresh (Trade 0 1 2 0)).refusal ∷ (called fresh (Trade 0 1 2 20000001)).refusal ∷ []) (7 ∷ 7 ∷ [])
+    ∷ case ((called fresh (Trade 0 1 2 0) []).refusal ∷ (called fresh (Trade 0 1 2 20000001) []).refusal ∷ []) (7 ∷ 7 ∷ [])
     ∷ []
 
 -- the bytes of the example of 'The program', and what is printed for them
@@ -104,7 +104,7 @@ lift_days =
     ∷ account_lots 1 30000 ∷ account_lots 2 50000 ∷ account_lots 3 50000 ∷ [])
     ∷ case (stock_of committed7.book 0) 15000
     -- the same ticket used twice: unit 7 is another one now
-    ∷ case (numbers 1 (called committed7.book (Commit ticket7 lent))) (17 ∷ 0 ∷ 7 ∷ [])
+    ∷ case (numbers 1 (called committed7.book (Commit ticket7) lent)) (17 ∷ 0 ∷ 7 ∷ [])
     ∷ case (asked committed7.book 0 7) (some_ticket ticket_last)
     -- a unit that is handed, and one that there is not
     ∷ case (asked committed7.book 0 5) (no_ticket 16)
@@ -115,12 +115,12 @@ lift_days =
     (account_lots 2 100000 ∷ account_lots 2 100000 ∷ account_lots 1 100000 ∷ account_lots 1 100000 ∷ account_lots 3 100000
     ∷ account_lots 1 30000 ∷ account_lots 3 50000 ∷ account_lots 2 50000 ∷ [])
     -- a lift to its own place stands and is counted, and hands nothing over
-    ∷ case (numbers 1 (called delivered2.book (Commit (ticket5 0) lent))) (0 ∷ 0 ∷ 7 ∷ [])
+    ∷ case (numbers 1 (called delivered2.book (Commit (ticket5 0)) lent)) (0 ∷ 0 ∷ 7 ∷ [])
     ∷ case (lifts_at (own_places 2).lifts 0) (lift_of 5 5 ∷ lift_of 5 5 ∷ [])
     ∷ case (count_at (own_places 2).lifts 0) 4
     -- a ninth lift; with the ticket before it 17 comes first
-    ∷ case (numbers 1 (called eight_lifts (Commit (ticket5 8) lent))) (18 ∷ 0 ∷ 7 ∷ [])
-    ∷ case (numbers 1 (called eight_lifts (Commit (ticket5 7) lent))) (17 ∷ 0 ∷ 7 ∷ [])
+    ∷ case (numbers 1 (called eight_lifts (Commit (ticket5 8)) lent)) (18 ∷ 0 ∷ 7 ∷ [])
+    ∷ case (numbers 1 (called eight_lifts (Commit (ticket5 7)) lent)) (17 ∷ 0 ∷ 7 ∷ [])
     -- full units of 2 that lie apart fail as one stretch, at the place of the first
     ∷ case (order_of parted.book 0)
     (account_lots 2 100000 ∷ account_lots 1 100000 ∷ account_lots 1 100000 ∷ account_lots 1 100000 ∷ account_lots 2 100000 ∷ [])
@@ -129,7 +129,7 @@ lift_days =
     -- the tally knows the lift from the commit
     ∷ case (parted.tally.lifts 0) (lift_of 3 0 ∷ [])
     -- a roll clears lifts and count
-    ∷ case (called parted_cut.book (Roll 1 300 quotes_p9)).book.lifts (replicate 288 0)
+    ∷ case (called parted_cut.book (Roll 1 300 quotes_p9) []).book.lifts (replicate 288 0)
     ∷ []
 
 -- books that only their lifts make unsound, each beside a sound one
@@ -158,28 +158,28 @@ abbrev pub mark_days : List Case
 mark_days =
     -- odd lots are refused, after 7 and before 8; another issue takes them; the mark is refused while the issue has a net
     case
-    ((called marked_trade.book (Trade 3 1 2 20000001)).refusal ∷ (called marked_trade.book (Trade 3 1 2 19999999)).refusal
-    ∷ (called marked_trade.book (Trade 4 1 2 3)).refusal ∷ (called marked_trade.book (Mark 3 0)).refusal ∷ [])
+    ((called marked_trade.book (Trade 3 1 2 20000001) []).refusal ∷ (called marked_trade.book (Trade 3 1 2 19999999) []).refusal
+    ∷ (called marked_trade.book (Trade 4 1 2 3) []).refusal ∷ (called marked_trade.book (Mark 3 0) []).refusal ∷ [])
     (7 ∷ 19 ∷ 0 ∷ 20 ∷ [])
     -- a delivery that ends inside a unit
     ∷ case (order_of marked_close.book 3) (account_lots 2 100000 ∷ account_lots 2 2 ∷ [])
     ∷ case (numbers 1 marked_delivery) (0 ∷ 0 ∷ 7 ∷ [])
     ∷ case (stock_of marked_delivery.book 3) 50000
     -- before 9 too
-    ∷ case ((called marked_delivery.book (Deliver 3 1 50003 lent)).refusal ∷ (called marked_delivery.book (Deliver 3 1 50004 lent)).refusal ∷ []) (19 ∷ 9 ∷ [])
+    ∷ case ((called marked_delivery.book (Deliver 3 1 50003) lent).refusal ∷ (called marked_delivery.book (Deliver 3 1 50004) lent).refusal ∷ []) (19 ∷ 9 ∷ [])
     -- cutoff: the stock to 2, then what its full and its small unit lack
     ∷ case (numbers 7 marked_cut)
     (0 ∷ 3 ∷ 0xa3002000 ∷ 0x8000c350 ∷ 0xc3042000 ∷ 0x8000c350 ∷ 0xc3042000 ∷ 0x80000002 ∷ 7 ∷ [])
     -- resolve: the first entry falls
-    ∷ case (ledger_of (called marked_cut.book (Resolve 3 1 6000 lent)).book) (entry 3 1 2 44000 0 ∷ entry 3 1 2 2 0 ∷ [])
-    ∷ case ((called marked_cut.book (Resolve 3 1 50003 lent)).refusal ∷ []) (19 ∷ [])
+    ∷ case (ledger_of (called marked_cut.book (Resolve 3 1 6000) lent).book) (entry 3 1 2 44000 0 ∷ entry 3 1 2 2 0 ∷ [])
+    ∷ case ((called marked_cut.book (Resolve 3 1 50003) lent).refusal ∷ []) (19 ∷ [])
     -- the mark stays over days; it is refused while the issue has an entry, whatever it is; one of no use is set and taken away
     ∷ case marked_roll.book.state.marks marks3
     ∷ case
-    ((called marked_roll.book (Mark 3 1)).refusal ∷ (called marked_roll.book (Mark 16 1)).refusal
-    ∷ (called marked_roll.book (Mark 4 7)).book.state.marks)
+    ((called marked_roll.book (Mark 3 1) []).refusal ∷ (called marked_roll.book (Mark 16 1) []).refusal
+    ∷ (called marked_roll.book (Mark 4 7) []).book.state.marks)
     (20 ∷ 4 ∷ 0 ∷ 0 ∷ 0 ∷ 1 ∷ 1 ∷ replicate 11 0)
-    ∷ case (called (with_state fresh (with_marks fresh.state marks3)) (Mark 3 0)).book.state.marks (replicate 16 0)
+    ∷ case (called (with_state fresh (with_marks fresh.state marks3)) (Mark 3 0) []).book.state.marks (replicate 16 0)
     -- books that only odd lots of a marked issue make unsound, each beside a sound one: nets, delivered lots, an entry
     ∷ case (sound_marked (sold 4) ∷ sound_marked (sold 3) ∷ []) (true ∷ false ∷ [])
     ∷ case (sound_marked (part_of4 2) ∷ sound_marked (part_of4 3) ∷ []) (true ∷ false ∷ [])

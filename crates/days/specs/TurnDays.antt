@@ -14,30 +14,30 @@ use Rattle.rules.specs.Calls.{Trade, Close, Deliver, Commit, Cutoff, Roll, Mark,
 use Rattle.rules.specs.Tally.{Tallied, after_all, start, units_today}
 use Rattle.rules.specs.Days.{quotes_p9, Case, case, Holds, both_hold}
 use Rattle.rules.specs.TurnCases.{full, small_p5}
-use Rattle.days.specs.Books.{lent}
+use Rattle.days.specs.Books.{lent, beside_lent}
 use Rattle.days.specs.Days.{numbers}
 
 -- P5's market on day 1, the first day of the new order
 unfoldable pub dealt_book : Book
 dealt_book =
-    (called (called (called (called (with_state fresh (with_turn (next_day fresh.state) 1)) (Trade 0 4 1 230000)).book (Trade 0 5 2 250000)).book (Trade 0 5 3 150000)).book Close).book
+    (called (called (called (called (with_state fresh (with_turn (next_day fresh.state) 1)) (Trade 0 4 1 230000) []).book (Trade 0 5 2 250000) []).book (Trade 0 5 3 150000) []).book Close []).book
 
 unfoldable pub dealt1 : Answer
-dealt1 = called dealt_book (Deliver 0 5 345000 lent)
+dealt1 = called dealt_book (Deliver 0 5 345000) lent
 
 -- unit 4, the second of account 1, is lifted: 45,000 lots are in stock
 unfoldable pub dealt_lift : Answer
-dealt_lift = called dealt1.book (Commit (ticket_for 0 4 (full 1) 1 1) lent)
+dealt_lift = called dealt1.book (Commit (ticket_for 0 4 (full 1) 1 1)) lent
 
 -- the cutoff after 150,000: full units of 1 lie apart
 unfoldable pub dealt_cut : Answer
-dealt_cut = called (called dealt_book (Deliver 0 5 150000 lent)).book (Cutoff lent)
+dealt_cut = called (called dealt_book (Deliver 0 5 150000) lent).book Cutoff lent
 
 -- day 0: issue 3 is marked, day 9 is named and then day 1 instead, 6 fails 3 lots of issue 1 to 7; on day 1 account 8 sells to 1 and 2
 unfoldable pub brought_day : Tallied
 brought_day =
     after_all start
-    (Mark 3 1 ∷ Turn 9 ∷ Trade 1 6 7 3 ∷ Close ∷ Turn 1 ∷ Cutoff lent ∷ Roll 1 300 quotes_p9 ∷ Trade 0 8 1 200000 ∷ Trade 0 8 2 100000 ∷ [])
+    (beside_lent (Mark 3 1 ∷ Turn 9 ∷ Trade 1 6 7 3 ∷ Close ∷ Turn 1 ∷ Cutoff ∷ Roll 1 300 quotes_p9 ∷ Trade 0 8 1 200000 ∷ Trade 0 8 2 100000 ∷ []))
 
 -- 345,000 hand over a unit each to 2, 1 and 3; the next is 2's second
 abbrev pub dealt_days : List Case
@@ -65,7 +65,7 @@ brought_days =
     ∷ case (brought_day.tally.day ∷ brought_day.tally.turn ∷ brought_day.book.state.turn ∷ []) (1 ∷ 1 ∷ 1 ∷ [])
     ∷ case (ledger_of brought_day.book) (entry 1 6 7 3 0 ∷ [])
     ∷ case brought_day.book.state.marks (0 ∷ 0 ∷ 0 ∷ 1 ∷ replicate 12 0)
-    ∷ case (called brought_day.book (Turn 2)).refusal 26
+    ∷ case (called brought_day.book (Turn 2) []).refusal 26
     ∷ []
 
 unfoldable pub turn_days : List Case

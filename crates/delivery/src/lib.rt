@@ -92,7 +92,7 @@ pub fn deliver(
     out: &mut [u32],
 ) -> Result<Turn, Refusal>
     requires { deliver_ready s nets delivered lifts out }
-    ensures { Turns (on_delivered nets delivered lifts) s (Deliver i a x out.old) result out.new }
+    ensures { Turns (on_delivered nets delivered lifts) s (Deliver i a x) result out.old out.new }
 {
     deliver_asks(s, nets, delivered, i, a, x)?;
     let dealt = book::dealt_today(s);

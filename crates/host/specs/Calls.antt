@@ -7,26 +7,26 @@ use Rattle.rules.specs.declared.Book.{Book}
 use Rattle.rules.specs.declared.Instruction.{Instruction}
 use Rattle.rules.specs.Refusals.{number_of}
 use Rattle.rules.specs.Questions.{ask, first_no}
-use Rattle.rules.specs.Calls.{Call, Answer, answer, lent_to, output_asks, effect, called}
+use Rattle.rules.specs.Calls.{Call, Answer, answer, output_asks, effect, called}
 use Rattle.rules.specs.Run.{call_of}
 use Rattle.book.specs.States.{Column, SharedColumn, Columns}
 use Rattle.columns.specs.declared.LentColumns.{LentColumns}
 use Rattle.columns.specs.Books.{lent_book}
 use Rattle.answers.specs.declared.Turn.{Turn}
-use Rattle.answers.specs.Turns.{Given, beside}
+use Rattle.answers.specs.Turns.{Given}
 use Rattle.desk.specs.Fields.{is_kind}
 use Rattle.host.specs.declared.DayState.{DayState}
 use Rattle.host.specs.declared.DayTurned.{DayTurned}
 use Rattle.host.specs.States.{number_of as stage_of, state_in, numbers_of, book_at, holds}
 
--- a call of a host
-unfoldable pub day_made : ℕ → Book → Call → Answer
-day_made phase b c =
-    cond (holds phase b) (called b c) (answer (first_no (output_asks c ++ (ask 2 false ∷ []))) b (lent_to c) (effect b c))
+-- a call of a host, with the output beside it
+unfoldable pub day_made : ℕ → Book → Call → List ℕ → Answer
+day_made phase b c out =
+    cond (holds phase b) (called b c out) (answer (first_no (output_asks c out ++ (ask 2 false ∷ []))) b out (effect b c))
 
 -- of a kind: one that is none of 1 to 7, 13 and 14 is refused by 14 before anything else is asked
-unfoldable pub day_called : ℕ → ℕ → Book → Call → Answer
-day_called kind phase b c = cond (is_kind kind) (day_made phase b c) (answer 14 b (lent_to c) (effect b c))
+unfoldable pub day_called : ℕ → ℕ → Book → Call → List ℕ → Answer
+day_called kind phase b c out = cond (is_kind kind) (day_made phase b c out) (answer 14 b out (effect b c))
 
 -- a refusal, what a call that is done answered, and what a call gave, in plain numbers
 abbrev pub refused_by : ℕ → DayState → DayTurned
@@ -52,8 +52,7 @@ pub record CallIs (d : Answer) (phase : ℕ) (r : DayTurned) (after : Book) (wor
 -- after
 abbrev pub InstructionMade : Instruction → List ℕ → DayState → DayTurned → LentColumns → LentColumns → List ℕ → List ℕ → Type 0
 InstructionMade x quotes h r before after out out' =
-    let call = call_of x quotes out in
-    CallIs (beside call out (day_made h.phase (lent_book (state_in h) before) call)) h.phase r (lent_book (state_in r.state) after) out'
+    CallIs (day_made h.phase (lent_book (state_in h) before) (call_of x quotes) out) h.phase r (lent_book (state_in r.state) after) out'
 
 -- the same of what it gave
 abbrev pub Made : Instruction → List ℕ → DayState → Given → LentColumns → LentColumns → List ℕ → List ℕ → Type 0
@@ -62,14 +61,12 @@ Made x quotes h r before after out out' = InstructionMade x quotes h (given_of h
 -- one of a kind
 abbrev pub Called : ℕ → Instruction → List ℕ → DayState → DayTurned → LentColumns → LentColumns → List ℕ → List ℕ → Type 0
 Called kind x quotes h r before after out out' =
-    let call = call_of x quotes out in
-    CallIs (beside call out (day_called kind h.phase (lent_book (state_in h) before) call)) h.phase r (lent_book (state_in r.state) after) out'
+    CallIs (day_called kind h.phase (lent_book (state_in h) before) (call_of x quotes) out) h.phase r (lent_book (state_in r.state) after) out'
 
 -- the same of columns that are lent one by one
 abbrev pub DayCalled : ℕ → Instruction → SharedColumn ℕ → Column ℕ → DayState → DayTurned → Columns → Type 0
 DayCalled kind x quotes out h r c =
-    let call = call_of x quotes.entry.now out.entry.now in
-    CallIs (beside call out.entry.now (day_called kind h.phase (book_at h c) call)) h.phase r (c.after (state_in r.state)) out.exit.now
+    CallIs (day_called kind h.phase (book_at h c) (call_of x quotes.entry.now) out.entry.now) h.phase r (c.after (state_in r.state)) out.exit.now
 
 -- a lent number, before and after
 abbrev pub Place : Type 0

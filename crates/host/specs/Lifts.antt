@@ -47,12 +47,12 @@ records_in (Err r) = 0
 
 -- a ticket committed on a host's book: what is given, and the lifts and the output afterwards
 abbrev pub CommittedIn : ℕ → Book → Ticket → List ℕ → List ℕ → List ℕ → Result ℕ Refusal → Type 0
-CommittedIn phase b t out lifts out' r = CommitIs b (day_made phase b (Commit t out)) (number_in r) (records_in r) lifts out'
+CommittedIn phase b t out lifts out' r = CommitIs b (day_made phase b (Commit t) out) (number_in r) (records_in r) lifts out'
 
 -- the same of a ticket's six numbers, in plain numbers
 abbrev pub Committed : ℕ → Book → List ℕ → List ℕ → List ℕ → List ℕ → ℕ → ℕ → Type 0
 Committed phase b ticket out lifts out' number count =
-    CommitIs b (day_made phase b (Commit (ticket_in ticket) out)) number count lifts out'
+    CommitIs b (day_made phase b (Commit (ticket_in ticket)) out) number count lifts out'
 
 -- the same of columns that are lent one by one
 abbrev pub DayCommitted : ℕ → Book → List ℕ → Column ℕ → Column ℕ → ℕ → Place → Type 0

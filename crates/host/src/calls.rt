@@ -18,7 +18,7 @@ use rules::{Instruction, OUTPUT_WORDS, Refusal};
 
 // Question 1, of deliver, cutoff and resolve: has the output at least 4,096 words?
 pub fn output_asks(x: Instruction, out: &[u32]) -> Result<(), Refusal>
-    ensures { number_in result ≡ first_no (output_asks (call_of x [] out.now)) }
+    ensures { number_in result ≡ first_no (output_asks (call_of x []) out.now) }
 {
     if OUTPUT_WORDS <= out.len() {
         return Ok(());

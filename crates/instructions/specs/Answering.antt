@@ -28,7 +28,7 @@ rolls_of (instruction.Turn d) = false
 
 -- quotes with which it is the call of the words
 abbrev pub Quoted : List ℕ → Instruction → List ℕ → Type 0
-Quoted ws x quotes = (out : List ℕ) → call_of x quotes out ≡ call_of x (quotes_of ws) out
+Quoted ws x quotes = call_of x quotes ≡ call_of x (quotes_of ws)
 
 -- number, count and book are those of the run; the book is sound, and in columns of a book's lengths
 pub record AnsweredIn (ws : List ℕ) (x : Instruction) (b : Book) (r : Given) (b' : Book) : Type 0 where

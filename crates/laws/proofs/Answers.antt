@@ -7,15 +7,12 @@ use Prim.Native.Nat.{ℕ, zero, suc, ◌≤◌, ◌<◌}
 use native.Mathlib.Omega.{arith}
 use lib.Dec.{leb}
 use lib.ListN.{length, get_or, take}
-use borrow.Author.Tests.{le-leb, lt-leb, leb-true}
+use borrow.Author.Tests.{le-leb, lt-leb}
 use Rattle.rules.specs.declared.Book.{Book}
-use Rattle.rules.specs.declared.Instruction.{Instruction}
-use Rattle.rules.specs.declared.Instruction.TheVariants as instruction
 use Rattle.rules.specs.Measures.{output_words}
 use Rattle.rules.specs.Book.{sound}
 use Rattle.rules.specs.Questions.{Question, ask, first_no, ask_output, ask_sound}
-use Rattle.rules.specs.Calls.{Call, Trade, Close, Deliver, Ask, Commit, Cutoff, Resolve, PairOff, Roll, Mark, Turn, Answer, Effect, answer, lent_to, lends, HasRoom, own_asks, asks, effect, called}
-use Rattle.rules.specs.Run.{call_of}
+use Rattle.rules.specs.Calls.{Call, Trade, Close, Deliver, Ask, Commit, Cutoff, Resolve, PairOff, Roll, Mark, Turn, Answer, Effect, answer, lends, HasRoom, own_asks, asks, effect, called}
 
 -- The first 'no' of a list
 
@@ -86,46 +83,38 @@ either_way P (ask k true ∷ qs) b out e ks y n = either_way P qs b out e ks.1 (
 either_way P (ask zero false ∷ qs) b out e ks y n = absurd (omega arith)
 either_way P (ask (suc k) false ∷ qs) b out e ks y n = n k
 
-pub numbered : (b : Book) (c : Call) → Numbered (asks b c)
-numbered b (Trade i f t x) = omega arith
-numbered b Close = omega arith
-numbered b (Deliver i a x out) = omega arith
-numbered b (Ask i k) = omega arith
-numbered b (Commit t out) = omega arith
-numbered b (Cutoff out) = omega arith
-numbered b (Resolve i a x out) = omega arith
-numbered b (PairOff i a) = omega arith
-numbered b (Roll days rate quotes) = omega arith
-numbered b (Mark i m) = omega arith
-numbered b (Turn d) = omega arith
+pub numbered : (b : Book) (c : Call) (out : List ℕ) → Numbered (asks b c out)
+numbered b (Trade i f t x) out = omega arith
+numbered b Close out = omega arith
+numbered b (Deliver i a x) out = omega arith
+numbered b (Ask i k) out = omega arith
+numbered b (Commit t) out = omega arith
+numbered b Cutoff out = omega arith
+numbered b (Resolve i a x) out = omega arith
+numbered b (PairOff i a) out = omega arith
+numbered b (Roll days rate quotes) out = omega arith
+numbered b (Mark i m) out = omega arith
+numbered b (Turn d) out = omega arith
 
 -- a property of a call's answer: of what it does where all is answered 'yes', and of every refusal
-pub by_answer : (P : Answer → Type 0) (b : Book) (c : Call) → (AllYes (asks b c) → P (answer 0 b (lent_to c) (effect b c))) →
-    ((r : ℕ) → P (answer (suc r) b (lent_to c) (effect b c))) → P (called b c)
+pub by_answer : (P : Answer → Type 0) (b : Book) (c : Call) (out : List ℕ) → (AllYes (asks b c out) → P (answer 0 b out (effect b c))) →
+    ((r : ℕ) → P (answer (suc r) b out (effect b c))) → P (called b c out)
 unfolding called
-by_answer P b c y n = either_way P (asks b c) b (lent_to c) (effect b c) (numbered b c) y n
+by_answer P b c out y n = either_way P (asks b c out) b out (effect b c) (numbered b c out) y n
 
 -- By its number
 
--- an output that is long enough has room for any call
-pub has_room : (x : Instruction) (quotes out : List ℕ) → output_words ≤ length out → HasRoom (call_of x quotes out)
-has_room (instruction.Trade i f t x) quotes out h = refl
-has_room (instruction.Deliver i a x) quotes out h = said_yes 1 (leb output_words (length out)) [] (le-leb output_words (length out) h)
-has_room (instruction.Resolve i a x) quotes out h = said_yes 1 (leb output_words (length out)) [] (le-leb output_words (length out) h)
-has_room (instruction.PairOff i a) quotes out h = refl
-has_room instruction.Close quotes out h = refl
-has_room instruction.Cutoff quotes out h = said_yes 1 (leb output_words (length out)) [] (le-leb output_words (length out) h)
-has_room (instruction.Roll days rate) quotes out h = refl
-has_room (instruction.Mark i m) quotes out h = refl
-has_room (instruction.Turn d) quotes out h = refl
-
--- and a call that is lent one had room in it
-pub room_in : (out : List ℕ) → first_no (ask_output output_words out ∷ []) ≡ 0 → output_words ≤ length out
-room_in out h = leb-true output_words (length out) (yes 0 (leb output_words (length out)) [] h).first
-
 -- question 1, asked or not
-abbrev asked_of : Bool → List ℕ → List Question
+abbrev pub asked_of : Bool → List ℕ → List Question
 asked_of l out = cond l (ask_output output_words out ∷ []) []
+
+-- an output that is long enough has room for any call
+room_if : (l : Bool) (out : List ℕ) → output_words ≤ length out → first_no (asked_of l out) ≡ 0
+room_if true out h = said_yes 1 (leb output_words (length out)) [] (le-leb output_words (length out) h)
+room_if false out h = refl
+
+pub has_room : (c : Call) (out : List ℕ) → output_words ≤ length out → HasRoom c out
+has_room c out h = room_if (lends c) out h
 
 -- where it is answered 'yes' the others are asked
 pub room : (l : Bool) (out : List ℕ) (qs : List Question) → first_no (asked_of l out) ≡ 0 → first_no (asked_of l out ++ qs) ≡ first_no qs
@@ -133,21 +122,21 @@ room true out qs h = said_yes 1 (leb output_words (length out)) qs (yes 0 (leb o
 room false out qs h = refl
 
 -- a sound book and enough room leave the call's own questions
-pub own_first : (b : Book) (c : Call) → HasRoom c → sound b ≡ true → first_no (asks b c) ≡ first_no (own_asks b c)
-own_first b c h s = room (lends c) (lent_to c) (ask_sound b ∷ own_asks b c) h ∙ said_yes 2 (sound b) (own_asks b c) s
+pub own_first : (b : Book) (c : Call) (out : List ℕ) → HasRoom c out → sound b ≡ true → first_no (asks b c out) ≡ first_no (own_asks b c)
+own_first b c out h s = room (lends c) out (ask_sound b ∷ own_asks b c) h ∙ said_yes 2 (sound b) (own_asks b c) s
 
-pub unsound_first : (b : Book) (c : Call) → HasRoom c → sound b ≡ false → first_no (asks b c) ≡ 2
-unsound_first b c h s = room (lends c) (lent_to c) (ask_sound b ∷ own_asks b c) h ∙ said_no 2 (sound b) (own_asks b c) s
+pub unsound_first : (b : Book) (c : Call) (out : List ℕ) → HasRoom c out → sound b ≡ false → first_no (asks b c out) ≡ 2
+unsound_first b c out h s = room (lends c) out (ask_sound b ∷ own_asks b c) h ∙ said_no 2 (sound b) (own_asks b c) s
 
 pub short_first : (b : Book) (qs : List Question) (out : List ℕ) → length out < output_words →
     first_no (ask 1 (leb output_words (length out)) ∷ qs) ≡ 1
 short_first b qs out h = said_no 1 (leb output_words (length out)) qs (lt-leb output_words (length out) h)
 
 -- a call that is refused, by its number, and one that is not
-pub refused_as : (b : Book) (c : Call) (n : ℕ) → first_no (asks b c) ≡ suc n → called b c ≡ answer (suc n) b (lent_to c) (effect b c)
+pub refused_as : (b : Book) (c : Call) (out : List ℕ) (n : ℕ) → first_no (asks b c out) ≡ suc n → called b c out ≡ answer (suc n) b out (effect b c)
 unfolding called
-refused_as b c n h = ap (λ k. answer k b (lent_to c) (effect b c)) h
+refused_as b c out n h = ap (λ k. answer k b out (effect b c)) h
 
-pub accepted_as : (b : Book) (c : Call) → first_no (asks b c) ≡ 0 → called b c ≡ answer 0 b (lent_to c) (effect b c)
+pub accepted_as : (b : Book) (c : Call) (out : List ℕ) → first_no (asks b c out) ≡ 0 → called b c out ≡ answer 0 b out (effect b c)
 unfolding called
-accepted_as b c h = ap (λ k. answer k b (lent_to c) (effect b c)) h
+accepted_as b c out h = ap (λ k. answer k b out (effect b c)) h

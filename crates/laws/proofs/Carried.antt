@@ -53,9 +53,9 @@ pub record Carried (b c : Book) : Type 0 where
   pub marks : c.state.marks ≡ b.state.marks
 
 -- by `turn`, accepted or refused
-pub turn_carries : (b : Book) (d : ℕ) → Carried b (called b (Turn d)).book
-turn_carries b d =
-    by_answer (λ r. Carried b r.book) b (Turn d)
+pub turn_carries : (b : Book) (d : ℕ) (out : List ℕ) → Carried b (called b (Turn d) out).book
+turn_carries b d out =
+    by_answer (λ r. Carried b r.book) b (Turn d) out
     (λ y. record { fails = refl; charges = refl; marks = refl })
     (λ r. record { fails = refl; charges = refl; marks = refl })
 
@@ -65,19 +65,19 @@ pub record SameRoll (t : ℕ) (r s : Answer) : Type 0 where
   pub book : s.book ≡ with_state r.book (with_turn r.book.state t)
 
 -- by a roll, whatever day is named: so the one that brings the day charges as any other
-pub roll_carries : (b : Book) (t days rate : ℕ) (quotes : List ℕ) →
-    SameRoll t (called b (Roll days rate quotes)) (called (with_state b (with_turn b.state t)) (Roll days rate quotes))
+pub roll_carries : (b : Book) (t days rate : ℕ) (quotes out : List ℕ) →
+    SameRoll t (called b (Roll days rate quotes) out) (called (with_state b (with_turn b.state t)) (Roll days rate quotes) out)
 unfolding called
-roll_carries b t days rate quotes =
+roll_carries b t days rate quotes out =
     let c = Roll days rate quotes in
-    rw (sound_turn b t) (same (first_no (asks b c)))
+    rw (sound_turn b t) (same (first_no (asks b c out)))
   where
-    same : (n : ℕ) → SameRoll t (answer n b [] (effect b (Roll days rate quotes))) (answer n (with_state b (with_turn b.state t)) [] (effect (with_state b (with_turn b.state t)) (Roll days rate quotes)))
+    same : (n : ℕ) → SameRoll t (answer n b out (effect b (Roll days rate quotes))) (answer n (with_state b (with_turn b.state t)) out (effect (with_state b (with_turn b.state t)) (Roll days rate quotes)))
     same zero = record { refusal = refl; book = refl }
     same (suc n) = record { refusal = refl; book = refl }
 
 -- and leaves fails and marks
-pub roll_leaves : (b : Book) (days rate : ℕ) (quotes : List ℕ) →
-    (ledger_of (called b (Roll days rate quotes)).book ≡ ledger_of b) × ((called b (Roll days rate quotes)).book.state.marks ≡ b.state.marks)
-roll_leaves b days rate quotes =
-    by_answer (λ r. (ledger_of r.book ≡ ledger_of b) × (r.book.state.marks ≡ b.state.marks)) b (Roll days rate quotes) (λ y. (refl, refl)) (λ r. (refl, refl))
+pub roll_leaves : (b : Book) (days rate : ℕ) (quotes out : List ℕ) →
+    (ledger_of (called b (Roll days rate quotes) out).book ≡ ledger_of b) × ((called b (Roll days rate quotes) out).book.state.marks ≡ b.state.marks)
+roll_leaves b days rate quotes out =
+    by_answer (λ r. (ledger_of r.book ≡ ledger_of b) × (r.book.state.marks ≡ b.state.marks)) b (Roll days rate quotes) out (λ y. (refl, refl)) (λ r. (refl, refl))

@@ -10,7 +10,7 @@ use Rattle.rules.specs.declared.Book.{Book}
 use Rattle.rules.specs.declared.Caller.{Caller}
 use Rattle.rules.specs.Book.{order_of}
 use Rattle.rules.specs.Questions.{Question, ask, first_no, ask_sound, ask_issue}
-use Rattle.rules.specs.Calls.{Call, Ask, Effect, answer, lent_to, asks, effect, called, asked, ticket_answer, ticket_of, unit, unit_answer}
+use Rattle.rules.specs.Calls.{Call, Ask, Effect, answer, asks, effect, called, asked, ticket_answer, ticket_of, unit, unit_answer}
 use Rattle.rules.specs.Access.{is_operator, has_right, is_early, with_right, asks_by, called_by, asked_by, unit_by}
 use Rattle.laws.proofs.Basics.{by_test}
 use Rattle.laws.proofs.Answers.{Numbered, no_first, numbered}
@@ -26,19 +26,19 @@ pub passes_if : (right : Bool) (qs : List Question) → right ≡ true → first
 passes_if right qs h = rw h (passes qs)
 
 -- the answer is the call's own
-pub with_right_lem : (w : Caller) (b : Book) (c : Call) → has_right w c ≡ true → called_by w b c ≡ called b c
+pub with_right_lem : (w : Caller) (b : Book) (c : Call) (out : List ℕ) → has_right w c ≡ true → called_by w b c out ≡ called b c out
 unfolding called_by called
-with_right_lem w b c h = ap (λ n. answer n b (lent_to c) (effect b c)) (passes_if (has_right w c) (asks b c) h)
+with_right_lem w b c out h = ap (λ n. answer n b out (effect b c)) (passes_if (has_right w c) (asks b c out) h)
 
 module _ (w : Caller) (h : is_operator w ≡ true) where
   -- so every call of the operator's is
-  pub operator_called : (b : Book) (c : Call) → called_by w b c ≡ called b c
-  operator_called b c = with_right_lem w b c (simp h)
+  pub operator_called : (b : Book) (c : Call) (out : List ℕ) → called_by w b c out ≡ called b c out
+  operator_called b c out = with_right_lem w b c out (simp h)
 
   pub operator_asked : (b : Book) (i k : ℕ) → asked_by w b i k ≡ asked b i k
   unfolding asked_by asked
   operator_asked b i k =
-      ap (λ n. ticket_answer n (ticket_of b.state.day (order_of b) b.lifts i k)) (passes_if (is_operator w) (asks b (Ask i k)) h)
+      ap (λ n. ticket_answer n (ticket_of b.state.day (order_of b) b.lifts i k)) (passes_if (is_operator w) (asks b (Ask i k) []) h)
 
   pub operator_unit : (b : Book) (i k : ℕ) → unit_by w b i k ≡ unit b i k
   unfolding unit_by unit
@@ -66,8 +66,8 @@ refused_by_lem [] h = omega arith
 refused_by_lem (ask n true ∷ qs) h = by_test (is_early n) (λ e. simp e (refused_by_lem qs h.1)) (λ e. simp e (omega arith))
 refused_by_lem (ask n false ∷ qs) h = by_test (is_early n) (λ e. simp e h.0) (λ e. simp e (omega arith))
 
-pub without_right : (w : Caller) (b : Book) (c : Call) → has_right w c ≡ false → 0 < first_no (asks_by w b c)
-without_right w b c r = rw r (refused_by_lem (asks b c) (numbered b c))
+pub without_right : (w : Caller) (b : Book) (c : Call) (out : List ℕ) → has_right w c ≡ false → 0 < first_no (asks_by w b c out)
+without_right w b c out r = rw r (refused_by_lem (asks b c out) (numbered b c out))
 
 -- so where those are the same the number is
 pub same_refusal : (qs qs' : List Question) → early_of qs ≡ early_of qs' → first_no (with_right false qs) ≡ first_no (with_right false qs')

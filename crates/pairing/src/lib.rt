@@ -1,14 +1,14 @@
 // Pair-off: fails to an account set against fails from it, first against first, in one pass.
 #![tactic(auto)]
 
-ghost use Rattle.std.specs.Prelude.{◌≡◌, []};
+ghost use Rattle.std.specs.Prelude.{◌≡◌};
 ghost use Rattle.rules.specs.Ledger.{pairing};
 ghost use Rattle.rules.specs.Refusals.{number_in};
 ghost use Rattle.rules.specs.Questions.{first_no};
 ghost use Rattle.rules.specs.Calls.{pair_off_asks, PairOff};
 ghost use Rattle.ledger.specs.Columns.{Same, held, entries_in};
 ghost use Rattle.ledger.specs.Within.{on_ledger, ledger_ready};
-ghost use Rattle.answers.specs.Turns.{Turns};
+ghost use Rattle.answers.specs.Turns.{TurnsAlone};
 ghost use Rattle.stepping.specs.Steps.{pairable};
 ghost use Rattle.pairing.specs.Pairs.{was_paired, few_steps};
 
@@ -115,7 +115,7 @@ fn pair_off_in(ledger: &mut Ledger, entries: usize, today: u16, i: u32, a: u32) 
 // pair-off: the ledger's entries, unless it is refused; the count is that of the steps.
 pub fn pair_off(s: State, ledger: &mut Ledger, i: u32, a: u32) -> Result<Turn, Refusal>
     requires { ledger_ready s ledger.old }
-    ensures done { Turns (on_ledger ledger.old ledger.new) s (PairOff i a) result [] }
+    ensures done { TurnsAlone (on_ledger ledger.old ledger.new) s (PairOff i a) result }
     ensures same { Same ledger.old ledger.new }
 {
     pair_off_asks(i, a)?;

@@ -16,6 +16,7 @@ use Rattle.rules.specs.Handover.{covered, stock, first_unit}
 use Rattle.rules.specs.Book.{is_taking, is_settling, is_cut, delivered_at, delivered_total, order_in, order_of, dealt_today, sound, with_state, with_turn}
 use Rattle.rules.specs.Questions.{ask, first_no}
 use Rattle.rules.specs.Calls.{Call, Trade, Close, Deliver, Ask, Commit, Cutoff, Resolve, PairOff, Roll, Mark, Turn, asks, effect, called, commit_lift}
+use Rattle.rules.specs.Tally.{CallList}
 use Rattle.laws.proofs.Basics.{by_test, and_left, and_right}
 use Rattle.laws.proofs.Answers.{AllYes, by_answer}
 use Rattle.laws.proofs.Cells.{row_other, delivered_rises}
@@ -138,8 +139,8 @@ pub turn_order : (b : Book) (d : ℕ) → ltb b.state.day d && not (dealt_today 
 turn_order b d h i = ap (λ new. order_in new b.nets b.lifts i) (turn_same b.state.turn b.state.day d h)
 
 module _ (b : Book) (z : Sizes b) (i : ℕ) (p : is_settling b.state.phase ≡ true) where
-  delivers : (j a x : ℕ) (out : List ℕ) → j < 16 → a < 64 → Brings b (effect b (Deliver j a x out)).book i (cond (eqb j i) x 0)
-  delivers j a x out hj ha =
+  delivers : (j a x : ℕ) → j < 16 → a < 64 → Brings b (effect b (Deliver j a x)).book i (cond (eqb j i) x 0)
+  delivers j a x hj ha =
       record {
         phase = p;
         order = raised_order b.lifts j (dealt_today b) b.nets i;
@@ -153,13 +154,13 @@ module _ (b : Book) (z : Sizes b) (i : ℕ) (p : is_settling b.state.phase ≡ t
             ∙ sym (add-zero (delivered_total b.delivered i))));
       }
 
-  does : (c : Call) → no_lift i c ≡ true → AllYes (asks b c) → Brings b (effect b c).book i (lots_in i c)
-  does (Trade j f t x) h y = absurd (false≢true (sym (settling_not_taking b.state.phase p) ∙ y.1.0))
-  does Close h y = absurd (false≢true (sym (settling_not_taking b.state.phase p) ∙ y.1.0))
-  does (Deliver j a x out) h y =
-      delivers j a x out (omega (arith, leb-true j 15 y.1.1.1.0)) (omega (arith, leb-true a 63 y.1.1.1.1.0))
-  does (Ask j k) h y = nothing b i p
-  does (Commit t out) h y =
+  does : (c : Call) (out : List ℕ) → no_lift i c ≡ true → AllYes (asks b c out) → Brings b (effect b c).book i (lots_in i c)
+  does (Trade j f t x) out h y = absurd (false≢true (sym (settling_not_taking b.state.phase p) ∙ y.1.0))
+  does Close out h y = absurd (false≢true (sym (settling_not_taking b.state.phase p) ∙ y.1.0))
+  does (Deliver j a x) out h y =
+      delivers j a x (omega (arith, leb-true j 15 y.1.1.1.0)) (omega (arith, leb-true a 63 y.1.1.1.1.0))
+  does (Ask j k) out h y = nothing b i p
+  does (Commit t) out h y =
       record {
         phase = p;
         order =
@@ -168,18 +169,18 @@ module _ (b : Book) (z : Sizes b) (i : ℕ) (p : is_settling b.state.phase ≡ t
             (λ q. eqb-false t.issue i (not-true (eqb t.issue i) h) (sym q)));
         total = sym (add-zero (delivered_total b.delivered i));
       }
-  does (Cutoff out) h y = absurd (false≢true h)
-  does (Resolve j a x out) h y = record { phase = p; order = refl; total = sym (add-zero (delivered_total b.delivered i)) }
-  does (PairOff j a) h y = record { phase = p; order = refl; total = sym (add-zero (delivered_total b.delivered i)) }
-  does (Roll days rate prices) h y = absurd (false≢true (sym (settling_not_cut b.state.phase p) ∙ y.1.0))
-  does (Mark j m) h y = record { phase = p; order = refl; total = sym (add-zero (delivered_total b.delivered i)) }
-  does (Turn d) h y = record { phase = p; order = turn_order b d y.1.0 i; total = sym (add-zero (delivered_total b.delivered i)) }
+  does Cutoff out h y = absurd (false≢true h)
+  does (Resolve j a x) out h y = record { phase = p; order = refl; total = sym (add-zero (delivered_total b.delivered i)) }
+  does (PairOff j a) out h y = record { phase = p; order = refl; total = sym (add-zero (delivered_total b.delivered i)) }
+  does (Roll days rate prices) out h y = absurd (false≢true (sym (settling_not_cut b.state.phase p) ∙ y.1.0))
+  does (Mark j m) out h y = record { phase = p; order = refl; total = sym (add-zero (delivered_total b.delivered i)) }
+  does (Turn d) out h y = record { phase = p; order = turn_order b d y.1.0 i; total = sym (add-zero (delivered_total b.delivered i)) }
 
-  brings : (c : Call) → unless_refused (called b c).refusal (no_lift i c) ≡ true →
-      Brings b (called b c).book i (if_accepted (called b c).refusal (lots_in i c))
-  brings c =
-      by_answer (λ r. unless_refused r.refusal (no_lift i c) ≡ true → Brings b r.book i (if_accepted r.refusal (lots_in i c))) b c
-      (λ y h. does c h y) (λ r h. nothing b i p)
+  brings : (c : Call) (out : List ℕ) → unless_refused (called b c out).refusal (no_lift i c) ≡ true →
+      Brings b (called b c out).book i (if_accepted (called b c out).refusal (lots_in i c))
+  brings c out =
+      by_answer (λ r. unless_refused r.refusal (no_lift i c) ≡ true → Brings b r.book i (if_accepted r.refusal (lots_in i c))) b c out
+      (λ y h. does c out h y) (λ r h. nothing b i p)
 
 -- Lists
 
@@ -187,14 +188,14 @@ then : (b b' b'' : Book) (i x y : ℕ) → Brings b b' i x → Brings b' b'' i y
 then b b' b'' i x y p q =
     record { phase = q.phase; order = q.order ∙ p.order; total = omega (arith, p.total, q.total) }
 
-pub brings_all : (cs : List Call) (b : Book) (i : ℕ) → Standing b → is_settling b.state.phase ≡ true → no_lift_between i b cs ≡ true →
+pub brings_all : (cs : CallList) (b : Book) (i : ℕ) → Standing b → is_settling b.state.phase ≡ true → no_lift_between i b cs ≡ true →
     Brings b (after b cs) i (brought i b cs) × Standing (after b cs)
 brings_all [] b i s p h = (nothing b i p, s)
 brings_all (c ∷ cs) b i s p h =
-    let b' = (called b c).book in
-    let first = unless_refused (called b c).refusal (no_lift i c) in
-    let q = brings b s.sizes i p c (and_left first (no_lift_between i b' cs) h) in
-    let r = brings_all cs b' i (stands b c s) q.phase (and_right first (no_lift_between i b' cs) h) in
+    let b' = (called b c.0 c.1).book in
+    let first = unless_refused (called b c.0 c.1).refusal (no_lift i c.0) in
+    let q = brings b s.sizes i p c.0 c.1 (and_left first (no_lift_between i b' cs) h) in
+    let r = brings_all cs b' i (stands b c.0 c.1 s) q.phase (and_right first (no_lift_between i b' cs) h) in
     (then b b' (after b' cs) i _ (brought i b' cs) q r.0, r.1)
 
 -- a unit of which x lots more than d are delivered
@@ -213,7 +214,7 @@ handed_for us d x k n t e =
 
 -- with n more lots delivered and no lift between, the unit is handed; with fewer it is not. Any calls may stand between the
 -- deliveries; a commit of the issue that is refused is no lift, and neither is a refused cutoff a cutoff
-pub handed_by_deliveries : (b : Book) → Sizes b → (i k n : ℕ) → status b i k ≡ waits_for n → (cs : List Call) → no_lift_between i b cs ≡ true →
+pub handed_by_deliveries : (b : Book) → Sizes b → (i k n : ℕ) → status b i k ≡ waits_for n → (cs : CallList) → no_lift_between i b cs ≡ true →
     HandedFor n (brought i b cs) (status (after b cs) i k)
 handed_by_deliveries b z i k n e cs h =
     let w = waits_of b i k n e in

@@ -15,7 +15,8 @@ use Rattle.rules.specs.Units.{AccountLots, account_lots, sum_lots, of_account}
 use Rattle.rules.specs.Handover.{covered, handed, partials}
 use Rattle.rules.specs.Ledger.{is_to, lots_of}
 use Rattle.rules.specs.Book.{is_cut, row, delivered_total, order_of, dealt_today, ledger_of, sound}
-use Rattle.rules.specs.Calls.{Call, Cutoff, effect, called, issue_fails, new_entries}
+use Rattle.rules.specs.Calls.{Cutoff, effect, called, issue_fails, new_entries}
+use Rattle.rules.specs.Tally.{CallList}
 use Rattle.laws.proofs.Basics.{by_test, either, total_append}
 use Rattle.laws.proofs.Answers.{by_answer}
 use Rattle.laws.proofs.Overlaps.{additive_zero}
@@ -141,12 +142,12 @@ lacking_in_cut b i a g p h =
 -- The cutoff
 
 -- one that is accepted
-abbrev Cuts : Book → List ℕ → Book → Type 0
-Cuts b out b' = (sound b ≡ true) × (b' ≡ (effect b (Cutoff out)).book)
+abbrev Cuts : Book → Book → Type 0
+Cuts b b' = (sound b ≡ true) × (b' ≡ (effect b Cutoff).book)
 
-cuts : (b : Book) (out : List ℕ) → (called b (Cutoff out)).refusal ≡ 0 → Cuts b out (called b (Cutoff out)).book
+cuts : (b : Book) (out : List ℕ) → (called b Cutoff out).refusal ≡ 0 → Cuts b (called b Cutoff out).book
 cuts b out =
-    by_answer (λ r. r.refusal ≡ 0 → Cuts b out r.book) b (Cutoff out) (λ y h. (y.1.0, refl)) (λ r h. absurd (omega arith))
+    by_answer (λ r. r.refusal ≡ 0 → Cuts b r.book) b Cutoff out (λ y h. (y.1.0, refl)) (λ r h. absurd (omega arith))
 
 -- what it fails to an account is what the account's units lack
 fails_lack : (b : Book) → Sizes b → SoundBook b → (i a : ℕ) → i < 16 →
@@ -165,24 +166,24 @@ fails_lack b z g i a h =
     )
 
 -- after a cutoff and any calls of which no roll is accepted: the lots lacking over all units of an account are the fails made to it
-module _ (b : Book) (z : Sizes b) (out : List ℕ) (h : (called b (Cutoff out)).refusal ≡ 0) (i a : ℕ) (hi : i < 16) where
+module _ (b : Book) (z : Sizes b) (out : List ℕ) (h : (called b Cutoff out).refusal ≡ 0) (i a : ℕ) (hi : i < 16) where
   abbrev cut : Book
-  cut = (called b (Cutoff out)).book
+  cut = (called b Cutoff out).book
 
-  pub cutoff_lacks : (cs : List Call) → no_roll_since cut cs ≡ true →
+  pub cutoff_lacks : (cs : CallList) → no_roll_since cut cs ≡ true →
       lacking (after cut cs) i a ≡ lots_of (is_to i a) (new_entries b.state.day (order_of b) b.nets b.delivered)
   cutoff_lacks cs r =
       let c = cuts b out h in
       let g = sound_parts b c.0 in
       let p : is_cut cut.state.phase ≡ true = ap (λ x. is_cut x.state.phase) c.1 in
-      let q = stays_all cs cut (stands b (Cutoff out) (record { sizes = z; parts = g })) p r in
+      let q = stays_all cs cut (stands b Cutoff out (record { sizes = z; parts = g })) p r in
       let e : order_of (after cut cs) i ≡ order_of b i = q.0.order i ∙ ap (λ x. order_of x i) c.1 in
       let f : delivered_total (after cut cs).delivered i ≡ delivered_total b.delivered i = q.0.total i ∙ ap (λ x. delivered_total x.delivered i) c.1 in
       lacking_in_cut (after cut cs) i a (parts_sound (after cut cs) q.1.parts) (ap is_cut q.0.phase ∙ p) (omega arith)
       ∙ rw (e, f) (fails_lack b z g i a hi)
 
   -- by so many lots the fails to the account rose in the ledger
-  pub cutoff_raised : (cs : List Call) → no_roll_since cut cs ≡ true →
+  pub cutoff_raised : (cs : CallList) → no_roll_since cut cs ≡ true →
       lots_of (is_to i a) (ledger_of cut) ≡ lots_of (is_to i a) (ledger_of b) + lacking (after cut cs) i a
   cutoff_raised cs r =
       let new = new_entries b.state.day (order_of b) b.nets b.delivered in

@@ -13,8 +13,7 @@ use Rattle.rules.specs.declared.Phase.TheVariants.{Taking, Settling, Cut}
 use Rattle.rules.specs.Units.{AccountLots, prepend}
 use Rattle.rules.specs.Handover.{covered, handed, partials}
 use Rattle.rules.specs.Book.{is_settling, is_cut, delivered_total, order_of}
-use Rattle.rules.specs.Calls.{Call}
-use Rattle.rules.specs.Tally.{after_all, start, no_lots, units_today}
+use Rattle.rules.specs.Tally.{CallList, after_all, start, no_lots, units_today}
 use Rattle.laws.proofs.Basics.{by_test}
 use Rattle.laws.proofs.Handover.{covered_le, handed_length}
 use Rattle.tally.proofs.Invariant.{cut_row, RowIs}
@@ -44,7 +43,7 @@ module _ (us : List AccountLots) (d k : ℕ) where
   unfolding in_settling
   tells_handed e = ltb-true k (covered us d) (handed_covered (covers us d k) (wanted us d k) e)
 
-pub handed_by_row : (cs : List Call) (i k : ℕ) → i < 16 → is_settling (after_all start cs).book.state.phase ≡ true → HandedByRow (after_all start cs) i k
+pub handed_by_row : (cs : CallList) (i k : ℕ) → i < 16 → is_settling (after_all start cs).book.state.phase ≡ true → HandedByRow (after_all start cs) i k
 handed_by_row cs i k h p =
     let s = after_all start cs in
     let b = s.book in
@@ -96,7 +95,7 @@ row_lacks (u ∷ us) d (suc k) h =
     omega (arith, p, ap (lacking_of (get_or us k no_lots)) (behind_waiting u us d k e)))
 
 -- what a unit is told to lack, and the lots of the 10 at its place (0 where there is none), are together its lots
-pub lacks_by_row : (cs : List Call) (i k : ℕ) → i < 16 → is_cut (after_all start cs).book.state.phase ≡ true →
+pub lacks_by_row : (cs : CallList) (i k : ℕ) → i < 16 → is_cut (after_all start cs).book.state.phase ≡ true →
     k < length (units_today (after_all start cs).tally i) →
     (get_or ((after_all start cs).tally.rows i) k no_lots).lots
     + lacking_of (get_or (units_today (after_all start cs).tally i) k no_lots) (status (after_all start cs).book i k)

@@ -9,10 +9,10 @@ use Rattle.rules.specs.Fails.{lacks, fails}
 use Rattle.rules.specs.Ledger.{pairing}
 use Rattle.rules.specs.Book.{lift_conditions, lifts_sound, cells_even, conditions, sound, order_in}
 use Rattle.rules.specs.Questions.{quotes_right}
-use Rattle.rules.specs.Calls.{Call, Deliver, Commit, Cutoff, Resolve, PairOff, Roll, Mark, Turn, Answer, ticket_for, called, issue_partials, issue_fails}
-use Rattle.rules.specs.Tally.{in_issue}
+use Rattle.rules.specs.Calls.{Deliver, Commit, Cutoff, Resolve, PairOff, Roll, Mark, Turn, Answer, ticket_for, called, issue_partials, issue_fails}
+use Rattle.rules.specs.Tally.{CallList, in_issue}
 use Rattle.rules.specs.Days.{Case, case, Holds}
-use Rattle.days.specs.Books.{lent, traded1, traded2, traded3, closed, delivered1, delivered2, cut, ticket7, committed7, tallied}
+use Rattle.days.specs.Books.{lent, beside_lent, traded1, traded2, traded3, closed, delivered1, delivered2, cut, ticket7, committed7, tallied}
 use Rattle.told.specs.Status.{is_handed, waits_for, fails_partly, fails_wholly, status_refused, in_settling, after_cutoff, status}
 use Rattle.reasons.specs.Lists.{after, no_lift_between, brought, no_roll_since, lacking}
 
@@ -33,7 +33,7 @@ cut_days =
 
 -- after P7 unit 7 (account 1, 30,000 lots) is lifted and handed: the units behind it move back, and so does the stock of 15,000
 unfoldable pub lifted_cut : Answer
-lifted_cut = called committed7.book (Cutoff lent)
+lifted_cut = called committed7.book Cutoff lent
 
 abbrev pub lift_days : List Case
 lift_days =
@@ -46,8 +46,8 @@ lift_days =
 
 -- after P6 a commit with an old ticket (its count was 0) and a cutoff without an output are refused, 17 and 1; the new order is named for
 -- day 2; then 4 delivers x lots
-abbrev pub refused_then : ℕ → List Call
-refused_then x = Commit (ticket_for 0 3 (account_lots 1 100000) 0 0) lent ∷ Cutoff [] ∷ Turn 2 ∷ Deliver 0 4 x lent ∷ []
+abbrev pub refused_then : ℕ → CallList
+refused_then x = (Commit (ticket_for 0 3 (account_lots 1 100000) 0 0), lent) ∷ (Cutoff, []) ∷ (Turn 2, []) ∷ (Deliver 0 4 x, lent) ∷ []
 
 abbrev pub between_days : List Case
 between_days =
@@ -57,9 +57,9 @@ between_days =
     ∷ case (status (after delivered1.book (refused_then 55000)) 0 3) is_handed
     ∷ case (status (after delivered1.book (refused_then 54999)) 0 3) (waits_for 1)
     -- an accepted commit is a lift of its own issue; an accepted cutoff may not stand between for any issue
-    ∷ case (no_lift_between 0 delivered2.book (Commit ticket7 lent ∷ [])) false
-    ∷ case (no_lift_between 1 delivered2.book (Commit ticket7 lent ∷ [])) true
-    ∷ case (no_lift_between 1 delivered2.book (Cutoff lent ∷ [])) false
+    ∷ case (no_lift_between 0 delivered2.book (beside_lent (Commit ticket7 ∷ []))) false
+    ∷ case (no_lift_between 1 delivered2.book (beside_lent (Commit ticket7 ∷ []))) true
+    ∷ case (no_lift_between 1 delivered2.book (beside_lent (Cutoff ∷ []))) false
     ∷ []
 
 -- after P7 the row of issue 0 has five 10s: units 0 to 4 are handed, and unit 5 waits
@@ -72,8 +72,8 @@ row_days =
 
 -- after P8 a delivery and a roll without prices are refused; 4 resolves 6,000 lots, so that the fail to account 2 is met; 3 is paired off,
 -- issue 5 is marked and the new order is named for the next day: unit 5 lacked 5,000 at the cutoff
-abbrev pub later : List Call
-later = Deliver 0 4 1 lent ∷ Roll 1 300 [] ∷ Resolve 0 4 6000 lent ∷ PairOff 0 3 ∷ Mark 5 1 ∷ Turn 1 ∷ []
+abbrev pub later : CallList
+later = beside_lent (Deliver 0 4 1 ∷ Roll 1 300 [] ∷ Resolve 0 4 6000 ∷ PairOff 0 3 ∷ Mark 5 1 ∷ Turn 1 ∷ [])
 
 abbrev pub later_days : List Case
 later_days =

@@ -1,6 +1,7 @@
 -- Of what runs: whatever answers calls as the definitions do has the same outcome for the same deliveries in another order.
 use mathlib.Core.Path.{◌≡◌, refl, sym, ap, subst}
 use mathlib.Core.List.{List, []}
+use Prim.Native.Nat.{ℕ}
 use native.Mathlib.Omega.{arith}
 use lib.ListN.{length}
 use Rattle.rules.specs.declared.Book.{Book}
@@ -11,20 +12,20 @@ use Rattle.reordering.specs.Reordering.{Delivery, deliver, Delivered, none, more
 use Rattle.reordering.proofs.Same.{none_same}
 use Rattle.reordering.proofs.Theorem.{same_in_any_order}
 
--- `Gives b c r`: it gave r for the call c on the book b. On a good book that is the definitions' answer, a delivery leaves a good
--- book good, and on any book the same call leaves the same book
-module _ (Gives : Book → Call → Answer → Type 0) (Good : Book → Type 0)
-    (right : (b : Book) (c : Call) (r : Answer) → Good b → Gives b c r → r ≡ called b c)
-    (keeps : (b : Book) (d : Delivery) → Good b → Good (called b (deliver d)).book)
-    (one : (b : Book) (c : Call) (r q : Answer) → Gives b c r → Gives b c q → r.book ≡ q.book) where
+-- `Gives b c out r`: it gave r for the call c on the book b, beside the output out. On a good book that is the definitions'
+-- answer, a delivery leaves a good book good, and on any book the same call leaves the same book
+module _ (Gives : Book → Call → List ℕ → Answer → Type 0) (Good : Book → Type 0)
+    (right : (b : Book) (c : Call) (out : List ℕ) (r : Answer) → Good b → Gives b c out r → r ≡ called b c out)
+    (keeps : (b : Book) (d : Delivery) → Good b → Good (called b (deliver d) d.out).book)
+    (one : (b : Book) (c : Call) (out : List ℕ) (r q : Answer) → Gives b c out r → Gives b c out q → r.book ≡ q.book) where
   as_answered : {b : Book} {ds : List Delivery} {rs : List Answer} → Good b → Delivered Gives b ds rs → Delivered Answers b ds rs
   as_answered k none = none
   as_answered k (more {b} {ds} {rs} d r g p) =
-      let e = right b (deliver d) r k g in
+      let e = right b (deliver d) d.out r k g in
       more d r e (as_answered (subst (λ a. Good a.book) (sym e) (keeps b d k)) p)
 
-  one_ledger : (b b' : Book) → b ≡ b' → (c : Call) (r q : Answer) → Gives b c r → Gives b' c q → ledger_of r.book ≡ ledger_of q.book
-  one_ledger b b' e c r q g l = ap ledger_of (one b' c r q (subst (λ x. Gives x c r) e g) l)
+  one_ledger : (b b' : Book) → b ≡ b' → (c : Call) (out : List ℕ) (r q : Answer) → Gives b c out r → Gives b' c out q → ledger_of r.book ≡ ledger_of q.book
+  one_ledger b b' e c out r q g l = ap ledger_of (one b' c out r q (subst (λ x. Gives x c out r) e g) l)
 
   -- from a good book with a book's columns
   pub same_given : (b : Book) → Good b → Sizes b → SameInAnyOrder Gives b
@@ -33,20 +34,20 @@ module _ (Gives : Book → Call → Answer → Type 0) (Good : Book → Type 0)
       record {
         accepted = o.accepted;
         records = o.records;
-        ledgers = λ out r s g l. one_ledger (book_after b rs) (book_after b qs) o.books (Cutoff out) r s g l;
+        ledgers = λ out r s g l. one_ledger (book_after b rs) (book_after b qs) o.books Cutoff out r s g l;
         books = o.books;
         tallies = o.tallies;
       }
 
   -- from any book, where an accepted delivery says that its book is good and has a book's columns
-  module _ (brings : (b : Book) (d : Delivery) (r : Answer) → Gives b (deliver d) r → r.refusal ≡ 0 → Good b)
+  module _ (brings : (b : Book) (d : Delivery) (r : Answer) → Gives b (deliver d) d.out r → r.refusal ≡ 0 → Good b)
       (sized : (b : Book) → Good b → Sizes b) where
     nothing : {b : Book} {ds : List Delivery} {qs : List Answer} → Delivered Gives b ds qs → [] ≡ ds → SameOutcome Gives b [] ds [] qs
     nothing (none {b}) e =
         record {
           accepted = tt;
           records = λ i. refl;
-          ledgers = λ out r s g l. one_ledger b b refl (Cutoff out) r s g l;
+          ledgers = λ out r s g l. one_ledger b b refl Cutoff out r s g l;
           books = refl;
           tallies = λ t. refl;
         }

@@ -30,16 +30,16 @@ use Rattle.reordering.proofs.Raised.{Fit, Ready, cell_of, lots_at, counts_at, lo
 abbrev pub next : Book → Delivery → Book
 next b d = (effect b (deliver d)).book
 
-pub accepted_answer : (b : Book) (d : Delivery) → first_no (asks b (deliver d)) ≡ 0 → called b (deliver d) ≡ answer 0 b d.out (effect b (deliver d))
-accepted_answer b d h = accepted_as b (deliver d) h
+pub accepted_answer : (b : Book) (d : Delivery) → first_no (asks b (deliver d) d.out) ≡ 0 → called b (deliver d) d.out ≡ answer 0 b d.out (effect b (deliver d))
+accepted_answer b d h = accepted_as b (deliver d) d.out h
 
-pub none_no : (b : Book) (d : Delivery) → (called b (deliver d)).refusal ≡ 0 → first_no (asks b (deliver d)) ≡ 0
-none_no b d h = sym (no_no (asks b (deliver d)) (all_yes_of b d h))
+pub none_no : (b : Book) (d : Delivery) → (called b (deliver d) d.out).refusal ≡ 0 → first_no (asks b (deliver d) d.out) ≡ 0
+none_no b d h = sym (no_no (asks b (deliver d) d.out) (all_yes_of b d h))
 
-pub next_ready : (b : Book) (d : Delivery) → Ready b → first_no (asks b (deliver d)) ≡ 0 → Ready (next b d)
+pub next_ready : (b : Book) (d : Delivery) → Ready b → first_no (asks b (deliver d) d.out) ≡ 0 → Ready (next b d)
 next_ready b d s h =
     record {
-      standing = rw (accepted_answer b d h) at (stands b (deliver d) s.standing);
+      standing = rw (accepted_answer b d h) at (stands b (deliver d) d.out s.standing);
       settling = s.settling;
     }
 

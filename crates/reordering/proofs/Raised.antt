@@ -62,11 +62,11 @@ lots_in i d = cond (eqb d.issue i) d.lots 0
 
 -- Accepted or not
 
-pub all_yes_of : (b : Book) (d : Delivery) → (called b (deliver d)).refusal ≡ 0 → AllYes (asks b (deliver d))
+pub all_yes_of : (b : Book) (d : Delivery) → (called b (deliver d) d.out).refusal ≡ 0 → AllYes (asks b (deliver d) d.out)
 all_yes_of b d =
-    by_answer (λ r. r.refusal ≡ 0 → AllYes (asks b (deliver d))) b (deliver d) (λ y h. y) (λ r h. absurd (omega arith))
+    by_answer (λ r. r.refusal ≡ 0 → AllYes (asks b (deliver d) d.out)) b (deliver d) d.out (λ y h. y) (λ r h. absurd (omega arith))
 
-pub accepted_fit : (b : Book) (d : Delivery) → (called b (deliver d)).refusal ≡ 0 → Fit b.state.marks d
+pub accepted_fit : (b : Book) (d : Delivery) → (called b (deliver d) d.out).refusal ≡ 0 → Fit b.state.marks d
 accepted_fit b d h =
     let y = all_yes_of b d h in
     record {
@@ -77,7 +77,7 @@ accepted_fit b d h =
       even = y.1.1.1.1.1.1.0;
     }
 
-pub accepted_ready : (b : Book) (d : Delivery) → Sizes b → (called b (deliver d)).refusal ≡ 0 → Ready b
+pub accepted_ready : (b : Book) (d : Delivery) → Sizes b → (called b (deliver d) d.out).refusal ≡ 0 → Ready b
 accepted_ready b d z h =
     let y = all_yes_of b d h in
     record { standing = record { sizes = z; parts = sound_parts b y.1.0 }; settling = y.1.1.0 }
@@ -90,9 +90,9 @@ module _ (b : Book) (s : Ready b) (d : Delivery) (f : Fit b.state.marks d) where
   a<64 = omega (arith, leb-true d.account 63 f.account)
 
   -- with the lots still owed it is accepted
-  pub accepts : get_or b.delivered (cell_of d) 0 + d.lots ≤ owed_of (get_or b.nets (cell_of d) (pos 0)) → first_no (asks b (deliver d)) ≡ 0
+  pub accepts : get_or b.delivered (cell_of d) 0 + d.lots ≤ owed_of (get_or b.nets (cell_of d) (pos 0)) → first_no (asks b (deliver d) d.out) ≡ 0
   accepts o =
-      sym (no_no (asks b (deliver d))
+      sym (no_no (asks b (deliver d) d.out)
       (f.room, (parts_sound b s.standing.parts, (s.settling, (f.issue, (f.account, (f.lots, (f.even, (le-leb _ _ o, tt)))))))))
 
   -- The book after it

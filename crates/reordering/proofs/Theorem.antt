@@ -47,7 +47,7 @@ outcome b s cs ds m h =
     record {
       accepted = k;
       records = t;
-      ledgers = λ out r q g l. ap (λ a. ledger_of a.book) (g ∙ ap (λ c. called c (Cutoff out)) e ∙ sym l);
+      ledgers = λ out r q g l. ap (λ a. ledger_of a.book) (g ∙ ap (λ c. called c Cutoff out) e ∙ sym l);
       books = e;
       tallies = same_tally b s cs ds m h k t;
     }

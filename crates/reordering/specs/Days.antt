@@ -89,7 +89,7 @@ both_days ds =
     case (refusals closed.book ds) (0 ∷ 0 ∷ [])
     ∷ case (records_for 0 ds (answers_to closed.book ds)) (map (λ a. handover 0 (account_lots a 100000)) (2 ∷ 2 ∷ 1 ∷ 1 ∷ 3 ∷ []))
     ∷ case (count_at (after closed.book ds).lifts 0) 2
-    ∷ case (ledger_of (called (after closed.book ds) (Cutoff lent)).book)
+    ∷ case (ledger_of (called (after closed.book ds) Cutoff lent).book)
     (fail 4 2 5000 ∷ fail 4 3 25000 ∷ fail 5 3 25000 ∷ fail 5 1 30000 ∷ [])
     ∷ []
 
@@ -106,7 +106,7 @@ refused_days =
 -- that ends with account 4 takes no delivery of 5, which is accepted and not stored, so that the next one hands over the same units
 -- again. No code has such a book
 abbrev pub short_book : Book
-short_book = with_delivered (called closed.book (Deliver 0 4 100000 lent)).book (0 ∷ 0 ∷ 0 ∷ 0 ∷ 100000 ∷ [])
+short_book = with_delivered (called closed.book (Deliver 0 4 100000) lent).book (0 ∷ 0 ∷ 0 ∷ 0 ∷ 100000 ∷ [])
 
 abbrev pub short_days : List Case
 short_days =

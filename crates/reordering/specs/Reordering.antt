@@ -16,7 +16,7 @@ pub record Delivery : Type 0 where
   pub out : List ℕ
 
 abbrev pub deliver : Delivery → Call
-deliver d = Deliver d.issue d.account d.lots d.out
+deliver d = Deliver d.issue d.account d.lots
 
 -- the same delivery: the same issue, account and lots, and the same words in the output lent to it
 abbrev pub same_words : List ℕ → List ℕ → Bool
@@ -31,20 +31,20 @@ same c d =
 
 -- Deliveries made one after the other
 
--- each on the book that the last one returned, with no other call among them: `Gives b c r` says that the call c on the book b
--- is answered r
-pub data Delivered (Gives : Book → Call → Answer → Type 0) : Book → List Delivery → List Answer → Type 0 where
+-- each on the book that the last one returned, with no other call among them: `Gives b c out r` says that the call c on the
+-- book b, beside the output out, is answered r
+pub data Delivered (Gives : Book → Call → List ℕ → Answer → Type 0) : Book → List Delivery → List Answer → Type 0 where
   none : {b : Book} → Delivered Gives b [] []
-  more : {b : Book} {ds : List Delivery} {rs : List Answer} (d : Delivery) (r : Answer) → Gives b (deliver d) r →
+  more : {b : Book} {ds : List Delivery} {rs : List Answer} (d : Delivery) (r : Answer) → Gives b (deliver d) d.out r →
       Delivered Gives r.book ds rs → Delivered Gives b (d ∷ ds) (r ∷ rs)
 
 -- as the definitions answer
-abbrev pub Answers : Book → Call → Answer → Type 0
-Answers b c r = r ≡ called b c
+abbrev pub Answers : Book → Call → List ℕ → Answer → Type 0
+Answers b c out r = r ≡ called b c out
 
 abbrev pub answers_to : Book → List Delivery → List Answer
 answers_to b [] = []
-answers_to b (d ∷ ds) = called b (deliver d) ∷ answers_to (called b (deliver d)).book ds
+answers_to b (d ∷ ds) = called b (deliver d) d.out ∷ answers_to (called b (deliver d) d.out).book ds
 
 -- wholly accepted
 abbrev pub AllAccepted : List Answer → Type 0
@@ -72,13 +72,13 @@ tally_after t (d ∷ ds) (r ∷ rs) = tally_after (fed (deliver d) (wasAccepted 
 
 -- What the second of two lists has where the first is wholly accepted
 
-pub record SameOutcome (Gives : Book → Call → Answer → Type 0) (b : Book) (cs ds : List Delivery) (rs qs : List Answer) : Type 0 where
+pub record SameOutcome (Gives : Book → Call → List ℕ → Answer → Type 0) (b : Book) (cs ds : List Delivery) (rs qs : List Answer) : Type 0 where
   -- it is wholly accepted too
   pub accepted : AllAccepted qs
   -- for each issue its calls' handover records, joined, are equal
   pub records : (i : ℕ) → records_for i cs rs ≡ records_for i ds qs
   -- the same cutoff straight after leaves equal ledgers
-  pub ledgers : (out : List ℕ) (r q : Answer) → Gives (book_after b rs) (Cutoff out) r → Gives (book_after b qs) (Cutoff out) q →
+  pub ledgers : (out : List ℕ) (r q : Answer) → Gives (book_after b rs) Cutoff out r → Gives (book_after b qs) Cutoff out q →
       ledger_of r.book ≡ ledger_of q.book
   -- the books are equal in all: lots delivered, and the count of the day's deliveries and lifts, too
   pub books : book_after b rs ≡ book_after b qs
@@ -87,7 +87,7 @@ pub record SameOutcome (Gives : Book → Call → Answer → Type 0) (b : Book) 
 
 -- F-11: two lists of deliveries from one book, rearrangements of each other, lent outputs included: each delivery as often in
 -- the one as in the other; and the first wholly accepted
-abbrev pub SameInAnyOrder : (Book → Call → Answer → Type 0) → Book → Type 0
+abbrev pub SameInAnyOrder : (Book → Call → List ℕ → Answer → Type 0) → Book → Type 0
 SameInAnyOrder Gives b =
     (cs ds : List Delivery) (rs qs : List Answer) → Rearranged same cs ds → Delivered Gives b cs rs → Delivered Gives b ds qs →
     AllAccepted rs → SameOutcome Gives b cs ds rs qs

@@ -1,23 +1,23 @@
 -- The run of a tape: each instruction takes a word at least, so fuel beyond the words changes nothing, and a turn of the run is
 -- one equation. What stands in the lent output changes no line.
-use mathlib.Core.Path.{◌≡◌, refl, ap, sym, subst}
+use mathlib.Core.Path.{◌≡◌, refl, ap}
 use mathlib.Core.Bool.{Bool, true, false, cond}
 use mathlib.Core.List.{List, [], ◌∷◌}
 use Prim.Native.Nat.{ℕ, zero, suc, ◌+◌, ◌≤◌, ◌<◌}
 use native.Mathlib.Omega.{arith}
-use borrow.Author.Tests.{le-leb, ne_eqb}
+use borrow.Author.Tests.{ne_eqb}
 use lib.ListN.{length, drop, length-drop, length-replicate}
 use Rattle.rules.specs.declared.Book.{Book}
 use Rattle.rules.specs.declared.Instruction.{Instruction}
-use Rattle.rules.specs.declared.Instruction.TheVariants as instruction
 use Rattle.rules.specs.declared.Name.TheVariants as name
 use Rattle.std.specs.Prelude.{Result, Ok, Err}
 use Rattle.rules.specs.Measures.{output_words}
 use Rattle.rules.specs.Book.{fresh}
-use Rattle.rules.specs.Questions.{Question, first_no, ask_output, ask_sound}
-use Rattle.rules.specs.Calls.{Deliver, Cutoff, Resolve, Answer, Effect, answer, own_asks, effect, called}
+use Rattle.rules.specs.Questions.{first_no, ask_sound}
+use Rattle.rules.specs.Calls.{Call, lends, HasRoom, Answer, Effect, answer, own_asks, effect, called}
 use Rattle.rules.specs.Tape.{read_of, quotes_of}
 use Rattle.rules.specs.Run.{Ran, call_of, name_of, line, any_output, answer_of, ended, stopped, after_line, after_read, run_from, run_rest, run_of}
+use Rattle.laws.proofs.Answers.{room, has_room}
 use Rattle.rereading.proofs.Sized.{read_sized}
 
 -- what an instruction at the front of some words does: its line, and the rest of the run
@@ -87,32 +87,19 @@ any_out : (r : ℕ) (b : Book) (out lent : List ℕ) (e : Effect) → SameAnswer
 any_out zero b out lent e = record { refusal = refl; count = refl; book = refl }
 any_out (suc r) b out lent e = record { refusal = refl; count = refl; book = refl }
 
--- two outputs of at least 4,096 words
-module _ (b : Book) (out lent : List ℕ) (room : output_words ≤ length out) (also : output_words ≤ length lent) where
-  any_asked : (qs : List Question) (e : Effect) →
-      SameAnswer (answer (first_no (ask_output output_words out ∷ qs)) b out e) (answer (first_no (ask_output output_words lent ∷ qs)) b lent e)
-  any_asked qs e =
-      rw (le-leb output_words (length out) room, le-leb output_words (length lent) also) (any_out (first_no qs) b out lent e)
+-- two outputs with room for a call
+pub answer_any_output : (b : Book) (c : Call) (out lent : List ℕ) → HasRoom c out → HasRoom c lent → SameAnswer (called b c out) (called b c lent)
+unfolding called
+answer_any_output b c out lent h g =
+    let qs = ask_sound b ∷ own_asks b c in
+    rw (room (lends c) out qs h, room (lends c) lent qs g) (any_out (first_no qs) b out lent (effect b c))
 
-  pub answer_any_output : (x : Instruction) (quotes : List ℕ) →
-      SameAnswer (called b (call_of x quotes out)) (called b (call_of x quotes lent))
-  unfolding called
-  answer_any_output (instruction.Trade i f t x) quotes = same (called b (call_of (instruction.Trade i f t x) quotes out))
-  answer_any_output (instruction.Deliver i a x) quotes =
-      any_asked (ask_sound b ∷ own_asks b (Deliver i a x out)) (effect b (Deliver i a x out))
-  answer_any_output (instruction.Resolve i a x) quotes =
-      any_asked (ask_sound b ∷ own_asks b (Resolve i a x out)) (effect b (Resolve i a x out))
-  answer_any_output (instruction.PairOff i a) quotes = same (called b (call_of (instruction.PairOff i a) quotes out))
-  answer_any_output instruction.Close quotes = same (called b (call_of instruction.Close quotes out))
-  answer_any_output instruction.Cutoff quotes = any_asked (ask_sound b ∷ own_asks b (Cutoff out)) (effect b (Cutoff out))
-  answer_any_output (instruction.Roll days rate) quotes = same (called b (call_of (instruction.Roll days rate) quotes out))
-  answer_any_output (instruction.Mark i m) quotes = same (called b (call_of (instruction.Mark i m) quotes out))
-  answer_any_output (instruction.Turn d) quotes = same (called b (call_of (instruction.Turn d) quotes out))
+-- one that is long enough has it
+pub any_room : (c : Call) → HasRoom c any_output
+any_room c = has_room c any_output (omega (arith, length-replicate {A = ℕ} output_words 0))
 
 -- so any such output gives the line and the book of the run
 pub answer_lent : (b : Book) (out : List ℕ) → output_words ≤ length out → (x : Instruction) (ws : List ℕ) →
-    SameAnswer (called b (call_of x (quotes_of ws) out)) (answer_of b x ws)
+    SameAnswer (called b (call_of x (quotes_of ws)) out) (answer_of b x ws)
 unfolding answer_of
-answer_lent b out room x ws =
-    answer_any_output b out any_output room
-    (subst (λ (n : ℕ). output_words ≤ n) (sym (length-replicate {A = ℕ} output_words 0)) (omega arith)) x (quotes_of ws)
+answer_lent b out long x ws = let c = call_of x (quotes_of ws) in answer_any_output b c out any_output (has_room c out long) (any_room c)

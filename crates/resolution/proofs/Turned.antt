@@ -13,12 +13,12 @@ use Rattle.resolution.specs.Resolving.{Resolved}
 
 pub resolved : (s s' : State) (is fs ts xs ds out : List ℕ) (i a x : ℕ) (r : Counts) (is' fs' ts' xs' ds' out' : List ℕ) (b : Book) →
     s' ≡ with_entries s r.entries → Resolved (entries s.entries is fs ts xs ds) i a x r is' fs' ts' xs' ds' out out' →
-    Does (effect (within_ledger s is fs ts xs ds b) (Resolve i a x out)) out r.records 0 (within_ledger s' is' fs' ts' xs' ds' b) out'
+    Does (effect (within_ledger s is fs ts xs ds b) (Resolve i a x)) out r.records 0 (within_ledger s' is' fs' ts' xs' ds' b) out'
 resolved s s' is fs ts xs ds out i a x r is' fs' ts' xs' ds' out' b e w =
     let c = w.columns in
     record {
       count = w.records;
       cancelled = refl;
       book = rw (e, w.entries, c.issues, c.froms, c.tos, c.lotss, c.dayss);
-      out = w.written;
+      written = w.written;
     }

@@ -104,7 +104,7 @@ pub fn resolve(
     out: &mut [u32],
 ) -> Result<Turn, Refusal>
     requires { ledger_ready s ledger.old × (output_words ≤ length out.old) }
-    ensures done { Turns (on_ledger ledger.old ledger.new) s (Resolve i a x out.old) result out.new }
+    ensures done { Turns (on_ledger ledger.old ledger.new) s (Resolve i a x) result out.old out.new }
     ensures same { Same ledger.old ledger.new }
 {
     resolve_asks(ledger, s, i, a, x)?;

@@ -1,11 +1,11 @@
 // roll: its questions, and its effect in place.
 #![tactic(auto)]
 
-ghost use Rattle.std.specs.Prelude.{◌≡◌, [], length};
+ghost use Rattle.std.specs.Prelude.{◌≡◌, length};
 ghost use Rattle.rules.specs.Refusals.{number_in};
 ghost use Rattle.rules.specs.Questions.{first_no, quotes_right};
 ghost use Rattle.rules.specs.Calls.{roll_asks, Roll};
-ghost use Rattle.answers.specs.Turns.{Turns, on_charges, roll_ready};
+ghost use Rattle.answers.specs.Turns.{TurnsAlone, on_charges, roll_ready};
 ghost use Rattle.charging.specs.Charging.{can_charge, was_charged};
 ghost use Rattle.rolling.specs.Rolling.{Cells, Rolled};
 
@@ -95,7 +95,7 @@ pub fn roll<'a>(
     quotes: &[u32],
 ) -> Result<Turn, Refusal>
     requires { roll_ready s nets delivered lifts charges issues froms tos lots }
-    ensures { Turns (on_charges nets delivered lifts charges issues froms tos lots) s (Roll days rate quotes.now) result [] }
+    ensures { TurnsAlone (on_charges nets delivered lifts charges issues froms tos lots) s (Roll days rate quotes.now) result }
 {
     roll_asks(s, days, rate, quotes)?;
     roll_in(

@@ -10,7 +10,7 @@ use Rattle.rules.specs.Ledger.{is_from, is_to}
 use Rattle.rules.specs.Book.{net_at, order_of, ledger_of}
 use Rattle.rules.specs.Refusals.{number_of}
 use Rattle.rules.specs.Questions.{Question, ask, first_no, ask_sound, ask_issue, ask_account}
-use Rattle.rules.specs.Calls.{Call, Trade, Close, Deliver, Ask, Commit, Cutoff, Resolve, PairOff, Roll, Mark, Turn, Answer, AskAnswer, UnitAnswer, answer, lent_to, asks, effect, ticket_answer, ticket_of, unit_answer}
+use Rattle.rules.specs.Calls.{Call, Trade, Close, Deliver, Ask, Commit, Cutoff, Resolve, PairOff, Roll, Mark, Turn, Answer, AskAnswer, UnitAnswer, answer, asks, effect, ticket_answer, ticket_of, unit_answer}
 
 -- Rights
 
@@ -26,11 +26,11 @@ owns w a = leb w.number last_participant && leb a last_account && eqb (get_or w.
 abbrev pub own_call : Caller → Call → Bool
 own_call w (Trade i f t x) = false
 own_call w Close = false
-own_call w (Deliver i a x out) = owns w a
+own_call w (Deliver i a x) = owns w a
 own_call w (Ask i k) = false
-own_call w (Commit t out) = false
-own_call w (Cutoff out) = false
-own_call w (Resolve i a x out) = owns w a
+own_call w (Commit t) = false
+own_call w Cutoff = false
+own_call w (Resolve i a x) = owns w a
 own_call w (PairOff i a) = false
 own_call w (Roll days rate quotes) = false
 own_call w (Mark i m) = false
@@ -55,17 +55,17 @@ with_right right (ask n c ∷ qs) = cond (is_early n) (ask n c ∷ with_right ri
 
 -- The calls with their caller
 
-abbrev pub asks_by : Caller → Book → Call → List Question
-asks_by w b c = with_right (has_right w c) (asks b c)
+abbrev pub asks_by : Caller → Book → Call → List ℕ → List Question
+asks_by w b c out = with_right (has_right w c) (asks b c out)
 
 -- the house's answer: records and count are the operator's, whoever makes the call
-unfoldable pub called_by : Caller → Book → Call → Answer
-called_by w b c = answer (first_no (asks_by w b c)) b (lent_to c) (effect b c)
+unfoldable pub called_by : Caller → Book → Call → List ℕ → Answer
+called_by w b c out = answer (first_no (asks_by w b c out)) b out (effect b c)
 
 -- the operator alone may ask for a lift, and for a unit
 unfoldable pub asked_by : Caller → Book → ℕ → ℕ → AskAnswer
 asked_by w b i k =
-    ticket_answer (first_no (with_right (is_operator w) (asks b (Ask i k)))) (ticket_of b.state.day (order_of b) b.lifts i k)
+    ticket_answer (first_no (with_right (is_operator w) (asks b (Ask i k) []))) (ticket_of b.state.day (order_of b) b.lifts i k)
 
 unfoldable pub unit_by : Caller → Book → ℕ → ℕ → UnitAnswer
 unit_by w b i k = unit_answer (first_no (with_right (is_operator w) (ask_sound b ∷ ask_issue i ∷ []))) (drop k (order_of b i))

@@ -29,19 +29,19 @@ numbers_of = map number_of
 -- each call's own order of 27
 abbrev pub order_cases : List Case
 order_cases =
-    case (numbers_of (asks_by (by 0) fresh (Trade 0 1 2 3))) (2 ∷ 3 ∷ 4 ∷ 5 ∷ 27 ∷ 6 ∷ 7 ∷ 19 ∷ 8 ∷ [])
-    ∷ case (numbers_of (asks_by (by 0) fresh Close)) (2 ∷ 3 ∷ 27 ∷ [])
-    ∷ case (numbers_of (asks_by (by 0) fresh (Deliver 0 1 2 []))) (1 ∷ 2 ∷ 3 ∷ 4 ∷ 5 ∷ 27 ∷ 7 ∷ 19 ∷ 9 ∷ [])
-    ∷ case (numbers_of (asks_by (by 0) fresh (Ask 0 1))) (2 ∷ 3 ∷ 4 ∷ 27 ∷ 16 ∷ [])
-    ∷ case (numbers_of (asks_by (by 0) fresh (Commit (ticket_for 0 1 (account_lots 2 3) 4 5) [])))
+    case (numbers_of (asks_by (by 0) fresh (Trade 0 1 2 3) [])) (2 ∷ 3 ∷ 4 ∷ 5 ∷ 27 ∷ 6 ∷ 7 ∷ 19 ∷ 8 ∷ [])
+    ∷ case (numbers_of (asks_by (by 0) fresh Close [])) (2 ∷ 3 ∷ 27 ∷ [])
+    ∷ case (numbers_of (asks_by (by 0) fresh (Deliver 0 1 2) [])) (1 ∷ 2 ∷ 3 ∷ 4 ∷ 5 ∷ 27 ∷ 7 ∷ 19 ∷ 9 ∷ [])
+    ∷ case (numbers_of (asks_by (by 0) fresh (Ask 0 1) [])) (2 ∷ 3 ∷ 4 ∷ 27 ∷ 16 ∷ [])
+    ∷ case (numbers_of (asks_by (by 0) fresh (Commit (ticket_for 0 1 (account_lots 2 3) 4 5)) []))
     (1 ∷ 2 ∷ 3 ∷ 4 ∷ 27 ∷ 16 ∷ 17 ∷ 18 ∷ [])
-    ∷ case (numbers_of (asks_by (by 0) fresh (Cutoff []))) (1 ∷ 2 ∷ 3 ∷ 27 ∷ 10 ∷ [])
-    ∷ case (numbers_of (asks_by (by 0) fresh (Resolve 0 1 2 []))) (1 ∷ 2 ∷ 4 ∷ 5 ∷ 27 ∷ 7 ∷ 19 ∷ 9 ∷ [])
-    ∷ case (numbers_of (asks_by (by 0) fresh (PairOff 0 1))) (2 ∷ 4 ∷ 5 ∷ 27 ∷ [])
-    ∷ case (numbers_of (asks_by (by 0) fresh (Roll 1 2 []))) (2 ∷ 3 ∷ 27 ∷ 11 ∷ 12 ∷ [])
-    ∷ case (numbers_of (asks_by (by 0) fresh (Mark 0 1))) (2 ∷ 4 ∷ 27 ∷ 20 ∷ [])
+    ∷ case (numbers_of (asks_by (by 0) fresh Cutoff [])) (1 ∷ 2 ∷ 3 ∷ 27 ∷ 10 ∷ [])
+    ∷ case (numbers_of (asks_by (by 0) fresh (Resolve 0 1 2) [])) (1 ∷ 2 ∷ 4 ∷ 5 ∷ 27 ∷ 7 ∷ 19 ∷ 9 ∷ [])
+    ∷ case (numbers_of (asks_by (by 0) fresh (PairOff 0 1) [])) (2 ∷ 4 ∷ 5 ∷ 27 ∷ [])
+    ∷ case (numbers_of (asks_by (by 0) fresh (Roll 1 2 []) [])) (2 ∷ 3 ∷ 27 ∷ 11 ∷ 12 ∷ [])
+    ∷ case (numbers_of (asks_by (by 0) fresh (Mark 0 1) [])) (2 ∷ 4 ∷ 27 ∷ 20 ∷ [])
     -- 26 stands after 3, and so ahead of 27
-    ∷ case (numbers_of (asks_by (by 0) fresh (Turn 1))) (2 ∷ 26 ∷ 27 ∷ [])
+    ∷ case (numbers_of (asks_by (by 0) fresh (Turn 1) [])) (2 ∷ 26 ∷ 27 ∷ [])
     -- the unit question, and reading
     ∷ case (numbers_of (with_right false (ask_sound fresh ∷ ask_issue 0 ∷ []))) (2 ∷ 4 ∷ 27 ∷ [])
     ∷ case (numbers_of (with_right false (look_asks fresh 0 1))) (2 ∷ 4 ∷ 5 ∷ 27 ∷ [])
@@ -55,13 +55,13 @@ right_cases =
     (true ∷ false ∷ false ∷ false ∷ false ∷ false ∷ [])
     -- a participant delivers and resolves for its own accounts, and makes no other call
     ∷ case
-    (has_right (by 0) (Deliver 0 5 1 []) ∷ has_right (by 0) (Resolve 0 5 1 []) ∷ has_right (by 0) (PairOff 0 5) ∷ has_right (by 0) (Trade 0 5 2 1)
-    ∷ has_right (by 0) (Deliver 0 2 1 []) ∷ has_right (by 0) (Resolve 0 4 1 []) ∷ [])
+    (has_right (by 0) (Deliver 0 5 1) ∷ has_right (by 0) (Resolve 0 5 1) ∷ has_right (by 0) (PairOff 0 5) ∷ has_right (by 0) (Trade 0 5 2 1)
+    ∷ has_right (by 0) (Deliver 0 2 1) ∷ has_right (by 0) (Resolve 0 4 1) ∷ [])
     (true ∷ true ∷ false ∷ false ∷ false ∷ false ∷ [])
     -- the operator makes every call, for every account; 17 none
     ∷ case
-    (has_right (by 16) Close ∷ has_right (by 16) (Deliver 0 4 1 []) ∷ has_right (by 16) (Turn 1) ∷ has_right (by 17) Close
-    ∷ has_right (by 17) (Deliver 0 4 1 []) ∷ [])
+    (has_right (by 16) Close ∷ has_right (by 16) (Deliver 0 4 1) ∷ has_right (by 16) (Turn 1) ∷ has_right (by 17) Close
+    ∷ has_right (by 17) (Deliver 0 4 1) ∷ [])
     (true ∷ true ∷ true ∷ false ∷ false ∷ [])
     -- reading
     ∷ case (may_read (by 1) 2 ∷ may_read (by 1) 5 ∷ may_read (by 16) 5 ∷ may_read (by 17) 4 ∷ []) (true ∷ false ∷ true ∷ false ∷ [])

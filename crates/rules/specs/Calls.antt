@@ -19,15 +19,15 @@ use Rattle.rules.specs.Records.{Rec, handover, record_of, words, over}
 use Rattle.rules.specs.Refusals.{number_of}
 use Rattle.rules.specs.Questions.{Question, first_no, ask_output, ask_sound, ask_taking, ask_settling, ask_cut, ask_issue, ask_account, ask_accounts, ask_differ, ask_lots, ask_nets, ask_owed_today, ask_owed_in_ledger, ask_entries, ask_roll, ask_quote, ask_term, ask_day, ask_unhanded, ask_ticket, ask_lifts, ask_even, ask_unused, ask_turn}
 
--- a call with its arguments and the output lent to it
+-- a call with its arguments: the output stands beside it
 pub data Call : Type 0 where
   Trade : ℕ → ℕ → ℕ → ℕ → Call
   Close : Call
-  Deliver : ℕ → ℕ → ℕ → List ℕ → Call
+  Deliver : ℕ → ℕ → ℕ → Call
   Ask : ℕ → ℕ → Call
-  Commit : Ticket → List ℕ → Call
-  Cutoff : List ℕ → Call
-  Resolve : ℕ → ℕ → ℕ → List ℕ → Call
+  Commit : Ticket → Call
+  Cutoff : Call
+  Resolve : ℕ → ℕ → ℕ → Call
   PairOff : ℕ → ℕ → Call
   Roll : ℕ → ℕ → List ℕ → Call
   Mark : ℕ → ℕ → Call
@@ -192,58 +192,44 @@ turn_asks turn today d = ask_turn turn today d ∷ []
 
 -- The calls
 
--- the output lent to a call
-abbrev pub lent_to : Call → List ℕ
-lent_to (Trade i f t x) = []
-lent_to Close = []
-lent_to (Deliver i a x out) = out
-lent_to (Ask i k) = []
-lent_to (Commit t out) = out
-lent_to (Cutoff out) = out
-lent_to (Resolve i a x out) = out
-lent_to (PairOff i a) = []
-lent_to (Roll days rate quotes) = []
-lent_to (Mark i m) = []
-lent_to (Turn d) = []
-
--- deliver, commit, cutoff and resolve are lent one, and write their records to it
+-- deliver, commit, cutoff and resolve are lent the output, and write their records to it; any other call leaves it
 abbrev pub lends : Call → Bool
 lends (Trade i f t x) = false
 lends Close = false
-lends (Deliver i a x out) = true
+lends (Deliver i a x) = true
 lends (Ask i k) = false
-lends (Commit t out) = true
-lends (Cutoff out) = true
-lends (Resolve i a x out) = true
+lends (Commit t) = true
+lends Cutoff = true
+lends (Resolve i a x) = true
 lends (PairOff i a) = false
 lends (Roll days rate quotes) = false
 lends (Mark i m) = false
 lends (Turn d) = false
 
 -- question 1 is asked of them
-abbrev pub output_asks : Call → List Question
-output_asks c = cond (lends c) (ask_output output_words (lent_to c) ∷ []) []
+abbrev pub output_asks : Call → List ℕ → List Question
+output_asks c out = cond (lends c) (ask_output output_words out ∷ []) []
 
 -- and is answered 'yes'
-abbrev pub HasRoom : Call → Type 0
-HasRoom c = first_no (output_asks c) ≡ 0
+abbrev pub HasRoom : Call → List ℕ → Type 0
+HasRoom c out = first_no (output_asks c out) ≡ 0
 
 -- the questions after soundness
 abbrev pub own_asks : Book → Call → List Question
 own_asks b (Trade i f t x) = trade_asks b.state.phase b.state.marks b.nets i f t x
 own_asks b Close = close_asks b.state.phase
-own_asks b (Deliver i a x out) = deliver_asks b.state.phase b.state.marks b.nets b.delivered i a x
+own_asks b (Deliver i a x) = deliver_asks b.state.phase b.state.marks b.nets b.delivered i a x
 own_asks b (Ask i k) = lift_asks b.state.phase (order_of b) b.delivered i k
-own_asks b (Commit t out) = commit_asks b.state.phase b.state.day (order_of b) b.delivered b.lifts t
-own_asks b (Cutoff out) = cutoff_asks b.state.phase b.state.entries (length (new_entries b.state.day (order_of b) b.nets b.delivered))
-own_asks b (Resolve i a x out) = resolve_asks b.state.marks (ledger_of b) i a x
+own_asks b (Commit t) = commit_asks b.state.phase b.state.day (order_of b) b.delivered b.lifts t
+own_asks b Cutoff = cutoff_asks b.state.phase b.state.entries (length (new_entries b.state.day (order_of b) b.nets b.delivered))
+own_asks b (Resolve i a x) = resolve_asks b.state.marks (ledger_of b) i a x
 own_asks b (PairOff i a) = pair_off_asks i a
 own_asks b (Roll days rate quotes) = roll_asks b.state.phase b.state.day days rate quotes
 own_asks b (Mark i m) = mark_asks b.nets (ledger_of b) i
 own_asks b (Turn d) = turn_asks b.state.turn b.state.day d
 
-abbrev pub asks : Book → Call → List Question
-asks b c = output_asks c ++ (ask_sound b ∷ own_asks b c)
+abbrev pub asks : Book → Call → List ℕ → List Question
+asks b c out = output_asks c out ++ (ask_sound b ∷ own_asks b c)
 
 -- pair-off: the answer carries the steps made and lots cancelled
 abbrev pub paired_off : Book → Pairing → Effect
@@ -253,25 +239,25 @@ paired_off b p = record { book = with_ledger b p.ledger; records = []; count = p
 abbrev pub effect : Book → Call → Effect
 effect b (Trade i f t x) = changes (with_nets b (traded_nets b.nets i f t x))
 effect b Close = changes (with_state b (with_phase b.state Settling))
-effect b (Deliver i a x out) =
+effect b (Deliver i a x) =
     writes (with_lifts (with_delivered b (raised_delivered b.delivered i a x)) (raised_count b.lifts i))
     (deliver_records (order_of b) b.delivered i x)
 effect b (Ask i k) = changes b
-effect b (Commit t out) =
+effect b (Commit t) =
     writes (with_lifts b (with_lift b.lifts t.issue (commit_lift (order_of b) b.delivered t)))
     (commit_records (order_of b) b.delivered t)
-effect b (Cutoff out) =
+effect b Cutoff =
     writes (with_ledger (with_state b (with_phase b.state Cut)) (ledger_of b ++ new_entries b.state.day (order_of b) b.nets b.delivered))
     (cutoff_records b.state.day (order_of b) b.nets b.delivered)
-effect b (Resolve i a x out) = writes (with_ledger b (meet (is_from i a) x (ledger_of b))) (resolve_records (ledger_of b) i a x)
+effect b (Resolve i a x) = writes (with_ledger b (meet (is_from i a) x (ledger_of b))) (resolve_records (ledger_of b) i a x)
 effect b (PairOff i a) = paired_off b (pairing b.state.day i a (ledger_of b))
 effect b (Roll days rate quotes) = changes (rolled b days rate quotes)
 effect b (Mark i m) = changes (with_state b (with_marks b.state (marked_as b.state.marks i m)))
 effect b (Turn d) = changes (with_state b (with_turn b.state d))
 
 -- a call's answer, on any book and any output
-unfoldable pub called : Book → Call → Answer
-called b c = answer (first_no (asks b c)) b (lent_to c) (effect b c)
+unfoldable pub called : Book → Call → List ℕ → Answer
+called b c out = answer (first_no (asks b c out)) b out (effect b c)
 
 -- what asking answers: number, whether there is a ticket, and the ticket
 pub record AskAnswer : Type 0 where
@@ -292,7 +278,7 @@ ticket_answer zero t = some_ticket t
 ticket_answer (suc r) t = no_ticket (suc r)
 
 unfoldable pub asked : Book → ℕ → ℕ → AskAnswer
-asked b i k = ticket_answer (first_no (asks b (Ask i k))) (ticket_of b.state.day (order_of b) b.lifts i k)
+asked b i k = ticket_answer (first_no (asks b (Ask i k) [])) (ticket_of b.state.day (order_of b) b.lifts i k)
 
 -- the paper's number and ticket for each answer of the code
 abbrev pub asked_answer : Result Ticket Refusal → AskAnswer

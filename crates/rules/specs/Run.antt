@@ -12,17 +12,17 @@ use Rattle.rules.specs.Book.{ledger_of, fresh}
 use Rattle.rules.specs.Calls.{Call, Trade, Close, Deliver, Cutoff, Resolve, PairOff, Roll, Mark, Turn, Answer, called}
 use Rattle.rules.specs.Tape.{read_of, quotes_of}
 
--- an instruction, with roll's quotes and a lent output, as a call
-abbrev pub call_of : Instruction → List ℕ → List ℕ → Call
-call_of (instruction.Trade i f t x) quotes out = Trade i f t x
-call_of (instruction.Deliver i a x) quotes out = Deliver i a x out
-call_of (instruction.Resolve i a x) quotes out = Resolve i a x out
-call_of (instruction.PairOff i a) quotes out = PairOff i a
-call_of instruction.Close quotes out = Close
-call_of instruction.Cutoff quotes out = Cutoff out
-call_of (instruction.Roll days rate) quotes out = Roll days rate quotes
-call_of (instruction.Mark i m) quotes out = Mark i m
-call_of (instruction.Turn d) quotes out = Turn d
+-- an instruction, with roll's quotes, as a call
+abbrev pub call_of : Instruction → List ℕ → Call
+call_of (instruction.Trade i f t x) quotes = Trade i f t x
+call_of (instruction.Deliver i a x) quotes = Deliver i a x
+call_of (instruction.Resolve i a x) quotes = Resolve i a x
+call_of (instruction.PairOff i a) quotes = PairOff i a
+call_of instruction.Close quotes = Close
+call_of instruction.Cutoff quotes = Cutoff
+call_of (instruction.Roll days rate) quotes = Roll days rate quotes
+call_of (instruction.Mark i m) quotes = Mark i m
+call_of (instruction.Turn d) quotes = Turn d
 
 abbrev pub name_of : Instruction → Name
 name_of (instruction.Trade i f t x) = name.Trade
@@ -45,7 +45,7 @@ any_output = replicate output_words 0
 
 -- the answer to an instruction that stands at the front of some words
 unfoldable pub answer_of : Book → Instruction → List ℕ → Answer
-answer_of b x ws = called b (call_of x (quotes_of ws) any_output)
+answer_of b x ws = called b (call_of x (quotes_of ws)) any_output
 
 -- the lines printed, and the book at the end
 pub record Ran : Type 0 where

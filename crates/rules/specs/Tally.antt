@@ -8,7 +8,7 @@ use Rattle.rules.specs.Lifts.{Lift, lift_of, lifted}
 use Rattle.rules.specs.Ledger.{is_from, is_to, lots_of}
 use Rattle.rules.specs.Book.{tabulate, units_by, in_force, ledger_of, fresh}
 use Rattle.rules.specs.Records.{Rec, records_in}
-use Rattle.rules.specs.Calls.{Call, Trade, Close, Deliver, Ask, Commit, Cutoff, Resolve, PairOff, Roll, Mark, Turn, Answer, called}
+use Rattle.rules.specs.Calls.{Call, Trade, Close, Deliver, Ask, Commit, Cutoff, Resolve, PairOff, Roll, Mark, Turn, Answer, lends, called}
 
 -- the records of a kind in an issue: to whom, and how many lots
 abbrev pub records_of : ℕ → ℕ → List Rec → List AccountLots
@@ -94,12 +94,12 @@ join_lift t rows ls i = ls i ++ cond (eqb i t.issue) (lift_of t.unit (length (ro
 abbrev pub counted : Call → List Rec → Tally → Tally
 counted (Trade i f c x) rs t = record { today = count_trade i f c x t.today; in_all = t.in_all; rows = t.rows; lifts = t.lifts; day = t.day; turn = t.turn }
 counted Close rs t = t
-counted (Deliver i a x out) rs t =
+counted (Deliver i a x) rs t =
     record { today = count_handed 10 rs (count_given i a x t.today); in_all = t.in_all; rows = join_rows rs t.rows; lifts = t.lifts; day = t.day; turn = t.turn }
 counted (Ask i k) rs t = t
-counted (Commit w out) rs t =
+counted (Commit w) rs t =
     record { today = count_handed 10 rs t.today; in_all = t.in_all; rows = join_rows rs t.rows; lifts = join_lift w t.rows t.lifts; day = t.day; turn = t.turn }
-counted (Cutoff out) rs t =
+counted Cutoff rs t =
     record {
       today = count_handed 10 rs t.today;
       in_all = both_counts t.in_all (count_handed 10 rs t.today);
@@ -108,7 +108,7 @@ counted (Cutoff out) rs t =
       day = t.day;
       turn = t.turn;
     }
-counted (Resolve i a x out) rs t =
+counted (Resolve i a x) rs t =
     record { today = t.today; in_all = count_handed 11 rs (count_given i a x t.in_all); rows = t.rows; lifts = t.lifts; day = t.day; turn = t.turn }
 counted (PairOff i a) rs t = t
 counted (Roll days rate quotes) rs t = record { today = no_counts; in_all = t.in_all; rows = λ i. []; lifts = λ i. []; day = t.day + 1; turn = t.turn }
@@ -119,11 +119,11 @@ counted (Turn d) rs t = record { today = t.today; in_all = t.in_all; rows = t.ro
 abbrev pub settling_after : Call → Bool → Bool
 settling_after (Trade i f c x) s = s
 settling_after Close s = true
-settling_after (Deliver i a x out) s = s
+settling_after (Deliver i a x) s = s
 settling_after (Ask i k) s = s
-settling_after (Commit w out) s = s
-settling_after (Cutoff out) s = false
-settling_after (Resolve i a x out) s = s
+settling_after (Commit w) s = s
+settling_after Cutoff s = false
+settling_after (Resolve i a x) s = s
 settling_after (PairOff i a) s = s
 settling_after (Roll days rate quotes) s = s
 settling_after (Mark i m) s = s
@@ -149,22 +149,31 @@ pub record Tallied : Type 0 where
   pub tally : Tally
   pub settling : Bool
 
--- after an answer, with the records as they stand in the words returned
+-- the records that an answer wrote, as they stand in the words returned: only a call that is lent the output writes any, and
+-- pair-off's count is of steps
+abbrev pub written : Call → Answer → List Rec
+written c r = cond (lends c) (records_in r.count r.out) []
+
+-- after an answer
 abbrev pub answered : Call → Answer → Tallied → Tallied
 answered c r s =
     record {
       book = r.book;
-      tally = fed c (accepted r.refusal) (records_in r.count r.out) s.tally;
+      tally = fed c (accepted r.refusal) (written c r) s.tally;
       settling = settling_with c (accepted r.refusal) s.settling;
     }
 
-abbrev pub after : Tallied → Call → Tallied
-after s c = answered c (called s.book c) s
+abbrev pub after : Tallied → Call → List ℕ → Tallied
+after s c out = answered c (called s.book c out) s
+
+-- a list of calls, each with the output that stands beside it
+abbrev pub CallList : Type 0
+CallList = List (Call × List ℕ)
 
 -- each call gets the book that the last one returned
-abbrev pub after_all : Tallied → List Call → Tallied
+abbrev pub after_all : Tallied → CallList → Tallied
 after_all s [] = s
-after_all s (c ∷ cs) = after_all (after s c) cs
+after_all s (c ∷ cs) = after_all (after s c.0 c.1) cs
 
 abbrev pub start : Tallied
 start = record { book = fresh; tally = fresh_tally; settling = false }
@@ -232,4 +241,4 @@ pub record Demand3 (s : Tallied) : Type 0 where
 
 -- demand 3: of every list of calls, with any arguments and any lent outputs, from a fresh book and a fresh tally
 abbrev pub Demand3OfAll : Type 0
-Demand3OfAll = (cs : List Call) → Demand3 (after_all start cs)
+Demand3OfAll = (cs : CallList) → Demand3 (after_all start cs)

@@ -1,11 +1,10 @@
 // An instruction of a run, answered in place on the columns of a sound book by the call that it is.
 #![tactic(auto)]
 
-ghost use Rattle.std.specs.Prelude.{[]};
 ghost use Rattle.rules.specs.Calls.{HasRoom, Trade, Deliver, Resolve, PairOff, Cutoff, Roll, Mark};
 ghost use Rattle.rules.specs.Run.{call_of};
 ghost use Rattle.columns.specs.Books.{IsSound, IsReady, SameColumns};
-ghost use Rattle.answers.specs.Turns.{Makes, Answered};
+ghost use Rattle.answers.specs.Turns.{Makes, MakesAlone, Answered};
 
 use answers::Turn;
 use columns::LentColumns;
@@ -25,7 +24,7 @@ fn trade(
     x: u32,
 ) -> Result<Turn, Refusal>
     requires { IsSound s columns.old }
-    ensures made { Makes s (Trade i f t x) result columns.old columns.new [] }
+    ensures made { MakesAlone s (Trade i f t x) result columns.old columns.new }
     ensures same { SameColumns columns.old columns.new }
 {
     trading::trade(s, &mut *columns.nets, i, f, t, x)
@@ -40,7 +39,7 @@ fn deliver(
     out: &mut [u32],
 ) -> Result<Turn, Refusal>
     requires { IsReady s columns.old out.old }
-    ensures made { Makes s (Deliver i a x out.old) result columns.old columns.new out.new }
+    ensures made { Makes s (Deliver i a x) result columns.old columns.new out.old out.new }
     ensures same { SameColumns columns.old columns.new }
 {
     delivery::deliver(
@@ -64,7 +63,7 @@ fn resolve(
     out: &mut [u32],
 ) -> Result<Turn, Refusal>
     requires { IsReady s columns.old out.old }
-    ensures made { Makes s (Resolve i a x out.old) result columns.old columns.new out.new }
+    ensures made { Makes s (Resolve i a x) result columns.old columns.new out.old out.new }
     ensures same { SameColumns columns.old columns.new }
 {
     let mut ledger = Ledger {
@@ -79,7 +78,7 @@ fn resolve(
 
 fn pair_off(s: State, columns: &mut LentColumns, i: u32, a: u32) -> Result<Turn, Refusal>
     requires { IsSound s columns.old }
-    ensures made { Makes s (PairOff i a) result columns.old columns.new [] }
+    ensures made { MakesAlone s (PairOff i a) result columns.old columns.new }
     ensures same { SameColumns columns.old columns.new }
 {
     let mut ledger = Ledger {
@@ -94,7 +93,7 @@ fn pair_off(s: State, columns: &mut LentColumns, i: u32, a: u32) -> Result<Turn,
 
 fn cutoff(s: State, columns: &mut LentColumns, out: &mut [u32]) -> Result<Turn, Refusal>
     requires { IsReady s columns.old out.old }
-    ensures made { Makes s (Cutoff out.old) result columns.old columns.new out.new }
+    ensures made { Makes s Cutoff result columns.old columns.new out.old out.new }
     ensures same { SameColumns columns.old columns.new }
 {
     let mut ledger = Ledger {
@@ -122,7 +121,7 @@ fn roll(
     quotes: &[u32],
 ) -> Result<Turn, Refusal>
     requires { IsSound s columns.old }
-    ensures made { Makes s (Roll term rate quotes.now) result columns.old columns.new [] }
+    ensures made { MakesAlone s (Roll term rate quotes.now) result columns.old columns.new }
     ensures same { SameColumns columns.old columns.new }
 {
     rolling::roll(
@@ -143,7 +142,7 @@ fn roll(
 
 fn mark(s: State, columns: &mut LentColumns, i: u32, m: u32) -> Result<Turn, Refusal>
     requires { IsSound s columns.old }
-    ensures made { Makes s (Mark i m) result columns.old columns.new [] }
+    ensures made { MakesAlone s (Mark i m) result columns.old columns.new }
     ensures same { SameColumns columns.old columns.new }
 {
     settings::mark(s, &mut *columns.nets, &mut *columns.issues, i, m)
@@ -158,7 +157,7 @@ pub fn answer(
     columns: &mut LentColumns,
     out: &mut [u32],
 ) -> Result<Turn, Refusal>
-    requires { IsSound s columns.old × HasRoom (call_of x quotes.now out.old) }
+    requires { IsSound s columns.old × HasRoom (call_of x quotes.now) out.old }
     ensures answered { Answered x quotes.now s result columns.old columns.new out.old out.new }
     ensures same { SameColumns columns.old columns.new }
 {

@@ -14,7 +14,7 @@ use Rattle.rules.specs.declared.Entry.{Entry}
 use Rattle.rules.specs.Ledger.{put_entry, is_from, met_by, meet}
 use Rattle.rules.specs.Book.{ledger_of, sound}
 use Rattle.rules.specs.Questions.{first_no}
-use Rattle.rules.specs.Calls.{Call, Trade, Close, Deliver, Ask, Commit, Cutoff, Resolve, PairOff, Roll, Mark, Turn, answer, lent_to, asks, effect}
+use Rattle.rules.specs.Calls.{Call, Trade, Close, Deliver, Ask, Commit, Cutoff, Resolve, PairOff, Roll, Mark, Turn, answer, lends, asks, effect}
 use Rattle.rules.specs.Access.{is_operator, owns, own_call, has_right, with_right, asks_by, called_by, those}
 use Rattle.laws.proofs.Basics.{by_test}
 use Rattle.laws.proofs.Answers.{all_yes, numbered}
@@ -24,7 +24,7 @@ use Rattle.laws.proofs.Sound.{parts_sound}
 use Rattle.laws.proofs.Called.{Sizes, Standing, stands}
 use Rattle.laws.proofs.Rights.{passes, with_right_lem, without_right, refused_by_lem, refused_book}
 use Rattle.secrecy.specs.Requests.{Request, after_request}
-use Rattle.secrecy.specs.Secrecy.{own_entry, Alike, lending, SameRequest, same_call, same_ask, same_unit, same_status, same_simulation, same_read, replies, SameRequests, none, more}
+use Rattle.secrecy.specs.Secrecy.{own_entry, Alike, SameRequest, same_call, same_ask, same_unit, same_status, same_simulation, same_read, replies, SameRequests, none, more}
 use Rattle.secrecy.proofs.Own.{own_from}
 use Rattle.secrecy.proofs.Secret.{numbers, secret}
 
@@ -49,8 +49,8 @@ those_meet w p only x (e ∷ es) =
 module _ (w : Caller) (b b' : Book) (z : Sizes b) (z' : Sizes b') (l : Alike w b b') where
   -- its own deliver and resolve
   module _ (i a x : ℕ) (own : owns w a ≡ true) (hi : i < 16) (ha : a < 64) where
-    delivers : (lent out : List ℕ) → Alike w (effect b (Deliver i a x lent)).book (effect b' (Deliver i a x out)).book
-    delivers lent out = record {
+    delivers : Alike w (effect b (Deliver i a x)).book (effect b' (Deliver i a x)).book
+    delivers = record {
       phase = l.phase;
       day = l.day;
       turn = l.turn;
@@ -64,8 +64,8 @@ module _ (w : Caller) (b b' : Book) (z : Sizes b) (z' : Sizes b') (l : Alike w b
       entries = l.entries;
     }
 
-    resolves : (lent out : List ℕ) → Alike w (effect b (Resolve i a x lent)).book (effect b' (Resolve i a x out)).book
-    resolves lent out = record {
+    resolves : Alike w (effect b (Resolve i a x)).book (effect b' (Resolve i a x)).book
+    resolves = record {
       phase = l.phase;
       day = l.day;
       turn = l.turn;
@@ -81,48 +81,48 @@ module _ (w : Caller) (b b' : Book) (z : Sizes b) (z' : Sizes b') (l : Alike w b
           ∙ ap (those (own_entry w)) (sym (ledger_written b' (meet (is_from i a) x (ledger_of b'))));
     }
 
-  no_right : (c : Call) {C : Type 0} → first_no (with_right false (asks b c)) ≡ 0 → C
-  no_right c h = absurd (let n = refused_by_lem (asks b c) (numbered b c) in omega arith)
+  no_right : (c : Call) (out : List ℕ) {C : Type 0} → first_no (with_right false (asks b c out)) ≡ 0 → C
+  no_right c out h = absurd (let n = refused_by_lem (asks b c out) (numbered b c out) in omega arith)
 
-  done : (c : Call) (out : List ℕ) → first_no (with_right (own_call w c) (asks b c)) ≡ 0 → Alike w (effect b c).book (effect b' (lending out c)).book
-  done (Trade i f t x) out h = no_right (Trade i f t x) h
-  done Close out h = no_right Close h
-  done (Deliver i a x lent) out h =
+  done : (c : Call) (out : List ℕ) → first_no (with_right (own_call w c) (asks b c out)) ≡ 0 → Alike w (effect b c).book (effect b' c).book
+  done (Trade i f t x) out h = no_right (Trade i f t x) out h
+  done Close out h = no_right Close out h
+  done (Deliver i a x) out h =
       by_test (owns w a)
       (λ own.
-      let y = all_yes (asks b (Deliver i a x lent)) (omega arith) (sym (passes (asks b (Deliver i a x lent))) ∙ (rw own at h)) in
-      delivers i a x own (omega (arith, leb-true i 15 y.1.1.1.0)) (omega (arith, leb-true a 63 y.1.1.1.1.0)) lent out)
-      (λ other. no_right (Deliver i a x lent) (rw other at h))
-  done (Ask i k) out h = no_right (Ask i k) h
-  done (Commit t lent) out h = no_right (Commit t lent) h
-  done (Cutoff lent) out h = no_right (Cutoff lent) h
-  done (Resolve i a x lent) out h =
+      let y = all_yes (asks b (Deliver i a x) out) (omega arith) (sym (passes (asks b (Deliver i a x) out)) ∙ (rw own at h)) in
+      delivers i a x own (omega (arith, leb-true i 15 y.1.1.1.0)) (omega (arith, leb-true a 63 y.1.1.1.1.0)))
+      (λ other. no_right (Deliver i a x) out (rw other at h))
+  done (Ask i k) out h = no_right (Ask i k) out h
+  done (Commit t) out h = no_right (Commit t) out h
+  done Cutoff out h = no_right Cutoff out h
+  done (Resolve i a x) out h =
       by_test (owns w a)
       (λ own.
-      let y = all_yes (asks b (Resolve i a x lent)) (omega arith) (sym (passes (asks b (Resolve i a x lent))) ∙ (rw own at h)) in
-      resolves i a x own (omega (arith, leb-true i 15 y.1.1.0)) (omega (arith, leb-true a 63 y.1.1.1.0)) lent out)
-      (λ other. no_right (Resolve i a x lent) (rw other at h))
-  done (PairOff i a) out h = no_right (PairOff i a) h
-  done (Roll days rate quotes) out h = no_right (Roll days rate quotes) h
-  done (Mark i m) out h = no_right (Mark i m) h
-  done (Turn d) out h = no_right (Turn d) h
+      let y = all_yes (asks b (Resolve i a x) out) (omega arith) (sym (passes (asks b (Resolve i a x) out)) ∙ (rw own at h)) in
+      resolves i a x own (omega (arith, leb-true i 15 y.1.1.0)) (omega (arith, leb-true a 63 y.1.1.1.0)))
+      (λ other. no_right (Resolve i a x) out (rw other at h))
+  done (PairOff i a) out h = no_right (PairOff i a) out h
+  done (Roll days rate quotes) out h = no_right (Roll days rate quotes) out h
+  done (Mark i m) out h = no_right (Mark i m) out h
+  done (Turn d) out h = no_right (Turn d) out h
 
-  by_number : (c c' : Call) (n n' : ℕ) → n ≡ n' → (n ≡ 0 → Alike w (effect b c).book (effect b' c').book) →
-      Alike w (answer n b (lent_to c) (effect b c)).book (answer n' b' (lent_to c') (effect b' c')).book
-  by_number c c' zero zero e h = h refl
-  by_number c c' zero (suc n') e h = absurd (omega arith)
-  by_number c c' (suc n) zero e h = absurd (omega arith)
-  by_number c c' (suc n) (suc n') e h = l
+  by_number : (c : Call) (lent out : List ℕ) (n n' : ℕ) → n ≡ n' → (n ≡ 0 → Alike w (effect b c).book (effect b' c).book) →
+      Alike w (answer n b lent (effect b c)).book (answer n' b' out (effect b' c)).book
+  by_number c lent out zero zero e h = h refl
+  by_number c lent out zero (suc n') e h = absurd (omega arith)
+  by_number c lent out (suc n) zero e h = absurd (omega arith)
+  by_number c lent out (suc n) (suc n') e h = l
 
   module _ (isNot : is_operator w ≡ false) (s : sound b ≡ true) (s' : sound b' ≡ true) where
-    pub kept : (c : Call) (out : List ℕ) → length (lent_to c) ≡ length out → Alike w (called_by w b c).book (called_by w b' (lending out c)).book
+    pub kept : (c : Call) (lent out : List ℕ) → (lends c ≡ true → length lent ≡ length out) → Alike w (called_by w b c lent).book (called_by w b' c out).book
     unfolding called_by
-    kept c out h =
-        by_number c (lending out c) (first_no (asks_by w b c)) (first_no (asks_by w b' (lending out c)))
-        (rw isNot (numbers w b b' s s' l c out h)) (λ n. done c out (rw isNot at n))
+    kept c lent out h =
+        by_number c lent out (first_no (asks_by w b c lent)) (first_no (asks_by w b' c out))
+        (rw isNot (numbers w b b' s s' l c lent out h)) (λ n. done c lent (rw isNot at n))
 
     pub kept_alike : (q q' : Request) → SameRequest q q' → Alike w (after_request w b q) (after_request w b' q')
-    kept_alike _ _ (same_call c out h) = kept c out h
+    kept_alike _ _ (same_call c lent out h) = kept c lent out h
     kept_alike _ _ (same_ask i k) = l
     kept_alike _ _ (same_unit i k) = l
     kept_alike _ _ (same_status i k) = l
@@ -130,15 +130,15 @@ module _ (w : Caller) (b b' : Book) (z : Sizes b) (z' : Sizes b') (l : Alike w b
     kept_alike _ _ (same_read i a k) = l
 
 -- a call with its caller keeps a sound book sound
-pub stands_by : (w : Caller) (b : Book) (c : Call) → Standing b → Standing (called_by w b c).book
+pub stands_by : (w : Caller) (b : Book) (c : Call) (out : List ℕ) → Standing b → Standing (called_by w b c out).book
 unfolding called_by
-stands_by w b c g =
+stands_by w b c out g =
     by_test (has_right w c)
-    (λ r. rw (with_right_lem w b c r) (stands b c g))
-    (λ r. rw (refused_book (first_no (asks_by w b c)) b (lent_to c) (effect b c) (without_right w b c r)) g)
+    (λ r. rw (with_right_lem w b c out r) (stands b c out g))
+    (λ r. rw (refused_book (first_no (asks_by w b c out)) b out (effect b c) (without_right w b c out r)) g)
 
 stands_after : (w : Caller) (b : Book) (q q' : Request) → SameRequest q q' → Standing b → Standing (after_request w b q) × Standing (after_request w b q')
-stands_after w b _ _ (same_call c out h) g = (stands_by w b c g, stands_by w b (lending out c) g)
+stands_after w b _ _ (same_call c lent out h) g = (stands_by w b c lent g, stands_by w b c out g)
 stands_after w b _ _ (same_ask i k) g = (g, g)
 stands_after w b _ _ (same_unit i k) g = (g, g)
 stands_after w b _ _ (same_status i k) g = (g, g)

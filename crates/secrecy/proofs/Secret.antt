@@ -13,7 +13,7 @@ use Rattle.rules.specs.Measures.{output_words, owed_of}
 use Rattle.rules.specs.Ledger.{is_from, lots_of}
 use Rattle.rules.specs.Book.{is_taking, is_settling, is_cut, is_even, in_force, delivered_total, order_of, ledger_of, sound}
 use Rattle.rules.specs.Questions.{Question, ask, first_no, ask_sound, ask_issue, ask_account, ask_accounts, ask_lots}
-use Rattle.rules.specs.Calls.{Call, Trade, Close, Deliver, Ask, Commit, Cutoff, Resolve, PairOff, Roll, Mark, Turn, lent_to, asks, effect, ticket_answer, ticket_of, unit_answer}
+use Rattle.rules.specs.Calls.{Call, Trade, Close, Deliver, Ask, Commit, Cutoff, Resolve, PairOff, Roll, Mark, Turn, lends, asks, effect, ticket_answer, ticket_of, unit_answer}
 use Rattle.rules.specs.Access.{is_operator, owns, own_call, with_right, asks_by, called_by, asked_by, unit_by, LookAnswer, first_seen, look_answer, look_asks, seen_at, at_either, entries_at, those, may_read, look}
 use Rattle.laws.proofs.Basics.{by_test}
 use Rattle.laws.proofs.Answers.{all_yes}
@@ -22,7 +22,7 @@ use Rattle.told.specs.Status.{ask_not_taking, status_asks, status_answer, reason
 use Rattle.desks.specs.Desk.{plan, simulated}
 use Rattle.desks.specs.Simulation.{ask_settlements, simulation_asks, tried_answer, outcome}
 use Rattle.secrecy.specs.Requests.{status_by, simulation_by, number, ticket, a_unit, a_status, a_trial, an_account}
-use Rattle.secrecy.specs.Secrecy.{own_entry, Alike, lending, same_call, same_ask, same_unit, same_status, same_simulation, same_read, Secret}
+use Rattle.secrecy.specs.Secrecy.{own_entry, Alike, same_call, same_ask, same_unit, same_status, same_simulation, same_read, Secret}
 use Rattle.secrecy.proofs.Own.{those_those, lots_those, own_from, own_either}
 
 module _ (w : Caller) (b b' : Book) (s : sound b ≡ true) (s' : sound b' ≡ true) (l : Alike w b b') where
@@ -31,21 +31,21 @@ module _ (w : Caller) (b b' : Book) (s : sound b ≡ true) (s' : sound b' ≡ tr
 
   -- The questions before 27 read the phase and the numbers of the call alone
 
-  early : (c : Call) (out : List ℕ) → length (lent_to c) ≡ length out → early_of (asks b c) ≡ early_of (asks b' (lending out c))
-  early (Trade i f t x) out h = λ j. ask 2 (both j) ∷ ask 3 (is_taking (l.phase j)) ∷ ask_issue i ∷ ask_accounts f t ∷ []
-  early Close out h = λ j. ask 2 (both j) ∷ ask 3 (is_taking (l.phase j)) ∷ []
-  early (Deliver i a x lent) out h =
-      λ j. ask 1 (leb output_words (h j)) ∷ ask 2 (both j) ∷ ask 3 (is_settling (l.phase j)) ∷ ask_issue i ∷ ask_account a ∷ []
-  early (Ask i k) out h = λ j. ask 2 (both j) ∷ ask 3 (is_settling (l.phase j)) ∷ ask_issue i ∷ []
-  early (Commit t lent) out h =
-      λ j. ask 1 (leb output_words (h j)) ∷ ask 2 (both j) ∷ ask 3 (is_settling (l.phase j)) ∷ ask_issue t.issue ∷ []
-  early (Cutoff lent) out h = λ j. ask 1 (leb output_words (h j)) ∷ ask 2 (both j) ∷ ask 3 (is_settling (l.phase j)) ∷ []
-  early (Resolve i a x lent) out h =
-      λ j. ask 1 (leb output_words (h j)) ∷ ask 2 (both j) ∷ ask_issue i ∷ ask_account a ∷ []
-  early (PairOff i a) out h = λ j. ask 2 (both j) ∷ ask_issue i ∷ ask_account a ∷ []
-  early (Roll days rate quotes) out h = λ j. ask 2 (both j) ∷ ask 3 (is_cut (l.phase j)) ∷ []
-  early (Mark i m) out h = λ j. ask 2 (both j) ∷ ask_issue i ∷ []
-  early (Turn d) out h = λ j. ask 2 (both j) ∷ ask 26 (ltb (l.day j) d && not (in_force (l.turn j) (l.day j))) ∷ []
+  early : (c : Call) (lent out : List ℕ) → (lends c ≡ true → length lent ≡ length out) → early_of (asks b c lent) ≡ early_of (asks b' c out)
+  early (Trade i f t x) lent out h = λ j. ask 2 (both j) ∷ ask 3 (is_taking (l.phase j)) ∷ ask_issue i ∷ ask_accounts f t ∷ []
+  early Close lent out h = λ j. ask 2 (both j) ∷ ask 3 (is_taking (l.phase j)) ∷ []
+  early (Deliver i a x) lent out h =
+      λ j. ask 1 (leb output_words (h refl j)) ∷ ask 2 (both j) ∷ ask 3 (is_settling (l.phase j)) ∷ ask_issue i ∷ ask_account a ∷ []
+  early (Ask i k) lent out h = λ j. ask 2 (both j) ∷ ask 3 (is_settling (l.phase j)) ∷ ask_issue i ∷ []
+  early (Commit t) lent out h =
+      λ j. ask 1 (leb output_words (h refl j)) ∷ ask 2 (both j) ∷ ask 3 (is_settling (l.phase j)) ∷ ask_issue t.issue ∷ []
+  early Cutoff lent out h = λ j. ask 1 (leb output_words (h refl j)) ∷ ask 2 (both j) ∷ ask 3 (is_settling (l.phase j)) ∷ []
+  early (Resolve i a x) lent out h =
+      λ j. ask 1 (leb output_words (h refl j)) ∷ ask 2 (both j) ∷ ask_issue i ∷ ask_account a ∷ []
+  early (PairOff i a) lent out h = λ j. ask 2 (both j) ∷ ask_issue i ∷ ask_account a ∷ []
+  early (Roll days rate quotes) lent out h = λ j. ask 2 (both j) ∷ ask 3 (is_cut (l.phase j)) ∷ []
+  early (Mark i m) lent out h = λ j. ask 2 (both j) ∷ ask_issue i ∷ []
+  early (Turn d) lent out h = λ j. ask 2 (both j) ∷ ask 26 (ltb (l.day j) d && not (in_force (l.turn j) (l.day j))) ∷ []
 
   -- Those after it, of a participant's deliver and resolve, its own lots and entries
 
@@ -56,7 +56,7 @@ module _ (w : Caller) (b b' : Book) (s : sound b ≡ true) (s' : sound b' ≡ tr
     a<64 : a < 64
     a<64 = omega (arith, leb-true a 63 ha)
 
-    late_deliver : (lent out : List ℕ) → late_of (asks b (Deliver i a x lent)) ≡ late_of (asks b' (Deliver i a x out))
+    late_deliver : (lent out : List ℕ) → late_of (asks b (Deliver i a x) lent) ≡ late_of (asks b' (Deliver i a x) out)
     late_deliver lent out =
         λ j. ask_lots x
         ∷ ask 19 (cond (l.marks i i<16 j) (is_even x) true)
@@ -69,7 +69,7 @@ module _ (w : Caller) (b b' : Book) (s : sound b ≡ true) (s' : sound b' ≡ tr
         ∙ ap (lots_of (is_from i a)) l.entries
         ∙ lots_those (is_from i a) (own_entry w) (own_from w i a own) (ledger_of b')
 
-    late_resolve : (lent out : List ℕ) → late_of (asks b (Resolve i a x lent)) ≡ late_of (asks b' (Resolve i a x out))
+    late_resolve : (lent out : List ℕ) → late_of (asks b (Resolve i a x) lent) ≡ late_of (asks b' (Resolve i a x) out)
     late_resolve lent out =
         λ j. ask_lots x ∷ ask 19 (cond (l.marks i i<16 j) (is_even x) true) ∷ ask 9 (leb x (own_lots j)) ∷ []
 
@@ -84,48 +84,48 @@ module _ (w : Caller) (b b' : Book) (s : sound b ≡ true) (s' : sound b' ≡ tr
 
   -- The number of a call
 
-  refused : (c : Call) (out : List ℕ) → length (lent_to c) ≡ length out →
-      first_no (with_right false (asks b c)) ≡ first_no (with_right false (asks b' (lending out c)))
-  refused c out h = same_refusal (asks b c) (asks b' (lending out c)) (early c out h)
+  refused : (c : Call) (lent out : List ℕ) → (lends c ≡ true → length lent ≡ length out) →
+      first_no (with_right false (asks b c lent)) ≡ first_no (with_right false (asks b' c out))
+  refused c lent out h = same_refusal (asks b c lent) (asks b' c out) (early c lent out h)
 
-  pub numbers : (c : Call) (out : List ℕ) → length (lent_to c) ≡ length out →
-      first_no (with_right (own_call w c) (asks b c)) ≡ first_no (with_right (own_call w (lending out c)) (asks b' (lending out c)))
-  numbers (Trade i f t x) out h = refused (Trade i f t x) out h
-  numbers Close out h = refused Close out h
-  numbers (Deliver i a x lent) out h =
+  pub numbers : (c : Call) (lent out : List ℕ) → (lends c ≡ true → length lent ≡ length out) →
+      first_no (with_right (own_call w c) (asks b c lent)) ≡ first_no (with_right (own_call w c) (asks b' c out))
+  numbers (Trade i f t x) lent out h = refused (Trade i f t x) lent out h
+  numbers Close lent out h = refused Close lent out h
+  numbers (Deliver i a x) lent out h =
       by_test (owns w a)
       (λ own.
       rw own
-      (passes (asks b (Deliver i a x lent))
-      ∙ same_number (asks b (Deliver i a x lent)) (asks b' (Deliver i a x out)) (early (Deliver i a x lent) out h)
-      (λ z. let y = all_yes (early_of (asks b (Deliver i a x lent))) (omega arith) z in late_deliver i a x own y.1.1.1.0 y.1.1.1.1.0 lent out)
-      ∙ sym (passes (asks b' (Deliver i a x out)))))
-      (λ other. rw other (refused (Deliver i a x lent) out h))
-  numbers (Ask i k) out h = refused (Ask i k) out h
-  numbers (Commit t lent) out h = refused (Commit t lent) out h
-  numbers (Cutoff lent) out h = refused (Cutoff lent) out h
-  numbers (Resolve i a x lent) out h =
+      (passes (asks b (Deliver i a x) lent)
+      ∙ same_number (asks b (Deliver i a x) lent) (asks b' (Deliver i a x) out) (early (Deliver i a x) lent out h)
+      (λ z. let y = all_yes (early_of (asks b (Deliver i a x) lent)) (omega arith) z in late_deliver i a x own y.1.1.1.0 y.1.1.1.1.0 lent out)
+      ∙ sym (passes (asks b' (Deliver i a x) out))))
+      (λ other. rw other (refused (Deliver i a x) lent out h))
+  numbers (Ask i k) lent out h = refused (Ask i k) lent out h
+  numbers (Commit t) lent out h = refused (Commit t) lent out h
+  numbers Cutoff lent out h = refused Cutoff lent out h
+  numbers (Resolve i a x) lent out h =
       by_test (owns w a)
       (λ own.
       rw own
-      (passes (asks b (Resolve i a x lent))
-      ∙ same_number (asks b (Resolve i a x lent)) (asks b' (Resolve i a x out)) (early (Resolve i a x lent) out h)
-      (λ z. let y = all_yes (early_of (asks b (Resolve i a x lent))) (omega arith) z in late_resolve i a x own y.1.1.0 y.1.1.1.0 lent out)
-      ∙ sym (passes (asks b' (Resolve i a x out)))))
-      (λ other. rw other (refused (Resolve i a x lent) out h))
-  numbers (PairOff i a) out h = refused (PairOff i a) out h
-  numbers (Roll days rate quotes) out h = refused (Roll days rate quotes) out h
-  numbers (Mark i m) out h = refused (Mark i m) out h
-  numbers (Turn d) out h = refused (Turn d) out h
+      (passes (asks b (Resolve i a x) lent)
+      ∙ same_number (asks b (Resolve i a x) lent) (asks b' (Resolve i a x) out) (early (Resolve i a x) lent out h)
+      (λ z. let y = all_yes (early_of (asks b (Resolve i a x) lent)) (omega arith) z in late_resolve i a x own y.1.1.0 y.1.1.1.0 lent out)
+      ∙ sym (passes (asks b' (Resolve i a x) out))))
+      (λ other. rw other (refused (Resolve i a x) lent out h))
+  numbers (PairOff i a) lent out h = refused (PairOff i a) lent out h
+  numbers (Roll days rate quotes) lent out h = refused (Roll days rate quotes) lent out h
+  numbers (Mark i m) lent out h = refused (Mark i m) lent out h
+  numbers (Turn d) lent out h = refused (Turn d) lent out h
 
   module _ (isNot : is_operator w ≡ false) where
-    pub same_call_lem : (c : Call) (out : List ℕ) → length (lent_to c) ≡ length out →
-        (called_by w b c).refusal ≡ (called_by w b' (lending out c)).refusal
+    pub same_call_lem : (c : Call) (lent out : List ℕ) → (lends c ≡ true → length lent ≡ length out) →
+        (called_by w b c lent).refusal ≡ (called_by w b' c out).refusal
     unfolding called_by
-    same_call_lem c out h =
-        answer_number (first_no (asks_by w b c)) b (lent_to c) (effect b c)
-        ∙ (rw isNot (numbers c out h))
-        ∙ sym (answer_number (first_no (asks_by w b' (lending out c))) b' (lent_to (lending out c)) (effect b' (lending out c)))
+    same_call_lem c lent out h =
+        answer_number (first_no (asks_by w b c lent)) b lent (effect b c)
+        ∙ (rw isNot (numbers c lent out h))
+        ∙ sym (answer_number (first_no (asks_by w b' c out)) b' out (effect b' c))
 
     -- Questions that are the operator's alone
 
@@ -134,7 +134,7 @@ module _ (w : Caller) (b b' : Book) (s : sound b ≡ true) (s' : sound b' ≡ tr
     same_ask_lem i k =
         rw isNot
         (by_refusal ticket_answer (λ n t t'. refl) _ _ (ticket_of b.state.day (order_of b) b.lifts i k) (ticket_of b'.state.day (order_of b') b'.lifts i k)
-        (refused_by_lem (asks b (Ask i k)) (omega arith)) (refused (Ask i k) [] refl))
+        (refused_by_lem (asks b (Ask i k) []) (omega arith)) (refused (Ask i k) [] [] (λ e. refl)))
 
     pub same_unit_lem : (i k : ℕ) → unit_by w b i k ≡ unit_by w b' i k
     unfolding unit_by
@@ -190,7 +190,7 @@ module _ (w : Caller) (b b' : Book) (s : sound b ≡ true) (s' : sound b' ≡ tr
 
 -- to every request
 pub secret : Secret
-secret w isNot b b' s s' l _ _ (same_call c out h) = rw isNot (ap number (same_call_lem w b b' s s' l isNot c out h))
+secret w isNot b b' s s' l _ _ (same_call c lent out h) = rw isNot (ap number (same_call_lem w b b' s s' l isNot c lent out h))
 secret w isNot b b' s s' l _ _ (same_ask i k) = ap ticket (same_ask_lem w b b' s s' l isNot i k)
 secret w isNot b b' s s' l _ _ (same_unit i k) = ap a_unit (same_unit_lem w b b' s s' l isNot i k)
 secret w isNot b b' s s' l _ _ (same_status i k) = ap a_status (same_status_lem w b b' s s' l isNot i k)

@@ -21,10 +21,10 @@ simulation_by w b settles inventories size =
     tried_answer (first_no (with_right (is_operator w) (simulation_asks (sound b) settles inventories size)))
     (outcome (plan b.nets settles size) (simulated (plan b.nets settles size) inventories))
 
--- a call (trade, close, deliver, ask, commit, cutoff, resolve, pair-off, roll, mark, turn); the ticket that asking gives; a
--- unit; why it has not come; a simulation; an account read
+-- a call (trade, close, deliver, ask, commit, cutoff, resolve, pair-off, roll, mark, turn) with the output beside it; the ticket
+-- that asking gives; a unit; why it has not come; a simulation; an account read
 pub data Request : Type 0 where
-  make : Call → Request
+  make : Call → List ℕ → Request
   ask_for : ℕ → ℕ → Request
   unit_of : ℕ → ℕ → Request
   status_of : ℕ → ℕ → Request
@@ -45,7 +45,7 @@ abbrev pub told : Caller → Answer → Reply
 told w r = cond (is_operator w) (whole r) (number r.refusal)
 
 abbrev pub reply : Caller → Book → Request → Reply
-reply w b (make c) = told w (called_by w b c)
+reply w b (make c out) = told w (called_by w b c out)
 reply w b (ask_for i k) = ticket (asked_by w b i k)
 reply w b (unit_of i k) = a_unit (unit_by w b i k)
 reply w b (status_of i k) = a_status (status_by w b i k)
@@ -54,7 +54,7 @@ reply w b (read i a k) = an_account (look w b i a k)
 
 -- the book after a request: only a call changes it
 abbrev pub after_request : Caller → Book → Request → Book
-after_request w b (make c) = (called_by w b c).book
+after_request w b (make c out) = (called_by w b c out).book
 after_request w b (ask_for i k) = b
 after_request w b (unit_of i k) = b
 after_request w b (status_of i k) = b

@@ -5,7 +5,7 @@ use Rattle.rules.specs.declared.Caller.{Caller}
 use Rattle.rules.specs.declared.Entry.{Entry}
 use Rattle.rules.specs.Measures.{issue_count, account_count}
 use Rattle.rules.specs.Book.{net_at, delivered_at, is_marked, ledger_of, sound}
-use Rattle.rules.specs.Calls.{Call, Trade, Close, Deliver, Ask, Commit, Cutoff, Resolve, PairOff, Roll, Mark, Turn, lent_to}
+use Rattle.rules.specs.Calls.{Call, lends}
 use Rattle.rules.specs.Access.{is_operator, owns, those, charge_at}
 use Rattle.secrecy.specs.Requests.{Request, make, ask_for, unit_of, status_of, simulate, read, Reply, reply, after_request}
 
@@ -25,23 +25,9 @@ pub record Alike (w : Caller) (b b' : Book) : Type 0 where
   pub charges : (a : ℕ) → a < account_count → owns w a ≡ true → charge_at b.charges a ≡ charge_at b'.charges a
   pub entries : those (own_entry w) (ledger_of b) ≡ those (own_entry w) (ledger_of b')
 
--- the same call with another output lent to it
-abbrev pub lending : List ℕ → Call → Call
-lending out (Trade i f t x) = Trade i f t x
-lending out Close = Close
-lending out (Deliver i a x lent) = Deliver i a x out
-lending out (Ask i k) = Ask i k
-lending out (Commit t lent) = Commit t out
-lending out (Cutoff lent) = Cutoff out
-lending out (Resolve i a x lent) = Resolve i a x out
-lending out (PairOff i a) = PairOff i a
-lending out (Roll days rate quotes) = Roll days rate quotes
-lending out (Mark i m) = Mark i m
-lending out (Turn d) = Turn d
-
--- the same request: of an output only the length counts
+-- the same request: of an output that is lent only the length counts, and of any other nothing
 pub data SameRequest : Request → Request → Type 0 where
-  same_call : (c : Call) (out : List ℕ) → length (lent_to c) ≡ length out → SameRequest (make c) (make (lending out c))
+  same_call : (c : Call) (lent out : List ℕ) → (lends c ≡ true → length lent ≡ length out) → SameRequest (make c lent) (make c out)
   same_ask : (i k : ℕ) → SameRequest (ask_for i k) (ask_for i k)
   same_unit : (i k : ℕ) → SameRequest (unit_of i k) (unit_of i k)
   same_status : (i k : ℕ) → SameRequest (status_of i k) (status_of i k)

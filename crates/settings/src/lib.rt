@@ -1,12 +1,12 @@
 // mark: its questions over nets and ledger, and its effect on the marks. turn: its question.
 #![tactic(auto)]
 
-ghost use Rattle.std.specs.Prelude.{◌≡◌, List, [], ℕ, ◌≤◌, ◌<◌, min, nat_abs, length, ◌&&◌, not, ltb, eqb};
+ghost use Rattle.std.specs.Prelude.{◌≡◌, List, ℕ, ◌≤◌, ◌<◌, min, nat_abs, length, ◌&&◌, not, ltb, eqb};
 ghost use Rattle.rules.specs.Refusals.{number_in};
 ghost use Rattle.rules.specs.Book.{all, is_zero, entries as entries_of, in_force};
 ghost use Rattle.rules.specs.Questions.{first_no, no_entry};
 ghost use Rattle.rules.specs.Calls.{mark_asks, marked_as, turn_asks, Mark, Turn as NameTurn};
-ghost use Rattle.answers.specs.Turns.{Turns, on_state, on_marks, mark_ready};
+ghost use Rattle.answers.specs.Turns.{TurnsAlone, on_state, on_marks, mark_ready};
 
 use answers::Turn;
 use rules::{ACCOUNT_COUNT, ISSUE_COUNT, LAST_ISSUE, Refusal, State};
@@ -95,7 +95,7 @@ pub fn mark<'a>(
     m: u32,
 ) -> Result<Turn, Refusal>
     requires { mark_ready s nets issues }
-    ensures { Turns (on_marks nets issues) s (Mark i m) result [] }
+    ensures { TurnsAlone (on_marks nets issues) s (Mark i m) result }
 {
     mark_asks(s, nets, issues, i)?;
     let marks = s.marks;
@@ -105,7 +105,7 @@ pub fn mark<'a>(
 
 // turn: the first day on which full units are dealt in turn, unless it is refused.
 pub fn turn(s: State, d: u32) -> Result<Turn, Refusal>
-    ensures { Turns on_state s (NameTurn d) result [] }
+    ensures { TurnsAlone on_state s (NameTurn d) result }
 {
     turn_asks(s, d)?;
     let next = book::with_turn(s, d);

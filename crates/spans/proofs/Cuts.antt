@@ -37,7 +37,7 @@ fresh_stands =
 
 pub answer_stands : (b : Book) (x : Instruction) (ws : List ℕ) → Standing b → Standing (answer_of b x ws).book
 unfolding answer_of
-answer_stands b x ws s = stands b (call_of x (quotes_of ws) any_output) s
+answer_stands b x ws s = stands b (call_of x (quotes_of ws)) any_output s
 
 -- What is put into the ledger
 

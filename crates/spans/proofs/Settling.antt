@@ -74,41 +74,41 @@ module _ (b : Book) (x : Instruction) (r : Answer) (d : r.book.state.day ≡ b.s
 turn_moves : (b : Book) (x : Instruction) (ws : List ℕ) → Moves (turn_of b x ws)
 unfolding answer_of
 turn_moves b (instruction.Trade i f t x) ws =
-    by_answer (λ r. Moves (answered_as b (instruction.Trade i f t x) r)) b (call_of (instruction.Trade i f t x) (quotes_of ws) any_output)
+    by_answer (λ r. Moves (answered_as b (instruction.Trade i f t x) r)) b (call_of (instruction.Trade i f t x) (quotes_of ws)) any_output
     (λ y. record { least = omega arith; quiet = λ e. refl; still = λ e g. absurd (g (taking_place b.state.phase y.1.0)) })
     (λ r. leaves b (instruction.Trade i f t x) _ refl refl refl refl)
 turn_moves b (instruction.Deliver i a x) ws =
-    by_answer (λ r. Moves (answered_as b (instruction.Deliver i a x) r)) b (call_of (instruction.Deliver i a x) (quotes_of ws) any_output)
+    by_answer (λ r. Moves (answered_as b (instruction.Deliver i a x) r)) b (call_of (instruction.Deliver i a x) (quotes_of ws)) any_output
     (λ y. leaves b (instruction.Deliver i a x) _ refl refl refl refl) (λ r. leaves b (instruction.Deliver i a x) _ refl refl refl refl)
 turn_moves b (instruction.Resolve i a x) ws =
-    by_answer (λ r. Moves (answered_as b (instruction.Resolve i a x) r)) b (call_of (instruction.Resolve i a x) (quotes_of ws) any_output)
+    by_answer (λ r. Moves (answered_as b (instruction.Resolve i a x) r)) b (call_of (instruction.Resolve i a x) (quotes_of ws)) any_output
     (λ y. leaves b (instruction.Resolve i a x) _ refl refl refl refl) (λ r. leaves b (instruction.Resolve i a x) _ refl refl refl refl)
 turn_moves b (instruction.PairOff i a) ws =
-    by_answer (λ r. Moves (answered_as b (instruction.PairOff i a) r)) b (call_of (instruction.PairOff i a) (quotes_of ws) any_output)
+    by_answer (λ r. Moves (answered_as b (instruction.PairOff i a) r)) b (call_of (instruction.PairOff i a) (quotes_of ws)) any_output
     (λ y. leaves b (instruction.PairOff i a) _ refl refl refl refl) (λ r. leaves b (instruction.PairOff i a) _ refl refl refl refl)
 turn_moves b instruction.Close ws =
-    by_answer (λ r. Moves (answered_as b instruction.Close r)) b (call_of instruction.Close (quotes_of ws) any_output)
+    by_answer (λ r. Moves (answered_as b instruction.Close r)) b (call_of instruction.Close (quotes_of ws)) any_output
     (λ y.
     let k = taking_place b.state.phase y.1.0 in
     record { least = omega (arith, k); quiet = λ e. refl; still = λ e g. refl })
     (λ r. leaves b instruction.Close _ refl refl refl refl)
 turn_moves b instruction.Cutoff ws =
-    by_answer (λ r. Moves (answered_as b instruction.Cutoff r)) b (call_of instruction.Cutoff (quotes_of ws) any_output)
+    by_answer (λ r. Moves (answered_as b instruction.Cutoff r)) b (call_of instruction.Cutoff (quotes_of ws)) any_output
     (λ y.
     let k = settling_place b.state.phase y.1.1.0 in
     record { least = omega (arith, k); quiet = λ e. absurd (omega (arith, k, e)); still = λ e g. refl })
     (λ r. leaves b instruction.Cutoff _ refl refl refl refl)
 turn_moves b (instruction.Roll days rate) ws =
-    by_answer (λ r. Moves (answered_as b (instruction.Roll days rate) r)) b (call_of (instruction.Roll days rate) (quotes_of ws) any_output)
+    by_answer (λ r. Moves (answered_as b (instruction.Roll days rate) r)) b (call_of (instruction.Roll days rate) (quotes_of ws)) any_output
     (λ y.
     let k = cut_place b.state.phase y.1.0 in
     record { least = omega (arith, k); quiet = λ e. refl; still = λ e g. absurd (omega (arith, k, e)) })
     (λ r. leaves b (instruction.Roll days rate) _ refl refl refl refl)
 turn_moves b (instruction.Mark i m) ws =
-    by_answer (λ r. Moves (answered_as b (instruction.Mark i m) r)) b (call_of (instruction.Mark i m) (quotes_of ws) any_output)
+    by_answer (λ r. Moves (answered_as b (instruction.Mark i m) r)) b (call_of (instruction.Mark i m) (quotes_of ws)) any_output
     (λ y. leaves b (instruction.Mark i m) _ refl refl refl refl) (λ r. leaves b (instruction.Mark i m) _ refl refl refl refl)
 turn_moves b (instruction.Turn d) ws =
-    by_answer (λ r. Moves (answered_as b (instruction.Turn d) r)) b (call_of (instruction.Turn d) (quotes_of ws) any_output)
+    by_answer (λ r. Moves (answered_as b (instruction.Turn d) r)) b (call_of (instruction.Turn d) (quotes_of ws)) any_output
     (λ y. leaves b (instruction.Turn d) _ refl refl refl refl) (λ r. leaves b (instruction.Turn d) _ refl refl refl refl)
 
 -- Turns from a book on

@@ -46,7 +46,7 @@ module _ (i a : ℕ) (hi : i < 16) (ha : a < 64) where
   cutoff_whole : (b : Book) → Standing b → (ws : List ℕ) → Whole i a (turn_of b instruction.Cutoff ws)
   unfolding answer_of
   cutoff_whole b s ws =
-      by_answer (λ r. Whole i a (record { instruction = instruction.Cutoff; before = b; answer = r })) b (Cutoff any_output)
+      by_answer (λ r. Whole i a (record { instruction = instruction.Cutoff; before = b; answer = r })) b Cutoff any_output
       (λ y. omega (arith, cut_owed b s i a hi ha)) (λ r. refl)
 
   turn_whole : (b : Book) → Standing b → (x : Instruction) (ws : List ℕ) → Whole i a (turn_of b x ws)

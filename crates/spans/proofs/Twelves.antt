@@ -166,7 +166,7 @@ none_failed = total_zero (λ a. 0) (λ a. refl) all_accounts
 cutoff_told : (b : Book) → Standing b → (i : ℕ) (ws : List ℕ) → Told i (turn_of b instruction.Cutoff ws)
 unfolding answer_of
 cutoff_told b s i ws =
-    by_answer (λ r. Standing r.book → Told i (record { instruction = instruction.Cutoff; before = b; answer = r })) b (Cutoff any_output)
+    by_answer (λ r. Standing r.book → Told i (record { instruction = instruction.Cutoff; before = b; answer = r })) b Cutoff any_output
     (λ y k. cut_twelves b s i k any_output) (λ r k. none_failed) (answer_stands b instruction.Cutoff ws s)
 
 turn_told : (i : ℕ) (b : Book) → Standing b → (x : Instruction) (ws : List ℕ) → Told i (turn_of b x ws)

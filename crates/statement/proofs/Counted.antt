@@ -61,7 +61,7 @@ module _ (i a : ℕ) (hi : i < 16) (ha : a < 64) (c : Statement) where
   unfolding answer_of
   cuts b s ws =
       by_answer (λ r. added_in c instruction.Cutoff r.refusal (net_at b.nets i a) (delivered_at b.delivered i a) i a
-      ≡ plus_turn i a c (record { instruction = instruction.Cutoff; before = b; answer = r })) b (Cutoff any_output)
+      ≡ plus_turn i a c (record { instruction = instruction.Cutoff; before = b; answer = r })) b Cutoff any_output
       (λ y. same_statement _ _ _ _ _ _ _ _ refl refl (omega (arith, cut_owed b s i a hi ha)) (omega arith))
       (λ r. same_statement _ _ _ _ _ _ _ _ (omega arith) (omega arith) (omega arith) (omega arith))
 

@@ -15,8 +15,8 @@ use Rattle.rules.specs.Measures.{unit_lots, total, due_of, owed_of}
 use Rattle.rules.specs.Units.{AccountLots, of_account}
 use Rattle.rules.specs.Handover.{covered, handed, partials}
 use Rattle.rules.specs.Book.{cell, row, net_at, delivered_total, order_of, stock_of, ledger_of, is_marked, sound, dealt_today}
-use Rattle.rules.specs.Calls.{Call, Commit, Cutoff, called}
-use Rattle.rules.specs.Tally.{Tallied, after, after_all, start, no_lots, units_today}
+use Rattle.rules.specs.Calls.{Commit, Cutoff, called}
+use Rattle.rules.specs.Tally.{Tallied, CallList, after, after_all, start, no_lots, units_today}
 use Rattle.laws.proofs.Basics.{by_test, and_left, and_right, total_append, Every, each_map}
 use Rattle.laws.proofs.Fails.{additive_account}
 use Rattle.laws.proofs.Cutoff.{settled}
@@ -33,7 +33,7 @@ use Rattle.tally.proofs.Reached.{reached_standing, reached_sound}
 use Rattle.tally.proofs.Settles.{net_today, Settled, cutoff_settles}
 
 -- every book that a list of calls reaches is sound
-pub every_book_is_sound : (cs : List Call) → sound (after_all start cs).book ≡ true
+pub every_book_is_sound : (cs : CallList) → sound (after_all start cs).book ≡ true
 every_book_is_sound = reached_sound
 
 -- lots of an issue that are even
@@ -45,7 +45,7 @@ pub record EvenIssue (b : Book) (i : ℕ) : Type 0 where
   pub fails : Every (λ e. e.issue ≡ i → Even e.lots) (ledger_of b)
 
 -- of every book that a list of calls reaches, a marked issue has even lots only
-pub a_marked_issue_is_even : (cs : List Call) (i : ℕ) → i < 16 → is_marked (after_all start cs).book.state.marks i ≡ true → EvenIssue (after_all start cs).book i
+pub a_marked_issue_is_even : (cs : CallList) (i : ℕ) → i < 16 → is_marked (after_all start cs).book.state.marks i ≡ true → EvenIssue (after_all start cs).book i
 a_marked_issue_is_even cs i h m =
     let b = (after_all start cs).book in
     let g = (reached_standing cs).parts in
@@ -60,7 +60,7 @@ a_marked_issue_is_even cs i h m =
       fails = each_map (EvenEntry b.state.marks) (λ e. e.issue ≡ i → Even e.lots) (λ e p q. p (rw q m)) (ledger_of b) g.even_entries;
     }
 
-module _ (cs : List Call) where
+module _ (cs : CallList) where
   abbrev s : Tallied
   s = after_all start cs
 
@@ -118,16 +118,16 @@ module _ (cs : List Call) where
 
   -- after an accepted cutoff the house holds nothing, every account's due is what it was handed and
   -- what is failed to it, and what it owes is what it gave and what it fails
-  pub a_cutoff_settles_the_day : (out : List ℕ) → (called s.book (Cutoff out)).refusal ≡ 0 → Settled s (after s (Cutoff out))
+  pub a_cutoff_settles_the_day : (out : List ℕ) → (called s.book Cutoff out).refusal ≡ 0 → Settled s (after s Cutoff out)
   a_cutoff_settles_the_day out h = cutoff_settles s (reached cs) out h
 
   -- a commit hands at most one unit over
-  pub a_commit_hands_at_most_one_unit : (t : Ticket) (out : List ℕ) → (called s.book (Commit t out)).count ≤ 1
+  pub a_commit_hands_at_most_one_unit : (t : Ticket) (out : List ℕ) → (called s.book (Commit t) out).count ≤ 1
   a_commit_hands_at_most_one_unit t out =
       let b = s.book in
       let us = order_of b t.issue in
       let h = covered us (delivered_total b.delivered t.issue) in
-      by_answer (λ r. r.count ≤ 1) b (Commit t out)
+      by_answer (λ r. r.count ≤ 1) b (Commit t) out
       (λ y.
       let there = y.1.1.1.1.0 in
       commit_few (order_of b) b.delivered t (leb-true h t.unit (and_left (leb h t.unit) (ltb t.unit (length us)) there))

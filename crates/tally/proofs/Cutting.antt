@@ -155,7 +155,7 @@ module _ (s : Tallied) (v : Inv s) (g : SoundBook s.book) (p : is_settling s.boo
         new_to b j a hj,
       )
 
-  pub cut_inv : Inv (did (Cutoff []) (writes (with_ledger (with_state b (with_phase b.state Cut)) (ledger_of b ++ new)) rs) s)
+  pub cut_inv : Inv (did Cutoff (writes (with_ledger (with_state b (with_phase b.state Cut)) (ledger_of b ++ new)) rs) s)
   cut_inv = record {
     size_nets = v.size_nets;
     size_delivered = v.size_delivered;
@@ -187,11 +187,11 @@ module _ (s : Tallied) (v : Inv s) (g : SoundBook s.book) (p : is_settling s.boo
     charges = v.charges;
   }
 
-pub keeps_cutoff : (s : Tallied) → Inv s → (out : List ℕ) → Keeps (Cutoff out) s (called s.book (Cutoff out))
+pub keeps_cutoff : (s : Tallied) → Inv s → (out : List ℕ) → Keeps Cutoff s (called s.book Cutoff out)
 keeps_cutoff s v out =
     let b = s.book in
     let rs = cutoff_records b.state.day (order_of b) b.nets b.delivered in
-    by_answer (Keeps (Cutoff out) s) b (Cutoff out)
+    by_answer (Keeps Cutoff s) b Cutoff out
     (λ y.
     let g = sound_parts b y.1.0 in
     let p = y.1.1.0 in

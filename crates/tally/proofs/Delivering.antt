@@ -2,7 +2,7 @@
 -- stays a front of it.
 use mathlib.Core.Path.{◌≡◌, sym, ap, ◌∙◌}
 use mathlib.Core.Bool.{true, false≢true}
-use mathlib.Core.List.{List, [], ◌++◌, append-nil}
+use mathlib.Core.List.{List, ◌++◌, append-nil}
 use Prim.Native.Nat.{ℕ, ◌+◌, ◌≤◌, ◌<◌}
 use native.Mathlib.Omega.{arith}
 use lib.Dec.{eqb}
@@ -86,7 +86,7 @@ module _ (s : Tallied) (v : Inv s) (i a x : ℕ) (hi : i < 16) (ha : a < 64) (g 
         append-nil (s.tally.rows j),
       ) (v.rows j hj)))
 
-  delivered_inv : Inv (did (Deliver i a x []) (writes (with_lifts (with_delivered s.book ds) (raised_count s.book.lifts i)) rs) s)
+  delivered_inv : Inv (did (Deliver i a x) (writes (with_lifts (with_delivered s.book ds) (raised_count s.book.lifts i)) rs) s)
   delivered_inv = record {
     size_nets = v.size_nets;
     size_delivered = simp length-set v.size_delivered;
@@ -109,11 +109,11 @@ module _ (s : Tallied) (v : Inv s) (i a x : ℕ) (hi : i < 16) (ha : a < 64) (g 
     charges = v.charges;
   }
 
-pub keeps_deliver : (s : Tallied) → Inv s → (i a x : ℕ) (out : List ℕ) → Keeps (Deliver i a x out) s (called s.book (Deliver i a x out))
+pub keeps_deliver : (s : Tallied) → Inv s → (i a x : ℕ) (out : List ℕ) → Keeps (Deliver i a x) s (called s.book (Deliver i a x) out)
 keeps_deliver s v i a x out =
     let b = s.book in
     let rs = deliver_records (order_of b) b.delivered i x in
-    by_answer (Keeps (Deliver i a x out) s) b (Deliver i a x out)
+    by_answer (Keeps (Deliver i a x) s) b (Deliver i a x) out
     (λ y.
     let hi : i < 16 = omega (arith, leb-true i 15 y.1.1.1.0) in
     let ha : a < 64 = omega (arith, leb-true a 63 y.1.1.1.1.0) in

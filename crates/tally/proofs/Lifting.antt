@@ -2,7 +2,7 @@
 -- stays a front of it, and the place of the new lift is the row's length.
 use mathlib.Core.Path.{◌≡◌, refl, sym, ap, ◌∙◌}
 use mathlib.Core.Bool.{true}
-use mathlib.Core.List.{List, [], ◌++◌, append-nil}
+use mathlib.Core.List.{List, ◌++◌, append-nil}
 use Prim.Native.Nat.{ℕ, ◌<◌}
 use native.Mathlib.Omega.{arith}
 use lib.Dec.{eqb}
@@ -29,8 +29,8 @@ use Rattle.laws.proofs.Answers.{by_answer}
 use Rattle.tally.proofs.Invariant.{RowIs, Inv, Keeps, did}
 use Rattle.tally.proofs.Delivering.{to_settling, of_settling}
 
-pub keeps_ask : (s : Tallied) → Inv s → (i k : ℕ) → Keeps (Ask i k) s (called s.book (Ask i k))
-keeps_ask s v i k = by_answer (Keeps (Ask i k) s) s.book (Ask i k) (λ y. v) (λ r. v)
+pub keeps_ask : (s : Tallied) → Inv s → (i k : ℕ) (out : List ℕ) → Keeps (Ask i k) s (called s.book (Ask i k) out)
+keeps_ask s v i k out = by_answer (Keeps (Ask i k) s) s.book (Ask i k) out (λ y. v) (λ r. v)
 
 module _ (s : Tallied) (v : Inv s) (t : Ticket) (hi : t.issue < 16) (p : is_settling s.book.state.phase ≡ true)
     (few : lift_number s.book.lifts t.issue < 8) where
@@ -101,7 +101,7 @@ module _ (s : Tallied) (v : Inv s) (t : Ticket) (hi : t.issue < 16) (p : is_sett
       (append-nil (s.tally.lifts j) ∙ v.lifts j hj
       ∙ sym (ap (λ ws. places_in (get_or ws 0 0) (drop 2 ws)) (lift_other b.lifts i l few j (eqb-false j i e)))))
 
-  committed_inv : Inv (did (Commit t []) (writes (with_lifts b new) rs) s)
+  committed_inv : Inv (did (Commit t) (writes (with_lifts b new) rs) s)
   committed_inv = record {
     size_nets = v.size_nets;
     size_delivered = v.size_delivered;
@@ -119,11 +119,11 @@ module _ (s : Tallied) (v : Inv s) (t : Ticket) (hi : t.issue < 16) (p : is_sett
     charges = v.charges;
   }
 
-pub keeps_commit : (s : Tallied) → Inv s → (t : Ticket) (out : List ℕ) → Keeps (Commit t out) s (called s.book (Commit t out))
+pub keeps_commit : (s : Tallied) → Inv s → (t : Ticket) (out : List ℕ) → Keeps (Commit t) s (called s.book (Commit t) out)
 keeps_commit s v t out =
     let b = s.book in
     let rs = commit_records (order_of b) b.delivered t in
-    by_answer (Keeps (Commit t out) s) b (Commit t out)
+    by_answer (Keeps (Commit t) s) b (Commit t) out
     (λ y.
     let hi : t.issue < 16 = omega (arith, leb-true t.issue 15 y.1.1.1.0) in
     let p = y.1.1.0 in

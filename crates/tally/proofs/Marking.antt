@@ -1,6 +1,7 @@
 -- Mark and turn keep the invariant: the book differs in its marks or in its day of the new order alone, and no order
 -- changes today.
 use mathlib.Core.Path.{refl, sym, subst}
+use mathlib.Core.List.{List}
 use Prim.Native.Nat.{ℕ}
 use Rattle.rules.specs.Calls.{Mark, Turn, called}
 use Rattle.rules.specs.Book.{order_in, delivered_total}
@@ -9,9 +10,9 @@ use Rattle.laws.proofs.Answers.{by_answer}
 use Rattle.laws.proofs.Kept.{turn_same}
 use Rattle.tally.proofs.Invariant.{Inv, Keeps, RowIs}
 
-pub keeps_mark : (s : Tallied) → Inv s → (i m : ℕ) → Keeps (Mark i m) s (called s.book (Mark i m))
-keeps_mark s v i m =
-    by_answer (Keeps (Mark i m) s) s.book (Mark i m)
+pub keeps_mark : (s : Tallied) → Inv s → (i m : ℕ) (out : List ℕ) → Keeps (Mark i m) s (called s.book (Mark i m) out)
+keeps_mark s v i m out =
+    by_answer (Keeps (Mark i m) s) s.book (Mark i m) out
     (λ y. record {
       size_nets = v.size_nets;
       size_delivered = v.size_delivered;
@@ -30,10 +31,10 @@ keeps_mark s v i m =
     })
     (λ r. v)
 
-pub keeps_turn : (s : Tallied) → Inv s → (d : ℕ) → Keeps (Turn d) s (called s.book (Turn d))
-keeps_turn s v d =
+pub keeps_turn : (s : Tallied) → Inv s → (d : ℕ) (out : List ℕ) → Keeps (Turn d) s (called s.book (Turn d) out)
+keeps_turn s v d out =
     let b = s.book in
-    by_answer (Keeps (Turn d) s) b (Turn d)
+    by_answer (Keeps (Turn d) s) b (Turn d) out
     (λ y. record {
       size_nets = v.size_nets;
       size_delivered = v.size_delivered;

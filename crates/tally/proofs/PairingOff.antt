@@ -143,11 +143,11 @@ unfolding pairing
 pairing_balance today i a es ss j c =
     paired_balance (in_and_out i a es) today i a es (each_map SoundEntry Apart (λ e s. s.apart) es ss) j c
 
-pub keeps_pair_off : (s : Tallied) → Inv s → (i a : ℕ) → Keeps (PairOff i a) s (called s.book (PairOff i a))
-keeps_pair_off s v i a =
+pub keeps_pair_off : (s : Tallied) → Inv s → (i a : ℕ) (out : List ℕ) → Keeps (PairOff i a) s (called s.book (PairOff i a) out)
+keeps_pair_off s v i a out =
     let b = s.book in
     let p = pairing b.state.day i a (ledger_of b) in
-    by_answer (Keeps (PairOff i a) s) b (PairOff i a)
+    by_answer (Keeps (PairOff i a) s) b (PairOff i a) out
     (λ y. record {
       size_nets = v.size_nets;
       size_delivered = v.size_delivered;

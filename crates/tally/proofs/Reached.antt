@@ -12,7 +12,7 @@ use Rattle.rules.specs.Measures.{most_entries}
 use Rattle.rules.specs.Ledger.{is_from, meet, pairing}
 use Rattle.rules.specs.Book.{order_of, ledger_of, sound, column, LedgerLengths, Lengths, fresh}
 use Rattle.rules.specs.Calls.{Call, Trade, Close, Deliver, Ask, Commit, Cutoff, Resolve, PairOff, Roll, Mark, Turn, new_entries, effect, called}
-use Rattle.rules.specs.Tally.{Tallied, answered, after, after_all, start}
+use Rattle.rules.specs.Tally.{Tallied, CallList, answered, after, after_all, start}
 use Rattle.laws.proofs.Sound.{SoundBook, sound_parts, parts_sound}
 use Rattle.laws.proofs.Ledger.{length_column}
 use Rattle.laws.proofs.Answers.{by_answer}
@@ -26,14 +26,14 @@ start_standing =
       parts = sound_parts fresh fresh_sound;
     }
 
-stands_all : (s : Tallied) (cs : List Call) → Standing s.book → Standing (after_all s cs).book
+stands_all : (s : Tallied) (cs : CallList) → Standing s.book → Standing (after_all s cs).book
 stands_all s [] g = g
-stands_all s (c ∷ cs) g = stands_all (after s c) cs (stands s.book c g)
+stands_all s (c ∷ cs) g = stands_all (after s c.0 c.1) cs (stands s.book c.0 c.1 g)
 
-pub reached_standing : (cs : List Call) → Standing (after_all start cs).book
+pub reached_standing : (cs : CallList) → Standing (after_all start cs).book
 reached_standing cs = stands_all start cs start_standing
 
-pub reached_sound : (cs : List Call) → sound (after_all start cs).book ≡ true
+pub reached_sound : (cs : CallList) → sound (after_all start cs).book ≡ true
 reached_sound cs = parts_sound (after_all start cs).book (reached_standing cs).parts
 
 -- The ledger's columns: a call leaves them, or writes them anew
@@ -61,30 +61,30 @@ start_ledger =
 ledger_kept : (b : Book) (c : Call) → SoundBook (effect b c).book → LedgerOf b → LedgerOf (effect b c).book
 ledger_kept b (Trade i f t x) g l = l
 ledger_kept b Close g l = l
-ledger_kept b (Deliver i a x out) g l = l
+ledger_kept b (Deliver i a x) g l = l
 ledger_kept b (Ask i k) g l = l
-ledger_kept b (Commit t out) g l = l
-ledger_kept b (Cutoff out) g l =
+ledger_kept b (Commit t) g l = l
+ledger_kept b Cutoff g l =
     written (ledger_of b ++ new_entries b.state.day (order_of b) b.nets b.delivered) g.ledger.count
-ledger_kept b (Resolve i a x out) g l = written (meet (is_from i a) x (ledger_of b)) g.ledger.count
+ledger_kept b (Resolve i a x) g l = written (meet (is_from i a) x (ledger_of b)) g.ledger.count
 ledger_kept b (PairOff i a) g l = written (pairing b.state.day i a (ledger_of b)).ledger g.ledger.count
 ledger_kept b (Roll days rate quotes) g l = l
 ledger_kept b (Mark i m) g l = l
 ledger_kept b (Turn d) g l = l
 
-ledger_all : (s : Tallied) (cs : List Call) → Standing s.book → LedgerOf s.book → LedgerOf (after_all s cs).book
+ledger_all : (s : Tallied) (cs : CallList) → Standing s.book → LedgerOf s.book → LedgerOf (after_all s cs).book
 ledger_all s [] g l = l
 ledger_all s (c ∷ cs) g l =
-    let h = stands s.book c g in
-    ledger_all (after s c) cs h
-    (by_answer (λ r. SoundBook r.book → LedgerOf r.book) s.book c (λ y k. ledger_kept s.book c k l) (λ r k. l) h.parts)
+    let h = stands s.book c.0 c.1 g in
+    ledger_all (after s c.0 c.1) cs h
+    (by_answer (λ r. SoundBook r.book → LedgerOf r.book) s.book c.0 c.1 (λ y k. ledger_kept s.book c.0 k l) (λ r k. l) h.parts)
 
 -- a book that is reached
 pub record Reached (b : Book) : Type 0 where
   pub lengths : Lengths b.nets b.delivered b.lifts b.charges b.issues b.froms b.tos b.lots b.days
   pub sound : sound b ≡ true
 
-pub reached : (cs : List Call) → Reached (after_all start cs).book
+pub reached : (cs : CallList) → Reached (after_all start cs).book
 reached cs =
     let z = (reached_standing cs).sizes in
     record {
@@ -98,22 +98,22 @@ reached cs =
     }
 
 -- after any call on a sound book in columns of a book's lengths, so is the book
-pub called_reached : (b : Book) (c : Call) → Reached b → Reached (called b c).book
-called_reached b c r =
+pub called_reached : (b : Book) (c : Call) (out : List ℕ) → Reached b → Reached (called b c out).book
+called_reached b c out r =
     let l = r.lengths in
     let z : Sizes b = record { nets = l.cells.nets; delivered = l.cells.delivered; lifts = l.lifts; charges = l.charges } in
-    let h = stands b c (record { sizes = z; parts = sound_parts b r.sound }) in
+    let h = stands b c out (record { sizes = z; parts = sound_parts b r.sound }) in
     record {
       lengths = record {
         cells = record { nets = h.sizes.nets; delivered = h.sizes.delivered };
         lifts = h.sizes.lifts;
         charges = h.sizes.charges;
-        ledger = by_answer (λ a. SoundBook a.book → LedgerOf a.book) b c (λ y k. ledger_kept b c k l.ledger) (λ n k. l.ledger) h.parts;
+        ledger = by_answer (λ a. SoundBook a.book → LedgerOf a.book) b c out (λ y k. ledger_kept b c k l.ledger) (λ n k. l.ledger) h.parts;
       };
-      sound = parts_sound (called b c).book h.parts;
+      sound = parts_sound (called b c out).book h.parts;
     }
 
 -- a refused call leaves everything as it was
-pub refused_state : (s : Tallied) (c : Call) → 0 < (called s.book c).refusal → after s c ≡ s
-refused_state s c =
-    by_answer (λ r. 0 < r.refusal → answered c r s ≡ s) s.book c (λ y h. absurd (omega arith)) (λ r h. refl)
+pub refused_state : (s : Tallied) (c : Call) (out : List ℕ) → 0 < (called s.book c out).refusal → after s c out ≡ s
+refused_state s c out =
+    by_answer (λ r. 0 < r.refusal → answered c r s ≡ s) s.book c out (λ y h. absurd (omega arith)) (λ r h. refl)

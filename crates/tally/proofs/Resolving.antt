@@ -2,7 +2,7 @@
 -- the 11s hand as much to those it was owed to.
 use mathlib.Core.Path.{refl}
 use mathlib.Core.Bool.{cond}
-use mathlib.Core.List.{List, []}
+use mathlib.Core.List.{List}
 use Prim.Native.Nat.{ℕ, ◌≤◌}
 use native.Mathlib.Omega.{arith}
 use lib.Dec.{lit<}
@@ -26,7 +26,7 @@ module _ (s : Tallied) (v : Inv s) (i a x : ℕ) (o : x ≤ lots_of (is_from i a
   abbrev es : List Entry
   es = ledger_of s.book
 
-  resolved_inv : Inv (did (Resolve i a x []) (writes (with_ledger s.book (meet (is_from i a) x es)) (resolve_records es i a x)) s)
+  resolved_inv : Inv (did (Resolve i a x) (writes (with_ledger s.book (meet (is_from i a) x es)) (resolve_records es i a x)) s)
   resolved_inv = record {
     size_nets = v.size_nets;
     size_delivered = v.size_delivered;
@@ -53,11 +53,11 @@ module _ (s : Tallied) (v : Inv s) (i a x : ℕ) (o : x ≤ lots_of (is_from i a
     charges = v.charges;
   }
 
-pub keeps_resolve : (s : Tallied) → Inv s → (i a x : ℕ) (out : List ℕ) → Keeps (Resolve i a x out) s (called s.book (Resolve i a x out))
+pub keeps_resolve : (s : Tallied) → Inv s → (i a x : ℕ) (out : List ℕ) → Keeps (Resolve i a x) s (called s.book (Resolve i a x) out)
 keeps_resolve s v i a x out =
     let b = s.book in
     let rs = resolve_records (ledger_of b) i a x in
-    by_answer (Keeps (Resolve i a x out) s) b (Resolve i a x out)
+    by_answer (Keeps (Resolve i a x) s) b (Resolve i a x) out
     (λ y.
     let g = sound_parts b y.1.0 in
     let ms = met (is_from i a) x (ledger_of b) in

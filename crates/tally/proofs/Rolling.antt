@@ -24,10 +24,10 @@ cut_not_settling Taking h = refl
 cut_not_settling Settling h = absurd (false≢true h)
 cut_not_settling Cut h = refl
 
-pub keeps_roll : (s : Tallied) → Inv s → (days rate : ℕ) (quotes : List ℕ) → Keeps (Roll days rate quotes) s (called s.book (Roll days rate quotes))
-keeps_roll s v days rate quotes =
+pub keeps_roll : (s : Tallied) → Inv s → (days rate : ℕ) (quotes out : List ℕ) → Keeps (Roll days rate quotes) s (called s.book (Roll days rate quotes) out)
+keeps_roll s v days rate quotes out =
     let b = s.book in
-    by_answer (Keeps (Roll days rate quotes) s) b (Roll days rate quotes)
+    by_answer (Keeps (Roll days rate quotes) s) b (Roll days rate quotes) out
     (λ y. record {
       size_nets = length-replicate 1024 (pos 0);
       size_delivered = length-replicate {A = ℕ} 1024 0;

@@ -1,7 +1,7 @@
 -- What an accepted cutoff settles: the house holds nothing, and each due and each owed is accounted for.
 use mathlib.Core.Path.{◌≡◌, refl}
 use mathlib.Core.Bool.{true, cond}
-use mathlib.Core.List.{List, [], ◌++◌}
+use mathlib.Core.List.{List, ◌++◌}
 use Prim.Native.Nat.{ℕ, ◌+◌, ◌<◌}
 use native.Mathlib.Omega.{arith}
 use lib.IntN.{ℤ, pos, ◌-ℤ◌}
@@ -48,7 +48,7 @@ module _ (s : Tallied) (v : Inv s) (g : SoundBook s.book) (p : is_settling s.boo
 
   settles :
       Settled s
-      (did (Cutoff [])
+      (did Cutoff
       (writes (with_ledger (with_state b (with_phase b.state Cut)) (ledger_of b ++ new_entries b.state.day (order_of b) b.nets b.delivered))
       (cutoff_records b.state.day (order_of b) b.nets b.delivered)) s)
   settles =
@@ -76,11 +76,11 @@ module _ (s : Tallied) (v : Inv s) (g : SoundBook s.book) (p : is_settling s.boo
             ));
       }
 
-pub cutoff_settles : (s : Tallied) → Inv s → (out : List ℕ) → (called s.book (Cutoff out)).refusal ≡ 0 → Settled s (after s (Cutoff out))
+pub cutoff_settles : (s : Tallied) → Inv s → (out : List ℕ) → (called s.book Cutoff out).refusal ≡ 0 → Settled s (after s Cutoff out)
 cutoff_settles s v out =
     let b = s.book in
     let rs = cutoff_records b.state.day (order_of b) b.nets b.delivered in
-    by_answer (λ r. r.refusal ≡ 0 → Settled s (answered (Cutoff out) r s)) b (Cutoff out)
+    by_answer (λ r. r.refusal ≡ 0 → Settled s (answered Cutoff r s)) b Cutoff out
     (λ y h.
     let g = sound_parts b y.1.0 in
     let p = y.1.1.0 in

@@ -85,10 +85,10 @@ module _ (s : Tallied) (v : Inv s) (i f c x : ℕ) (hi : i < 16) (hf : f < 64) (
       (λ q. simp (p, q) (let r = here_eq i f j e q in rw (r.0, r.1) (omega (arith, falls (net_at ns i f) x, v.nets i f hi hf))))
       (λ q. simp (p, q) (omega (arith, v.nets j e hj he)))))
 
-pub keeps_trade : (s : Tallied) → Inv s → (i f c x : ℕ) → Keeps (Trade i f c x) s (called s.book (Trade i f c x))
-keeps_trade s v i f c x =
+pub keeps_trade : (s : Tallied) → Inv s → (i f c x : ℕ) (out : List ℕ) → Keeps (Trade i f c x) s (called s.book (Trade i f c x) out)
+keeps_trade s v i f c x out =
     let b = s.book in
-    by_answer (Keeps (Trade i f c x) s) b (Trade i f c x)
+    by_answer (Keeps (Trade i f c x) s) b (Trade i f c x) out
     (λ y.
     let hi : i < 16 = omega (arith, leb-true i 15 y.1.1.0) in
     let hf : f < 64 = omega (arith, leb-true f 63 (and_left (leb f 63) (leb c 63) y.1.1.1.0)) in
@@ -123,10 +123,10 @@ closed_row Taking us d l ss h x = rw (x.0, x.1) (sym (none_handed us ss), omega 
 closed_row Settling us d l ss h x = absurd (false≢true h)
 closed_row Cut us d l ss h x = absurd (false≢true h)
 
-pub keeps_close : (s : Tallied) → Inv s → Keeps Close s (called s.book Close)
-keeps_close s v =
+pub keeps_close : (s : Tallied) → Inv s → (out : List ℕ) → Keeps Close s (called s.book Close out)
+keeps_close s v out =
     let b = s.book in
-    by_answer (Keeps Close s) b Close
+    by_answer (Keeps Close s) b Close out
     (λ y. record {
       size_nets = v.size_nets;
       size_delivered = v.size_delivered;

@@ -2,11 +2,11 @@
 // A trade's numbers stand one by one, as document 01 lists them: its questions are about each.
 #![tactic(auto)]
 
-ghost use Rattle.std.specs.Prelude.{◌≡◌, []};
+ghost use Rattle.std.specs.Prelude.{◌≡◌};
 ghost use Rattle.rules.specs.Refusals.{number_in};
 ghost use Rattle.rules.specs.Questions.{first_no};
 ghost use Rattle.rules.specs.Calls.{trade_asks, traded_nets, close_asks, Trade, Close};
-ghost use Rattle.answers.specs.Turns.{Turns, on_state, on_nets, trade_ready};
+ghost use Rattle.answers.specs.Turns.{TurnsAlone, on_state, on_nets, trade_ready};
 ghost use Rattle.trading.specs.Trading.{SmallNets, Tradable};
 
 use answers::Turn;
@@ -81,7 +81,7 @@ fn close_asks(s: State) -> Result<(), Refusal>
 // trade: the nets of from and to, unless it is refused.
 pub fn trade(s: State, nets: &mut [i32], i: u32, f: u32, t: u32, x: u32) -> Result<Turn, Refusal>
     requires { trade_ready s nets }
-    ensures { Turns (on_nets nets) s (Trade i f t x) result [] }
+    ensures { TurnsAlone (on_nets nets) s (Trade i f t x) result }
 {
     trade_asks(s, nets, i, f, t, x)?;
     trade_in(nets, i, f, t, x);
@@ -90,7 +90,7 @@ pub fn trade(s: State, nets: &mut [i32], i: u32, f: u32, t: u32, x: u32) -> Resu
 
 // close: the phase, unless it is refused.
 pub fn close(s: State) -> Result<Turn, Refusal>
-    ensures { Turns on_state s Close result [] }
+    ensures { TurnsAlone on_state s Close result }
 {
     close_asks(s)?;
     let next = book::with_phase(s, Phase::Settling);

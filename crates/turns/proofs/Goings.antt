@@ -40,7 +40,7 @@ pub record Says (d : Answer) (t : Given) (b : Book) : Type 0 where
 -- which keeps the book sound
 pub answer_sound : (b b' : Book) (t : Given) (x : Instruction) (ws : List ℕ) → Sizes b → sound b ≡ true → Says (answer_of b x ws) t b' → sound b' ≡ true
 unfolding answer_of
-answer_sound b b' t x ws z h i = ap sound i.book ∙ called_sound b (call_of x (quotes_of ws) any_output) z h
+answer_sound b b' t x ws z h i = ap sound i.book ∙ called_sound b (call_of x (quotes_of ws)) any_output z h
 
 -- and so is the line
 pub same_line : (i : ℕ) (n m : Name) (r r' k k' : ℕ) → n ≡ m → r ≡ r' → k ≡ k' → line_text (line i n r k) ≡ line_text (line i m r' k')
@@ -88,7 +88,7 @@ module _ (a : Ran) (text : List ℕ) (i : ℕ) (b : Book) (last : Bool) (rest mo
   unfolding answer_of
   goes_turn x k h e q g =
       let all = rest ++ more in
-      let ans : List ℕ → Answer = λ ps. called b (call_of x ps any_output) in
+      let ans : List ℕ → Answer = λ ps. called b (call_of x ps) any_output in
       let p = same_quotes last rest more h e in
       let d = drop-append-le k rest more (read_sized rest x k q).1 in
       goes_line a text (line i (name_of x) (ans (quotes_of rest)).refusal (ans (quotes_of rest)).count)

@@ -14,10 +14,10 @@ use Rattle.rules.specs.declared.State.{State}
 use Rattle.rules.specs.declared.Word.{Word}
 use Rattle.rules.specs.declared.Word.TheVariants.{Head}
 use Rattle.rules.specs.Book.{sound}
-use Rattle.rules.specs.Calls.{Effect, Trade, answer, asks, lent_to, effect, called}
+use Rattle.rules.specs.Calls.{Effect, Trade, answer, asks, effect, called}
 use Rattle.rules.specs.Questions.{first_no}
 use Rattle.rules.specs.Records.{issue_bits, from_bits, to_bits, lots_bits, of_field}
-use Rattle.rules.specs.Run.{line, answer_of}
+use Rattle.rules.specs.Run.{line, any_output, answer_of}
 use Rattle.rules.specs.Tape.{kind_of, word_as, is_after, read_as, read_from, read_of}
 use Rattle.rules.specs.Text.{line_text}
 use Rattle.report.specs.Added.{Added}
@@ -56,17 +56,17 @@ answer_state : (n : ℕ) (b : Book) (out : List ℕ) (e : Effect) → e.book.sta
 answer_state zero b out e h = h
 answer_state (suc n) b out e h = refl
 
-trade_state : (b : Book) (i f t x : ℕ) → (called b (Trade i f t x)).book.state ≡ b.state
+trade_state : (b : Book) (i f t x : ℕ) (out : List ℕ) → (called b (Trade i f t x) out).book.state ≡ b.state
 unfolding called
-trade_state b i f t x = answer_state (first_no (asks b (Trade i f t x))) b (lent_to (Trade i f t x)) (effect b (Trade i f t x)) refl
+trade_state b i f t x out = answer_state (first_no (asks b (Trade i f t x) out)) b out (effect b (Trade i f t x)) refl
 
 -- so its answer on the nets is that of any book with this state and these nets
 trade_says : (s : State) (nets nets' : List ℤ) (b : Book) (i f t x : ℕ) (r : Given) (ws : List ℕ) →
-    TurnIs (called (within_nets s nets b) (Trade i f t x)) r (within_nets (state_after s r) nets' b) [] →
+    TurnIs (called (within_nets s nets b) (Trade i f t x) any_output) r (within_nets (state_after s r) nets' b) any_output →
     Says (answer_of (within_nets s nets b) (instruction.Trade i f t x) ws) r (within_nets s nets' b)
 unfolding answer_of
 trade_says s nets nets' b i f t x r ws d =
-    let e : state_after s r ≡ s = ap (λ (c : Book). c.state) d.book ∙ trade_state (within_nets s nets b) i f t x in
+    let e : state_after s r ≡ s = ap (λ (c : Book). c.state) d.book ∙ trade_state (within_nets s nets b) i f t x any_output in
     record { refusal = d.refusal; count = d.count; book = ap (λ (u : State). within_nets u nets' b) (sym e) ∙ d.book }
 
 -- no trade is passed yet
@@ -78,7 +78,7 @@ passed_none ws last index s nets text at end = record { on = omega arith; held =
 module _ (ws : List ℕ) (last : Bool) (index : ℕ) (s : State) (nets₀ nets nets' : List ℤ) (text₀ text text' : List ℕ) (from to at end end' : ℕ)
     (i f t x : ℕ) (r : Given) where
   abbrev OnNets : Type 0
-  OnNets = (b : Book) → sound (within_nets s nets b) ≡ true → TurnIs (called (within_nets s nets b) (Trade i f t x)) r (within_nets (state_after s r) nets' b) []
+  OnNets = (b : Book) → sound (within_nets s nets b) ≡ true → TurnIs (called (within_nets s nets b) (Trade i f t x) any_output) r (within_nets (state_after s r) nets' b) any_output
 
   kept : length nets' ≡ length nets → OnNets → (b : Book) → Held s nets b → Held s nets' b
   kept e d b h =
@@ -92,7 +92,7 @@ module _ (ws : List ℕ) (last : Bool) (index : ℕ) (s : State) (nets₀ nets n
 
   pub passed_on : Passed ws last index s nets₀ nets text₀ text from to at end → enough (length (drop at ws)) last ≡ true →
       read_of (drop at ws) ≡ Ok (instruction.Trade i f t x, 2) → length nets' ≡ length nets →
-      ((b : Book) → sound (within_nets s nets b) ≡ true → TurnIs (called (within_nets s nets b) (Trade i f t x)) r (within_nets (state_after s r) nets' b) []) →
+      ((b : Book) → sound (within_nets s nets b) ≡ true → TurnIs (called (within_nets s nets b) (Trade i f t x) any_output) r (within_nets (state_after s r) nets' b) any_output) →
       Added 72 text text' end end' (line_text (line (index + at) name.Trade (number_in r) (count_in r))) →
       Passed ws last index s nets₀ nets' text₀ text' from to (at + 2) end'
   passed_on p q g e d a =

@@ -21,8 +21,8 @@ abbrev asked : Start → Instruction
 asked c = let a = c.args in instruction_of a.kind a.a a.b a.c a.d
 
 -- the right to the instruction that is asked
-right : (c : After-has_right) → c.has_right.result ≡ has_right c.args.w (call_of (instruction_of c.args.kind c.args.a c.args.b c.args.c c.args.d) [] [])
-right c = c.has_right.ensures ∙ ap (λ (x : Instruction). has_right c.args.w (call_of x [] [])) (an_instruction _ _ _ c.in-Some.ensures).1
+right : (c : After-has_right) → c.has_right.result ≡ has_right c.args.w (call_of (instruction_of c.args.kind c.args.a c.args.b c.args.c c.args.d) [])
+right c = c.has_right.ensures ∙ ap (λ (x : Instruction). has_right c.args.w (call_of x [])) (an_instruction _ _ _ c.in-Some.ensures).1
 
 pub returns-in_default-clause-called : goal.returns-in_default-clause-called
 returns-in_default-clause-called c =
@@ -40,8 +40,8 @@ returns-then-not-has_right-clause-called c =
     rw (c.refused-then-not-has_right.ensures, c.number-then-not-has_right.ensures)
     (by_no_right a.w a.kind a.state (book s) (asked s) a.quotes.now a.out.now refl i.0 (sym (right h) ∙ c.if-not-has_right.true) _
     (c.no_right-no.ensures
-    ∙ ap (λ (b : Book). first_no (asks_at a.state.phase b (call_of c.in-Some.x [] a.out.now))) (c.shared.ensures (state_in a.state))
-    ∙ ap (λ (x : Instruction). first_no (asks_at a.state.phase (book s) (call_of x [] a.out.now))) i.1))
+    ∙ ap (λ (b : Book). first_no (asks_at a.state.phase b (call_of c.in-Some.x []) a.out.now)) (c.shared.ensures (state_in a.state))
+    ∙ ap (λ (x : Instruction). first_no (asks_at a.state.phase (book s) (call_of x []) a.out.now)) i.1))
 
 pub returns-clause-called : goal.returns-clause-called
 returns-clause-called c =

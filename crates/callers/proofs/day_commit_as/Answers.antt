@@ -14,7 +14,7 @@ use Rattle.callers.proofs.day_commit_as.Goals as goal
 pub returns-then-is_operator : goal.returns-then-is_operator
 returns-then-is_operator c =
     let a = c.args in
-    rw (← operator_made a.w a.state.phase (lifting_book (state_in a.state) a.columns a.lifts.now) (sym c.is_operator.ensures ∙ c.if-is_operator.true) (Commit (ticket_in a.ticket.now) a.out.now))
+    rw (← operator_made a.w a.state.phase (lifting_book (state_in a.state) a.columns a.lifts.now) (sym c.is_operator.ensures ∙ c.if-is_operator.true) (Commit (ticket_in a.ticket.now)) a.out.now)
     c.day_commit.ensures
 
 pub returns-then-out-lt-OUTPUT_WORDS : goal.returns-then-out-lt-OUTPUT_WORDS

@@ -28,7 +28,7 @@ returns-in_err-cutoff_asks-clause-done c b q =
     let r = c.in_err-cutoff_asks.field-0.0 in
     let p = err_from_is_err_and c.from_residual.result c.from_residual.ensures.1 in
     rw (p.1, p.2)
-    (turn_no (but_charges a.s a.nets.now a.delivered.now a.lifts.now l.issues.now l.froms.now l.tos.now l.lots.now l.days.now b) (Cutoff a.out.now)
+    (turn_no (but_charges a.s a.nets.now a.delivered.now a.lifts.now l.issues.now l.froms.now l.tos.now l.lots.now l.days.now b) Cutoff a.out.now
     (room_out a.out.now c.requires.4) q r
     (cut_asked a.s o.result a.nets.now a.delivered.now a.lifts.now (number_of r) b o.ensures c.in_err-cutoff_asks.ensures))
 
@@ -47,7 +47,7 @@ returns-clause-done c b q =
     let l = a.ledger.now in
     let d = c.cutoff_in-k in
     let o = c.dealt_today-dealt in
-    turn_yes (but_charges a.s a.nets.now a.delivered.now a.lifts.now l.issues.now l.froms.now l.tos.now l.lots.now l.days.now b) (Cutoff a.out.now)
+    turn_yes (but_charges a.s a.nets.now a.delivered.now a.lifts.now l.issues.now l.froms.now l.tos.now l.lots.now l.days.now b) Cutoff a.out.now
     (room_out a.out.now c.requires.4) q d.result.records 0 _ _ _
     (cut_asked a.s o.result a.nets.now a.delivered.now a.lifts.now 0 b o.ensures c.in_ok-cutoff_asks.ensures)
     (was_cut a.s _ o.result a.nets.now a.delivered.now a.lifts.now l.issues.now l.froms.now l.tos.now l.lots.now l.days.now a.out.now

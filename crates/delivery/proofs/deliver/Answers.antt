@@ -17,7 +17,7 @@ returns-in_err-deliver_asks c b q =
     let a = c.args in
     let p = err_from_is_err_and c.from_residual.result c.from_residual.ensures.1 in
     rw (p.1, p.2)
-    (turn_no (within_cells a.s a.nets.now a.delivered.now a.lifts.now b) (Deliver a.i a.a a.x a.out.now) (room_out a.out.now c.requires.3) q _
+    (turn_no (within_cells a.s a.nets.now a.delivered.now a.lifts.now b) (Deliver a.i a.a a.x) a.out.now (room_out a.out.now c.requires.3) q _
     c.in_err-deliver_asks.ensures)
 
 pub deliver_in-count-requires : goal.deliver_in-count-requires
@@ -32,6 +32,6 @@ returns c b q =
     let a = c.args in
     let d = c.deliver_in-count in
     let o = c.dealt_today-dealt in
-    turn_yes (within_cells a.s a.nets.now a.delivered.now a.lifts.now b) (Deliver a.i a.a a.x a.out.now) (room_out a.out.now c.requires.3) q
+    turn_yes (within_cells a.s a.nets.now a.delivered.now a.lifts.now b) (Deliver a.i a.a a.x) a.out.now (room_out a.out.now c.requires.3) q
     d.result 0 _ _ _ c.in_ok-deliver_asks.ensures
     (delivered_to a.s o.result a.nets.now a.delivered.now _ a.lifts.now _ a.i a.a a.x a.out.now _ d.result b o.ensures d.ensures)

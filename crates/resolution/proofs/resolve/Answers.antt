@@ -21,7 +21,7 @@ returns-in_err-resolve_asks-clause-done c b q =
     let l = a.ledger.now in
     let p = err_from_is_err_and c.from_residual.result c.from_residual.ensures.1 in
     rw (p.1, p.2)
-    (turn_no (within_ledger a.s l.issues.now l.froms.now l.tos.now l.lots.now l.days.now b) (Resolve a.i a.a a.x a.out.now)
+    (turn_no (within_ledger a.s l.issues.now l.froms.now l.tos.now l.lots.now l.days.now b) (Resolve a.i a.a a.x) a.out.now
     (room_out a.out.now c.requires.1) q _ c.in_err-resolve_asks.ensures)
 
 pub resolve_in-k-requires : goal.resolve_in-k-requires
@@ -36,7 +36,7 @@ returns-clause-done c b q =
     let d = c.resolve_in-k in
     let a = c.args in
     let l = a.ledger.now in
-    turn_yes (within_ledger a.s l.issues.now l.froms.now l.tos.now l.lots.now l.days.now b) (Resolve a.i a.a a.x a.out.now)
+    turn_yes (within_ledger a.s l.issues.now l.froms.now l.tos.now l.lots.now l.days.now b) (Resolve a.i a.a a.x) a.out.now
     (room_out a.out.now c.requires.1) q d.result.records 0 _ _ _ c.in_ok-resolve_asks.ensures
     (resolved a.s _ l.issues.now l.froms.now l.tos.now l.lots.now l.days.now a.out.now a.i a.a a.x d.result
     _ _ _ _ _ _ b c.with_entries-next.ensures d.ensures.done)

@@ -9,12 +9,12 @@ use Rattle.rolling.proofs.Turned.{rolled_on}
 use Rattle.rolling.proofs.roll.Goals as goal
 
 pub returns-in_err-roll_asks : goal.returns-in_err-roll_asks
-returns-in_err-roll_asks c b q =
+returns-in_err-roll_asks c out b q =
     let a = c.args in
     let p = err_from_is_err_and c.from_residual.result c.from_residual.ensures.1 in
     rw (p.1, p.2)
     (turn_no (but_days a.s a.nets.now a.delivered.now a.lifts.now a.charges.now a.issues.now a.froms.now a.tos.now a.lots.now b)
-    (Roll a.days a.rate a.quotes.now) refl q _ c.in_err-roll_asks.ensures)
+    (Roll a.days a.rate a.quotes.now) out refl q _ c.in_err-roll_asks.ensures)
 
 pub roll_in-requires : goal.roll_in-requires
 roll_in-requires c =
@@ -32,11 +32,11 @@ next_day-next-requires c =
     not_last a.s.phase a.s.day a.days a.rate a.quotes.now (sym c.in_ok-roll_asks.ensures)
 
 pub returns : goal.returns
-returns c b q =
+returns c out b q =
     let a = c.args in
     let d = c.roll_in.ensures in
     rw c.done.ensures
     (turn_yes (but_days a.s a.nets.now a.delivered.now a.lifts.now a.charges.now a.issues.now a.froms.now a.tos.now a.lots.now b)
-    (Roll a.days a.rate a.quotes.now) refl q 0 0 _ _ _ c.in_ok-roll_asks.ensures
+    (Roll a.days a.rate a.quotes.now) out refl q 0 0 _ _ _ c.in_ok-roll_asks.ensures
     (rolled_on a.s _ a.nets.now a.delivered.now a.lifts.now a.charges.now a.issues.now a.froms.now a.tos.now a.lots.now
-    a.days a.rate a.quotes.now _ _ _ _ b c.next_day-next.ensures (d.0.charges b.days) d.1.nets d.1.delivered d.1.lifts))
+    a.days a.rate a.quotes.now _ _ _ _ b out c.next_day-next.ensures (d.0.charges b.days) d.1.nets d.1.delivered d.1.lifts))

@@ -7,4 +7,4 @@ mark-requires c =
     (l.cells.nets, l.ledger.issues, record { rest = lent_book c.args.s c.args.columns.now; sound = c.requires.sound })
 
 pub returns-clause-made : goal.returns-clause-made
-returns-clause-made c = c.mark.ensures (lent_book c.args.s c.args.columns.now) c.requires.sound
+returns-clause-made c out = c.mark.ensures out (lent_book c.args.s c.args.columns.now) c.requires.sound

@@ -7,7 +7,7 @@ pair_off-requires c = (c.requires.lengths.ledger, record { rest = lent_book c.ar
 
 -- the ledger's columns are still those that were lent to it
 pub returns-clause-made : goal.returns-clause-made
-returns-clause-made c =
+returns-clause-made c out =
     let h = c.pair_off.ensures.same in
     rw (
       c.columns-5-1.given.1 (sym h.issues),
@@ -16,4 +16,4 @@ returns-clause-made c =
       c.columns-2-1.given.1 (sym h.lots),
       c.columns-1.given.1 (sym h.days),
     )
-    (c.pair_off.ensures.done (lent_book c.args.s c.args.columns.now) c.requires.sound)
+    (c.pair_off.ensures.done out (lent_book c.args.s c.args.columns.now) c.requires.sound)

@@ -17,4 +17,4 @@ roll-requires c =
     )
 
 pub returns-clause-made : goal.returns-clause-made
-returns-clause-made c = c.roll.ensures (lent_book c.args.s c.args.columns.now) c.requires.sound
+returns-clause-made c out = c.roll.ensures out (lent_book c.args.s c.args.columns.now) c.requires.sound

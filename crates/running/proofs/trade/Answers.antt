@@ -5,4 +5,4 @@ pub trade-requires : goal.trade-requires
 trade-requires c = (c.requires.lengths.cells.nets, record { rest = lent_book c.args.s c.args.columns.now; sound = c.requires.sound })
 
 pub returns-clause-made : goal.returns-clause-made
-returns-clause-made c = c.trade.ensures (lent_book c.args.s c.args.columns.now) c.requires.sound
+returns-clause-made c out = c.trade.ensures out (lent_book c.args.s c.args.columns.now) c.requires.sound

@@ -16,11 +16,11 @@ mark_asks-requires c =
     ((sound_parts b c.requires.2.sound).ledger.count, c.requires.0, c.requires.1)
 
 pub returns-in_err-mark_asks : goal.returns-in_err-mark_asks
-returns-in_err-mark_asks c b q =
+returns-in_err-mark_asks c out b q =
     let a = c.args in
     let p = err_from_is_err_and c.from_residual.result c.from_residual.ensures.1 in
     rw (p.1, p.2)
-    (turn_no (within_use a.s a.nets.now a.issues.now b) (Mark a.i a.m) refl q _ (c.in_err-mark_asks.ensures b.froms b.tos b.lots b.days))
+    (turn_no (within_use a.s a.nets.now a.issues.now b) (Mark a.i a.m) out refl q _ (c.in_err-mark_asks.ensures b.froms b.tos b.lots b.days))
 
 pub mark_in-requires : goal.mark_in-requires
 mark_in-requires c =
@@ -28,9 +28,9 @@ mark_in-requires c =
     markable b.nets (ledger_of b) c.args.i (sym (c.in_ok-mark_asks.ensures b.froms b.tos b.lots b.days))
 
 pub returns : goal.returns
-returns c b q =
+returns c out b q =
     let a = c.args in
     rw c.done.ensures
-    (turn_yes (within_use a.s a.nets.now a.issues.now b) (Mark a.i a.m) refl q 0 0 _ _ _
+    (turn_yes (within_use a.s a.nets.now a.issues.now b) (Mark a.i a.m) out refl q 0 0 _ _ _
     (c.in_ok-mark_asks.ensures b.froms b.tos b.lots b.days)
-    (marked_on a.s _ a.nets.now a.issues.now _ a.i a.m b c.with_marks-next.ensures c.mark_in.ensures))
+    (marked_on a.s _ a.nets.now a.issues.now _ a.i a.m b out c.with_marks-next.ensures c.mark_in.ensures))

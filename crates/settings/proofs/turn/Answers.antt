@@ -8,13 +8,13 @@ use Rattle.settings.proofs.Turned.{turned_on}
 use Rattle.settings.proofs.turn.Goals as goal
 
 pub returns-in_err-turn_asks : goal.returns-in_err-turn_asks
-returns-in_err-turn_asks c b q =
+returns-in_err-turn_asks c out b q =
     let p = err_from_is_err_and c.from_residual.result c.from_residual.ensures.1 in
-    rw (p.1, p.2) (turn_no (in_state c.args.s b) (NameTurn c.args.d) refl q _ c.in_err-turn_asks.ensures)
+    rw (p.1, p.2) (turn_no (in_state c.args.s b) (NameTurn c.args.d) out refl q _ c.in_err-turn_asks.ensures)
 
 pub returns : goal.returns
-returns c b q =
+returns c out b q =
     let a = c.args in
     rw c.done.ensures
-    (turn_yes (in_state a.s b) (NameTurn a.d) refl q 0 0 _ _ _ c.in_ok-turn_asks.ensures
-    (turned_on a.s _ a.d b c.with_turn-next.ensures))
+    (turn_yes (in_state a.s b) (NameTurn a.d) out refl q 0 0 _ _ _ c.in_ok-turn_asks.ensures
+    (turned_on a.s _ a.d b out c.with_turn-next.ensures))

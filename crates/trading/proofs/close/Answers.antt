@@ -8,12 +8,12 @@ use Rattle.trading.proofs.Turned.{closed}
 use Rattle.trading.proofs.close.Goals as goal
 
 pub returns-in_err-close_asks : goal.returns-in_err-close_asks
-returns-in_err-close_asks c b q =
+returns-in_err-close_asks c out b q =
     let p = err_from_is_err_and c.from_residual.result c.from_residual.ensures.1 in
-    rw (p.1, p.2) (turn_no (in_state c.args.s b) Close refl q _ c.in_err-close_asks.ensures)
+    rw (p.1, p.2) (turn_no (in_state c.args.s b) Close out refl q _ c.in_err-close_asks.ensures)
 
 pub returns : goal.returns
-returns c b q =
+returns c out b q =
     let s = c.args.s in
     rw c.done.ensures
-    (turn_yes (in_state s b) Close refl q 0 0 _ _ _ c.in_ok-close_asks.ensures (closed s _ b c.with_phase-next.ensures))
+    (turn_yes (in_state s b) Close out refl q 0 0 _ _ _ c.in_ok-close_asks.ensures (closed s _ b out c.with_phase-next.ensures))

@@ -7,6 +7,7 @@ use Rattle.rereading.proofs.Sized.{read_sized}
 use Rattle.turns.specs.declared.Trade.{Trade}
 use Rattle.turns.specs.Going.{Found}
 use Rattle.turns.proofs.Goings.{rest_part, rest_enough}
+use Rattle.rules.specs.Run.{any_output}
 use Rattle.turns.proofs.Passing.{passed_on}
 use Rattle.turns.proofs.trades.Goals as goal
 
@@ -29,5 +30,5 @@ loop-s-preserved c =
       search rules,
       passed_on a.words.now a.last a.index a.s a.nets.now l.nets _ a.text.now l.text _ a.from a.to l.at l.end k.result
           t.issue t.from t.to t.lots c.trade-r.result l.invariant.4 (rest_enough a.words.now l.at a.last _ c.is_enough.ensures ∙ c.loop-s-test.true) b
-          (search rules) c.trade-r.ensures k.ensures,
+          (search rules) (c.trade-r.ensures any_output) k.ensures,
     )
