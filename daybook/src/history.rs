@@ -176,7 +176,8 @@ fn begin<'a>(book: &Book, sink: &'a mut ::tape::story::Sink<'a>) -> Story<'a> {
     };
     let dealt = if book.deals_in_turn() { issues.map(dealt).collect() } else { Vec::new() };
     let (book, output, known) = (book.clone(), vec![0; OUTPUT_WORDS], Known::default());
-    Story { book, output, handed, dealt, word: None, known, sink }
+    let stands = Stands::default();
+    Story { book, output, handed, dealt, word: None, stands, known, sink }
 }
 
 /// An instruction that begins at a word of the tape; answers how many words it has.

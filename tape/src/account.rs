@@ -21,9 +21,8 @@ pub struct Question {
 }
 
 /// What is told: the units with their status, and the entries of the ledger to the account.
-pub struct Told<'a> {
+pub struct Told {
     question: Question,
-    day: &'a Day,
     stood: Stood,
     units: Vec<Asked>,
     owed: Vec<Entry>,
@@ -31,7 +30,7 @@ pub struct Told<'a> {
 
 /// Runs a tape on a fresh book and asks of each unit of the account; an error is that there is no such
 /// moment.
-pub fn ask(day: &Day, question: Question) -> Result<Told<'_>, String> {
+pub fn ask(day: &Day, question: Question) -> Result<Told, String> {
     let Question { issue, account, when } = question;
     let stood = run(day, when)?;
     let book = &stood.book;
@@ -46,7 +45,7 @@ pub fn ask(day: &Day, question: Question) -> Result<Told<'_>, String> {
     let units = numbers.iter().filter_map(asked).collect();
     let is_owed = |entry: &Entry| (u32::from(entry.issue), u32::from(entry.to)) == (issue, account);
     let owed = book.ledger().filter(is_owed).collect();
-    Ok(Told { question, day, stood, units, owed })
+    Ok(Told { question, stood, units, owed })
 }
 
 /// The numbers and lots of an account's units.
@@ -64,7 +63,7 @@ fn units_of(book: &Book, issue: u32, account: u32) -> Vec<(u32, u32)> {
     full.chain(small.map(|run| (run.first, run.lots))).collect()
 }
 
-impl Told<'_> {
+impl Told {
     /// Was nothing settled yet, so that the book has no units to tell of?
     pub fn refused(&self) -> bool {
         self.stood.book.phase == Phase::TAKING
@@ -75,7 +74,7 @@ impl Told<'_> {
         let known = &self.stood.known;
         let issue = known.issue(self.question.issue);
         let account = known.account(self.question.account);
-        let (moment, day) = (self.stood.moment(self.day), known.day(self.stood.book.day));
+        let (moment, day) = (self.stood.moment(), known.day(self.stood.book.day));
         let head = format!("{moment}, day {day}, {}", self.stood.phase());
         if self.refused() {
             return format!("{head}: refused by {}: {NOT_SETTLED}\n", Refusal::Phase.number());
@@ -101,7 +100,7 @@ impl Told<'_> {
 
     /// The same as objects of JSON, a line each.
     pub fn json(&self) -> String {
-        let at = self.stood.at(self.day);
+        let at = self.stood.at();
         let known = &self.stood.known;
         let Question { issue, account, .. } = self.question;
         if self.refused() {

@@ -18,33 +18,39 @@ pub fn join(words: &[u32]) -> Vec<u8> {
 pub fn to_hex(tape: &[u8]) -> Result<String, String> {
     let (words, stray) = split(tape);
     if !stray.is_empty() {
-        return Err(
-            "the last word is not whole, so it cannot be shown: leave out --hex".to_string()
-        );
+        return Err(NOT_SHOWN.to_string());
     }
     Ok(words.iter().map(|word| format!("{word:08x}\n")).collect())
 }
 
+/// What is said where the words of a tape cannot be shown as numbers.
+pub const NOT_SHOWN: &str = "the last word is not whole, so it cannot be shown: leave out --hex";
+
 /// The bytes of hexadecimal words with spaces or line ends between them, or what is wrong with them;
 /// `#` begins a comment.
 pub fn of_hex(text: &str) -> Result<Vec<u8>, Faults> {
-    let (mut tape, mut faults) = (Vec::new(), Faults::default());
+    let (mut words, mut faults) = (Vec::new(), Faults::default());
     for (number, line) in (1..).zip(text.lines()) {
-        for word in words_of(line, number) {
-            match u32::from_str_radix(word.text, 16) {
-                Ok(read) => tape.extend(read.to_le_bytes()),
-                Err(_) => {
-                    let shown = shown(word.text);
-                    let what = format!("{shown} is not a word: write up to 8 hexadecimal digits");
-                    faults.push(word.fault(what));
-                }
+        hex_line(number, line, &mut words, &mut faults);
+    }
+    if faults.is_empty() {
+        return Ok(join(&words));
+    }
+    Err(faults)
+}
+
+/// Puts the hexadecimal words of a line behind others; what is wrong with them is a fault.
+pub fn hex_line(number: usize, line: &str, words: &mut Vec<u32>, faults: &mut Faults) {
+    for word in words_of(line, number) {
+        match u32::from_str_radix(word.text, 16) {
+            Ok(read) => words.push(read),
+            Err(_) => {
+                let shown = shown(word.text);
+                let what = format!("{shown} is not a word: write up to 8 hexadecimal digits");
+                faults.push(word.fault(what));
             }
         }
     }
-    if faults.is_empty() {
-        return Ok(tape);
-    }
-    Err(faults)
 }
 
 #[cfg(test)]

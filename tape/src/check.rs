@@ -1,17 +1,16 @@
 //! What the book will refuse of a tape, without running the program: a line or an object for each refusal.
 
-use crate::bytes::split;
 use crate::facts::{Fact, Told};
 use crate::input::{Day, Stands};
 use crate::json;
 use crate::known::Known;
 use crate::measure::{counted, Grouped};
+use crate::output::Untold;
 use crate::progress::Meter;
-use crate::story::Sink;
+use crate::story::{call, quotes_of, Sink};
 use crate::text::why_ended;
 use crate::why::why;
-use settlement_day::{calls, tape, Book, OUTPUT_WORDS};
-use std::io;
+use settlement_day::{tape, Book, OUTPUT_WORDS};
 
 /// How many instructions there are, and how many refusals were told.
 #[derive(Clone, Copy, Debug, Default, PartialEq, Eq)]
@@ -37,45 +36,50 @@ impl Checked {
 }
 
 /// Makes every call on a fresh book and tells each refusal: an instruction, or that reading ends.
-pub fn check(day: &Day, tell: &mut Sink) -> io::Result<Checked> {
-    let (words, stray) = split(&day.tape);
-    let mut book = Book::fresh();
-    let mut output = vec![0; OUTPUT_WORDS];
+pub fn check(day: &Day, tell: &mut Sink) -> Result<Checked, Untold> {
+    let (mut book, mut output) = (Book::fresh(), vec![0; OUTPUT_WORDS]);
     let mut known = Known::of(&day.names);
     let mut checked = Checked::default();
-    let mut meter = Meter::of_words(words.len());
-    let mut at = 0;
-    while at < words.len() || !stray.is_empty() {
-        meter.at(at);
-        match tape::read(&words[at..]) {
+    let (mut reading, mut meter) = (day.reading(), Meter::of_words(day.words()));
+    while reading.more()? {
+        let word = reading.word();
+        meter.at(word);
+        let stands = reading.stands();
+        let words = reading.words();
+        let (fact, count) = match tape::read(words) {
             Ok((instruction, count)) => {
                 checked.instructions += 1;
-                let quotes = tape::quotes(&words[at..]);
-                match calls::call(&mut book, &instruction, &quotes, &mut output) {
-                    Ok(_) => known.done(&instruction),
+                match call(&mut book, &instruction, words, &mut output) {
+                    Ok(_) => {
+                        known.done(&instruction);
+                        reading.pass(count);
+                        continue;
+                    }
                     Err(refusal) => {
-                        checked.refused += 1;
+                        let quotes = quotes_of(&instruction, words);
                         let why = why(&book, &instruction, &quotes, refusal, &known);
-                        let fact = Fact::Instruction { instruction, refusal: Some((refusal, why)) };
-                        tell(&Told { day: book.day, word: Some(at), fact: &fact, known: &known })?;
+                        (Fact::Instruction { instruction, refusal: Some((refusal, why)) }, count)
                     }
                 }
-                at += count;
             }
             Err(refusal) => {
-                checked.refused += 1;
-                let fact = Fact::ReadingEnds { refusal, why: why_ended(&words[at..], refusal) };
-                tell(&Told { day: book.day, word: Some(at), fact: &fact, known: &known })?;
-                break;
+                let why = why_ended(words, refusal);
+                (Fact::ReadingEnds { refusal, why }, 0)
             }
+        };
+        checked.refused += 1;
+        tell(&Told { day: book.day, word: Some(word), stands, fact: &fact, known: &known })?;
+        if count == 0 {
+            break;
         }
+        reading.pass(count);
     }
     Ok(checked)
 }
 
 /// A refusal for people, in a line with the place in the file.
-pub fn line(day: &Day, told: &Told) -> String {
-    let place = place(day, told.word.unwrap_or_default());
+pub fn line(told: &Told) -> String {
+    let place = place(told);
     match told.fact {
         Fact::Instruction { instruction, refusal: Some((_, why)) } => {
             format!("{place}: {}: {why}", instruction.name())
@@ -87,13 +91,15 @@ pub fn line(day: &Day, told: &Told) -> String {
     }
 }
 
-/// The place of the instruction that begins at a word: file, line and column, or file and word.
-fn place(day: &Day, word: usize) -> String {
-    match day.stands_in(word) {
+/// The place of the instruction of a fact: file, line and column, or file and word.
+fn place(told: &Told) -> String {
+    match told.stands {
         Stands { file: Some(file), line: Some(line), column: Some(column) } => {
             format!("{file}:{line}:{column}")
         }
-        Stands { file, .. } => format!("{}: word {word}", file.unwrap_or_default()),
+        Stands { file, .. } => {
+            format!("{}: word {}", file.unwrap_or_default(), told.word.unwrap_or_default())
+        }
     }
 }
 
@@ -112,7 +118,7 @@ mod tests {
         let day = Day::of(file, bytes.to_vec(), Taken::Apart).unwrap();
         let mut refusals = Vec::new();
         let mut tell = |told: &Told| {
-            refusals.push(line(&day, told));
+            refusals.push(line(told));
             Ok(())
         };
         let Checked { instructions, refused } = check(&day, &mut tell).unwrap();

@@ -3,7 +3,10 @@
 //! place; what is written has a line feed behind each row.
 
 use crate::fault::{shown, Fault, Faults, Word};
+use crate::lines::Lines;
 use crate::measure::{counted, write_number};
+use crate::output::Untold;
+use crate::source::Source;
 use crate::text::digits_of;
 use std::array;
 use std::borrow::Cow;
@@ -48,7 +51,12 @@ pub struct Rows<'a> {
 impl<'a> Rows<'a> {
     /// The rows of a text.
     pub fn of(text: &'a str) -> Rows<'a> {
-        Rows { rest: text, line: 1, column: 1 }
+        Rows::from_line(text, 1)
+    }
+
+    /// The rows of a text that begins with the line of this number.
+    fn from_line(text: &'a str, line: usize) -> Rows<'a> {
+        Rows { rest: text, line, column: 1 }
     }
 
     /// Passes over so many bytes of the rest, and answers them.
@@ -176,31 +184,113 @@ pub struct Column {
     pub lacking: Option<&'static str>,
 }
 
+/// The texts of the rows of a file, one after another: no more of it is in memory than its longest row.
+struct Texts<'a> {
+    lines: Lines<'a>,
+    row: Vec<u8>,
+}
+
+impl<'a> Texts<'a> {
+    /// The rows of a file behind a byte-order mark.
+    fn of(source: &'a Source) -> Result<Texts<'a>, String> {
+        let mut lines = Lines::of(source);
+        lines.pass_mark()?;
+        Ok(Texts { lines, row: Vec::new() })
+    }
+
+    /// The next row with its line ends, and the number of its first line.
+    fn next(&mut self) -> Result<Option<(&str, usize)>, String> {
+        self.row.clear();
+        let (source, mut open, mut first) = (self.lines.source(), false, None);
+        while let Some((number, line)) = self.lines.line_with_end()? {
+            first.get_or_insert(number);
+            self.row.extend(line);
+            open = is_open(line, open);
+            if !open {
+                break;
+            }
+        }
+        let Some(first) = first else { return Ok(None) };
+        let row = std::str::from_utf8(&self.row).map_err(|_| source.changed())?;
+        Ok(Some((row, first)))
+    }
+}
+
+/// Where a byte of a row stands.
+#[derive(Clone, Copy, PartialEq, Eq)]
+enum At {
+    /// At the beginning of a cell.
+    Begin,
+    /// In a cell without quotes.
+    Plain,
+    /// In a cell in quotes.
+    Quoted,
+    /// Behind a quote in it, which may be the last.
+    Behind,
+    /// Behind something wrong, up to the line's end.
+    Wrong,
+}
+
+/// Is a cell in quotes open at the end of a line, at whose beginning it was open or not? Then the row goes on in
+/// the next line.
+fn is_open(line: &[u8], open: bool) -> bool {
+    let mut at = if open { At::Quoted } else { At::Begin };
+    for (place, byte) in line.iter().enumerate() {
+        at = match (at, byte) {
+            (At::Wrong, _) => return false,
+            (At::Quoted, b'"') => At::Behind,
+            (At::Quoted, _) => At::Quoted,
+            (At::Begin | At::Behind, b'"') => At::Quoted,
+            (_, b',') => At::Begin,
+            (_, b'\n') => return false,
+            (_, b'\r') if line.get(place + 1) == Some(&b'\n') => return false,
+            (_, b'\r') | (At::Plain, b'"') | (At::Behind, _) => At::Wrong,
+            _ => At::Plain,
+        };
+    }
+    at == At::Quoted
+}
+
+/// What takes the cells of a row; it answers what is wrong with them.
+pub type Take<'a, const N: usize> = dyn FnMut([Word; N]) -> Result<Vec<Fault>, Untold> + 'a;
+
 /// Reads a file whose first row names its columns, in any order, and hands on each row under it, its
-/// cells in the order of `columns`. A byte-order mark and rows with nothing in them are passed over.
-/// All that is wrong is told, also what `take` answers of a row.
+/// cells in the order of `columns`; answers how many lines it has, or all that is wrong with it, also what `take`
+/// answers of a row. A byte-order mark and rows with nothing in them are passed over.
 pub fn read<const N: usize>(
-    text: &str,
+    source: &Source,
     columns: &[Column; N],
-    take: &mut dyn FnMut([Word; N]) -> Result<(), Vec<Fault>>,
-) -> Result<(), Faults> {
-    let text = text.strip_prefix('\u{feff}').unwrap_or(text);
-    separated_by_commas(text)?;
-    let mut rows = Rows::of(text).filter(|row| !row.as_ref().is_ok_and(|row| is_blank(row)));
-    let Some(first) = rows.next() else {
+    take: &mut Take<N>,
+) -> Result<Result<usize, Faults>, Untold> {
+    if let Some(fault) = other_separator(source)? {
+        return Ok(Err(fault.into()));
+    }
+    let (mut texts, mut header, mut faults) = (Texts::of(source)?, None, Faults::default());
+    while let Some((text, line)) = texts.next()? {
+        let Some(row) = Rows::from_line(text, line).next() else { continue };
+        if row.as_ref().is_ok_and(|row| is_blank(row)) {
+            continue;
+        }
+        let Some(header) = &header else {
+            match row.map_err(Faults::from).and_then(|first| Header::of(&first, columns)) {
+                Ok(first) => header = Some(first),
+                Err(wrong) => return Ok(Err(wrong)),
+            }
+            continue;
+        };
+        match row {
+            Err(fault) => faults.push(fault),
+            Ok(row) => match header.words(&row) {
+                Ok(words) => faults.extend(take(words)?),
+                Err(wrong) => faults.extend(wrong),
+            },
+        }
+    }
+    if header.is_none() {
         let what = format!("there is no header: let the first line name {}", names_of(columns));
-        return Err(Fault { line: 1, column: 1, what }.into());
-    };
-    let header = Header::of(&first?, columns)?;
-    let mut faults = Faults::default();
-    for row in rows {
-        let taken = row.map_err(|fault| vec![fault]).and_then(|row| take(header.words(&row)?));
-        faults.extend(taken.err().into_iter().flatten());
+        faults.push(Fault { line: 1, column: 1, what });
     }
-    if faults.is_empty() {
-        return Ok(());
-    }
-    Err(faults)
+    Ok(if faults.is_empty() { Ok(texts.lines.number()) } else { Err(faults) })
 }
 
 /// Has a row nothing in it?
@@ -208,18 +298,29 @@ fn is_blank(row: &[Cell]) -> bool {
     row.iter().all(|cell| cell.word().text.is_empty())
 }
 
-/// Tells a file that is separated by something else, by its first line.
-fn separated_by_commas(text: &str) -> Result<(), Fault> {
-    let first = (1..).zip(text.lines()).find(|(_, line)| !line.trim().is_empty());
-    let Some((number, line)) = first.filter(|(_, line)| !line.contains(',')) else { return Ok(()) };
-    for (separator, name) in OTHER_SEPARATORS {
-        if let Some(at) = line.find(separator) {
-            let column = line[..at].chars().count() + 1;
-            let what = format!("this file is separated by {name}: save it with commas");
-            return Err(Fault { line: number, column, what });
+/// Tells a file that is separated by something else than commas, by its first line.
+fn other_separator(source: &Source) -> Result<Option<Fault>, String> {
+    let mut lines = Lines::of(source);
+    lines.pass_mark()?;
+    while let Some((number, line)) = lines.line()? {
+        let line = std::str::from_utf8(line).map_err(|_| source.changed())?;
+        if !line.trim().is_empty() {
+            return Ok(separated_otherwise(number, line));
         }
     }
-    Ok(())
+    Ok(None)
+}
+
+/// Tells a line that is separated by something else than commas.
+fn separated_otherwise(number: usize, line: &str) -> Option<Fault> {
+    if line.contains(',') {
+        return None;
+    }
+    OTHER_SEPARATORS.into_iter().find_map(|(separator, name)| {
+        let column = line[..line.find(separator)?].chars().count() + 1;
+        let what = format!("this file is separated by {name}: save it with commas");
+        Some(Fault { line: number, column, what })
+    })
 }
 
 /// The names of columns.
@@ -347,11 +448,17 @@ mod tests {
     /// The rows under a header, or the faults with their places.
     fn read_all(text: &str) -> Result<Vec<[String; 3]>, Faults> {
         let mut rows = Vec::new();
-        read(text, &COLUMNS, &mut |cells| {
+        read(&source(text), &COLUMNS, &mut |cells| {
             rows.push(cells.map(|cell| cell.text.to_string()));
-            Ok(())
-        })?;
-        Ok(rows)
+            Ok(Vec::new())
+        })
+        .unwrap()
+        .map(|_| rows)
+    }
+
+    /// A text as a file.
+    fn source(text: &str) -> Source {
+        Source::held("q.csv", text.as_bytes().to_vec())
     }
 
     #[test]
@@ -394,6 +501,28 @@ mod tests {
         assert_eq!((fault.line, fault.column), (2, 6));
         assert!(fault.what.starts_with("this quote is not closed"), "{fault}");
         assert_eq!(open.next(), None);
+    }
+
+    #[test]
+    fn rows_that_are_read_line_by_line_are_those_of_the_text() {
+        let mut numbers = 7_u64;
+        let mut next = |limit: usize| {
+            numbers =
+                numbers.wrapping_mul(0x5851_f42d_4c95_7f2d).wrapping_add(0x1405_7b7e_f767_814f);
+            (numbers >> 33) as usize % limit
+        };
+        let letters = ["a", ",", "\"", "\n", "\r", "\r\n", "\"\"", "円", "\",\"", "\"\n"];
+        for _ in 0..20_000 {
+            let text: String = (0..next(16)).map(|_| letters[next(letters.len())]).collect();
+            let source = source(&text);
+            let (mut texts, mut rows) = (Texts::of(&source).unwrap(), Rows::of(&text));
+            while let Some((row, line)) = texts.next().unwrap() {
+                let mut found = Rows::from_line(row, line);
+                assert_eq!(found.next(), rows.next(), "{text:?}");
+                assert_eq!(found.next(), None, "{text:?}");
+            }
+            assert_eq!(rows.next(), None, "{text:?}");
+        }
     }
 
     #[test]
@@ -510,10 +639,10 @@ mod tests {
             ]
         );
         let text = format!("issue,price\n{}", "1,2\n".repeat(100_000));
-        let told = read(&text, &COLUMNS, &mut |[issue, ..]| {
-            Err(vec![issue.fault("wrong".to_string()); 2])
+        let told = read(&source(&text), &COLUMNS, &mut |[issue, ..]| {
+            Ok(vec![issue.fault("wrong".to_string()); 2])
         });
-        let told = told.unwrap_err();
+        let told = told.unwrap().unwrap_err();
         assert_eq!((told.first.len(), told.count), (12, 200_000));
         assert_eq!((told.first[2].line, told.first[2].column), (3, 1));
     }

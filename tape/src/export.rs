@@ -3,8 +3,9 @@
 use crate::check;
 use crate::csv::{write_row, Value};
 use crate::facts::{Fact, Terms, Told};
-use crate::input::{Day, Stands};
+use crate::input::Day;
 use crate::ledger::Step;
+use crate::output::Untold;
 use crate::telling::json::name;
 use crate::{statement, story};
 use std::io::{self, BufWriter, Write};
@@ -74,7 +75,7 @@ pub struct Cut {
 }
 
 /// Runs a day and writes records, ledger or charges.
-pub fn run(day: &Day, table: Table, out: &mut dyn Write) -> io::Result<Option<Cut>> {
+pub fn run(day: &Day, table: Table, out: &mut dyn Write) -> Result<Option<Cut>, Untold> {
     let mut export = Export::begun(day, table, out)?;
     story::tell(day, &mut |told| export.fact(told))?;
     export.out.flush()?;
@@ -86,7 +87,7 @@ pub fn statements(
     day: &Day,
     told: &statement::Told,
     out: &mut dyn Write,
-) -> io::Result<Option<Cut>> {
+) -> Result<Option<Cut>, Untold> {
     let mut export = Export::begun(day, Table::Statements, out)?;
     for (issue, account, lots) in told.rows() {
         let mut values = vec![export.issue_of(issue), export.account_of(account)];
@@ -136,7 +137,7 @@ impl<'a> Export<'a> {
         match (self.table, told.fact) {
             (_, Fact::Instruction { instruction, .. }) => self.call = instruction.name(),
             (_, Fact::ReadingEnds { .. }) => {
-                self.cut = Some(Cut { what: check::line(self.day, told), unread: true });
+                self.cut = Some(Cut { what: check::line(told), unread: true });
             }
             (Table::Records, _) => return self.records(told),
             (Table::Ledger, Fact::Entry { .. }) => return self.entry(told.fact),
@@ -217,8 +218,8 @@ impl<'a> Export<'a> {
     }
 
     /// The day of a fact, and where its instruction stands: file, line, word.
-    fn place(&self, told: &Told) -> [Value<'a>; 4] {
-        let stands = told.word.map_or(Stands::default(), |word| self.day.stands(word));
+    fn place<'b>(&self, told: &Told<'b>) -> [Value<'b>; 4] {
+        let stands = self.day.shown(told.stands);
         let file = stands.file.map_or(Value::None, Value::Text);
         let [line, word] = [stands.line, told.word].map(|it| optional(it.map(|it| it as u64)));
         [number(told.day), file, line, word]

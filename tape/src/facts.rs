@@ -1,6 +1,7 @@
 //! The facts of a tape: what each instruction did to the book, in the order in which it came.
 
 use crate::dealt::{Rounds, Turn};
+use crate::input::Stands;
 use crate::known::Known;
 use crate::ledger::Step;
 use crate::units::Case;
@@ -63,11 +64,13 @@ pub enum Fact {
 }
 
 /// A fact as it is told: the day that it is of, the first word of the instruction that it belongs to
-/// (none where a day begins, and of the book at the end), and the names and dates that are known then.
+/// (none where a day begins, and of the book at the end) and where that stands, and the names and dates that
+/// are known then.
 #[derive(Clone, Copy, Debug, PartialEq, Eq)]
 pub struct Told<'a> {
     pub day: u16,
     pub word: Option<usize>,
+    pub stands: Stands<'a>,
     pub fact: &'a Fact,
     pub known: &'a Known,
 }

@@ -3,14 +3,18 @@
 //! What the book refuses whatever stands in it, such as 0 lots, is told here with its place in the
 //! file; what it refuses by its own numbers `tape check` tells of the text.
 
-use crate::csv::{self, Column};
+use crate::csv::{self, Column, Take};
 use crate::fault::{Fault, Faults, Word};
 use crate::input;
+use crate::lines::Lines;
 use crate::measure::Grouped;
 use crate::names::Names;
+use crate::output::Untold;
+use crate::source::Source;
 use crate::telling::text::listed;
 use crate::text::{line_of, taken, Field, ACCOUNT, ACCRUED, FROM, ISSUE, LOTS, PRICE, TO};
 use settlement_day::{Instruction, ISSUES};
+use std::io::{self, Write};
 
 /// The columns of the files.
 const TRADES: [Column; 4] = [must(ISSUE), must(FROM), must(TO), must(LOTS)];
@@ -26,38 +30,48 @@ const fn must(field: Field) -> Column {
     Column { name: field.name, lacking: None }
 }
 
-/// A file: its name in what is told, and its text.
-#[derive(Clone, Debug, PartialEq, Eq)]
+/// A file that is text.
+#[derive(Debug)]
 pub struct File {
-    name: String,
-    text: String,
+    source: Source,
 }
 
 impl File {
-    /// The file of these bytes, or why they are no text.
-    pub fn of(name: String, bytes: Vec<u8>) -> Result<File, String> {
-        if bytes.starts_with(WORKBOOK) {
+    /// The file of a source, or why that is no text.
+    pub fn of(mut source: Source) -> Result<File, String> {
+        if source.first().starts_with(WORKBOOK) {
+            let name = source.name();
             return Err(format!(
                 "{name}: this is a workbook and not CSV: save it as CSV in UTF-8, with commas"
             ));
         }
-        let text = input::text_of(&name, bytes)?;
-        Ok(File { name, text })
+        input::wants_text(&mut source)?;
+        Lines::looked_at(&source).look()?;
+        Ok(File { source })
+    }
+
+    /// Its rows, read by these columns; answers how many lines it has.
+    fn read<const N: usize>(
+        &self,
+        columns: &[Column; N],
+        take: &mut Take<N>,
+    ) -> Result<usize, Untold> {
+        csv::read(&self.source, columns, take)?.map_err(|faults| self.wrong(&faults))
     }
 
     /// What is wrong with it, a line each.
-    fn errors(&self, faults: &Faults) -> String {
-        input::errors(&self.name, faults)
+    fn wrong(&self, faults: &Faults) -> Untold {
+        Untold::Unread(input::errors(self.source.name(), faults))
     }
 
     /// Its name in a comment, which is one line.
     fn shown(&self) -> String {
-        self.name.replace(char::is_control, "?")
+        self.source.name().replace(char::is_control, "?")
     }
 }
 
 /// The roll of a day: its quotes, for how many days and at which rate.
-#[derive(Clone, Debug, PartialEq, Eq)]
+#[derive(Debug)]
 pub struct Roll {
     pub quotes: File,
     pub days: u32,
@@ -73,7 +87,7 @@ struct Quote {
 }
 
 /// The files of a day.
-#[derive(Clone, Debug, Default, PartialEq, Eq)]
+#[derive(Debug, Default)]
 pub struct Files {
     pub trades: Option<File>,
     pub deliveries: Option<File>,
@@ -83,32 +97,48 @@ pub struct Files {
 }
 
 impl Files {
-    /// The text form of the day, or all that is wrong with the files: the trades; the close and the
-    /// deliveries, where there are deliveries or quotes; the cutoff and the roll, where there are
-    /// quotes.
-    pub fn day(&self) -> Result<String, String> {
-        let (mut day, mut errors) = (self.made_of(), Vec::new());
-        let mut put = |made: Result<String, String>| match made {
-            Ok(lines) => day.push_str(&lines),
-            Err(error) => errors.push(error),
-        };
-        if let Some(file) = &self.trades {
-            put(self.trades_of(file));
-        }
-        if self.deliveries.is_some() || self.roll.is_some() {
-            put(Ok(line(&Instruction::Close, &[])));
-        }
-        if let Some(file) = &self.deliveries {
-            put(self.deliveries_of(file));
-        }
-        if let Some(roll) = &self.roll {
-            put(Ok(line(&Instruction::Cutoff, &[])));
-            put(self.roll_of(roll));
+    /// All that is wrong with the files, which are read to their ends.
+    pub fn judge(&self) -> Result<(), String> {
+        let mut errors = Vec::new();
+        let nowhere = &mut io::sink();
+        for told in [self.first(nowhere), self.second(nowhere), self.third(nowhere)] {
+            if let Err(Untold::Unread(error)) = told {
+                errors.push(error);
+            }
         }
         if errors.is_empty() {
-            return Ok(day);
+            return Ok(());
         }
         Err(errors.join("\n"))
+    }
+
+    /// Tells the text form of the day, of files with which nothing is wrong: the trades; the close and the
+    /// deliveries, where there are deliveries or quotes; the cutoff and the roll, where there are quotes.
+    pub fn tell(&self, out: &mut dyn Write) -> Result<(), Untold> {
+        out.write_all(self.made_of().as_bytes())?;
+        self.first(out)?;
+        self.second(out)?;
+        self.third(out)
+    }
+
+    /// The trades.
+    fn first(&self, out: &mut dyn Write) -> Result<(), Untold> {
+        self.trades.as_ref().map_or(Ok(()), |file| self.trades_of(file, out))
+    }
+
+    /// The close and the deliveries.
+    fn second(&self, out: &mut dyn Write) -> Result<(), Untold> {
+        if self.deliveries.is_some() || self.roll.is_some() {
+            out.write_all(line(&Instruction::Close, &[]).as_bytes())?;
+        }
+        self.deliveries.as_ref().map_or(Ok(()), |file| self.deliveries_of(file, out))
+    }
+
+    /// The cutoff and the roll.
+    fn third(&self, out: &mut dyn Write) -> Result<(), Untold> {
+        let Some(roll) = &self.roll else { return Ok(()) };
+        out.write_all(line(&Instruction::Cutoff, &[]).as_bytes())?;
+        self.roll_of(roll, out)
     }
 
     /// The first line: a comment with the files.
@@ -123,76 +153,87 @@ impl Files {
     }
 
     /// The trades of a file, a line each.
-    fn trades_of(&self, file: &File) -> Result<String, String> {
-        let mut lines = String::new();
-        let read = csv::read(&file.text, &TRADES, &mut |[issue, from, to, lots]| {
-            let [issue, seller, buyer, lots] = all([
+    fn trades_of(&self, file: &File, out: &mut dyn Write) -> Result<(), Untold> {
+        let read = file.read(&TRADES, &mut |[issue, from, to, lots]| {
+            let found = all([
                 self.taken(ISSUE, &issue),
                 self.taken(FROM, &from),
                 self.taken(TO, &to),
                 self.taken(LOTS, &lots),
-            ])?;
+            ]);
+            let [issue, seller, buyer, lots] = match found {
+                Ok(found) => found,
+                Err(wrong) => return Ok(wrong),
+            };
             if seller == buyer {
                 let what = "from and to are the same account: a trade has two, correct one";
-                return Err(vec![to.fault(what.to_string())]);
+                return Ok(vec![to.fault(what.to_string())]);
             }
-            lines += &line(&Instruction::Trade { issue, from: seller, to: buyer, lots }, &[]);
-            Ok(())
+            let trade = Instruction::Trade { issue, from: seller, to: buyer, lots };
+            out.write_all(line(&trade, &[]).as_bytes())?;
+            Ok(Vec::new())
         });
-        read.map(|()| lines).map_err(|faults| file.errors(&faults))
+        read.map(|_| ())
     }
 
     /// The deliveries of a file, a line each.
-    fn deliveries_of(&self, file: &File) -> Result<String, String> {
-        let mut lines = String::new();
-        let read = csv::read(&file.text, &DELIVERIES, &mut |[issue, account, lots]| {
-            let [issue, account, lots] = all([
+    fn deliveries_of(&self, file: &File, out: &mut dyn Write) -> Result<(), Untold> {
+        let read = file.read(&DELIVERIES, &mut |[issue, account, lots]| {
+            let found = all([
                 self.taken(ISSUE, &issue),
                 self.taken(ACCOUNT, &account),
                 self.taken(LOTS, &lots),
-            ])?;
-            lines += &line(&Instruction::Deliver { issue, account, lots }, &[]);
-            Ok(())
+            ]);
+            let [issue, account, lots] = match found {
+                Ok(found) => found,
+                Err(wrong) => return Ok(wrong),
+            };
+            out.write_all(line(&Instruction::Deliver { issue, account, lots }, &[]).as_bytes())?;
+            Ok(Vec::new())
         });
-        read.map(|()| lines).map_err(|faults| file.errors(&faults))
+        read.map(|_| ())
     }
 
     /// The line of a roll.
-    fn roll_of(&self, roll: &Roll) -> Result<String, String> {
+    fn roll_of(&self, roll: &Roll, out: &mut dyn Write) -> Result<(), Untold> {
         let Roll { ref quotes, days, rate } = *roll;
-        let numbers = self.quotes_of(&quotes.text).map_err(|faults| quotes.errors(&faults))?;
-        Ok(line(&Instruction::Roll { days, rate }, &numbers))
+        let numbers = self.quotes_of(quotes)?;
+        Ok(out.write_all(line(&Instruction::Roll { days, rate }, &numbers).as_bytes())?)
     }
 
     /// The prices of all issues, then their accrued amounts.
-    fn quotes_of(&self, text: &str) -> Result<Vec<u32>, Faults> {
+    fn quotes_of(&self, file: &File) -> Result<Vec<u32>, Untold> {
         let mut quotes: [Option<Quote>; ISSUES] = [None; ISSUES];
-        csv::read(text, &QUOTES, &mut |[issue, price, accrued]| {
-            let [number, price, interest] = all([
+        let lines = file.read(&QUOTES, &mut |[issue, price, accrued]| {
+            let found = all([
                 self.taken(ISSUE, &issue),
                 self.taken(PRICE, &price),
                 self.taken(ACCRUED, &accrued),
-            ])?;
+            ]);
+            let [number, price, interest] = match found {
+                Ok(found) => found,
+                Err(wrong) => return Ok(wrong),
+            };
             let most = *PRICE.range().end();
             if price + interest > most {
                 let (found, most) = (Grouped((price + interest).into()), Grouped(most.into()));
                 let what =
                     format!("price and accrued are together {found}: they are at most {most}");
-                return Err(vec![accrued.fault(what)]);
+                return Ok(vec![accrued.fault(what)]);
             }
             let quote = Quote { price, accrued: interest, line: issue.line };
             if let Some(first) = quotes[number as usize].replace(quote) {
                 let line = first.line;
                 let issue_told = self.names.issue(number);
                 let what = format!("issue {issue_told} has a quote in line {line}: leave one out");
-                return Err(vec![issue.fault(what)]);
+                return Ok(vec![issue.fault(what)]);
             }
-            Ok(())
+            Ok(Vec::new())
         })?;
         let lacking = (0..).zip(&quotes).filter(|(_, quote)| quote.is_none());
         let lacking: Vec<u32> = lacking.map(|(issue, _)| issue).collect();
         if !lacking.is_empty() {
-            return Err(self.no_quotes(text, &lacking).into());
+            return Err(file.wrong(&self.no_quotes(lines, &lacking).into()));
         }
         let quotes = quotes.map(Option::unwrap_or_default);
         let prices = quotes.iter().map(|quote| quote.price);
@@ -205,7 +246,7 @@ impl Files {
     }
 
     /// What is said of issues without a quote, at the last line of the file.
-    fn no_quotes(&self, text: &str, issues: &[u32]) -> Fault {
+    fn no_quotes(&self, line: usize, issues: &[u32]) -> Fault {
         let told: Vec<_> = issues.iter().map(|issue| self.names.issue(*issue)).collect();
         let (names, has) = match told.as_slice() {
             [issue] => (format!("issue {issue}"), "has"),
@@ -215,7 +256,7 @@ impl Files {
             "{names} {has} no quote: a roll needs the price of all sixteen issues, and none is \
              invented"
         );
-        Fault { line: text.lines().count(), column: 1, what }
+        Fault { line, column: 1, what }
     }
 }
 
@@ -246,7 +287,17 @@ mod tests {
     use super::*;
 
     fn file(name: &str, text: &str) -> Option<File> {
-        Some(File::of(name.to_string(), text.as_bytes().to_vec()).unwrap())
+        Some(File::of(Source::held(name, text.as_bytes().to_vec())).unwrap())
+    }
+
+    impl Files {
+        /// The text form of the day, or all that is wrong with the files.
+        fn day(&self) -> Result<String, String> {
+            self.judge()?;
+            let mut told = Vec::new();
+            self.tell(&mut told).unwrap();
+            Ok(String::from_utf8(told).unwrap())
+        }
     }
 
     fn trades(text: &str) -> Result<String, String> {
@@ -352,7 +403,7 @@ mod tests {
 
     #[test]
     fn what_is_no_text_is_told() {
-        let error = |bytes: &[u8]| File::of("t.csv".to_string(), bytes.to_vec()).unwrap_err();
+        let error = |bytes: &[u8]| File::of(Source::held("t.csv", bytes.to_vec())).unwrap_err();
         assert!(error(b"PK\x03\x04\x14\x00").contains("t.csv: this is a workbook and not CSV"));
         let shift_jis = error(b"issue,note\n0,\x96\xf1\x92\xe8\n");
         assert!(shift_jis.contains("not in UTF-8, by line 2: save it as UTF-8"), "{shift_jis}");

@@ -3,33 +3,12 @@
 
 use crate::bytes;
 use crate::fault::Faults;
+use crate::kind::{begins_as_words, kind_of, Kind};
+use crate::lines::{is_no_text, Lines};
 use crate::names::Names;
-use crate::text::{self, Parsed, Place};
-
-/// The kinds of words with which an instruction begins, the bits of each that are unused, and the kind
-/// of the word behind it, if the instruction has one.
-const HEADS: [(u32, u32, Option<u32>); 9] = [
-    (1, 0x0000_0fff, Some(8)),
-    (2, 0x0003_ffff, Some(8)),
-    (3, 0x0003_ffff, Some(8)),
-    (4, 0x0003_ffff, None),
-    (5, 0x0fff_ffff, None),
-    (6, 0x0fff_ffff, None),
-    (7, 0x0000_03ff, Some(9)),
-    (13, 0x00ff_fffe, None),
-    (14, 0x0fff_0000, None),
-];
-/// The bytes that are looked at to find a text in UTF-16.
-const LOOKED_AT: usize = 1_024;
-
-/// What the bytes of a file are.
-#[derive(Clone, Debug, PartialEq, Eq)]
-pub enum Kind {
-    Text,
-    Words,
-    /// Neither, and what they seem to be and what to do.
-    Neither(String),
-}
+use crate::reading::Reading;
+use crate::source::Source;
+use crate::text::{Parser, Put};
 
 /// How an input is taken.
 #[derive(Clone, Copy, Debug, Default, PartialEq, Eq)]
@@ -43,120 +22,21 @@ pub enum Taken {
     Hex,
 }
 
-/// Tells text from words. Words begin with an instruction: the first word has the kind of one and no
-/// unused bits, so that the first byte of the file is 0, or 1 where a mark is set, or the third is 0 (of
-/// a turn), which no text has; the second word, where the instruction has one, has its kind. Text is UTF-8 without control characters
-/// but tabs and line ends.
-pub fn kind_of(bytes: &[u8]) -> Kind {
-    if begins_as_words(bytes) {
-        return Kind::Words;
-    }
-    match std::str::from_utf8(bytes) {
-        Ok(text) if !text.bytes().any(is_control) => Kind::Text,
-        _ => Kind::Neither(neither(bytes)),
-    }
+/// What a file of a day is.
+#[derive(Clone, Copy, Debug, PartialEq, Eq)]
+pub(crate) enum Form {
+    Words,
+    Hex,
+    Text,
 }
 
-/// Do the bytes begin with an instruction? A tape of no words has none, and one that is cut inside its
-/// first word is known by the lowest byte, or by the third.
-fn begins_as_words(bytes: &[u8]) -> bool {
-    let mut words =
-        bytes.chunks_exact(4).map(|word| u32::from_le_bytes([word[0], word[1], word[2], word[3]]));
-    let Some(first) = words.next() else {
-        return bytes.first().is_none_or(|lowest| *lowest <= 1) || bytes.get(2) == Some(&0);
-    };
-    let second = words.next().map(|word| word >> 28);
-    HEADS.iter().any(|&(kind, unused, behind)| {
-        let follows = behind.zip(second).is_none_or(|(wanted, found)| wanted == found);
-        first >> 28 == kind && first & unused == 0 && follows
-    })
-}
-
-/// Is this byte a control character that no text form has?
-fn is_control(byte: u8) -> bool {
-    byte < b' ' && !b"\t\n\r".contains(&byte) || byte == 0x7f
-}
-
-/// What bytes that are neither text nor words seem to be, and what to do.
-fn neither(bytes: &[u8]) -> String {
-    if is_utf16(bytes) {
-        return "it seems to be text in UTF-16: save it as UTF-8".to_string();
-    }
-    let line = |at: usize| bytes[..at].iter().filter(|byte| **byte == b'\n').count() + 1;
-    let control = bytes.iter().position(|byte| is_control(*byte));
-    match (std::str::from_utf8(bytes), control) {
-        (Err(error), None) => format!(
-            "it seems to be text that is not in UTF-8, by line {}: save it as UTF-8 (from \
-             Shift_JIS by `iconv -f SHIFT_JIS -t UTF-8`)",
-            line(error.valid_up_to())
-        ),
-        (Ok(_), Some(at)) => format!(
-            "it seems to be text, with a control character (byte {:02x}) in line {}: take it out, or \
-             save it as UTF-8",
-            bytes[at],
-            line(at)
-        ),
-        _ => {
-            let first: Vec<String> =
-                bytes.iter().take(4).map(|byte| format!("{byte:02x}")).collect();
-            format!(
-                "it begins with the bytes {}, which no instruction does: if it is a damaged tape, \
-                 say --words",
-                first.join(" ")
-            )
-        }
-    }
-}
-
-/// Does this seem to be text in UTF-16? It has a byte-order mark, or every second byte is often 0 and
-/// the others never.
-fn is_utf16(bytes: &[u8]) -> bool {
-    if bytes.starts_with(&[0xff, 0xfe]) || bytes.starts_with(&[0xfe, 0xff]) {
-        return true;
-    }
-    let looked_at = &bytes[..bytes.len().min(LOOKED_AT)];
-    let zeros = |from: usize| looked_at.iter().skip(from).step_by(2).filter(|b| **b == 0).count();
-    match (zeros(0), zeros(1)) {
-        (0, often) | (often, 0) => often > 0 && often * 8 >= looked_at.len(),
-        _ => false,
-    }
-}
-
-/// The text of a file, or why it is none; the name is the file's.
+/// The text of a small file, or why it is none; the name is the file's.
 pub fn text_of(file: &str, bytes: Vec<u8>) -> Result<String, String> {
-    match kind_of(&bytes) {
-        Kind::Words if !bytes.is_empty() => Err(format!(
-            "{file}: these are the words of a tape and not text: `tape read` turns them into text"
-        )),
-        Kind::Neither(what) => Err(is_neither(file, &what)),
-        _ => String::from_utf8(bytes).map_err(|error| format!("{file}: {error}")),
+    let kind = kind_of(&bytes);
+    if kind != Kind::Text && !bytes.is_empty() {
+        return Err(is_no_text(file, &kind));
     }
-}
-
-/// The words of a file, or why they are none; the name is the file's.
-pub fn words_of(file: &str, bytes: Vec<u8>) -> Result<Vec<u8>, String> {
-    match kind_of(&bytes) {
-        Kind::Words => Ok(bytes),
-        Kind::Text => {
-            Err(format!("{file}: this is text and not the words of a tape: nothing to read"))
-        }
-        Kind::Neither(what) => Err(is_neither(file, &what)),
-    }
-}
-
-/// What is said of a file that is neither.
-fn is_neither(file: &str, what: &str) -> String {
-    format!("{file}: this is neither the text form nor the words of a tape: {what}")
-}
-
-/// The tape of words that are hexadecimal numbers in text.
-pub fn of_hex(file: &str, bytes: Vec<u8>) -> Result<Vec<u8>, String> {
-    bytes::of_hex(&text_of(file, bytes)?).map_err(|faults| errors(file, &faults))
-}
-
-/// A text, read by these names; or what is wrong with it.
-pub fn parsed(file: &str, bytes: Vec<u8>, names: &Names) -> Result<Parsed, String> {
-    text::parse_by(names, &text_of(file, bytes)?).map_err(|faults| errors(file, &faults))
+    String::from_utf8(bytes).map_err(|error| format!("{file}: {error}"))
 }
 
 /// What is wrong with a text, a line each.
@@ -164,29 +44,23 @@ pub fn errors(file: &str, faults: &Faults) -> String {
     faults.listed(file, ["error", "errors"]).join("\n")
 }
 
-/// What is to be said of lines that are right, a line each.
-pub fn notes(file: &str, notes: &Faults) -> Vec<String> {
-    notes.listed(file, ["note", "notes"])
-}
-
-/// The files of a day, one after the other, as one tape, and the names by which they are read and told.
-#[derive(Clone, Debug, Default, PartialEq, Eq)]
+/// The files of a day, one after the other, as one tape, and the names by which they are read and told. A text
+/// is read to its end when it is put there, so that it is refused whole, and again when the day is read.
+#[derive(Debug, Default)]
 pub struct Day {
-    pub tape: Vec<u8>,
     /// The names of issues and accounts, and the date of day 0.
     pub names: Names,
     /// What is to be said of lines that are right.
     pub notes: Vec<String>,
-    sources: Vec<Source>,
+    parts: Vec<Part>,
 }
 
-/// A file of a day: its name, the first of the tape's words that is its own, and the places of its
-/// lines where it is a text.
-#[derive(Clone, Debug, PartialEq, Eq)]
-struct Source {
-    name: String,
-    first: usize,
-    places: Option<Vec<Place>>,
+/// A file of a day: what it is, and how many bytes of the tape it gives, where that is known.
+#[derive(Debug)]
+pub(crate) struct Part {
+    pub(crate) source: Source,
+    pub(crate) form: Form,
+    bytes: Option<u64>,
 }
 
 /// Where an instruction stands: in which file, if there are several or it is asked for, and at which
@@ -204,179 +78,199 @@ impl Day {
         Day { names, ..Day::default() }
     }
 
-    /// The day of one file.
+    /// The day of one file whose bytes are in memory.
     pub fn of(file: &str, bytes: Vec<u8>, taken: Taken) -> Result<Day, String> {
         let mut day = Day::default();
         day.add(file, bytes, taken)?;
         Ok(day)
     }
 
-    /// Puts a file behind those that are there. It must begin with a whole word.
+    /// Puts a file whose bytes are in memory behind those that are there.
     pub fn add(&mut self, file: &str, bytes: Vec<u8>, taken: Taken) -> Result<(), String> {
-        if let (Some(last), false) = (self.sources.last(), self.tape.len() % 4 == 0) {
-            let name = &last.name;
-            return Err(format!(
-                "{name}: its last word is not whole, so that {file} cannot follow it: give it last"
-            ));
-        }
-        let first = self.tape.len() / 4;
-        let (tape, places) = match taken {
-            Taken::Hex => (of_hex(file, bytes)?, None),
-            Taken::Words => (bytes, None),
-            Taken::Apart if kind_of(&bytes) == Kind::Words => (bytes, None),
-            Taken::Apart => {
-                let Parsed { tape, places, notes: found } = parsed(file, bytes, &self.names)?;
-                self.notes.extend(notes(file, &found));
-                (tape, Some(places))
+        self.put(Source::held(file, bytes), taken)
+    }
+
+    /// Puts a file behind those that are there. It must begin with a whole word.
+    pub fn put(&mut self, mut source: Source, taken: Taken) -> Result<(), String> {
+        if let Some(last) = self.parts.last_mut() {
+            if last.length()? % 4 != 0 {
+                let (name, file) = (last.source.name(), source.name());
+                return Err(format!(
+                    "{name}: its last word is not whole, so that {file} cannot follow it: give it last"
+                ));
             }
-        };
-        self.sources.push(Source { name: file.to_string(), first, places });
-        if self.tape.is_empty() {
-            self.tape = tape;
-        } else {
-            self.tape.extend(tape);
         }
+        let form = match taken {
+            Taken::Hex => Form::Hex,
+            Taken::Words => Form::Words,
+            Taken::Apart if begins_as_words(source.first()) => Form::Words,
+            Taken::Apart => Form::Text,
+        };
+        let bytes = match form {
+            Form::Words => source.length(),
+            Form::Hex => Some(hex(&mut source)?),
+            Form::Text => Some(self.text(&mut source)?),
+        };
+        self.parts.push(Part { source, form, bytes });
         Ok(())
+    }
+
+    /// Reads a text to its end: the bytes of the tape that it gives, or what is wrong with it.
+    fn text(&mut self, source: &mut Source) -> Result<u64, String> {
+        source.keep()?;
+        let (mut lines, mut parser) = (Lines::looked_at(source), Parser::by(&self.names));
+        lines.pass_mark()?;
+        let mut bytes = 0;
+        while let Some((number, line)) = lines.line()? {
+            bytes += match parser.line(number, line) {
+                Some((_, Put::Words(words))) => 4 * words.len() as u64,
+                Some((_, Put::Byte(_))) => 1,
+                None => 0,
+            };
+        }
+        let notes = parser.judge().map_err(|faults| errors(source.name(), &faults))?;
+        self.notes.extend(notes.listed(source.name(), ["note", "notes"]));
+        Ok(bytes)
+    }
+
+    /// Makes that it can be read more than once.
+    pub fn keep(&mut self) -> Result<(), String> {
+        self.parts.iter_mut().try_for_each(|part| part.length().map(|_| ()))
+    }
+
+    /// Its words as they are read, from the first on.
+    pub fn reading(&self) -> Reading<'_> {
+        Reading::of(self)
+    }
+
+    /// Its files.
+    pub(crate) fn parts(&self) -> &[Part] {
+        &self.parts
     }
 
     /// The names of its files.
     pub fn files(&self) -> Vec<String> {
-        self.sources.iter().map(|source| source.name.clone()).collect()
+        self.parts.iter().map(|part| part.source.name().to_string()).collect()
+    }
+
+    /// How many bytes the tape has, where that is known.
+    pub fn bytes(&self) -> Option<u64> {
+        self.parts.iter().map(|part| part.bytes).sum()
+    }
+
+    /// How many whole words the tape has, where that is known.
+    pub fn words(&self) -> Option<usize> {
+        self.bytes().map(|bytes| (bytes / 4) as usize)
     }
 
     /// A word with where it stands: `word 9, line 10`, and the file where there are several.
-    pub fn named(&self, word: usize) -> String {
-        let Stands { file, line, .. } = self.stands(word);
+    pub fn named(&self, word: usize, stands: Stands) -> String {
+        let Stands { file, line, .. } = self.shown(stands);
         let line = line.map(|line| format!("line {line}"));
         let place: Vec<String> = file.map(String::from).into_iter().chain(line).collect();
         let place = if place.is_empty() { String::new() } else { format!(", {}", place.join(" ")) };
         format!("word {word}{place}")
     }
 
-    /// Where the instruction that begins at a word stands; the file is named where there are several.
-    pub fn stands(&self, word: usize) -> Stands<'_> {
-        let several = self.sources.len() > 1;
-        if !several && self.sources.iter().all(|source| source.places.is_none()) {
-            return Stands::default();
-        }
-        let stands = self.stands_in(word);
-        Stands { file: stands.file.filter(|_| several), ..stands }
+    /// Where an instruction stands, as it is shown: the file is named where there are several.
+    pub fn shown<'a>(&self, stands: Stands<'a>) -> Stands<'a> {
+        Stands { file: stands.file.filter(|_| self.parts.len() > 1), ..stands }
     }
+}
 
-    /// Where the instruction that begins at a word stands, with the file.
-    pub fn stands_in(&self, word: usize) -> Stands<'_> {
-        let after = self.sources.partition_point(|source| source.first <= word);
-        let Some(source) = after.checked_sub(1).map(|at| &self.sources[at]) else {
-            return Stands::default();
-        };
-        let place = source.places.as_ref().and_then(|places| {
-            let word = word - source.first;
-            let at = places.partition_point(|place| place.word < word);
-            let exact = places.get(at).filter(|place| place.word == word);
-            exact.or_else(|| places.get(at.checked_sub(1)?))
-        });
-        let (line, column) = (place.map(|place| place.line), place.map(|place| place.column));
-        Stands { file: Some(&source.name), line, column }
+impl Part {
+    /// How many bytes of the tape it gives; what can be read only once is kept, so that it is known.
+    fn length(&mut self) -> Result<u64, String> {
+        if self.bytes.is_none() {
+            self.source.keep()?;
+            self.bytes = self.source.length();
+        }
+        Ok(self.bytes.unwrap_or_default())
     }
+}
+
+/// Looks that a file is text, as far as its first bytes tell, and makes that it can be read again.
+pub fn wants_text(source: &mut Source) -> Result<(), String> {
+    if begins_as_words(source.first()) && !source.first().is_empty() {
+        return Err(is_no_text(source.name(), &Kind::Words));
+    }
+    source.keep()
+}
+
+/// Looks that a file is the words of a tape; of another one it is told what it is.
+pub fn wants_words(source: &mut Source) -> Result<(), String> {
+    if begins_as_words(source.first()) {
+        return Ok(());
+    }
+    source.keep()?;
+    Lines::looked_at(source).look()?;
+    let file = source.name();
+    Err(format!("{file}: this is text and not the words of a tape: nothing to read"))
+}
+
+/// Reads hexadecimal words to their end: the bytes of the tape that they give, or what is wrong with them.
+fn hex(source: &mut Source) -> Result<u64, String> {
+    wants_text(source)?;
+    let (mut words, mut faults, mut bytes) = (Vec::new(), Faults::default(), 0);
+    let mut lines = Lines::looked_at(source);
+    while let Some((number, line)) = lines.line()? {
+        let text = std::str::from_utf8(line).unwrap_or_default();
+        bytes::hex_line(number, text, &mut words, &mut faults);
+        bytes += 4 * words.len() as u64;
+        words.clear();
+    }
+    if faults.is_empty() {
+        return Ok(bytes);
+    }
+    Err(errors(source.name(), &faults))
 }
 
 #[cfg(test)]
 mod tests {
     use super::*;
 
+    use crate::bytes::join;
+
+    /// All bytes of a day.
+    fn tape(day: &Day) -> Vec<u8> {
+        let (mut reading, mut words) = (day.reading(), Vec::new());
+        while reading.more().unwrap() && !reading.words().is_empty() {
+            words.extend(reading.words());
+            reading.pass(reading.words().len());
+        }
+        [&join(&words), reading.stray()].concat()
+    }
+
+    /// Where the words of these numbers stand, as it is shown.
+    fn stands(day: &Day, words: usize) -> Vec<Stands<'_>> {
+        let mut reading = day.reading();
+        let mut stands = |_| {
+            assert!(reading.more().unwrap());
+            let stands = day.shown(reading.stands());
+            reading.pass(usize::from(!reading.words().is_empty()));
+            stands
+        };
+        (0..words).map(&mut stands).collect()
+    }
+
     /// A text in Shift_JIS: 約定 in its comment.
     const SHIFT_JIS: &[u8] = b"trade 0 1 2 3\nclose # \x96\xf1\x92\xe8\n";
 
-    fn utf16(text: &str, bytes: fn(u16) -> [u8; 2]) -> Vec<u8> {
-        text.encode_utf16().flat_map(bytes).collect()
-    }
-
     #[test]
-    fn texts_are_told_from_words() {
-        for text in ["close\n", "# a note: 円\r\ntrade 0 1 2 3\r\n", "\u{feff}close", "\n", "a"] {
-            assert_eq!(kind_of(text.as_bytes()), Kind::Text, "{text}");
-        }
-        for line in [
-            "trade 2 8 8 8",
-            "deliver 2 2 9",
-            "resolve 3 3 3",
-            "pair-off 4 4",
-            "close",
-            "mark 2 1",
-            "turn 25443",
-        ] {
-            let tape = text::to_tape(line).unwrap();
-            assert_eq!(kind_of(&tape), Kind::Words, "{line}");
-            let day = Day::of("x", tape.clone(), Taken::Apart).unwrap();
-            assert_eq!((&day.tape, day.stands_in(0).line), (&tape, None));
-        }
-        for roll in ["roll 2 8224 139264", "roll 1 8 100000", "roll 15 16383 262143"] {
-            assert_eq!(kind_of(&text::to_tape(roll).unwrap()), Kind::Words);
-        }
-        for cut in [&[][..], &[0], &[0, 0], &[1, 0, 0], &[0, 0x20, 4], &[0x63, 0x6c, 0]] {
-            assert_eq!(kind_of(cut), Kind::Words, "{cut:?}");
-        }
-    }
-
-    #[test]
-    fn every_first_word_that_the_reader_takes_is_known() {
-        let mut word = 1_u32;
-        for _ in 0..200_000 {
-            word = word.wrapping_mul(0x9e37_79b1).rotate_left(7) ^ 0x5bd1_e995;
-            for shift in [0, 10, 12, 18, 28] {
-                let low = if shift == 28 { 0xffff } else { u32::from(shift == 18) };
-                let head = word >> shift << shift | word & low;
-                let rest: &[u32] = match head >> 28 {
-                    1..=3 => &[0x8000_0001],
-                    7 => &[0x9000_0000; 32],
-                    _ => &[],
-                };
-                let taken = settlement_day::tape::read(&[&[head], rest].concat()).is_ok();
-                assert_eq!(begins_as_words(&head.to_le_bytes()), taken, "{head:08x}");
-            }
-        }
-    }
-
-    #[test]
-    fn text_in_another_encoding_is_neither() {
-        let text = "trade 0 1 2 3\nclose # 約定\n";
-        let of_mark = |mark: &[u8], rest: Vec<u8>| [mark, &rest].concat();
-        let small = utf16(text, u16::to_le_bytes);
-        let large = utf16(text, u16::to_be_bytes);
-        for bytes in [
-            small.clone(),
-            large.clone(),
-            of_mark(&[0xff, 0xfe], small),
-            of_mark(&[0xfe, 0xff], large),
-            utf16("# 約定約定約定約定約定\nclose\n", u16::to_be_bytes),
-        ] {
-            let Kind::Neither(what) = kind_of(&bytes) else { panic!("{bytes:?}") };
-            assert_eq!(what, "it seems to be text in UTF-16: save it as UTF-8");
-        }
-        for bytes in [SHIFT_JIS, b"close\n# caf\xe9\n", b"close\n# \xcc\xf3\xc4\xea\n"] {
-            let Kind::Neither(what) = kind_of(bytes) else { panic!("{bytes:?}") };
-            assert!(what.contains("not in UTF-8, by line 2: save it as UTF-8"), "{what}");
-        }
-        let Kind::Neither(what) = kind_of(b"close\n\n# \x1b$B") else { panic!("control") };
-        assert!(what.contains("a control character (byte 1b) in line 3"), "{what}");
-        let Kind::Neither(what) = kind_of(&[1, 0, 0, 0x50, 0xff]) else { panic!("damaged") };
-        assert!(
-            what.starts_with("it begins with the bytes 01 00 00 50") && what.contains("--words")
-        );
+    fn a_file_of_another_encoding_is_words_only_where_that_is_said() {
         let error = Day::of("day.txt", SHIFT_JIS.to_vec(), Taken::Apart).unwrap_err();
         let start = "day.txt: this is neither the text form nor the words of a tape: it seems to";
         assert!(error.starts_with(start), "{error}");
-        assert_eq!(Day::of("x", SHIFT_JIS.to_vec(), Taken::Words).unwrap().tape, SHIFT_JIS);
+        assert_eq!(tape(&Day::of("x", SHIFT_JIS.to_vec(), Taken::Words).unwrap()), SHIFT_JIS);
     }
 
     #[test]
     fn a_text_gives_the_tape_and_its_lines() {
         let day = Day::of("x", b"\nclose\n  cutoff\n".to_vec(), Taken::Apart).unwrap();
-        assert_eq!(day.tape, [0, 0, 0, 0x50, 0, 0, 0, 0x60]);
-        let stands = |word| day.stands_in(word);
-        let at = |line, column| Stands { file: Some("x"), line: Some(line), column: Some(column) };
-        assert_eq!([0, 1].map(stands), [at(2, 1), at(3, 3)]);
-        assert_eq!(day.stands(1).file, None);
+        assert_eq!(tape(&day), [0, 0, 0, 0x50, 0, 0, 0, 0x60]);
+        let at = |line, column| Stands { file: None, line: Some(line), column: Some(column) };
+        assert_eq!(stands(&day, 2), [at(2, 1), at(3, 3)]);
+        assert_eq!(day.reading().stands().file, None);
         let error =
             Day::of("day.txt", b"close\nopen 1\nsell\n".to_vec(), Taken::Apart).unwrap_err();
         assert!(error.starts_with("day.txt:2:1: there is no instruction \"open\""), "{error}");
@@ -388,8 +282,9 @@ mod tests {
         let mut day = Day::of("mon.txt", b"close\n".to_vec(), Taken::Apart).unwrap();
         day.add("tue.tape", vec![0, 0, 0, 0x60], Taken::Apart).unwrap();
         day.add("wed.txt", b"\nclose\nbyte 01\nbyte 02\n".to_vec(), Taken::Apart).unwrap();
-        assert_eq!(day.tape, [0, 0, 0, 0x50, 0, 0, 0, 0x60, 0, 0, 0, 0x50, 1, 2]);
-        let stands = [0, 1, 2, 3].map(|word| (day.stands(word).file, day.stands(word).line));
+        assert_eq!(tape(&day), [0, 0, 0, 0x50, 0, 0, 0, 0x60, 0, 0, 0, 0x50, 1, 2]);
+        let stands = stands(&day, 4);
+        let stands: Vec<_> = stands.iter().map(|stands| (stands.file, stands.line)).collect();
         let (mon, tue, wed) = (Some("mon.txt"), Some("tue.tape"), Some("wed.txt"));
         assert_eq!(stands, [(mon, Some(1)), (tue, None), (wed, Some(2)), (wed, Some(3))]);
         let error = day.add("thu.txt", b"close\n".to_vec(), Taken::Apart).unwrap_err();
@@ -403,9 +298,11 @@ mod tests {
     fn what_is_wanted_as_text_or_as_words_is_told() {
         let words = text_of("x", vec![0, 0, 0, 0x50]).unwrap_err();
         assert!(words.contains("these are the words of a tape and not text"), "{words}");
-        let text = words_of("x", b"close\n".to_vec()).unwrap_err();
+        assert_eq!(wants_text(&mut Source::held("x", vec![0, 0, 0, 0x50])).unwrap_err(), words);
+        let wanted = |bytes: &[u8]| wants_words(&mut Source::held("x", bytes.to_vec()));
+        let text = wanted(b"close\n").unwrap_err();
         assert!(text.contains("this is text and not the words of a tape"), "{text}");
-        assert!(words_of("x", SHIFT_JIS.to_vec()).unwrap_err().contains("neither"));
-        assert_eq!((text_of("x", vec![]), words_of("x", vec![])), (Ok("".into()), Ok(vec![])));
+        assert!(wanted(SHIFT_JIS).unwrap_err().contains("neither"));
+        assert_eq!((text_of("x", vec![]), wanted(b"")), (Ok("".into()), Ok(())));
     }
 }

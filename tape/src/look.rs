@@ -97,7 +97,7 @@ pub fn read(day: &Day, question: &Question) -> Result<Seen, String> {
             Err(refusal) => break Err(refusal),
         }
     };
-    let (phase, word, moment) = (stood.phase(), stood.word, stood.moment(day));
+    let (phase, word, moment) = (stood.phase(), stood.word, stood.moment());
     let (day, known) = (book.day, stood.known);
     Ok(Seen { question: *question, day, phase, word, moment, known, answer })
 }

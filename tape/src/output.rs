@@ -94,6 +94,29 @@ struct Place {
     replace: bool,
 }
 
+/// Why something is not told to its end.
+#[derive(Debug)]
+pub enum Untold {
+    /// The output could not be written.
+    Output(io::Error),
+    /// The input could not be read: what is said of it.
+    Unread(String),
+    /// A page would be too long: what to do.
+    Long(String),
+}
+
+impl From<io::Error> for Untold {
+    fn from(error: io::Error) -> Untold {
+        Untold::Output(error)
+    }
+}
+
+impl From<String> for Untold {
+    fn from(error: String) -> Untold {
+        Untold::Unread(error)
+    }
+}
+
 /// An open output. A file that is not kept is as if it had never been begun.
 pub struct Writer {
     name: String,
@@ -107,6 +130,14 @@ impl Writer {
     /// Says of an error that this output could not be written.
     pub fn failed(&self, error: &io::Error) -> String {
         cannot(&self.name, error)
+    }
+
+    /// Says why what was to be told to this output is not told to its end.
+    pub fn untold(&self, untold: Untold) -> String {
+        match untold {
+            Untold::Output(error) => self.failed(&error),
+            Untold::Unread(what) | Untold::Long(what) => what,
+        }
     }
 
     /// Does what is not kept leave a file as it was?

@@ -24,10 +24,10 @@ fn begun() -> Instant {
     *BEGUN.get_or_init(Instant::now)
 }
 
-/// How far work has come: so many things of all.
+/// How far work has come: so many things of all, where it is known how many they are.
 pub struct Meter {
     thing: &'static str,
-    all: usize,
+    all: Option<usize>,
     /// The clock is looked at once in so many steps.
     every: u32,
     steps: u32,
@@ -37,17 +37,17 @@ pub struct Meter {
 }
 
 impl Meter {
-    /// A tape of so many words is read, instruction by instruction.
-    pub fn of_words(all: usize) -> Meter {
+    /// A tape of so many words is read, instruction by instruction; none where it is not known how many.
+    pub fn of_words(all: Option<usize>) -> Meter {
         Meter::new("word", all, INSTRUCTIONS)
     }
 
     /// So many things are done, each of which may take long.
     pub fn of_things(thing: &'static str, all: usize) -> Meter {
-        Meter::new(thing, all, 1)
+        Meter::new(thing, Some(all), 1)
     }
 
-    fn new(thing: &'static str, all: usize, every: u32) -> Meter {
+    fn new(thing: &'static str, all: Option<usize>, every: u32) -> Meter {
         begun();
         let (begun, terminal) = (Instant::now(), io::stderr().is_terminal());
         Meter { thing, all, every, steps: 0, begun, shown: None, terminal }
@@ -78,7 +78,8 @@ impl Meter {
 
     /// The line of progress.
     fn line(&self, at: usize) -> String {
-        let Meter { thing, all, .. } = *self;
+        let thing = self.thing;
+        let Some(all) = self.all else { return format!("tape: {thing} {}", Grouped(at as i128)) };
         let percent = at.saturating_mul(100) / all.max(1);
         let (at, all) = (Grouped(at as i128), Grouped(all as i128));
         format!("tape: {thing} {at} of {all}, {percent} percent")
@@ -124,7 +125,8 @@ mod tests {
         assert!(is_time(after(3_000), [start, after(1_000)], None));
         assert!(!is_time(after(3_200), [start; 2], Some(after(3_000))));
         assert!(is_time(after(3_250), [start; 2], Some(after(3_000))));
-        let mut meter = Meter::of_words(4_000_000);
+        assert_eq!(Meter::of_words(None).line(1_234_567), "tape: word 1,234,567");
+        let mut meter = Meter::of_words(Some(4_000_000));
         assert_eq!(meter.line(1_234_567), "tape: word 1,234,567 of 4,000,000, 30 percent");
         meter.at(1);
         assert_eq!((meter.steps, meter.shown), (1, None));

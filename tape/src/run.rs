@@ -2,12 +2,13 @@
 //! has no status but 0 for a run that could not be finished, so the lines are counted: the calls are made
 //! here too, and tell how many there must be.
 
-use crate::bytes::split;
+use crate::input::Day;
 use crate::measure::counted;
 use crate::progress::Meter;
-use crate::story::traded;
+use crate::source::BLOCK;
+use crate::story::call;
 use crate::text::older_roll;
-use settlement_day::{calls, tape, Book, OUTPUT_WORDS};
+use settlement_day::{tape, Book, OUTPUT_WORDS};
 use std::env;
 use std::io::{self, BufRead, BufReader, BufWriter, Write};
 use std::path::{Path, PathBuf};
@@ -81,7 +82,7 @@ impl Printed {
 }
 
 /// Runs the program on a tape and copies its lines to an output. An error is that it cannot be run.
-pub fn run(program: &Path, tape: &[u8], output: &mut dyn Write) -> Result<Ran, String> {
+pub fn run(program: &Path, day: &Day, output: &mut dyn Write) -> Result<Ran, String> {
     let name = program.display();
     let mut child = Command::new(program)
         .stdin(Stdio::piped())
@@ -89,8 +90,9 @@ pub fn run(program: &Path, tape: &[u8], output: &mut dyn Write) -> Result<Ran, S
         .stderr(Stdio::piped())
         .spawn()
         .map_err(|error| format!("{name} cannot be run: {error}"))?;
-    let Talk { printed, said, wanted } = talk(&mut child, tape, output);
+    let Talk { printed, said, given } = talk(&mut child, day, output);
     let status = child.wait().map_err(|error| format!("{name}: {error}"))?;
+    let Given { wanted, older } = given?;
     let printed = match printed {
         Ok(printed) => printed,
         Err(error) => {
@@ -108,66 +110,88 @@ pub fn run(program: &Path, tape: &[u8], output: &mut dyn Write) -> Result<Ran, S
     } else if !printed.is_whole(wanted) {
         Ran::Cut(format!("the lines of {name} are not whole: {told}"))
     } else if let Some(line) = printed.ended {
-        let what = advice(tape, &line);
+        let what = advice(older, &line);
         Ran::Ended(format!("reading ended before the tape did: {line}{what}"))
     } else {
         Ran::Whole
     })
 }
 
-/// The lines that a tape gives: one for each instruction and where reading ends, then the ledger and
-/// the charges of the book.
-fn wanted(tape: &[u8]) -> Lines {
-    let (words, stray) = split(tape);
-    let mut book = Book::fresh();
-    let mut output = vec![0; OUTPUT_WORDS];
-    let mut lines = Lines::default();
-    let mut meter = Meter::of_words(words.len());
-    let mut at = 0;
-    while at < words.len() || !stray.is_empty() {
-        meter.at(at);
-        lines.instructions += 1;
-        let Ok((instruction, count)) = tape::read(&words[at..]) else { break };
-        if !traded(&mut book, &instruction) {
-            // What is refused changes nothing, and the run goes on.
-            let _ = calls::call(&mut book, &instruction, &tape::quotes(&words[at..]), &mut output);
+/// A tape that was given to the program.
+#[derive(Clone, Copy, Debug, Default, PartialEq, Eq)]
+struct Given {
+    /// The lines that it gives: one for each instruction and where reading ends, then the ledger and the charges
+    /// of the book.
+    wanted: Lines,
+    /// Where reading ends at a roll of the older form, its word and what is to be said of it.
+    older: Option<(usize, &'static str)>,
+}
+
+/// Gives a tape to a program, and makes its calls. A program that has ended reading takes no more: that is told
+/// by what it printed.
+fn give(day: &Day, input: Option<impl Write>) -> Result<Given, String> {
+    let mut input = input.map(|input| BufWriter::with_capacity(BLOCK, input));
+    let mut put = |words: &[u32]| {
+        let mut bytes = words.iter().map(|word| word.to_le_bytes());
+        if let Some(Err(_)) =
+            input.as_mut().map(|to| bytes.try_for_each(|word| to.write_all(&word)))
+        {
+            input = None;
         }
-        at += count;
+    };
+    let (mut book, mut output) = (Book::fresh(), vec![0; OUTPUT_WORDS]);
+    let mut given = Given::default();
+    let (mut reading, mut meter) = (day.reading(), Meter::of_words(day.words()));
+    while reading.more()? {
+        meter.at(reading.word());
+        let words = reading.words();
+        given.wanted.instructions += 1;
+        let Ok((instruction, count)) = tape::read(words) else {
+            given.older = older_roll(words).map(|what| (reading.word(), what));
+            break;
+        };
+        // What is refused changes nothing, and the run goes on.
+        let _ = call(&mut book, &instruction, words, &mut output);
+        put(&words[..count]);
+        reading.pass(count);
     }
-    lines.fails = book.ledger().count();
-    lines.charges = book.charges.iter().filter(|yen| **yen != 0).count();
-    lines
+    while reading.more()? && !reading.words().is_empty() {
+        put(reading.words());
+        reading.pass(reading.words().len());
+    }
+    // What is left of a word, if the program reads so far.
+    let _ = input.map(|mut to| to.write_all(reading.stray()).and_then(|()| to.flush()));
+    given.wanted.fails = book.ledger().count();
+    given.wanted.charges = book.charges.iter().filter(|yen| **yen != 0).count();
+    Ok(given)
 }
 
 /// What is to be said of the words at which reading ended, by the line that says so.
-fn advice(tape: &[u8], line: &str) -> String {
-    let (words, _) = split(tape);
+fn advice(older: Option<(usize, &'static str)>, line: &str) -> String {
     let at = line.split(' ').next().and_then(|index| index.parse().ok());
-    let older = at.and_then(|at: usize| words.get(at..)).and_then(older_roll);
-    older.map(|what| format!("; {what}")).unwrap_or_default()
+    let older = older.filter(|(word, _)| Some(*word) == at);
+    older.map(|(_, what)| format!("; {what}")).unwrap_or_default()
 }
 
 /// What came of a run: the lines or why they could not be written, what the program said on standard
-/// error, and the lines that there must be.
+/// error, and the tape that was given to it, or why that could not be read.
 struct Talk {
     printed: io::Result<Printed>,
     said: String,
-    wanted: Lines,
+    given: Result<Given, String>,
 }
 
 /// Gives the tape to the program and copies what it prints.
-fn talk(child: &mut Child, tape: &[u8], output: &mut dyn Write) -> Talk {
+fn talk(child: &mut Child, day: &Day, output: &mut dyn Write) -> Talk {
     let input = child.stdin.take();
     let (printed, said) = (child.stdout.take(), child.stderr.take());
     thread::scope(|scope| {
-        // A program that has ended reading takes no more: that is told by what it printed.
-        scope.spawn(move || input.map(|mut input| input.write_all(tape)));
         let said = scope.spawn(move || said.map(io::read_to_string));
-        let wanted = scope.spawn(|| wanted(tape));
+        let given = scope.spawn(move || give(day, input));
         let printed = printed.map_or(Ok(Printed::default()), |printed| copy(printed, output));
         let said = said.join().ok().flatten().and_then(Result::ok).unwrap_or_default();
         let said = said.trim_end().to_string();
-        Talk { printed, said, wanted: wanted.join().unwrap_or_default() }
+        Talk { printed, said, given: given.join().unwrap_or_else(|_| Ok(Given::default())) }
     })
 }
 
@@ -211,7 +235,7 @@ pub fn found(named: Option<&Path>) -> Result<PathBuf, String> {
 #[cfg(test)]
 mod tests {
     use super::*;
-    use crate::text::to_tape;
+    use crate::input::Taken;
 
     /// A day of two fails and four charges, and its lines.
     const DAY: &str = "trade 0 1 2 3\ntrade 1 3 4 5\nclose\ncutoff\nroll 1 300 100000 accrued 0\n";
@@ -228,7 +252,8 @@ mod tests {
         let made = shell.arg("-c").arg(make).arg(&file).arg(script).arg(LINES).status();
         assert!(made.unwrap().success());
         let mut output = Vec::new();
-        let ran = run(&file, &to_tape(day).unwrap(), &mut output);
+        let day = Day::of("day.txt", day.as_bytes().to_vec(), Taken::Apart).unwrap();
+        let ran = run(&file, &day, &mut output);
         std::fs::remove_file(&file).unwrap();
         (ran.unwrap(), String::from_utf8(output).unwrap())
     }
@@ -281,14 +306,15 @@ mod tests {
     fn an_older_roll_at_which_reading_ended_is_told() {
         let mut words = vec![0x5000_0000, 0x7104_b000];
         words.extend([0x9001_86a0; 16]);
-        let tape = crate::bytes::join(&words);
-        let told = advice(&tape, "1 tape 13 0");
+        let day = Day::of("x", crate::bytes::join(&words), Taken::Words).unwrap();
+        let older = give(&day, None::<io::Sink>).unwrap().older;
+        let told = advice(older, "1 tape 13 0");
         assert!(
             told.starts_with("; this roll has no accrued amounts: put sixteen words"),
             "{told}"
         );
-        assert_eq!(advice(&tape, "0 tape 14 0"), "");
-        assert_eq!(advice(&tape, "99 tape 13 0"), "");
+        assert_eq!(advice(older, "0 tape 14 0"), "");
+        assert_eq!(advice(older, "99 tape 13 0"), "");
     }
 
     #[test]
@@ -302,13 +328,14 @@ mod tests {
                 Ok(())
             }
         }
-        let ran = run(Path::new("/bin/echo"), &[], &mut Full).unwrap();
+        let ran = run(Path::new("/bin/echo"), &Day::default(), &mut Full).unwrap();
         assert!(matches!(ran, Ran::Cut(why) if why.contains("could not be written: full; what")));
     }
 
     #[test]
     fn a_program_that_is_not_there_is_an_error() {
-        let error = run(Path::new("/nowhere/dayrun"), &[], &mut Vec::new()).unwrap_err();
+        let error =
+            run(Path::new("/nowhere/dayrun"), &Day::default(), &mut Vec::new()).unwrap_err();
         assert!(error.contains("cannot be run"), "{error}");
     }
 }

@@ -1,13 +1,13 @@
 //! A tape run on a fresh book up to a moment: before a word, at the end of a day, or at its own end.
 
-use crate::bytes::split;
 use crate::input::Day;
 use crate::json::{Name, Object};
 use crate::known::Known;
 use crate::measure::counted;
 use crate::progress::Meter;
-use crate::story::traded;
-use settlement_day::{calls, tape, Book, Instruction, Phase, OUTPUT_WORDS};
+use crate::reading::Reading;
+use crate::story::call;
+use settlement_day::{tape, Book, Instruction, Phase, OUTPUT_WORDS};
 use std::io::Write;
 
 /// The moment up to which a tape is run.
@@ -27,8 +27,10 @@ pub enum When {
 /// A book as the tape has brought it to a moment.
 pub struct Stood {
     pub book: Book,
-    /// The word at which the tape stands.
+    /// The word at which the tape stands, by its name, and its line where that stands in a text.
     pub word: usize,
+    named: String,
+    line: Option<usize>,
     /// The names, and the dates of the days up to then.
     pub known: Known,
     /// Is it before an instruction?
@@ -39,13 +41,12 @@ pub struct Stood {
 
 impl Stood {
     /// The moment in words, with the line where it stands in a text.
-    pub fn moment(&self, day: &Day) -> String {
-        let word = self.word;
+    pub fn moment(&self) -> String {
         if !self.before && !self.ended {
             return "at the end of the tape".to_string();
         }
         let at = if self.before { "before" } else { "where reading ends, at" };
-        format!("{at} {}", day.named(word))
+        format!("{at} {}", self.named)
     }
 
     /// Did reading end there by a refusal?
@@ -54,8 +55,8 @@ impl Stood {
     }
 
     /// The line of the instruction at which the tape stands, if it stands in a text.
-    pub fn line(&self, day: &Day) -> Option<usize> {
-        day.stands(self.word).line.filter(|_| self.before || self.ended)
+    pub fn line(&self) -> Option<usize> {
+        self.line.filter(|_| self.before || self.ended)
     }
 
     /// The phase of the book.
@@ -64,8 +65,8 @@ impl Stood {
     }
 
     /// Where it stands, as JSON has it.
-    pub fn at(&self, day: &Day) -> At {
-        At { day: self.book.day, phase: self.phase(), word: self.word, line: self.line(day) }
+    pub fn at(&self) -> At {
+        At { day: self.book.day, phase: self.phase(), word: self.word, line: self.line() }
     }
 }
 
@@ -87,47 +88,64 @@ impl At {
     }
 }
 
-/// Runs a tape up to a moment; an error is that there is no such moment.
+/// Runs a tape up to a moment; an error is that there is no such moment, or that the tape cannot be read.
 pub fn run(day: &Day, when: When) -> Result<Stood, String> {
-    let (words, stray) = split(&day.tape);
-    let mut book = Book::fresh();
+    let (mut book, mut output) = (Book::fresh(), vec![0; OUTPUT_WORDS]);
     let mut known = Known::of(&day.names);
-    let mut output = vec![0; OUTPUT_WORDS];
     let mut closed = None;
-    let mut meter = Meter::of_words(words.len());
-    let mut at = 0;
+    let (mut reading, mut meter) = (day.reading(), Meter::of_words(day.words()));
     let until = if let When::Before(word) = when { word } else { usize::MAX };
-    while at < until && (at < words.len() || !stray.is_empty()) {
+    while reading.more()? && reading.word() < until {
+        let at = reading.word();
         meter.at(at);
-        let Ok((instruction, count)) = tape::read(&words[at..]) else { break };
+        let Ok((instruction, count)) = tape::read(reading.words()) else { break };
         if until < at + count {
             return Err(inside(&instruction, at, count));
         }
         let roll = matches!(instruction, Instruction::Roll { .. });
         let before = roll.then(|| book.clone());
-        if !traded(&mut book, &instruction) {
-            let quotes = tape::quotes(&words[at..]);
-            if calls::call(&mut book, &instruction, &quotes, &mut output).is_ok() {
-                known.done(&instruction);
-            }
+        if call(&mut book, &instruction, reading.words(), &mut output).is_ok() {
+            known.done(&instruction);
         }
         if let Some(before) = before.filter(|before| before.day != book.day) {
+            let end = Moment::of(day, &mut reading);
             if when == When::EndOf(before.day) {
-                return Ok(Stood { book: before, word: at, known, before: true, ended: false });
+                return Ok(end.stood(before, known, true, false));
             }
-            closed = Some((before, at));
+            closed = Some((before, end));
         }
-        at += count;
+        reading.pass(count);
     }
-    let left = at < words.len() || !stray.is_empty();
+    let left = reading.more()?;
     let before = matches!(when, When::Before(_));
-    let stood = Stood { book, word: at, known, before, ended: left && !before };
+    let stood = Moment::of(day, &mut reading).stood(book, known, before, left && !before);
     reached(stood, when, closed)
 }
 
+/// Where a tape stands: the next word, by its name, and its line where that stands in a text.
+struct Moment {
+    word: usize,
+    named: String,
+    line: Option<usize>,
+}
+
+impl Moment {
+    /// Where a day that is read stands.
+    fn of(day: &Day, reading: &mut Reading) -> Moment {
+        let (word, stands) = (reading.word(), reading.stands());
+        Moment { word, named: day.named(word, stands), line: stands.line }
+    }
+
+    /// The book as the tape has brought it there.
+    fn stood(self, book: Book, known: Known, before: bool, ended: bool) -> Stood {
+        let Moment { word, named, line } = self;
+        Stood { book, word, named, line, known, before, ended }
+    }
+}
+
 /// The moment that is wanted, where the tape has been run as far as it goes; `closed` is the book at the
-/// end of the last day that was closed, and the word of its roll.
-fn reached(stood: Stood, when: When, closed: Option<(Book, usize)>) -> Result<Stood, String> {
+/// end of the last day that was closed, and where its roll stands.
+fn reached(stood: Stood, when: When, closed: Option<(Book, Moment)>) -> Result<Stood, String> {
     match (when, closed) {
         (When::Before(word), _) if stood.word < word => {
             Err(format!("--at {word}: reading ends at word {}", stood.word))
@@ -136,8 +154,8 @@ fn reached(stood: Stood, when: When, closed: Option<(Book, usize)>) -> Result<St
             let last = stood.known.day(stood.book.day);
             Err(format!("--day {day}: the tape ends on day {last}"))
         }
-        (When::LastClosed, Some((book, word))) if stood.book.phase == Phase::TAKING => {
-            Ok(Stood { book, word, before: true, ended: false, ..stood })
+        (When::LastClosed, Some((book, end))) if stood.book.phase == Phase::TAKING => {
+            Ok(end.stood(book, stood.known, true, false))
         }
         _ => Ok(stood),
     }

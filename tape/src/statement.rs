@@ -1,16 +1,15 @@
 //! Fails statements over a tape's span: for each account asked, what it had to deliver in an issue, what
 //! came of it, and what it resolved.
 
-use crate::bytes::split;
 use crate::input::Day;
 use crate::json;
 use crate::known::Known;
 use crate::measure::{counted, Face, Grouped};
 use crate::progress::Meter;
-use crate::story::traded;
+use crate::story::call;
 use crate::telling::page::markup::{escaped, page_of, shares, Look, STATEMENT};
 use settlement_day::statement::{statement, Statement, MOST_INSTRUCTIONS};
-use settlement_day::{calls, tape, Book, Instruction, Phase, Refusal, OUTPUT_WORDS};
+use settlement_day::{tape, Book, Instruction, Phase, Refusal, OUTPUT_WORDS};
 use std::collections::BTreeSet;
 
 /// Why a span ends where it does.
@@ -32,16 +31,6 @@ struct Span {
     end: End,
     day: u16,
     settling: bool,
-}
-
-impl Span {
-    /// The word at which it ends before the tape does.
-    fn ends(&self, day: &Day) -> String {
-        match self.end {
-            End::Tape => String::new(),
-            End::Refused(word, _) | End::Full(word) => day.named(word),
-        }
-    }
 }
 
 /// A statement and whose it is.
@@ -67,30 +56,26 @@ pub struct Told {
 
 impl Told {
     /// The statement of an account in an issue.
-    pub fn one(day: &Day, issue: u32, account: u32) -> Result<Told, Refusal> {
-        let (words, stray) = split(&day.tape);
-        let mut known = Known::of(&day.names);
-        let (span, _) = run(&words, !stray.is_empty(), &mut known);
-        let statement = statement(&words, issue, account)?;
+    pub fn one(day: &Day, issue: u32, account: u32) -> Result<Told, String> {
+        let Ran { span, ends, known, words, .. } = run(day)?;
+        let statement = statement(&words, issue, account).map_err(|refusal| refusal.said())?;
         let rows = vec![Row { issue, account, statement }];
-        Ok(Told { span, ends: span.ends(day), known, one: true, rows })
+        Ok(Told { span, ends, known, one: true, rows })
     }
 
     /// The statements of all issues and accounts that have a number in them.
-    pub fn all(day: &Day) -> Result<Told, Refusal> {
-        let (words, stray) = split(&day.tape);
-        let mut known = Known::of(&day.names);
-        let (span, named) = run(&words, !stray.is_empty(), &mut known);
+    pub fn all(day: &Day) -> Result<Told, String> {
+        let Ran { span, ends, known, words, named } = run(day)?;
         let mut rows = Vec::new();
         let mut meter = Meter::of_things("statement", named.len());
         for (at, (issue, account)) in named.into_iter().enumerate() {
             meter.at(at);
-            let statement = statement(&words, issue, account)?;
+            let statement = statement(&words, issue, account).map_err(|refusal| refusal.said())?;
             if statement != Statement::default() {
                 rows.push(Row { issue, account, statement });
             }
         }
-        Ok(Told { span, ends: span.ends(day), known, one: false, rows })
+        Ok(Told { span, ends, known, one: false, rows })
     }
 
     /// For people: a list of one account's numbers, or a table.
@@ -250,23 +235,34 @@ impl Row {
     }
 }
 
-/// Runs a span, and tells which accounts sold or resolved in which issues: no other has a number in its
-/// statement. The dates of its days become known.
-fn run(words: &[u32], stray: bool, known: &mut Known) -> (Span, BTreeSet<(u32, u32)>) {
-    let mut book = Book::fresh();
-    let mut output = vec![0; OUTPUT_WORDS];
+/// A span that is run: the word at which it ends, with its line where that stands in a text; the names, and the
+/// dates of its days; its words, which are all that the library is given; and which accounts sold or resolved in
+/// which issues: no other has a number in its statement.
+struct Ran {
+    span: Span,
+    ends: String,
+    known: Known,
+    words: Vec<u32>,
+    named: BTreeSet<(u32, u32)>,
+}
+
+/// Runs a span. The words behind it are not read.
+fn run(day: &Day) -> Result<Ran, String> {
+    let (mut book, mut output) = (Book::fresh(), vec![0; OUTPUT_WORDS]);
+    let (mut known, mut words) = (Known::of(&day.names), Vec::new());
     let mut named = BTreeSet::new();
-    let (mut at, mut instructions, mut refused) = (0, 0, 0);
+    let (mut instructions, mut refused) = (0, 0);
+    let mut reading = day.reading();
     let end = loop {
-        if at == words.len() && !stray {
+        if !reading.more()? {
             break End::Tape;
         }
         if instructions == MOST_INSTRUCTIONS {
-            break End::Full(at);
+            break End::Full(reading.word());
         }
-        let (instruction, count) = match tape::read(&words[at..]) {
+        let (instruction, count) = match tape::read(reading.words()) {
             Ok(read) => read,
-            Err(refusal) => break End::Refused(at, refusal),
+            Err(refusal) => break End::Refused(reading.word(), refusal),
         };
         match instruction {
             Instruction::Trade { issue, from: account, .. }
@@ -275,18 +271,24 @@ fn run(words: &[u32], stray: bool, known: &mut Known) -> (Span, BTreeSet<(u32, u
             }
             _ => {}
         }
-        if !traded(&mut book, &instruction) {
-            let quotes = tape::quotes(&words[at..]);
-            match calls::call(&mut book, &instruction, &quotes, &mut output) {
-                Ok(_) => known.done(&instruction),
-                Err(_) => refused += 1,
-            }
+        match call(&mut book, &instruction, reading.words(), &mut output) {
+            Ok(_) => known.done(&instruction),
+            Err(_) => refused += 1,
         }
-        at += count;
+        words.extend(&reading.words()[..count]);
+        reading.pass(count);
         instructions += 1;
     };
+    let ends = match end {
+        End::Tape => String::new(),
+        End::Refused(word, _) | End::Full(word) => day.named(word, reading.stands()),
+    };
+    if let End::Refused(..) = end {
+        words.extend(reading.words());
+    }
     let settling = book.phase == Phase::SETTLING;
-    (Span { instructions, refused, end, day: book.day, settling }, named)
+    let span = Span { instructions, refused, end, day: book.day, settling };
+    Ok(Ran { span, ends, known, words, named })
 }
 
 const HEADS: [&str; 7] =
@@ -332,7 +334,7 @@ are counted
   failed over due           40 / 100
 ";
         assert_eq!(text, expected);
-        assert_eq!(Told::one(&tape, 16, 0), Err(Refusal::Issue));
+        assert_eq!(Told::one(&tape, 16, 0), Err(Refusal::Issue.said()));
     }
 
     #[test]

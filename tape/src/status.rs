@@ -60,7 +60,7 @@ pub fn ask(day: &Day, question: Question) -> Result<Told, String> {
         }
         Err(refusal) => Err((refusal, why_refused(book, question, refusal, &stood.known))),
     };
-    let (at, moment) = (stood.at(day), stood.moment(day));
+    let (at, moment) = (stood.at(), stood.moment());
     Ok(Told { question, at, moment, known: stood.known, answer })
 }
 

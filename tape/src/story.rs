@@ -4,20 +4,21 @@
 //! charged. A trade that nothing speaks against is booked here, so that a tape of a million trades
 //! takes no longer than it must; every other instruction is put to the library, refused trades too.
 
-use crate::bytes::split;
 use crate::dealt::{Dealt, Turn};
 use crate::facts::{Fact, Terms, Told};
-use crate::input::Day;
+use crate::input::{Day, Stands};
 use crate::known::Known;
 use crate::ledger::pair_off;
 use crate::names::Names;
+use crate::output::Untold;
 use crate::progress::Meter;
 use crate::text::why_ended;
 use crate::units::{close, runs, waiting, Case, Run, Walk};
 use crate::why::{owed_today, why};
 use settlement_day::calls::{self, Done};
 use settlement_day::{
-    desk, place, tape, Book, Entry, Instruction, Phase, ACCOUNTS, ISSUES, OUTPUT_WORDS, QUOTES,
+    desk, place, tape, Book, Entry, Instruction, Phase, Refusal, ACCOUNTS, ISSUES, OUTPUT_WORDS,
+    QUOTES,
 };
 use std::io;
 
@@ -37,8 +38,9 @@ pub struct Story<'a> {
     pub handed: [(u32, u64); ISSUES],
     /// For each issue, today's units where full ones are dealt in turn.
     pub dealt: Vec<Dealt>,
-    /// The first word of the instruction that is at work.
+    /// The first word of the instruction that is at work, and where that stands.
     pub word: Option<usize>,
+    pub stands: Stands<'a>,
     /// The names, and the dates of the days up to today.
     pub known: Known,
     pub sink: &'a mut Sink<'a>,
@@ -55,16 +57,15 @@ struct Record {
 }
 
 /// Runs a tape and tells its facts; answers the day on which it ends.
-pub fn tell<'a>(day: &Day, sink: &'a mut Sink<'a>) -> io::Result<u16> {
-    let (words, stray) = split(&day.tape);
+pub fn tell<'a>(day: &'a Day, sink: &'a mut Sink<'a>) -> Result<u16, Untold> {
     let mut story = Story::fresh(&day.names, sink);
     story.fact(&Fact::Day { day: 0, turn: 0 })?;
-    let mut meter = Meter::of_words(words.len());
-    let mut at = 0;
-    while at < words.len() || !stray.is_empty() {
-        meter.at(at);
-        match story.read(&words, at)? {
-            Some(count) => at += count,
+    let (mut reading, mut meter) = (day.reading(), Meter::of_words(day.words()));
+    while reading.more()? {
+        meter.at(reading.word());
+        let stands = reading.stands();
+        match story.read(reading.words(), reading.word(), stands)? {
+            Some(count) => reading.pass(count),
             None => break,
         }
     }
@@ -81,33 +82,45 @@ impl<'a> Story<'a> {
             handed: [(0, 0); ISSUES],
             dealt: Vec::new(),
             word: None,
+            stands: Stands::default(),
             known: Known::of(names),
             sink,
         }
     }
-}
 
-impl Story<'_> {
-    /// Makes the call of the instruction that begins at a word, and tells it; answers how many words it has, or
-    /// nothing where reading ends there.
-    pub fn read(&mut self, words: &[u32], at: usize) -> io::Result<Option<usize>> {
-        self.word = Some(at);
-        match tape::read(&words[at..]) {
+    /// Makes the call of the instruction that begins these words, the first of which has this index and stands
+    /// there, and tells it; answers how many words it has, or nothing where reading ends there.
+    pub fn read(
+        &mut self,
+        words: &[u32],
+        word: usize,
+        stands: Stands<'a>,
+    ) -> io::Result<Option<usize>> {
+        (self.word, self.stands) = (Some(word), stands);
+        match tape::read(words) {
             Ok((instruction, count)) => {
-                self.instruction(&instruction, &words[at..])?;
+                self.instruction(&instruction, words)?;
                 Ok(Some(count))
             }
             Err(refusal) => {
-                let why = why_ended(&words[at..], refusal);
+                let why = why_ended(words, refusal);
                 self.fact(&Fact::ReadingEnds { refusal, why })?;
                 Ok(None)
             }
         }
     }
+}
 
+impl Story<'_> {
     /// Tells a fact of today.
     pub fn fact(&mut self, fact: &Fact) -> io::Result<()> {
-        (self.sink)(&Told { day: self.book.day, word: self.word, fact, known: &self.known })
+        self.fact_of(self.book.day, fact)
+    }
+
+    /// Tells a fact of a day.
+    fn fact_of(&mut self, day: u16, fact: &Fact) -> io::Result<()> {
+        let stands = self.word.map_or(Stands::default(), |_| self.stands);
+        (self.sink)(&Told { day, word: self.word, stands, fact, known: &self.known })
     }
 
     /// Makes the call of an instruction and tells what it did, or why it was refused.
@@ -116,8 +129,8 @@ impl Story<'_> {
         if traded(&mut self.book, &instruction) {
             return self.fact(&Fact::Instruction { instruction, refusal: None });
         }
+        let quotes = quotes_of(&instruction, words);
         let roll = matches!(instruction, Instruction::Roll { .. });
-        let quotes = if roll { tape::quotes(words) } else { [0; QUOTES] };
         let on_entries = roll || matches!(instruction, Instruction::PairOff { .. });
         let entries = if on_entries { self.book.ledger().collect() } else { Vec::new() };
         let answer = calls::call(&mut self.book, &instruction, &quotes, &mut self.output);
@@ -309,8 +322,8 @@ impl Story<'_> {
         rate: u32,
         quotes: &[u32; QUOTES],
     ) -> io::Result<()> {
-        let (day, word) = (self.book.day - 1, self.word);
-        (self.sink)(&Told { day, word, fact: told, known: &self.known })?;
+        let day = self.book.day - 1;
+        self.fact_of(day, told)?;
         for &Entry { issue, from, to, lots, .. } in entries {
             let at = usize::from(issue) % ISSUES;
             let (price, accrued) = (quotes[at], quotes[ISSUES + at]);
@@ -318,7 +331,7 @@ impl Story<'_> {
             let yen = desk::charge(lots, price, days, rate, accrued).unwrap_or(0);
             let terms = Terms { issue: issue.into(), price, accrued, days, rate };
             let fact = Fact::Charge { terms, from: from.into(), to: to.into(), lots, value, yen };
-            (self.sink)(&Told { day, word, fact: &fact, known: &self.known })?;
+            self.fact_of(day, &fact)?;
         }
         self.known.done(&Instruction::Roll { days, rate });
         self.word = None;
@@ -370,8 +383,29 @@ fn decided(issue: u32, group: &[Run]) -> Fact {
     }
 }
 
+/// Makes the call of an instruction that begins these words.
+pub(crate) fn call(
+    book: &mut Book,
+    instruction: &Instruction,
+    words: &[u32],
+    output: &mut [u32],
+) -> Result<Done, Refusal> {
+    if traded(book, instruction) {
+        return Ok(Done { count: 0, cancelled: 0 });
+    }
+    calls::call(book, instruction, &quotes_of(instruction, words), output)
+}
+
+/// The quotes of the roll that begins these words; 0 of another instruction.
+pub(crate) fn quotes_of(instruction: &Instruction, words: &[u32]) -> [u32; QUOTES] {
+    match instruction {
+        Instruction::Roll { .. } => tape::quotes(words),
+        _ => [0; QUOTES],
+    }
+}
+
 /// Books a trade that nothing speaks against on a book that is sound; answers whether it did.
-pub(crate) fn traded(book: &mut Book, instruction: &Instruction) -> bool {
+fn traded(book: &mut Book, instruction: &Instruction) -> bool {
     let Instruction::Trade { issue, from, to, lots } = *instruction else { return false };
     let (Some(low), Some(high)) = (place(issue, from), place(issue, to)) else { return false };
     if book.phase != Phase::TAKING || low == high || lots == 0 || lots > MOST_LOTS {

@@ -4,11 +4,14 @@
 //! `word HEX` and `byte HEX` put one word or one last byte on the tape as it is, so that every
 //! tape has a text form, damaged ones too.
 
-use crate::bytes::{join, split};
+use crate::bytes::join;
 use crate::fault::{shown, words_of, Fault, Faults, Word};
+use crate::input::{Day, Taken};
 use crate::measure::{counted, Grouped};
 use crate::names::{Kind, Names};
-use settlement_day::{tape, Instruction, Refusal, ISSUES, WRITER_WORDS};
+use crate::output::Untold;
+use settlement_day::{tape, Instruction, Refusal, ISSUES, QUOTES, WRITER_WORDS};
+use std::io::Write;
 use std::ops::RangeInclusive;
 
 /// The instructions' forms, for errors.
@@ -64,6 +67,9 @@ pub(crate) const ACCRUED: Field = field("accrued", 18, (0, 10_000));
 const MARK: Field = field("mark", 1, (0, 1));
 const DAY: Field = field("day", 16, (1, 65_535));
 
+/// The most digits of a number that is read quickly; it fits a word, whatever they are.
+const MOST_DIGITS: usize = 9;
+
 /// The most words that a line takes after its first: those of a roll.
 const MOST_WORDS: usize = 2 + ISSUES + 1 + ISSUES;
 
@@ -109,40 +115,144 @@ pub fn parse(text: &str) -> Result<Parsed, Faults> {
 /// is passed over.
 pub fn parse_by(names: &Names, text: &str) -> Result<Parsed, Faults> {
     let text = text.strip_prefix('\u{feff}').unwrap_or(text);
-    let (mut parsed, mut faults) = (Parsed::default(), Faults::default());
-    let mut ended = false;
-    for (number, line) in (1..).zip(text.lines()) {
-        let mut words = words_of(line, number);
-        let Some(name) = words.next() else { continue };
-        // One more than a line can take is enough to tell that they are too many.
-        let arguments: Vec<Word> = words.take(MOST_WORDS + 1).collect();
-        match line_bytes(names, &name, &arguments, ended) {
-            Ok(bytes) if faults.is_empty() => {
-                ended = name.text == "byte";
-                parsed.put(&name, &arguments, &bytes);
-            }
-            Ok(_) => ended = name.text == "byte",
-            Err(more) => {
-                parsed = Parsed::default();
-                faults.extend(more);
+    let (mut parser, mut parsed) = (Parser::by(names), Parsed::default());
+    for (line, bytes) in (1..).zip(text.lines().map(str::as_bytes)) {
+        let word = parsed.tape.len() / 4;
+        match parser.line(line, bytes) {
+            None => continue,
+            Some((column, put)) => {
+                parsed.places.push(Place { word, line, column });
+                match put {
+                    Put::Words(words) => parsed.tape.extend(join(words)),
+                    Put::Byte(byte) => parsed.tape.push(byte),
+                }
             }
         }
     }
-    if faults.is_empty() {
-        return Ok(parsed);
-    }
-    Err(faults)
+    parser.judge().map(|notes| Parsed { notes, ..parsed })
 }
 
-impl Parsed {
-    /// Puts the bytes of a line on the tape.
-    fn put(&mut self, name: &Word, arguments: &[Word], bytes: &[u8]) {
-        let Word { line, column, .. } = *name;
-        self.places.push(Place { word: self.tape.len() / 4, line, column });
-        self.tape.extend(bytes);
-        if let Some(note) = note_of(name, arguments) {
-            self.notes.push(name.fault(note.to_string()));
+/// What a line puts on the tape.
+#[derive(Clone, Copy, Debug, PartialEq, Eq)]
+pub enum Put<'a> {
+    Words(&'a [u32]),
+    Byte(u8),
+}
+
+/// A text as it is read, line by line.
+#[derive(Debug)]
+pub struct Parser<'a> {
+    names: &'a Names,
+    /// Did the last line put a single byte?
+    ended: bool,
+    /// The words of the last line.
+    words: [u32; WRITER_WORDS],
+    notes: Faults,
+    faults: Faults,
+}
+
+impl<'a> Parser<'a> {
+    /// A text at its beginning, in which these names can stand.
+    pub fn by(names: &'a Names) -> Parser<'a> {
+        let (notes, faults) = (Faults::default(), Faults::default());
+        Parser { names, ended: false, words: [0; WRITER_WORDS], notes, faults }
+    }
+
+    /// Takes a line: the column at which it begins, and what it puts on the tape, if it puts something. Behind
+    /// a fault nothing more is put.
+    pub fn line(&mut self, number: usize, line: &[u8]) -> Option<(usize, Put<'_>)> {
+        if !self.ended && self.faults.is_empty() {
+            let count = plain(line).map(|plain| tape::write(&plain, &[], &mut self.words));
+            if let Some(Ok(count)) = count {
+                return Some((1, Put::Words(&self.words[..count])));
+            }
         }
+        self.by_words(number, line)
+    }
+
+    /// Takes a line word by word.
+    fn by_words(&mut self, number: usize, line: &[u8]) -> Option<(usize, Put<'_>)> {
+        let Ok(line) = std::str::from_utf8(line) else {
+            let what = "this line is not UTF-8".to_string();
+            self.faults.push(Fault { line: number, column: 1, what });
+            return None;
+        };
+        let mut words = words_of(line, number);
+        let name = words.next()?;
+        // One more than a line can take is enough to tell that they are too many.
+        let arguments: Vec<Word> = words.take(MOST_WORDS + 1).collect();
+        match line_words(self.names, &name, &arguments, self.ended, &mut self.words) {
+            Ok(count) => {
+                self.ended = name.text == "byte";
+                if !self.faults.is_empty() {
+                    return None;
+                }
+                if let Some(note) = note_of(&name, &arguments) {
+                    self.notes.push(name.fault(note.to_string()));
+                }
+                let put = match self.ended {
+                    true => Put::Byte(self.words[0] as u8),
+                    false => Put::Words(&self.words[..count]),
+                };
+                Some((name.column, put))
+            }
+            Err(more) => {
+                self.faults.extend(more);
+                None
+            }
+        }
+    }
+
+    /// Is nothing wrong up to here?
+    pub fn is_right(&self) -> bool {
+        self.faults.is_empty()
+    }
+
+    /// The text is read to its end: what is to be said of some lines, or what is wrong with it.
+    pub fn judge(self) -> Result<Faults, Faults> {
+        if self.faults.is_empty() {
+            return Ok(self.notes);
+        }
+        Err(self.faults)
+    }
+}
+
+/// The instruction of a line that is its name and numbers of digits alone, one space before each. Nearly all
+/// lines are so, and are read quicker than word by word.
+fn plain(line: &[u8]) -> Option<Instruction> {
+    let end = line.iter().position(|byte| *byte == b' ').unwrap_or(line.len());
+    let (name, rest) = line.split_at(end);
+    let (mut numbers, mut count) = ([0; 4], 0);
+    let mut rest = rest.iter();
+    let mut behind = rest.next();
+    while let Some(b' ') = behind {
+        let (mut number, mut digits) = (0_u32, 0_usize);
+        behind = loop {
+            match rest.next() {
+                // So few digits do not wrap.
+                Some(digit @ b'0'..=b'9') => {
+                    number = number.wrapping_mul(10).wrapping_add(u32::from(digit - b'0'));
+                    digits = digits.wrapping_add(1);
+                }
+                other => break other,
+            }
+        };
+        if digits == 0 || digits > MOST_DIGITS || count == numbers.len() {
+            return None;
+        }
+        numbers[count] = number;
+        count += 1;
+    }
+    let [issue, account, third, fourth] = numbers;
+    match (name, count) {
+        _ if behind.is_some() => None,
+        (b"trade", 4) => Some(Instruction::Trade { issue, from: account, to: third, lots: fourth }),
+        (b"deliver", 3) => Some(Instruction::Deliver { issue, account, lots: third }),
+        (b"resolve", 3) => Some(Instruction::Resolve { issue, account, lots: third }),
+        (b"pair-off", 2) => Some(Instruction::PairOff { issue, account }),
+        (b"close", 0) => Some(Instruction::Close),
+        (b"cutoff", 0) => Some(Instruction::Cutoff),
+        _ => None,
     }
 }
 
@@ -152,15 +262,18 @@ fn note_of(name: &Word, arguments: &[Word]) -> Option<&'static str> {
     (name.text == "roll" && !names_them).then_some(NO_ACCRUED)
 }
 
-/// The bytes of one line; after a single byte only single bytes can stand.
-fn line_bytes(
+/// The words of one line, and how many they are; a single byte is the lowest of the first. After a single byte
+/// only single bytes can stand.
+fn line_words(
     names: &Names,
     name: &Word,
     arguments: &[Word],
     ended: bool,
-) -> Result<Vec<u8>, Vec<Fault>> {
+    words: &mut [u32; WRITER_WORDS],
+) -> Result<usize, Vec<Fault>> {
     if name.text == "byte" {
-        return Ok(vec![raw::<u8>(name, arguments, 2).map_err(|fault| vec![fault])?]);
+        words[0] = raw::<u8>(name, arguments, 2).map_err(|fault| vec![fault])?.into();
+        return Ok(1);
     }
     if ended {
         let name_shown = shown(name.text);
@@ -168,15 +281,12 @@ fn line_bytes(
         return Err(vec![name.fault(what)]);
     }
     if name.text == "word" {
-        let word = raw::<u32>(name, arguments, 8).map_err(|fault| vec![fault])?;
-        return Ok(word.to_le_bytes().to_vec());
+        words[0] = raw::<u32>(name, arguments, 8).map_err(|fault| vec![fault])?;
+        return Ok(1);
     }
     let (instruction, quotes) = instruction_of(names, name, arguments)?;
-    let mut words = [0; WRITER_WORDS];
-    match tape::write(&instruction, &quotes, &mut words) {
-        Ok(count) => Ok(join(&words[..count])),
-        Err(refusal) => Err(vec![name.fault(format!("the writer says: {}", refusal.said()))]),
-    }
+    tape::write(&instruction, &quotes, words)
+        .map_err(|refusal| vec![name.fault(format!("the writer says: {}", refusal.said()))])
 }
 
 /// The one hexadecimal number of `word` or `byte`.
@@ -355,34 +465,43 @@ pub fn of_tape(tape: &[u8]) -> String {
 /// The text form of a tape by these names; where reading ends, a comment says so and the rest stands as
 /// it is.
 pub fn of_tape_by(names: &Names, tape: &[u8]) -> String {
-    let (words, stray) = split(tape);
-    let mut text = String::new();
-    let mut at = 0;
-    while at < words.len() {
-        match tape::read(&words[at..]) {
+    let mut text = Vec::new();
+    let mut day = Day::by(names.clone());
+    // A day of words that are in memory is read, and a write to memory does not fail.
+    let _ = day.add("", tape.to_vec(), Taken::Words);
+    let _ = tell(&day, &mut text);
+    String::from_utf8_lossy(&text).to_string()
+}
+
+/// Tells the text form of a day by its names; where reading ends, a comment says so and the rest stands as it
+/// is.
+pub fn tell(day: &Day, out: &mut impl Write) -> Result<(), Untold> {
+    let mut reading = day.reading();
+    let mut ended = None;
+    while reading.more()? {
+        let words = reading.words();
+        match tape::read(words) {
             Ok((instruction, count)) => {
-                text.push_str(&line_by(names, &instruction, &tape::quotes(&words[at..])));
-                text.push('\n');
-                at += count;
+                let roll = matches!(instruction, Instruction::Roll { .. });
+                let quotes = if roll { tape::quotes(words) } else { [0; QUOTES] };
+                writeln!(out, "{}", line_by(&day.names, &instruction, &quotes))?;
+                reading.pass(count);
             }
             Err(refusal) => {
-                text.push_str(&ended(&words, at, refusal));
+                ended = Some((refusal.number(), why_ended(words, refusal)));
                 break;
             }
         }
     }
-    if at == words.len() && !stray.is_empty() {
-        text.push_str(&ended(&words, at, Refusal::TapeEnds));
+    if let Some((number, why)) = ended {
+        writeln!(out, "# reading ends at word {}, number {number}: {why}", reading.word())?;
     }
-    text.extend(words[at..].iter().map(|word| format!("word {word:08x}\n")));
-    text.extend(stray.iter().map(|byte| format!("byte {byte:02x}\n")));
-    text
-}
-
-/// The comment where reading ends.
-fn ended(words: &[u32], at: usize, refusal: Refusal) -> String {
-    let (number, why) = (refusal.number(), why_ended(&words[at..], refusal));
-    format!("# reading ends at word {at}, number {number}: {why}\n")
+    while reading.more()? && !reading.words().is_empty() {
+        let words = reading.words();
+        words.iter().try_for_each(|word| writeln!(out, "word {word:08x}"))?;
+        reading.pass(words.len());
+    }
+    Ok(reading.stray().iter().try_for_each(|byte| writeln!(out, "byte {byte:02x}"))?)
 }
 
 /// Why reading ends at these words, and what to do where they begin with a roll of the older form.

@@ -408,6 +408,78 @@ fn long_work_tells_its_progress_at_a_terminal() {
 }
 
 #[test]
+fn a_long_text_by_a_pipe_is_told_as_the_file() {
+    let folder = folder("piped");
+    let text = "trade 0 1 2 3\ntrade 0 2 1 3\nroll 1 2 3\n".repeat(40_000);
+    let wrong = format!("{text}sell\n");
+    let (kept, none) = (folder.join("kept"), folder.join("none"));
+    fs::create_dir(&kept).unwrap();
+    for (name, text) in [("right.txt", &text), ("wrong.txt", &wrong)] {
+        let day = file(&folder, name, text.as_bytes());
+        for verb in ["write", "check", "explain", "statement --all"] {
+            let words: Vec<&OsStr> = verb.split(' ').map(OsStr::new).collect();
+            let of_file = tape(&[&words[..], &[day.as_os_str()]].concat(), b"");
+            let said = String::from_utf8_lossy(&of_file.stderr);
+            let said = said.replace(&day.display().to_string(), "standard input");
+            for place in [&kept, &none] {
+                let mut child = Command::new(env!("CARGO_BIN_EXE_tape"))
+                    .args(&words)
+                    .env("TMPDIR", place)
+                    .stdin(Stdio::piped())
+                    .stdout(Stdio::piped())
+                    .stderr(Stdio::piped())
+                    .spawn()
+                    .expect("the tool runs");
+                let (mut input, text) = (child.stdin.take().expect("a pipe"), text.clone());
+                let piped = std::thread::spawn(move || input.write_all(text.as_bytes()));
+                let told = child.wait_with_output().expect("the tool ends");
+                piped.join().expect("it is piped").expect("all of it is read");
+                assert_eq!(told.status, of_file.status, "{verb}");
+                assert_eq!(String::from_utf8_lossy(&told.stderr), said, "{verb}");
+                let printed = String::from_utf8_lossy(&of_file.stdout);
+                let printed = printed.replace(&day.display().to_string(), "standard input");
+                assert!(printed == String::from_utf8_lossy(&told.stdout), "{verb}");
+            }
+        }
+    }
+    assert_eq!(names(&kept), [""; 0]);
+    fs::remove_dir_all(folder).unwrap();
+}
+
+#[test]
+fn of_a_tape_that_does_not_end_the_beginning_is_told() {
+    for (verb, line) in
+        [("explain", "  word 0: cutoff: refused by 3"), ("check", "standard input: word 0: cutoff")]
+    {
+        let mut child = begun(&[verb]);
+        let mut input = child.stdin.take().expect("a pipe");
+        let piped = std::thread::spawn(move || {
+            let words = [0, 0, 0, 0x60].repeat(1_000);
+            while input.write_all(&words).is_ok() {}
+        });
+        let mut told = vec![0; 1 << 20];
+        child.stdout.take().expect("a pipe").read_exact(&mut told).expect("it is told");
+        let told = String::from_utf8_lossy(&told);
+        assert!(told.contains(line), "{}", &told[..200]);
+        assert_eq!(child.wait().expect("the tool ends").signal(), Some(13));
+        piped.join().expect("nobody reads on");
+    }
+}
+
+#[test]
+fn what_is_put_behind_a_tape_while_it_is_read_is_not_read() {
+    let folder = folder("behind");
+    let words = [0, 0, 0, 0x60].repeat(100_000);
+    let day = file(&folder, "day.tape", &words);
+    let behind = fs::File::options().append(true).open(&day).unwrap();
+    let mut read = Command::new(env!("CARGO_BIN_EXE_tape"));
+    assert!(read.arg("read").arg(&day).stdout(behind).status().unwrap().success());
+    let found = fs::read(&day).unwrap();
+    assert!(found[..words.len()] == words && found[words.len()..] == *b"cutoff\n".repeat(100_000));
+    fs::remove_dir_all(folder).unwrap();
+}
+
+#[test]
 fn several_days_are_run_one_after_the_other() {
     let folder = folder("several");
     let monday = file(&folder, "mon.txt", b"trade 0 1 2 3\nclose\n");

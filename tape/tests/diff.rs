@@ -429,15 +429,13 @@ fn tapes_differ_just_where_their_words_do() {
                 _ => {}
             }
         }
-        let days = [&a, &b].map(|lines| {
-            let tape = text::to_tape(&lines.join("\n")).expect("a text form");
-            Day::of("x", tape, Taken::Words).expect("words")
-        });
+        let tapes = [&a, &b].map(|lines| text::to_tape(&lines.join("\n")).expect("a text form"));
+        let days = tapes.each_ref().map(|tape| Day::of("x", tape.clone(), Taken::Words).unwrap());
         for form in [Form::Text, Form::Json] {
             let differs = |one: &Day, other: &Day| {
                 diff([one, other], form, &mut std::io::sink()).expect("it is written")
             };
-            let differ = days[0].tape != days[1].tape;
+            let differ = tapes[0] != tapes[1];
             let found = [differs(&days[0], &days[1]), differs(&days[1], &days[0])];
             assert_eq!(found, [differ; 2], "{a:?} {b:?}");
             same += u32::from(!differ);

@@ -15,7 +15,7 @@ pub const MOST_EDITS: usize = 1_000;
 /// A day of one tape: the tape, and what is noted of the day.
 #[derive(Clone, Copy)]
 pub struct Part<'a> {
-    pub tape: &'a [u8],
+    pub tape: &'a [u32],
     pub record: &'a Record,
 }
 
@@ -49,15 +49,15 @@ impl<'a> Part<'a> {
     }
 
     /// The words of a roll's quotes; none of another instruction.
-    pub fn quotes(&self, at: usize) -> &'a [u8] {
+    pub fn quotes(&self, at: usize) -> &'a [u32] {
         let Line { word, instruction: Instruction::Roll { .. } } = self.line(at) else {
             return &[];
         };
-        self.tape.get(4 * (word + 1)..4 * (word + 1 + QUOTES)).unwrap_or_default()
+        self.tape.get(word + 1..word + 1 + QUOTES).unwrap_or_default()
     }
 
     /// All that makes an instruction the same as another.
-    fn key(&self, at: usize) -> (Fields, &'a [u8]) {
+    fn key(&self, at: usize) -> (Fields, &'a [u32]) {
         (self.instruction(at).fields(), self.quotes(at))
     }
 
@@ -177,16 +177,15 @@ mod tests {
     use settlement_day::tape;
 
     /// The tape of a text, and a record of its instructions.
-    fn noted(text: &str) -> (Vec<u8>, Record) {
-        let bytes = to_tape(text).unwrap();
-        let (words, _) = crate::bytes::split(&bytes);
+    fn noted(text: &str) -> (Vec<u32>, Record) {
+        let (words, _) = crate::bytes::split(&to_tape(text).unwrap());
         let (mut record, mut word) = (Record::default(), 0);
         while word < words.len() {
             let (instruction, count) = tape::read(&words[word..]).unwrap();
             record.lines.push(Line { word, instruction });
             word += count;
         }
-        (bytes, record)
+        (words, record)
     }
 
     fn edits(one: &str, other: &str) -> Edits {

@@ -92,7 +92,7 @@ fn word_at(part: &Part, at: usize) -> usize {
 
 /// The issues whose price or accrued amount differs in two rolls.
 fn quoted(parts: [Part; 2], places: [usize; 2]) -> Vec<u32> {
-    let [one, other] = [0, 1].map(|side| parts[side].quotes(places[side]).chunks_exact(4));
+    let [one, other] = [0, 1].map(|side| parts[side].quotes(places[side]).iter());
     let differ = (0..).zip(one.zip(other)).filter(|(_, (one, other))| one != other);
     let issues: BTreeSet<u32> = differ.map(|(at, _)| at % ISSUES as u32).collect();
     issues.into_iter().collect()

@@ -5,10 +5,10 @@ use super::found::Difference;
 use super::order::Parting;
 use super::side::{Line, Refused};
 use super::sums::{Amount, Of};
-use crate::input::Day;
 use crate::json::{Name, Object};
 use crate::known::Known;
 use crate::telling::json::{arguments, refused};
+use crate::whole::Whole;
 use settlement_day::Instruction;
 use std::io::{self, Write};
 
@@ -18,11 +18,11 @@ const FACT: &str = "diff";
 const NAMES: [&str; 2] = ["a", "b"];
 
 /// Which tape is which.
-pub fn head(out: &mut impl Write, days: [&Day; 2]) -> io::Result<()> {
+pub fn head(out: &mut impl Write, days: [&Whole; 2]) -> io::Result<()> {
     let mut object = Object::fact(out, FACT);
     object.field("of", Name("tapes"));
     for (name, day) in NAMES.iter().zip(days) {
-        object.field(name, day.files().join(", ").as_str());
+        object.field(name, day.day().files().join(", ").as_str());
     }
     object.end()
 }
@@ -30,7 +30,7 @@ pub fn head(out: &mut impl Write, days: [&Day; 2]) -> io::Result<()> {
 /// Tells a difference of a day, or of the book at the end.
 pub fn tell(
     out: &mut impl Write,
-    days: [&Day; 2],
+    days: [&Whole; 2],
     known: &Known,
     day: Option<u16>,
     found: &Difference,
@@ -96,7 +96,7 @@ fn name_of(of: &Of) -> &'static str {
 }
 
 /// Instructions and where they stand, and the book at the end.
-fn instruction<W: Write>(object: &mut Object<'_, W>, days: [&Day; 2], found: &Difference) {
+fn instruction<W: Write>(object: &mut Object<'_, W>, days: [&Whole; 2], found: &Difference) {
     match found {
         Difference::Unordered { words } => {
             both(object, |one, side| place(one, days[side], words[side]));
@@ -147,7 +147,7 @@ fn both<W: Write>(object: &mut Object<'_, W>, inside: impl Fn(&mut Object<'_, W>
 }
 
 /// Where an instruction stands.
-fn place(object: &mut Object<'_, impl Write>, day: &Day, word: usize) {
+fn place(object: &mut Object<'_, impl Write>, day: &Whole, word: usize) {
     object.field("word", word).optional("line", day.stands(word).line);
 }
 
@@ -158,7 +158,7 @@ fn call(object: &mut Object<'_, impl Write>, instruction: &Instruction) {
 }
 
 /// What became of an instruction in a tape.
-fn judged(object: &mut Object<'_, impl Write>, day: &Day, line: &Line, found: Option<&Refused>) {
+fn judged(object: &mut Object<'_, impl Write>, day: &Whole, line: &Line, found: Option<&Refused>) {
     place(object, day, line.word);
     match found {
         None => {

@@ -13,7 +13,9 @@ mod text;
 use crate::fault::MOST_TOLD;
 use crate::input::Day;
 use crate::known::Known;
+use crate::output::Untold;
 use crate::progress::Meter;
+use crate::whole::Whole;
 use edits::{Edits, Part};
 use found::Difference;
 use side::{noting, Record, Side};
@@ -30,8 +32,15 @@ pub enum Form {
     Json,
 }
 
-/// Runs two tapes and tells what differs; answers whether anything does.
-pub fn diff(days: [&Day; 2], form: Form, out: &mut dyn Write) -> io::Result<bool> {
+/// Runs two tapes and tells what differs; answers whether anything does. Both are in memory as a whole, since
+/// their instructions are looked for in each other.
+pub fn diff(days: [&Day; 2], form: Form, out: &mut dyn Write) -> Result<bool, Untold> {
+    let [one, other] = days.map(Whole::of);
+    Ok(beside([&one?, &other?], form, out)?)
+}
+
+/// Runs two tapes beside each other.
+fn beside(days: [&Whole; 2], form: Form, out: &mut dyn Write) -> io::Result<bool> {
     let records = [RefCell::default(), RefCell::default()];
     let [mut one, mut other] = [noting(&records[0]), noting(&records[1])];
     let sides =
@@ -67,7 +76,7 @@ impl Diff<'_> {
     /// Runs both tapes to their ends, a day of each at a time.
     fn run(&mut self) -> io::Result<()> {
         let all = self.sides.iter().map(|side| side.words().0).sum();
-        let mut meter = Meter::of_words(all);
+        let mut meter = Meter::of_words(Some(all));
         for day in 0..=u16::MAX {
             let read = self.sides[1].words().1;
             let one = self.sides[0].next_day(&mut meter, read)?;
@@ -85,7 +94,7 @@ impl Diff<'_> {
 
     /// A day that both tapes have.
     fn day(&mut self, day: u16, records: [&Record; 2]) -> io::Result<()> {
-        let tapes = self.sides.each_ref().map(|side| side.day.tape.as_slice());
+        let tapes = self.sides.each_ref().map(|side| side.day.words());
         let parts = [0, 1].map(|side| Part { tape: tapes[side], record: records[side] });
         let edits = Edits::of(parts);
         let changed = found::changed(parts, &edits);
@@ -169,7 +178,7 @@ impl Diff<'_> {
 /// Where differences are told, and how many of the kind that is at work.
 struct Telling<'a> {
     out: BufWriter<&'a mut dyn Write>,
-    days: [&'a Day; 2],
+    days: [&'a Whole<'a>; 2],
     /// The names, which are those of both.
     known: Known,
     form: Form,
@@ -181,13 +190,17 @@ struct Telling<'a> {
 
 impl<'a> Telling<'a> {
     /// Begins by telling which tape is which.
-    fn begun(days: [&'a Day; 2], form: Form, out: &'a mut dyn Write) -> io::Result<Telling<'a>> {
+    fn begun(
+        days: [&'a Whole<'a>; 2],
+        form: Form,
+        out: &'a mut dyn Write,
+    ) -> io::Result<Telling<'a>> {
         let mut out = BufWriter::new(out);
         match form {
             Form::Text => text::head(&mut out, days)?,
             Form::Json => json::head(&mut out, days)?,
         }
-        let known = Known::of(&days[0].names);
+        let known = Known::of(&days[0].day().names);
         Ok(Telling { out, days, known, form, kind: None, lines: 0, more: 0 })
     }
 

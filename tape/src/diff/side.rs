@@ -2,11 +2,11 @@
 
 use super::order::Order;
 use super::sums::Sums;
-use crate::bytes::split;
 use crate::facts::{Fact, Told};
-use crate::input::Day;
+use crate::input::Stands;
 use crate::progress::Meter;
 use crate::story::{Sink, Story};
+use crate::whole::Whole;
 use settlement_day::{Book, Instruction, Refusal};
 use std::cell::RefCell;
 use std::collections::BTreeMap;
@@ -93,10 +93,7 @@ pub fn noting(record: &RefCell<Record>) -> impl FnMut(&Told) -> io::Result<()> +
 
 /// A tape as it runs.
 pub struct Side<'a> {
-    pub day: &'a Day,
-    words: Vec<u32>,
-    /// Do bytes stand behind the last whole word?
-    stray: bool,
+    pub day: &'a Whole<'a>,
     /// The word that is read next.
     at: usize,
     over: bool,
@@ -108,15 +105,18 @@ pub struct Side<'a> {
 
 impl<'a> Side<'a> {
     /// A tape at its beginning; its facts are noted in the record.
-    pub fn new(day: &'a Day, record: &'a RefCell<Record>, sink: &'a mut Sink<'a>) -> Side<'a> {
-        let (words, stray) = split(&day.tape);
-        let (stray, story) = (!stray.is_empty(), Story::fresh(&day.names, sink));
-        Side { day, words, stray, at: 0, over: false, story, record, ends: None }
+    pub fn new(
+        day: &'a Whole<'a>,
+        record: &'a RefCell<Record>,
+        sink: &'a mut Sink<'a>,
+    ) -> Side<'a> {
+        let story = Story::fresh(&day.day().names, sink);
+        Side { day, at: 0, over: false, story, record, ends: None }
     }
 
     /// How many words there are, and how many of them are read.
     pub fn words(&self) -> (usize, usize) {
-        (self.words.len(), self.at)
+        (self.day.words().len(), self.at)
     }
 
     /// The book as it is now.
@@ -124,10 +124,12 @@ impl<'a> Side<'a> {
         &self.story.book
     }
 
-    /// The words at which reading ended, if it did before the tape.
-    pub fn unread(&self) -> &'a [u8] {
-        let word = self.ends.as_ref().map_or(self.words.len() + 1, |ends| ends.word);
-        self.day.tape.get(4 * word..).unwrap_or_default()
+    /// The words at which reading ended, and the bytes behind them, if it did before the tape.
+    pub fn unread(&self) -> (&'a [u32], &'a [u8]) {
+        match &self.ends {
+            Some(ends) => (&self.day.words()[ends.word..], self.day.stray()),
+            None => (&[], &[]),
+        }
     }
 
     /// Runs on up to the end of the day, its roll included: what is noted of it, or nothing where no more is to
@@ -139,7 +141,7 @@ impl<'a> Side<'a> {
         let today = self.book().day;
         while !self.is_read() && self.book().day == today {
             meter.at(self.at + other);
-            match self.story.read(&self.words, self.at)? {
+            match self.story.read(&self.day.words()[self.at..], self.at, Stands::default())? {
                 Some(count) => self.at += count,
                 None => {
                     self.over = true;
@@ -155,6 +157,6 @@ impl<'a> Side<'a> {
 
     /// Is the tape read to its end?
     fn is_read(&self) -> bool {
-        self.at == self.words.len() && !self.stray
+        self.at == self.day.words().len() && self.day.stray().is_empty()
     }
 }

@@ -5,10 +5,10 @@ use super::found::Difference;
 use super::order::{Parting, Receivers};
 use super::side::{Ends, Line, Refused};
 use super::sums::{Amount, Of};
-use crate::input::Day;
 use crate::known::Known;
 use crate::measure::{counted, Face, Grouped, Lots};
 use crate::telling::text::said;
+use crate::whole::Whole;
 use settlement_day::calls::Unit;
 use settlement_day::Instruction;
 use std::io::{self, Write};
@@ -44,8 +44,8 @@ fn in_order(known: &Known, &(number, units): &(u32, u32)) -> String {
 }
 
 /// Which tape is which.
-pub fn head(out: &mut impl Write, days: [&Day; 2]) -> io::Result<()> {
-    let [one, other] = days.map(|day| day.files().join(", "));
+pub fn head(out: &mut impl Write, days: [&Whole; 2]) -> io::Result<()> {
+    let [one, other] = days.map(|day| day.day().files().join(", "));
     writeln!(out, "A is {one}, B is {other}")
 }
 
@@ -93,7 +93,7 @@ pub fn rest(out: &mut impl Write, [one, many]: [&str; 2], count: usize) -> io::R
 /// Tells a difference of a day, or of the book at the end.
 pub fn tell(
     out: &mut impl Write,
-    days: [&Day; 2],
+    days: [&Whole; 2],
     known: &Known,
     day: Option<u16>,
     found: &Difference,
@@ -129,7 +129,7 @@ pub fn tell(
 }
 
 /// What is told of an instruction, with where it stands.
-fn instruction(days: [&Day; 2], known: &Known, found: &Difference) -> String {
+fn instruction(days: [&Whole; 2], known: &Known, found: &Difference) -> String {
     match found {
         Difference::Unordered { words } => {
             let from = placed(days, *words);
@@ -175,7 +175,7 @@ fn edited(counts: [usize; 4], cut: bool) -> String {
 }
 
 /// A place in both tapes: named once where it is the same.
-fn placed(days: [&Day; 2], words: [usize; 2]) -> String {
+fn placed(days: [&Whole; 2], words: [usize; 2]) -> String {
     let [one, other] = [0, 1].map(|side| days[side].named(words[side]));
     if one == other {
         return one;
@@ -246,7 +246,7 @@ fn book((day, phase): (u16, &str)) -> String {
 }
 
 /// Where reading ends, in which tape.
-fn reading_ends(days: [&Day; 2], ends: [Option<&Ends>; 2]) -> String {
+fn reading_ends(days: [&Whole; 2], ends: [Option<&Ends>; 2]) -> String {
     let told = |side: usize| match ends[side] {
         None => format!("{} is read to its end", NAMES[side]),
         Some(Ends { word, refusal, why }) => {

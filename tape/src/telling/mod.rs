@@ -5,11 +5,12 @@ pub(crate) mod page;
 pub mod text;
 
 use crate::facts::{Fact, Told};
-use crate::input::{Day, Stands};
+use crate::input::Day;
 use crate::story;
 use page::Page;
 use std::io::{self, Write};
 
+pub use crate::output::Untold;
 pub use text::failed_units;
 
 /// The form in which facts are told.
@@ -45,7 +46,7 @@ impl Only {
 
 /// Runs a tape and tells its facts, those that are wanted. An instruction is told also where it is not
 /// wanted itself but something that it did is. Answers the day on which the tape ends.
-fn tell<'a>(day: &Day, only: Only, sink: &'a mut story::Sink<'a>) -> io::Result<u16> {
+fn tell<'a>(day: &'a Day, only: Only, sink: &'a mut story::Sink<'a>) -> Result<u16, Untold> {
     if only == Only::default() {
         return story::tell(day, sink);
     }
@@ -58,33 +59,17 @@ fn tell<'a>(day: &Day, only: Only, sink: &'a mut story::Sink<'a>) -> io::Result<
             return Ok(());
         }
         if let Some((day, word, fact)) = held.take().filter(|(_, word, _)| *word == told.word) {
-            sink(&Told { day, word, fact: &fact, known: told.known })?;
+            sink(&Told { day, word, fact: &fact, ..*told })?;
         }
         sink(told)
     };
     story::tell(day, &mut narrowed)
 }
 
-/// Why facts are not told.
-#[derive(Debug)]
-pub enum Untold {
-    /// The output could not be written.
-    Output(io::Error),
-    /// A page would be too long: what to do.
-    Long(String),
-}
-
-impl From<io::Error> for Untold {
-    fn from(error: io::Error) -> Untold {
-        Untold::Output(error)
-    }
-}
-
 /// Runs a day and tells its facts in a form; answers the day on which it ends.
 pub fn explain(day: &Day, form: Form, only: Only, output: &mut dyn Write) -> Result<u16, Untold> {
     let mut output = io::BufWriter::with_capacity(1 << 16, output);
     let out = &mut output;
-    let stands = |told: &Told| told.word.map_or(Stands::default(), |word| day.stands(word));
     let last = match form {
         Form::Text => {
             let mut begun = false;
@@ -94,14 +79,14 @@ pub fn explain(day: &Day, form: Form, only: Only, output: &mut dyn Write) -> Res
                     writeln!(out)?;
                 }
                 begun = true;
-                text::tell(out, told, stands(told))
+                text::tell(out, told, day.shown(told.stands))
             };
             tell(day, only, &mut tell_one)?
         }
-        Form::Json => tell(day, only, &mut |told| json::tell(out, told, stands(told)))?,
+        Form::Json => tell(day, only, &mut |told| json::tell(out, told, day.shown(told.stands)))?,
         Form::Html => {
             let mut page = Page::new(only, day.files());
-            let mut note = |told: &Told| match page.note(told, stands(told)) {
+            let mut note = |told: &Told| match page.note(told, day.shown(told.stands)) {
                 true => Ok(()),
                 false => Err(io::ErrorKind::OutOfMemory.into()),
             };

@@ -13,7 +13,7 @@ use std::io::{self, Write};
 
 /// Tells a fact of an instruction that stands there.
 pub fn tell(out: &mut impl Write, told: &Told, stands: Stands) -> io::Result<()> {
-    let Told { day, word, fact, known } = *told;
+    let Told { day, word, fact, known, .. } = *told;
     match fact {
         Fact::Day { day, turn } => writeln!(out, "Day {}", day_text(*day, *turn, known)),
         Fact::Instruction { instruction, refusal } => {
@@ -380,13 +380,18 @@ pub fn listed<T: Display>(things: &[T]) -> String {
 mod tests {
     use super::*;
 
+    /// A fact of the instruction at a word.
+    fn of<'a>(word: usize, fact: &'a Fact, known: &'a Known) -> Told<'a> {
+        Told { day: 0, word: Some(word), stands: Stands::default(), fact, known }
+    }
+
     #[test]
     fn the_quick_line_of_a_trade_is_the_sentence() {
         for lots in [0, 1, 2, 999, 1_000, 20_000_000, u32::MAX] {
             let instruction = Instruction::Trade { issue: 15, from: 63, to: 0, lots };
             let fact = Fact::Instruction { instruction, refusal: None };
             let known = Known::default();
-            let told = Told { day: 0, word: Some(1_234), fact: &fact, known: &known };
+            let told = of(1_234, &fact, &known);
             let (mut quick, mut slow) = (Vec::new(), b"  word 1234: ".to_vec());
             tell(&mut quick, &told, Stands::default()).unwrap();
             sentence(&mut slow, &instruction, &known).unwrap();
@@ -398,15 +403,16 @@ mod tests {
     #[test]
     fn an_instruction_is_named_by_its_word_file_and_line() {
         let fact = Fact::Instruction { instruction: Instruction::Close, refusal: None };
-        let told = Told { day: 0, word: Some(7), fact: &fact, known: &Known::default() };
-        let of = |file, line| {
+        let known = Known::default();
+        let told = of(7, &fact, &known);
+        let at = |file, line| {
             let mut text = Vec::new();
             tell(&mut text, &told, Stands { file, line, column: line }).unwrap();
             String::from_utf8(text).unwrap()
         };
-        assert_eq!(of(None, None), "  word 7: close\n");
-        assert_eq!(of(None, Some(9)), "  word 7, line 9: close\n");
-        assert_eq!(of(Some("tue.txt"), Some(9)), "  word 7, tue.txt line 9: close\n");
-        assert_eq!(of(Some("tue.tape"), None), "  word 7, tue.tape: close\n");
+        assert_eq!(at(None, None), "  word 7: close\n");
+        assert_eq!(at(None, Some(9)), "  word 7, line 9: close\n");
+        assert_eq!(at(Some("tue.txt"), Some(9)), "  word 7, tue.txt line 9: close\n");
+        assert_eq!(at(Some("tue.tape"), None), "  word 7, tue.tape: close\n");
     }
 }

@@ -29,7 +29,7 @@ fn act(given: &Given) -> Result<Ended, String> {
     let form = if given.has(&JSON) { Form::Json } else { Form::Text };
     let mut writer = output.open()?;
     let differs = diff([&one, &other], form, &mut writer);
-    let differs = differs.map_err(|error| writer.failed(&error))?;
+    let differs = differs.map_err(|untold| writer.untold(untold))?;
     writer.keep()?;
     Ok(if differs { Ended::Badly } else { Ended::Well })
 }

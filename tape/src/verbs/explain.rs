@@ -5,7 +5,7 @@ use super::{day_by, names_of, Ended, Verb};
 use crate::names::Kind;
 use crate::options::{flag, valued, Given, Opt, HEX, JSON, NAMES, WORDS};
 use crate::output::Output;
-use crate::telling::{explain, Form, Only, Untold};
+use crate::telling::{explain, Form, Only};
 
 const HTML: Opt = flag("--html");
 const ISSUE: Opt = valued("--issue", "a number from 0 to 15");
@@ -36,14 +36,12 @@ fn act(given: &Given) -> Result<Ended, String> {
     let account = option_called(given, &names, Kind::Account, &ACCOUNT)?;
     let wanted = day_named(given, &DAY)?;
     let output = Output::of(given)?;
-    let day = day_by(given, &given.names, names)?;
-    let wanted = wanted.map(|named| day_number(named, &DAY, &day)).transpose()?;
+    let mut day = day_by(given, &given.names, names)?;
+    let wanted = wanted.map(|named| day_number(named, &DAY, &mut day)).transpose()?;
     let only = Only { issue, account, day: wanted };
     let mut writer = output.open()?;
-    let last = explain(&day, form, only, &mut writer).map_err(|untold| match untold {
-        Untold::Output(error) => writer.failed(&error),
-        Untold::Long(what) => what,
-    })?;
+    let last = explain(&day, form, only, &mut writer);
+    let last = last.map_err(|untold| writer.untold(untold))?;
     if let Some(wanted) = only.day.filter(|wanted| *wanted > last) {
         return Err(format!("--day {wanted}: the tape ends on day {last}"));
     }

@@ -38,12 +38,12 @@ fn act(given: &Given) -> Result<Ended, String> {
     let mut writer = output.open()?;
     let cut = match table {
         Table::Statements => {
-            let told = Told::all(&day).map_err(|refusal| refusal.said())?;
+            let told = Told::all(&day)?;
             statements(&day, &told, &mut writer)
         }
         table => run(&day, table, &mut writer),
     };
-    let cut = cut.map_err(|error| writer.failed(&error))?;
+    let cut = cut.map_err(|untold| writer.untold(untold))?;
     writer.keep()?;
     let Some(cut) = cut else { return Ok(Ended::Well) };
     say(&cut.what);

@@ -1,9 +1,10 @@
 //! `tape import`: the text form of a day from CSV files.
 
 use super::naming::names_in;
-use super::{get, name_of, put, standard_once, Ended, Verb};
+use super::{put_by, standard_once, Ended, Verb};
 use crate::import::{File, Files, Roll};
 use crate::options::{valued, Given, Opt, NAMES};
+use crate::source::Source;
 use crate::text;
 
 const TRADES: Opt = valued("--trades", "a file");
@@ -34,18 +35,18 @@ fn act(given: &Given) -> Result<Ended, String> {
     let mut errors = Vec::new();
     let mut file = |option: &Opt| {
         let name = given.value(option)?;
-        let read = get(name).and_then(|bytes| File::of(name_of(name), bytes));
+        let read = Source::open(name).and_then(File::of);
         read.map_err(|error| errors.push(error)).ok()
     };
     let (trades, deliveries) = (file(&TRADES), file(&DELIVERIES));
     let quotes = file(&QUOTES).zip(terms);
     let roll = quotes.map(|(quotes, (days, rate))| Roll { quotes, days, rate });
-    let day = Files { trades, deliveries, roll, names }.day();
-    errors.extend(day.as_ref().err().cloned());
+    let files = Files { trades, deliveries, roll, names };
+    errors.extend(files.judge().err());
     if !errors.is_empty() {
         return Err(errors.join("\n"));
     }
-    put(given, day?.as_bytes())
+    put_by(given, |out| files.tell(out))
 }
 
 /// Days and rate of the roll, which stand beside the quotes and not without them.

@@ -19,13 +19,12 @@ mod write;
 use crate::input::{Day, Taken};
 use crate::names::Names;
 use crate::options::{Given, Opt, FORCE, HEX, OUT, WORDS};
-use crate::output::Output;
+use crate::output::{Output, Untold, Writer};
 use crate::progress;
+use crate::source::{name_of, Source, BLOCK};
 use naming::names_of;
 use std::ffi::{OsStr, OsString};
-use std::fs;
-use std::io::{self, Read, Write};
-use std::path::Path;
+use std::io::{self, BufWriter, Write};
 
 /// A verb: its name, its lines of help, the options that it takes beside those of the output, and what
 /// it does.
@@ -135,15 +134,6 @@ pub fn say(text: &str) {
     let _ = writeln!(io::stderr(), "tape: {}", text.replace('\n', "\ntape: "));
 }
 
-/// The name of a file in what is told.
-fn name_of(file: &OsStr) -> String {
-    if file == "-" {
-        "standard input".to_string()
-    } else {
-        Path::new(file).display().to_string()
-    }
-}
-
 /// The one file that a command names, or standard input.
 fn one_file(given: &Given) -> Result<&OsStr, String> {
     match given.names.as_slice() {
@@ -153,15 +143,9 @@ fn one_file(given: &Given) -> Result<&OsStr, String> {
     }
 }
 
-/// All bytes of a file or of standard input.
+/// All bytes of a small file or of standard input.
 fn get(file: &OsStr) -> Result<Vec<u8>, String> {
-    let cannot = |error: io::Error| format!("cannot read {}: {error}", name_of(file));
-    if file != "-" {
-        return fs::read(file).map_err(cannot);
-    }
-    let mut bytes = Vec::new();
-    io::stdin().lock().read_to_end(&mut bytes).map_err(cannot)?;
-    Ok(bytes)
+    Source::open(file)?.all()
 }
 
 /// How a command takes its input.
@@ -196,7 +180,7 @@ fn day_by(given: &Given, files: &[OsString], names: Names) -> Result<Day, String
     standard_once(files.iter().map(OsString::as_os_str))?;
     let (mut day, mut errors) = (Day::by(names), Vec::new());
     for file in files {
-        let added = get(file).and_then(|bytes| day.add(&name_of(file), bytes, taken));
+        let added = Source::open(file).and_then(|source| day.put(source, taken));
         errors.extend(added.err());
     }
     if !errors.is_empty() {
@@ -208,9 +192,20 @@ fn day_by(given: &Given, files: &[OsString], names: Names) -> Result<Day, String
 
 /// Writes all bytes to the output that a command asks for.
 fn put(given: &Given, bytes: &[u8]) -> Result<Ended, String> {
+    put_by(given, |out| Ok(out.write_all(bytes)?))
+}
+
+/// Writes what `tell` tells to the output that a command asks for.
+fn put_by(
+    given: &Given,
+    tell: impl FnOnce(&mut BufWriter<&mut Writer>) -> Result<(), Untold>,
+) -> Result<Ended, String> {
     let mut writer = Output::of(given)?.open()?;
-    let written = writer.write_all(bytes);
-    written.map_err(|error| writer.failed(&error))?;
+    let mut out = BufWriter::with_capacity(BLOCK, &mut writer);
+    let told = tell(&mut out).and_then(|()| Ok(out.flush()?));
+    // What is not written yet is not wanted where an error ends it.
+    drop(out.into_parts());
+    told.map_err(|untold| writer.untold(untold))?;
     writer.keep()?;
     Ok(Ended::Well)
 }

@@ -77,11 +77,12 @@ pub(super) fn day_named(given: &Given, option: &Opt) -> Result<Option<DayNamed>,
 }
 
 /// The number of a day that an option names. For a date the tape is run, since its rolls say how far the
-/// days lie apart.
-pub(super) fn day_number(named: DayNamed, option: &Opt, day: &Day) -> Result<u16, String> {
+/// days lie apart; it can be read again then.
+pub(super) fn day_number(named: DayNamed, option: &Opt, day: &mut Day) -> Result<u16, String> {
     match named {
         DayNamed::Number(number) => Ok(number),
         DayNamed::Date(date) => {
+            day.keep()?;
             let found = run(day, When::End)?.known.day_of(date);
             found.map_err(|error| format!("{} {date}: {error}", option.name))
         }

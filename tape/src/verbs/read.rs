@@ -1,8 +1,9 @@
 //! `tape read`: the words of a tape into the text form.
 
-use super::{get, name_of, names_of, one_file, put, taken, Ended, Verb};
-use crate::input::{self, Taken};
+use super::{names_of, one_file, put_by, taken, Ended, Verb};
+use crate::input::{wants_words, Day, Taken};
 use crate::options::{Given, HEX, NAMES, WORDS};
+use crate::source::Source;
 use crate::text;
 
 pub(super) const VERB: Verb = Verb {
@@ -16,12 +17,12 @@ tape read [--hex | --words] [--names FILE] [TAPE]
 
 fn act(given: &Given) -> Result<Ended, String> {
     let file = one_file(given)?;
-    let (taken, name, names) = (taken(given)?, name_of(file), names_of(given)?);
-    let bytes = get(file)?;
-    let tape = match taken {
-        Taken::Apart => input::words_of(&name, bytes)?,
-        Taken::Words => bytes,
-        Taken::Hex => input::of_hex(&name, bytes)?,
-    };
-    put(given, text::of_tape_by(&names, &tape).as_bytes())
+    let (taken, names) = (taken(given)?, names_of(given)?);
+    let mut source = Source::open(file)?;
+    if taken == Taken::Apart {
+        wants_words(&mut source)?;
+    }
+    let mut day = Day::by(names);
+    day.put(source, taken)?;
+    put_by(given, |out| text::tell(&day, out))
 }

@@ -24,7 +24,7 @@ fn act(given: &Given) -> Result<Ended, String> {
     let day = day_of(given, &given.names)?;
     let program = run::found(given.value(&PROGRAM).map(Path::new))?;
     let mut writer = output.open()?;
-    match run::run(&program, &day.tape, &mut writer)? {
+    match run::run(&program, &day, &mut writer)? {
         Ran::Whole => writer.keep().map(|()| Ended::Well),
         Ran::Ended(why) => {
             say(&why);

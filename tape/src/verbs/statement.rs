@@ -37,8 +37,7 @@ fn act(given: &Given) -> Result<Ended, String> {
         let issue = called(&names, Kind::Issue, "ISSUE", issue, 0..=most_issue)?;
         let account = called(&names, Kind::Account, "ACCOUNT", account, 0..=most_account)?;
         Told::one(&day_by(given, days, names)?, issue, account)
-    }
-    .map_err(|refusal| refusal.said())?;
+    }?;
     let told = match (given.has(&JSON), given.has(&HTML)) {
         (true, _) => told.json(),
         (_, true) => told.html(),

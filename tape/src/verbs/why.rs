@@ -43,8 +43,8 @@ fn act(given: &Given) -> Result<Ended, String> {
 /// The day of these files, and the moment that the command names, if it names one.
 fn asked(given: &Given, names: Names, files: &[OsString]) -> Result<(Day, Option<When>), String> {
     let (at, named) = (given.number(&AT, 0..=usize::MAX)?, day_named(given, &DAY)?);
-    let day = day_by(given, files, names)?;
-    let end = named.map(|named| day_number(named, &DAY, &day)).transpose()?;
+    let mut day = day_by(given, files, names)?;
+    let end = named.map(|named| day_number(named, &DAY, &mut day)).transpose()?;
     Ok((day, at.map(When::Before).or(end.map(When::EndOf))))
 }
 
