@@ -68,6 +68,7 @@ step 'fails statements beside the second engine' build/release/statement
 step 'the calls beside the second engine' build/release/calls
 step 'callers beside the second engine' build/release/callers
 step 'the program beside the second engine' build/release/tapes
+step 'the memory that the tool takes of long tapes' build/release/memory
 step 'the program where input or output fails' build/release/failures
 step 'the desk'\''s console where writing fails' build/release/daybook_faults
 step 'what is printed as JSON beside its schema' build/release/schema
