@@ -54,7 +54,7 @@ impl Meter {
     }
 
     /// The work is at this word or thing.
-    #[inline]
+    #[inline(always)]
     pub fn at(&mut self, at: usize) {
         self.steps += 1;
         if self.steps >= self.every {

@@ -29,6 +29,8 @@ pub struct Reading<'a> {
     /// The file of the next word, among those begun, and the place among the file's.
     here: (usize, usize),
     open: Option<Open<'a>>,
+    /// Where all words that are read stand, if they are of one file that has no lines.
+    alike: Option<Stands<'a>>,
     /// Is all read?
     over: bool,
 }
@@ -62,6 +64,7 @@ impl<'a> Reading<'a> {
             begun: Vec::new(),
             here: (0, 0),
             open: None,
+            alike: None,
             over: false,
         }
     }
@@ -102,6 +105,14 @@ impl<'a> Reading<'a> {
     /// Where the instruction stands that begins at the next word, with the file.
     #[inline]
     pub fn stands(&mut self) -> Stands<'a> {
+        match self.alike {
+            Some(stands) => stands,
+            None => self.stands_here(),
+        }
+    }
+
+    /// The same, of files that may have lines.
+    fn stands_here(&mut self) -> Stands<'a> {
         let word = self.word();
         let (mut file, mut line) = self.here;
         while self.begun.get(file + 1).is_some_and(|next| next.first <= word) {
@@ -146,9 +157,21 @@ impl<'a> Reading<'a> {
         Stands { file, line, column }
     }
 
-    /// Reads on: a block of the file that is open, or the next one.
+    /// Reads on.
     fn fill(&mut self) -> Result<(), String> {
         self.forget();
+        self.read_on()?;
+        self.alike = match self.begun[..] {
+            [ref one] if self.day.parts()[one.part].form != Form::Text => {
+                Some(self.stands_in(one, None))
+            }
+            _ => None,
+        };
+        Ok(())
+    }
+
+    /// Reads on: a block of the file that is open, or the next one.
+    fn read_on(&mut self) -> Result<(), String> {
         let (Some(open), Some(begun)) = (&mut self.open, self.begun.last_mut()) else {
             return self.next();
         };
@@ -189,7 +212,7 @@ impl<'a> Reading<'a> {
 
     /// Forgets the words that are passed over, and the files and places before them.
     fn forget(&mut self) {
-        self.stands();
+        self.stands_here();
         let (file, line) = std::mem::take(&mut self.here);
         self.begun.drain(..file);
         if let Some(begun) = self.begun.first_mut() {
