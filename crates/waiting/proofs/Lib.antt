@@ -1,0 +1,2 @@
+-- Why what is kept is what waits.
+pub mod Waits

@@ -1,0 +1,2 @@
+-- What the contracts of what waits cite.
+pub mod Waiting
