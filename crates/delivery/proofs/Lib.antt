@@ -1,3 +1,4 @@
 pub mod Serving
 pub mod Asking
 pub mod Turned
+pub mod Counted

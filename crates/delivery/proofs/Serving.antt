@@ -17,9 +17,9 @@ use Rattle.laws.proofs.Cutoff.{SoundRow, delivered_due}
 use Rattle.laws.proofs.SoundRows.{order_in_lem}
 use Rattle.laws.proofs.Room.{handovers_few}
 use Rattle.book.specs.Cells.{SoundCells}
-use Rattle.runs.proofs.Cells.{dues_sum, can_order}
+use Rattle.runs.proofs.Cells.{dues_sum, can_order, owed_cells, cell_owed}
 use Rattle.serving.specs.Serving.{CanServe, Served}
-use Rattle.delivery.specs.Deliver.{CanDeliver}
+use Rattle.delivery.specs.Deliver.{CanRaise, CanDeliver}
 
 -- the store at an issue's count
 pub raised_count_lem : (lifts : List ℕ) (i : ℕ) → set lifts (i * 18 + 1) (get_or lifts (i * 18 + 1) 0 + 1) ≡ raised_count lifts i
@@ -32,6 +32,17 @@ pub count_fits : (nets : List ℤ) (delivered lifts : List ℕ) (i : ℕ) → So
     get_or lifts (i * 18 + 1) 0 + 1 < 4294967296
 count_fits nets delivered lifts i s h =
     omega (arith, s.counted i h, get_or-take 18 (drop (i * 18) lifts) 1 0 (lit< tt), get_or-drop (i * 18) lifts 1 0)
+
+-- so the delivery's numbers can rise
+pub can_raise : (nets : List ℤ) (delivered lifts out : List ℕ) (i a x : ℕ) → CanDeliver nets delivered lifts i a x out → CanRaise delivered lifts i a x
+can_raise nets delivered lifts out i a x can =
+    let s = can.sound in
+    record {
+      cell = omega (arith, s.both, s.cells, can.issue, can.account);
+      lots = omega (arith, cell_owed nets delivered (owed_cells nets delivered lifts s) (i * 64 + a), can.lots);
+      word = omega (arith, s.lifted, can.issue);
+      count = count_fits nets delivered lifts i s can.issue;
+    }
 
 -- what is served after a total that is another by name
 pub served_after : (us : List AccountLots) (i d e x : ℕ) (before after : List ℕ) (r : ℕ) → d ≡ e →

@@ -5,17 +5,31 @@
 ghost use Rattle.std.specs.Prelude.{◌≡◌};
 ghost use Rattle.rules.specs.Refusals.{number_in};
 ghost use Rattle.rules.specs.Questions.{first_no};
-ghost use Rattle.rules.specs.Calls.{deliver_asks, Deliver};
+ghost use Rattle.rules.specs.Calls.{raised_delivered, raised_count, deliver_asks, Deliver};
 ghost use Rattle.book.specs.Cells.{OwedCells};
+ghost use Rattle.rules.specs.Run.{any_output};
 ghost use Rattle.answers.specs.Turns.{Turns, on_delivered, deliver_ready};
-ghost use Rattle.delivery.specs.Deliver.{CanDeliver, Delivered};
+ghost use Rattle.delivery.specs.Deliver.{CanRaise, CanDeliver, Delivered, KeepsEach, NoneKept, CanMake, Made, count_ready, Counts};
 
 use answers::Turn;
-use rules::{ACCOUNT_COUNT, LAST_ACCOUNT, LAST_ISSUE, LIFT_WORDS, Refusal, State};
+use rules::{ACCOUNT_COUNT, ISSUE_COUNT, LAST_ACCOUNT, LAST_ISSUE, LIFT_WORDS, Refusal, State};
+use runs::RUN_COUNT;
 use serving::serve_in;
+use waiting::Kept;
 
 // Three of the nine columns, one by one: the struct of all would lend those too that no delivery may change. `dealt`,
 // whether full units are dealt in turn today, is a fact of the day that the definitions take.
+
+// The account's delivered lots rise by x, and the issue's count by 1.
+fn raise(delivered: &mut [u32], lifts: &mut [u32], i: u32, a: u32, x: u32)
+    requires { CanRaise delivered.old lifts.old i a x }
+    ensures { (delivered.new ≡ raised_delivered delivered.old i a x) × (lifts.new ≡ raised_count lifts.old i) }
+{
+    let at = i as usize * ACCOUNT_COUNT + a as usize;
+    delivered[at] += x;
+    let c = i as usize * LIFT_WORDS + 1;
+    lifts[c] += 1;
+}
 
 // A delivery in place: the account's delivered lots rise by x, and the issue's count by 1; answers the
 // number of records written.
@@ -35,11 +49,8 @@ fn deliver_in(
     let s = i as usize * ACCOUNT_COUNT;
     let e = s + ACCOUNT_COUNT;
     let d = book::total(&delivered[s..e]);
-    let at = s + a as usize;
-    delivered[at] += x;
     let n = serve_in(dealt, nets, lifts, i, d, x, out);
-    let c = i as usize * LIFT_WORDS + 1;
-    lifts[c] += 1;
+    raise(delivered, lifts, i, a, x);
     n
 }
 
@@ -97,6 +108,60 @@ pub fn deliver(
     deliver_asks(s, nets, delivered, i, a, x)?;
     let dealt = book::dealt_today(s);
     let count = deliver_in(dealt, nets, delivered, lifts, i, a, x, out);
+    Ok(Turn {
+        count,
+        cancelled: 0,
+        state: s,
+    })
+}
+
+// Nothing is kept of any issue.
+pub fn none_kept() -> [Kept; ISSUE_COUNT]
+    ensures { NoneKept result }
+{
+    let none = Kept {
+        runs: [0; RUN_COUNT],
+        number: 0,
+        first: 0,
+        stock: 0,
+    };
+    [none; ISSUE_COUNT]
+}
+
+// What waits of an issue's units is kept, where nothing is yet.
+fn make(nets: &[i32], delivered: &[u32], lifts: &[u32], i: usize, kept: &mut [Kept])
+    requires { CanMake nets.now delivered.now lifts.now i kept.old }
+    ensures { Made nets.now delivered.now lifts.now i kept.new }
+{
+    if kept[i].number == 0 {
+        let s = i * ACCOUNT_COUNT;
+        let e = s + ACCOUNT_COUNT;
+        let d = book::total(&delivered[s..e]);
+        kept[i] = waiting::keep(nets, lifts, i, d);
+    }
+}
+
+// A delivery whose records nobody reads: number, count and book are those of `deliver`, and what waits of the issue's units
+// is kept for the next one.
+pub fn deliver_counted(
+    s: State,
+    nets: &[i32],
+    delivered: &mut [u32],
+    lifts: &mut [u32],
+    i: u32,
+    a: u32,
+    x: u32,
+    kept: &mut [Kept],
+) -> Result<Turn, Refusal>
+    requires { count_ready s nets delivered lifts kept }
+    ensures told { Counts (on_delivered nets delivered lifts) s (Deliver i a x any_output) result }
+    ensures kept { KeepsEach nets.now delivered.new lifts.new kept.new }
+{
+    deliver_asks(s, nets, delivered, i, a, x)?;
+    let n = i as usize;
+    make(nets, delivered, lifts, n, kept);
+    raise(delivered, lifts, i, a, x);
+    let count = waiting::more(&mut kept[n], x) as usize;
     Ok(Turn {
         count,
         cancelled: 0,
