@@ -46,7 +46,7 @@ kept_at ks i = get_or ks i nothing
 
 -- no runs
 abbrev pub NoneKept : List Kept → Type 0
-NoneKept ks = (length ks ≡ 16) × ((i : ℕ) → (kept_at ks i).number ≡ 0)
+NoneKept ks = (i : ℕ) → (kept_at ks i).number ≡ 0
 
 -- where there are runs, they are those of the issue's units that wait
 pub record KeepsEach (nets : List ℤ) (delivered lifts : List ℕ) (ks : List Kept) : Type 0 where

@@ -2,7 +2,7 @@
 // day.
 #![tactic(auto)]
 
-ghost use Rattle.std.specs.Prelude.{◌≡◌};
+ghost use Rattle.std.specs.Prelude.{◌≡◌, length};
 ghost use Rattle.rules.specs.Refusals.{number_in};
 ghost use Rattle.rules.specs.Questions.{first_no};
 ghost use Rattle.rules.specs.Calls.{raised_delivered, raised_count, deliver_asks, Deliver};
@@ -117,7 +117,7 @@ pub fn deliver(
 
 // Nothing is kept of any issue.
 pub fn none_kept() -> [Kept; ISSUE_COUNT]
-    ensures { NoneKept result }
+    ensures { (length result ≡ 16) × NoneKept result }
 {
     let none = Kept {
         runs: [0; RUN_COUNT],
@@ -126,6 +126,15 @@ pub fn none_kept() -> [Kept; ISSUE_COUNT]
         stock: 0,
     };
     [none; ISSUE_COUNT]
+}
+
+// Nothing is kept any more.
+pub fn forget(kept: &mut [Kept])
+    ensures { NoneKept kept.new }
+{
+    for k in kept.iter_mut() {
+        k.number = 0;
+    }
 }
 
 // What waits of an issue's units is kept, where nothing is yet.

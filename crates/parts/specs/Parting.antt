@@ -5,7 +5,7 @@ use Rattle.rules.specs.Book.{sound}
 use Rattle.input.specs.declared.Words.{Words}
 use Rattle.input.specs.Fed.{is_ended, is_failed}
 use Rattle.parts.specs.declared.Place.{Place}
-use Rattle.turns.specs.Going.{Went}
+use Rattle.passing.specs.Going.{Went}
 
 -- a sound book, at most 4,096 words, room for their lines, and an output that is long enough
 pub record Room (p : Place) (ws text out : List ℕ) : Type 0 where

@@ -18,8 +18,8 @@ use Rattle.rereading.proofs.Run.{run_start}
 use Rattle.input.specs.Fed.{is_ended, is_failed, brought, says_end, says_failed}
 use Rattle.input.proofs.WordLaws.{tail_in, words_append, words_tail, words_length, words_from, stray_from}
 use Rattle.parts.specs.declared.Place.{Place}
-use Rattle.turns.specs.Going.{Follows, Goes, onward, Went}
-use Rattle.turns.proofs.Goings.{went_as}
+use Rattle.passing.specs.Going.{Follows, Goes, onward, Went}
+use Rattle.passing.proofs.Goings.{went_as}
 use Rattle.playing.specs.declared.End.{End}
 use Rattle.playing.specs.Playing.{most_reads, Standing, unused, Stepped, Shown, Played}
 

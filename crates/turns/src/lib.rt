@@ -10,15 +10,13 @@ ghost use Rattle.columns.specs.Books.{lent_book, IsReady, SameColumns};
 ghost use Rattle.answers.specs.Turns.{count_in, state_after};
 ghost use Rattle.report.specs.Added.{Added};
 ghost use Rattle.instructions.specs.Answering.{Begins};
-ghost use Rattle.turns.specs.Going.{Stepped, enough, stray_text, Went, Found, SomeHeld, Passed};
+ghost use Rattle.passing.specs.Going.{Stepped, stray_text, Went};
 ghost use Rattle.rules.specs.Measures.{output_words};
 ghost use Rattle.rules.specs.Book.{sound};
 
-use answers::Turn;
 use columns::LentColumns;
-use report::text;
-use rules::{Book, Instruction, Name, Refusal, State, TAPE_WORDS};
-use words::Field;
+use passing::{answer_line, deliveries, is_enough, trades};
+use rules::{Book, Instruction, Name, Refusal, State};
 
 // After an instruction: where the text ends, and the state.
 #[derive(Clone, Copy, Drop)]
@@ -37,22 +35,6 @@ pub struct Part<T> {
     pub after: T,
 }
 
-// The numbers of a trade.
-#[derive(Clone, Copy, Drop)]
-pub struct Trade {
-    pub issue: u32,
-    pub from: u32,
-    pub to: u32,
-    pub lots: u32,
-}
-
-// Where a run stands: at which word, and where its text ends.
-#[derive(Clone, Copy, Drop)]
-pub struct Place {
-    pub at: usize,
-    pub end: usize,
-}
-
 // The name that an instruction's line has.
 fn name_of(x: Instruction) -> Name
     ensures { result ≡ name_of x }
@@ -67,25 +49,6 @@ fn name_of(x: Instruction) -> Name
         Instruction::Roll(_, _) => Name::Roll,
         Instruction::Mark(_, _) => Name::Mark,
         Instruction::Turn(_) => Name::Turn,
-    }
-}
-
-// The line of an answer: its number and its count. In place at each call, for speed: a tape of trades spends most of its
-// time here.
-#[inline(always)]
-fn answer_line(
-    text: &mut [u8],
-    at: usize,
-    index: u64,
-    n: Name,
-    answer: Result<Turn, Refusal>,
-) -> usize
-    requires { at + 72 ≤ length text.old }
-    ensures { Added 72 text.old text.new at result (line_text (line index n (number_in answer) (count_in answer))) }
-{
-    match answer {
-        Ok(t) => text::line(text, at, index, n, 0, t.count),
-        Err(r) => text::line(text, at, index, n, r.number(), 0),
     }
 }
 
@@ -110,13 +73,6 @@ fn turn(
     Step { end, state }
 }
 
-// Can a whole instruction be read out of so many words? Any can where no more will come.
-fn is_enough(left: usize, last: bool) -> bool
-    ensures { result ≡ enough left last }
-{
-    if last { 0 < left } else { TAPE_WORDS <= left }
-}
-
 // The line of a last word of 1 to 3 bytes, if there is one.
 fn stray_line(text: &mut [u8], at: usize, index: u64, stray: bool) -> usize
     requires { at + 72 ≤ length text.old }
@@ -126,54 +82,6 @@ fn stray_line(text: &mut [u8], at: usize, index: u64, stray: bool) -> usize
         return answer_line(text, at, index, Name::Tape, Err(Refusal::Cut));
     }
     at
-}
-
-// The trade that some words begin with, if they begin with one, whole and right.
-fn trade_of(ws: &[u32]) -> Option<Trade>
-    ensures { Found ws.now result }
-{
-    if ws.len() < 2 {
-        return None;
-    }
-    let head = ws[0];
-    let lots = ws[1];
-    if Field::Kind.of(head) != 1 || head % 4096 != 0 || Field::Kind.of(lots) != 8 {
-        return None;
-    }
-    Some(Trade {
-        issue: Field::Issue.of(head),
-        from: Field::From.of(head),
-        to: Field::To.of(head),
-        lots: Field::Lots.of(lots),
-    })
-}
-
-// The trades from a place on, up to another instruction, each answered on the nets alone, and their lines.
-fn trades(
-    words: &[u32],
-    last: bool,
-    index: u64,
-    s: State,
-    nets: &mut [i32],
-    text: &mut [u8],
-    from: usize,
-    to: usize,
-) -> Place
-    requires { SomeHeld s nets.old × (from ≤ length words.now) × (to ≤ 72 * from) × (72 * (length words.now + 1) ≤ length text.old) × (index + length words.now < 2 ^ 64) }
-    ensures { Passed words.now last index s nets.old nets.new text.old text.new from to result.at result.end }
-{
-    let mut at = from;
-    let mut end = to;
-    // It goes on by two words a trade, up to another instruction, and hands on both places.
-    while is_enough(words.len() - at, last) {
-        let Some(t) = trade_of(&words[at..]) else {
-            return Place { at, end };
-        };
-        let r = trading::trade(s, nets, t.issue, t.from, t.to, t.lots);
-        end = answer_line(text, end, index + at as u64, Name::Trade, r);
-        at += 2;
-    }
-    Place { at, end }
 }
 
 // The instructions of the words, up to the last that is sure to be whole, or to the end where no more
@@ -195,6 +103,7 @@ pub fn run(
     let mut at = 0;
     let mut end = 0;
     let mut state = s;
+    let mut kept = delivery::none_kept();
     // No range or iterator goes on by as many words as an instruction has: this loop counts its own.
     while is_enough(words.len() - at, last) {
         let (x, n) = match tape::read(&words[at..]) {
@@ -223,8 +132,21 @@ pub fn run(
         state = t.state;
         at += n;
         let p = trades(words, last, index, state, &mut *columns.nets, text, at, end);
-        at = p.at;
-        end = p.end;
+        let d = deliveries(
+            words,
+            last,
+            index,
+            state,
+            &mut *columns.nets,
+            &mut *columns.delivered,
+            &mut *columns.lifts,
+            &mut kept,
+            text,
+            p.at,
+            p.end,
+        );
+        at = d.at;
+        end = d.end;
     }
     end = stray_line(text, end, index + at as u64, last & stray);
     Part {

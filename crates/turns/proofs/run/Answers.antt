@@ -1,6 +1,5 @@
 -- An instruction that is read is one more turn; a refusal, or too few words, end the part.
 use mathlib.Core.Path.{◌≡◌, sym, ap, ◌∙◌}
-use mathlib.Core.Bool.{true}
 use Rattle.std.proofs.Common.{rules, arith, ◌-◌, length, take, drop, ℕ, List, Result}
 use lib.ListN.{length-drop}
 use Rattle.rules.specs.declared.Instruction.{Instruction}
@@ -10,8 +9,9 @@ use Rattle.columns.specs.Books.{lent_book}
 use Rattle.columns.proofs.Same.{same_then}
 use Rattle.rules.specs.Tape.{read_of}
 use Rattle.rereading.proofs.Sized.{read_sized}
-use Rattle.turns.specs.Going.{Held}
-use Rattle.turns.proofs.Goings.{going_again, going_refused, going_ends, rest_part, rest_enough}
+use Rattle.answers.specs.Turns.{within_nets}
+use Rattle.passing.specs.Going.{Held}
+use Rattle.passing.proofs.Goings.{going_again, going_refused, going_ends, rest_part, rest_enough}
 use Rattle.turns.proofs.run.Goals as goal
 
 -- what is read of the words from a place on
@@ -22,66 +22,92 @@ begins ws at r s e h = ap read_of (sym (rest_part ws at)) ∙ sym e ∙ ap numbe
 pub returns-in-Err-clause-done : goal.returns-in-Err-clause-done
 returns-in-Err-clause-done c =
     let a = c.args in
-    let l = c.loop-read in
-    going_refused a.words.now a.last a.stray a.index _ _ l.text _ l.at l.end l.invariant.3
+    let l = c.loop-kept in
+    going_refused a.words.now a.last a.stray a.index _ _ l.text _ l.at l.end l.invariant.4
     _ c.answer_line-end.result
-    (rest_enough a.words.now l.at a.last _ c.is_enough.ensures ∙ c.loop-read-test.true)
+    (rest_enough a.words.now l.at a.last _ c.is_enough.ensures ∙ c.loop-kept-test.true)
     (begins a.words.now l.at _ _ c.read.ensures c.in-Err.is)
     c.answer_line-end.ensures l.invariant.0.sound
 
 pub turn-t-requires : goal.turn-t-requires
 turn-t-requires c =
-    let l = c.loop-read in (
+    let l = c.loop-kept in (
       record { count = c.in-Ok.read.1; read = sym c.read.ensures ∙ ap numbered c.in-Ok.is },
       l.invariant.0,
-      omega (arith, l.invariant.3.short, l.invariant.3.within, l.invariant.2, c.requires.1),
+      omega (arith, l.invariant.4.short, l.invariant.4.within, l.invariant.2, c.requires.1),
     )
 
 pub overflow_add-at : goal.overflow_add-at
 overflow_add-at c =
     let a = c.args in
-    let l = c.loop-read in
+    let l = c.loop-kept in
     let z = read_sized _ _ c.in-Ok.read.1 (begins a.words.now l.at _ _ c.read.ensures c.in-Ok.is) in
-    record { fits = omega (arith, z.1, l.invariant.3.within, length-drop l.at a.words.now, c.requires.2) }
+    record { fits = omega (arith, z.1, l.invariant.4.within, length-drop l.at a.words.now, c.requires.2) }
 
 pub trades-p-requires : goal.trades-p-requires
 trades-p-requires c =
     let a = c.args in
-    let l = c.loop-read in
+    let l = c.loop-kept in
     let t = c.turn-t.ensures.done in
     let z = read_sized _ _ c.in-Ok.read.1 (begins a.words.now l.at _ _ c.read.ensures c.in-Ok.is) in (
       record { rest = lent_book c.turn-t.result.state c.turn-t.new.columns; held = record { lengths = t.lengths; sound = t.sound } },
-      omega (arith, z.1, l.invariant.3.within, length-drop l.at a.words.now),
-      omega (arith, z.0, l.invariant.3.short, t.printed.few),
+      omega (arith, z.1, l.invariant.4.within, length-drop l.at a.words.now),
+      omega (arith, z.0, l.invariant.4.short, t.printed.few),
       search rules,
       c.requires.2,
     )
 
-pub loop-read-smaller : goal.loop-read-smaller
-loop-read-smaller c =
+pub deliveries-d-requires : goal.deliveries-d-requires
+deliveries-d-requires c =
     let a = c.args in
-    let l = c.loop-read in
-    let z = read_sized _ _ c.in-Ok.read.1 (begins a.words.now l.at _ _ c.read.ensures c.in-Ok.is) in
-    omega (arith, z.0, z.1, l.invariant.3.within, length-drop l.at a.words.now, c.trades-p.ensures.on)
+    let l = c.loop-kept in
+    let t = c.turn-t.ensures.done in
+    let p = c.trades-p.ensures in
+    let turned = lent_book c.turn-t.result.state c.turn-t.new.columns in
+    let h : Held turned = record { lengths = t.lengths; sound = t.sound } in
+    let b = begins a.words.now l.at _ _ c.read.ensures c.in-Ok.is in
+    let g = p.going a.stray _ turned h
+    (going_again a.words.now a.last a.stray a.index _ _ l.text _ l.at l.end l.invariant.4 c.in-Ok.read.0 c.in-Ok.read.1 c.turn-t.result.end _
+    (rest_enough a.words.now l.at a.last _ c.is_enough.ensures ∙ c.loop-kept-test.true) b
+    (rw (rest_part a.words.now l.at) at t)) in (
+      record { rest = within_nets turned.state c.trades-p.new.nets turned; held = p.held turned h },
+      l.invariant.3,
+      g.within,
+      g.short,
+      search rules,
+      c.requires.2,
+    )
 
-pub loop-read-preserved : goal.loop-read-preserved
-loop-read-preserved c =
+pub loop-kept-smaller : goal.loop-kept-smaller
+loop-kept-smaller c =
     let a = c.args in
-    let l = c.loop-read in
+    let l = c.loop-kept in
+    let z = read_sized _ _ c.in-Ok.read.1 (begins a.words.now l.at _ _ c.read.ensures c.in-Ok.is) in
+    omega (arith, z.0, z.1, l.invariant.4.within, length-drop l.at a.words.now, c.trades-p.ensures.on, c.deliveries-d.ensures.on)
+
+pub loop-kept-preserved : goal.loop-kept-preserved
+loop-kept-preserved c =
+    let a = c.args in
+    let l = c.loop-kept in
     let t = c.turn-t.ensures.done in
     let turned = lent_book c.turn-t.result.state c.turn-t.new.columns in
     let p = c.trades-p.ensures in
+    let q = c.deliveries-d.ensures in
     let b = begins a.words.now l.at _ _ c.read.ensures c.in-Ok.is in
-    let h : Held turned.state turned.nets turned = record { lengths = t.lengths; sound = t.sound } in
-    let m = p.held turned h in
-    let k = same_then l.invariant.4 c.turn-t.ensures.same in (
+    let h : Held turned = record { lengths = t.lengths; sound = t.sound } in
+    let nets = c.trades-p.new.nets in
+    let traded = within_nets turned.state nets turned in
+    let m = q.held traded (p.held turned h) in
+    let k = same_then l.invariant.5 c.turn-t.ensures.same in (
       record { lengths = m.lengths; sound = m.sound; room = search rules },
       search rules,
       search rules,
-      p.going a.stray _ turned h
-          (going_again a.words.now a.last a.stray a.index _ _ l.text _ l.at l.end l.invariant.3 c.in-Ok.read.0 c.in-Ok.read.1 c.turn-t.result.end _
-          (rest_enough a.words.now l.at a.last _ c.is_enough.ensures ∙ c.loop-read-test.true) b
-          (rw (rest_part a.words.now l.at) at t)),
+      search rules,
+      q.going a.stray _ traded (p.held turned h)
+          (p.going a.stray _ turned h
+          (going_again a.words.now a.last a.stray a.index _ _ l.text _ l.at l.end l.invariant.4 c.in-Ok.read.0 c.in-Ok.read.1 c.turn-t.result.end _
+          (rest_enough a.words.now l.at a.last _ c.is_enough.ensures ∙ c.loop-kept-test.true) b
+          (rw (rest_part a.words.now l.at) at t))),
       record {
         nets = k.nets;
         delivered = k.delivered;
@@ -98,7 +124,7 @@ loop-read-preserved c =
 pub returns-clause-done : goal.returns-clause-done
 returns-clause-done c =
     let a = c.args in
-    let l = c.loop-read in
-    going_ends a.words.now a.last a.stray a.index _ _ l.text _ l.at l.end l.invariant.3 c.stray_line-end.result
-    (rest_enough a.words.now l.at a.last _ c.is_enough.ensures ∙ c.loop-read-test.false)
+    let l = c.loop-kept in
+    going_ends a.words.now a.last a.stray a.index _ _ l.text _ l.at l.end l.invariant.4 c.stray_line-end.result
+    (rest_enough a.words.now l.at a.last _ c.is_enough.ensures ∙ c.loop-kept-test.false)
     c.stray_line-end.ensures l.invariant.0.sound

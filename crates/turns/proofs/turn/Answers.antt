@@ -1,7 +1,7 @@
 -- Number, count and book are the run's, and so is the line.
 use Rattle.std.proofs.Common.{arith}
 use Rattle.report.proofs.Texts.{added_as}
-use Rattle.turns.proofs.Goings.{same_line}
+use Rattle.passing.proofs.Goings.{same_line}
 use Rattle.turns.proofs.turn.Goals as goal
 
 pub returns-clause-done : goal.returns-clause-done

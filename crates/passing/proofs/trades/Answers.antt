@@ -4,15 +4,15 @@ use lib.ListN.{length-drop}
 use Rattle.rules.specs.declared.Instruction.TheVariants as instruction
 use Rattle.rules.specs.Tape.{read_of}
 use Rattle.rereading.proofs.Sized.{read_sized}
-use Rattle.turns.specs.declared.Trade.{Trade}
-use Rattle.turns.specs.Going.{Found}
-use Rattle.turns.proofs.Goings.{rest_part, rest_enough}
-use Rattle.rules.specs.Run.{any_output}
-use Rattle.turns.proofs.Passing.{passed_on}
-use Rattle.turns.proofs.trades.Goals as goal
+use Rattle.passing.specs.declared.Trade.{Trade}
+use Rattle.answers.specs.Turns.{within_nets}
+use Rattle.passing.specs.Going.{FoundTrade}
+use Rattle.passing.proofs.Goings.{rest_part, rest_enough}
+use Rattle.passing.proofs.Passing.{trade_on}
+use Rattle.passing.proofs.trades.Goals as goal
 
 -- the words from a place on begin with a trade
-begins : (ws : List ℕ) (at : ℕ) (r : Option Trade) (t : Trade) → r ≡ Some t → Found (take (length ws - at) (drop at ws)) r →
+begins : (ws : List ℕ) (at : ℕ) (r : Option Trade) (t : Trade) → r ≡ Some t → FoundTrade (take (length ws - at) (drop at ws)) r →
     read_of (drop at ws) ≡ Ok (instruction.Trade t.issue t.from t.to t.lots, 2)
 begins ws at r t e h = ap read_of (sym (rest_part ws at)) ∙ (rw e at h)
 
@@ -28,7 +28,7 @@ loop-s-preserved c =
       omega (arith, k.ensures.few, l.invariant.1),
       search rules,
       search rules,
-      passed_on a.words.now a.last a.index a.s a.nets.now l.nets _ a.text.now l.text _ a.from a.to l.at l.end k.result
+      trade_on a.words.now a.last a.index a.s (within_nets a.s a.nets.now) l.nets _ a.text.now l.text _ a.from a.to l.at l.end k.result
           t.issue t.from t.to t.lots c.trade-r.result l.invariant.4 (rest_enough a.words.now l.at a.last _ c.is_enough.ensures ∙ c.loop-s-test.true) b
-          (search rules) (c.trade-r.ensures any_output) k.ensures,
+          (search rules) c.trade-r.ensures k.ensures,
     )

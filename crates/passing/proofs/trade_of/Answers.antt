@@ -1,7 +1,7 @@
 -- Both words are right, so they are read as a trade.
 use Rattle.std.proofs.Common.{sym, ◌∙◌}
-use Rattle.turns.proofs.Passing.{read_trade}
-use Rattle.turns.proofs.trade_of.Goals as goal
+use Rattle.passing.proofs.Passing.{read_trade}
+use Rattle.passing.proofs.trade_of.Goals as goal
 
 pub returns : goal.returns
 returns c =

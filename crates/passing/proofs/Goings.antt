@@ -3,9 +3,8 @@
 use mathlib.Core.Path.{◌≡◌, refl, sym, ap, subst, ◌∙◌}
 use mathlib.Core.Bool.{Bool, true, false, ◌&&◌}
 use mathlib.Core.List.{List, [], ◌∷◌, ◌++◌, append_assoc, append-nil}
-use Prim.Native.Nat.{ℕ, ◌+◌, ◌-◌, ◌*◌, ◌≤◌, ◌<◌}
+use Prim.Native.Nat.{ℕ, ◌+◌, ◌-◌, ◌≤◌, ◌<◌}
 use native.Mathlib.Omega.{arith}
-use native.Mathlib.Nat.{add-zero}
 use borrow.Author.Tests.{leb-true, leb-false, ltb-true, ltb-false}
 use lib.ListN.{length, take, drop, length-drop}
 use lib.Seq.{drop-append-le, drop-drop, take_all}
@@ -16,7 +15,7 @@ use Rattle.rules.specs.declared.Name.{Name}
 use Rattle.rules.specs.declared.Name.TheVariants.{Tape}
 use Rattle.std.specs.Prelude.{Ok, Err}
 use Rattle.rules.specs.Book.{sound}
-use Rattle.rules.specs.Calls.{Call, Answer, called}
+use Rattle.rules.specs.Calls.{Answer, called}
 use Rattle.rules.specs.Tape.{read_of, quotes_of}
 use Rattle.rules.specs.Run.{Ran, call_of, name_of, line, any_output, answer_of, ended, stopped, after_line, run_rest}
 use Rattle.rules.specs.Text.{line_text, lines_text}
@@ -25,19 +24,13 @@ use Rattle.laws.proofs.Called.{Sizes, called_sound}
 use Rattle.rereading.proofs.Run.{run_ended, run_refused, run_instruction, not_ended}
 use Rattle.rereading.proofs.Sized.{read_sized}
 use Rattle.rereading.proofs.Window.{read_append, quotes_append}
-use Rattle.rules.specs.Refusals.{number_in}
-use Rattle.answers.specs.Turns.{Given, count_in}
-use Rattle.turns.specs.Going.{Stepped, enough, stray_text, Follows, Goes, onward, Went, Going}
+use Rattle.answers.specs.Turns.{Given}
+use Rattle.delivery.specs.Deliver.{Says}
+use Rattle.passing.specs.Going.{Stepped, enough, stray_text, Follows, Goes, onward, Went, Going}
 
 -- An answer
 
--- number, count and book are an answer's
-pub record Says (d : Answer) (t : Given) (b : Book) : Type 0 where
-  pub refusal : number_in t ≡ d.refusal
-  pub count : count_in t ≡ d.count
-  pub book : b ≡ d.book
-
--- which keeps the book sound
+-- an answer keeps the book sound
 pub answer_sound : (b b' : Book) (t : Given) (x : Instruction) (ws : List ℕ) → Sizes b → sound b ≡ true → Says (answer_of b x ws) t b' → sound b' ≡ true
 unfolding answer_of
 answer_sound b b' t x ws z h i = ap sound i.book ∙ called_sound b (call_of x (quotes_of ws)) any_output z h

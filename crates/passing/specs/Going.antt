@@ -1,17 +1,16 @@
 -- A run part by part: what is printed of the words that are there, and the run from where it stands then.
-use Rattle.std.specs.Prelude.{◌≡◌, Bool, true, false, cond, List, [], ◌++◌, ℕ, ◌+◌, ◌*◌, ◌≤◌, ◌<◌, leb, ltb, length, take, drop, ℤ, Option, IfSome, Ok}
+use Rattle.std.specs.Prelude.{◌≡◌, Bool, true, false, cond, List, [], ◌++◌, ℕ, ◌+◌, ◌*◌, ◌≤◌, ◌<◌, leb, ltb, length, take, drop, Option, IfSome, Ok}
 use Rattle.rules.specs.declared.Book.{Book}
 use Rattle.rules.specs.declared.Instruction.{Instruction}
 use Rattle.rules.specs.declared.Instruction.TheVariants as instruction
 use Rattle.rules.specs.declared.Name.TheVariants.{Tape}
-use Rattle.rules.specs.declared.State.{State}
 use Rattle.rules.specs.Book.{sound, Lengths}
 use Rattle.rules.specs.Tape.{read_of}
 use Rattle.rules.specs.Run.{Ran, line, name_of, answer_of, stopped, run_rest}
 use Rattle.rules.specs.Text.{line_text, lines_text}
 use Rattle.report.specs.Added.{Added}
-use Rattle.answers.specs.Turns.{within_nets}
-use Rattle.turns.specs.declared.Trade.{Trade}
+use Rattle.passing.specs.declared.Delivery.{Delivery}
+use Rattle.passing.specs.declared.Trade.{Trade}
 
 -- one turn: the instruction's line is put down, and the book is the answer's
 pub record Stepped (ws : List ℕ) (x : Instruction) (index : ℕ) (b : Book) (text text' : List ℕ) (at end : ℕ) (b' : Book) : Type 0 where
@@ -61,22 +60,30 @@ pub record Going (ws : List ℕ) (last stray : Bool) (index : ℕ) (b₀ b : Boo
   pub run : (more : List ℕ) (then : Bool) → Follows last stray more then →
       Goes (run_rest index b₀ (ws ++ more) then) (take end text) (run_rest (index + at) b (drop at ws ++ more) then)
 
--- a trade that is found is the instruction that the words begin with, and has two of them
-abbrev pub Found : List ℕ → Option Trade → Type 0
-Found ws r = IfSome r (λ t. read_of ws ≡ Ok (instruction.Trade t.issue t.from t.to t.lots, 2))
+-- a trade or a delivery that is found is the instruction that the words begin with, and has two of them
+abbrev pub FoundTrade : List ℕ → Option Trade → Type 0
+FoundTrade ws r = IfSome r (λ t. read_of ws ≡ Ok (instruction.Trade t.issue t.from t.to t.lots, 2))
 
--- a sound book with this state and these nets
-pub record Held (s : State) (nets : List ℤ) (b : Book) : Type 0 where
-  pub lengths : Lengths nets b.delivered b.lifts b.charges b.issues b.froms b.tos b.lots b.days
-  pub sound : sound (within_nets s nets b) ≡ true
+abbrev pub FoundDelivery : List ℕ → Option Delivery → Type 0
+FoundDelivery ws r = IfSome r (λ d. read_of ws ≡ Ok (instruction.Deliver d.issue d.account d.lots, 2))
 
-pub record SomeHeld (s : State) (nets : List ℤ) : Type 0 where
+-- a book's columns have a book's lengths
+abbrev pub LengthsOf : Book → Type 0
+LengthsOf b = Lengths b.nets b.delivered b.lifts b.charges b.issues b.froms b.tos b.lots b.days
+
+-- a sound book in such columns
+pub record Held (b : Book) : Type 0 where
+  pub lengths : LengthsOf b
+  pub sound : sound b ≡ true
+
+-- some book with what is lent is one
+pub record SomeHeld (within : Book → Book) : Type 0 where
   pub rest : Book
-  pub held : Held s nets rest
+  pub held : Held (within rest)
 
--- trades that are passed on a way, whichever book it is that has these nets: it stays sound, and the way goes on behind them
-pub record Passed (ws : List ℕ) (last : Bool) (index : ℕ) (s : State) (nets nets' : List ℤ) (text text' : List ℕ) (at end at' end' : ℕ) : Type 0 where
+-- instructions that are passed on a way, whichever book it is that has what is lent: it stays sound, and the way goes on behind them
+pub record Passed (ws : List ℕ) (last : Bool) (index : ℕ) (before after : Book → Book) (text text' : List ℕ) (at end at' end' : ℕ) : Type 0 where
   pub on : at ≤ at'
-  pub held : (b : Book) → Held s nets b → Held s nets' b
-  pub going : (stray : Bool) (b₀ b : Book) → Held s nets b → Going ws last stray index b₀ (within_nets s nets b) text at end →
-      Going ws last stray index b₀ (within_nets s nets' b) text' at' end'
+  pub held : (b : Book) → Held (before b) → Held (after b)
+  pub going : (stray : Bool) (b₀ b : Book) → Held (before b) → Going ws last stray index b₀ (before b) text at end →
+      Going ws last stray index b₀ (after b) text' at' end'

@@ -1,0 +1,169 @@
+-- Instructions one behind another: each leaves the state of a book as it is, so the columns that it changes alone are lent to it.
+use mathlib.Core.Path.{◌≡◌, refl, sym, ap, ◌∙◌}
+use mathlib.Core.Bool.{Bool, true, cond}
+use mathlib.Core.List.{List, [], ◌∷◌}
+use Prim.Native.Nat.{ℕ, zero, suc, ◌+◌, ◌/◌, ◌%◌, ◌≤◌}
+use native.Mathlib.Omega.{arith}
+use lib.IntN.{ℤ}
+use lib.ListN.{length, get_or, drop}
+use Rattle.rules.specs.declared.Book.{Book}
+use Rattle.rules.specs.declared.Instruction.{Instruction}
+use Rattle.rules.specs.declared.Instruction.TheVariants as instruction
+use Rattle.rules.specs.declared.Name.TheVariants as name
+use Rattle.std.specs.Prelude.{Option, Some, Ok}
+use Rattle.rules.specs.declared.State.{State}
+use Rattle.rules.specs.declared.Word.{Word}
+use Rattle.rules.specs.declared.Word.TheVariants.{Head}
+use Rattle.rules.specs.Book.{sound}
+use Rattle.rules.specs.Calls.{Effect, Trade, Deliver, answer, asks, lent_to, effect, called}
+use Rattle.rules.specs.Questions.{first_no}
+use Rattle.rules.specs.Records.{issue_bits, from_bits, to_bits, lots_bits, of_field}
+use Rattle.rules.specs.Run.{line, name_of, any_output, answer_of}
+use Rattle.rules.specs.Tape.{kind_of, word_as, is_after, read_as, read_from, read_of}
+use Rattle.rules.specs.Text.{line_text}
+use Rattle.report.specs.Added.{Added}
+use Rattle.report.proofs.Texts.{added_as}
+use Rattle.rules.specs.Refusals.{number_in}
+use Rattle.answers.specs.Turns.{TurnIs, Given, count_in, state_after, within_nets, within_cells}
+use Rattle.delivery.specs.Deliver.{Says}
+use Rattle.passing.specs.Going.{enough, LengthsOf, Held, Passed}
+use Rattle.passing.proofs.Goings.{answer_sound, same_line, going_again}
+
+div_one : (x : ℕ) → x / 1 ≡ x
+div_one x = omega arith
+
+mod_one : (x : ℕ) → x % 1 ≡ 0
+mod_one x = omega arith
+
+-- the words of a trade
+trade_head : (w x : ℕ) → kind_of w ≡ 1 → w % 4096 ≡ 0 →
+    word_as w x ≡ Some (Head (instruction.Trade (of_field issue_bits w) (of_field from_bits w) (of_field to_bits w) x) 8 2)
+trade_head w x k u = simp (k, u, div_one)
+
+lots_word_lem : (y : ℕ) → kind_of y ≡ 8 → is_after 8 (word_as y 0) ≡ true
+lots_word_lem y h = simp (h, mod_one)
+
+pub read_trade : (ws : List ℕ) → 2 ≤ length ws → kind_of (get_or ws 0 0) ≡ 1 → get_or ws 0 0 % 4096 ≡ 0 → kind_of (get_or ws 1 0) ≡ 8 →
+    read_of ws
+    ≡ Ok (instruction.Trade (of_field issue_bits (get_or ws 0 0)) (of_field from_bits (get_or ws 0 0)) (of_field to_bits (get_or ws 0 0)) (of_field lots_bits (get_or ws 1 0)), 2)
+unfolding read_of
+read_trade [] l k u h = absurd (omega arith)
+read_trade (w ∷ []) l k u h = absurd (omega arith)
+read_trade (w ∷ y ∷ ws) l k u h =
+    let x = instruction.Trade (of_field issue_bits w) (of_field from_bits w) (of_field to_bits w) (of_field lots_bits y) in
+    ap (λ (f : Option Word). read_from f (y ∷ ws)) (trade_head w (of_field lots_bits y) k u) ∙ ap (λ (t : Bool). read_as (cond t 0 14) x 2) (lots_word_lem y h)
+
+-- the words of a delivery
+deliver_head : (w x : ℕ) → kind_of w ≡ 2 → w % 262144 ≡ 0 →
+    word_as w x ≡ Some (Head (instruction.Deliver (of_field issue_bits w) (of_field from_bits w) x) 8 2)
+deliver_head w x k u = simp (k, u, div_one)
+
+pub read_deliver : (ws : List ℕ) → 2 ≤ length ws → kind_of (get_or ws 0 0) ≡ 2 → get_or ws 0 0 % 262144 ≡ 0 → kind_of (get_or ws 1 0) ≡ 8 →
+    read_of ws
+    ≡ Ok (instruction.Deliver (of_field issue_bits (get_or ws 0 0)) (of_field from_bits (get_or ws 0 0)) (of_field lots_bits (get_or ws 1 0)), 2)
+unfolding read_of
+read_deliver [] l k u h = absurd (omega arith)
+read_deliver (w ∷ []) l k u h = absurd (omega arith)
+read_deliver (w ∷ y ∷ ws) l k u h =
+    let x = instruction.Deliver (of_field issue_bits w) (of_field from_bits w) (of_field lots_bits y) in
+    ap (λ (f : Option Word). read_from f (y ∷ ws)) (deliver_head w (of_field lots_bits y) k u) ∙ ap (λ (t : Bool). read_as (cond t 0 14) x 2) (lots_word_lem y h)
+
+-- a trade or a delivery leaves the state as it is
+answer_state : (n : ℕ) (b : Book) (out : List ℕ) (e : Effect) → e.book.state ≡ b.state → (answer n b out e).book.state ≡ b.state
+answer_state zero b out e h = h
+answer_state (suc n) b out e h = refl
+
+trade_state : (b : Book) (i f t x : ℕ) → (called b (Trade i f t x)).book.state ≡ b.state
+unfolding called
+trade_state b i f t x = answer_state (first_no (asks b (Trade i f t x))) b (lent_to (Trade i f t x)) (effect b (Trade i f t x)) refl
+
+deliver_state : (b : Book) (i a x : ℕ) → (called b (Deliver i a x any_output)).book.state ≡ b.state
+unfolding called
+deliver_state b i a x =
+    answer_state (first_no (asks b (Deliver i a x any_output))) b any_output (effect b (Deliver i a x any_output)) refl
+
+-- so its answer on the nets is that of any book with this state and these nets
+trade_says : (s : State) (nets nets' : List ℤ) (b : Book) (i f t x : ℕ) (r : Given) (ws : List ℕ) →
+    TurnIs (called (within_nets s nets b) (Trade i f t x)) r (within_nets (state_after s r) nets' b) [] →
+    Says (answer_of (within_nets s nets b) (instruction.Trade i f t x) ws) r (within_nets s nets' b)
+unfolding answer_of
+trade_says s nets nets' b i f t x r ws d =
+    let e : state_after s r ≡ s = ap (λ (c : Book). c.state) d.book ∙ trade_state (within_nets s nets b) i f t x in
+    record { refusal = d.refusal; count = d.count; book = ap (λ (u : State). within_nets u nets' b) (sym e) ∙ d.book }
+
+-- and that of a delivery on the cells of any book with this state and these
+deliver_says : (s : State) (nets : List ℤ) (delivered delivered' lifts lifts' : List ℕ) (b : Book) (i a x : ℕ) (r : Given) (ws : List ℕ) →
+    Says (called (within_cells s nets delivered lifts b) (Deliver i a x any_output)) r (within_cells (state_after s r) nets delivered' lifts' b) →
+    Says (answer_of (within_cells s nets delivered lifts b) (instruction.Deliver i a x) ws) r (within_cells s nets delivered' lifts' b)
+unfolding answer_of
+deliver_says s nets delivered delivered' lifts lifts' b i a x r ws d =
+    let e : state_after s r ≡ s = ap (λ (c : Book). c.state) d.book ∙ deliver_state (within_cells s nets delivered lifts b) i a x in
+    record { refusal = d.refusal; count = d.count; book = ap (λ (u : State). within_cells u nets delivered' lifts' b) (sym e) ∙ d.book }
+
+-- no instruction is passed yet
+pub passed_none : (ws : List ℕ) (last : Bool) (index : ℕ) (f : Book → Book) (text : List ℕ) (at end : ℕ) → Passed ws last index f f text text at end at end
+passed_none ws last index f text at end = record { on = omega arith; held = λ b h. h; going = λ stray b₀ b h g. g }
+
+-- one more
+module _ (ws : List ℕ) (last : Bool) (index : ℕ) (before f f' : Book → Book) (text₀ text text' : List ℕ) (from to at end end' : ℕ)
+    (x : Instruction) (r : Given) (lengths : (b : Book) → Held (f b) → LengthsOf (f' b))
+    (says : (b : Book) → Held (f b) → Says (answer_of (f b) x (drop at ws)) r (f' b)) where
+  kept : (b : Book) → Held (f b) → Held (f' b)
+  kept b h =
+      let l = h.lengths in
+      record {
+        lengths = lengths b h;
+        sound = answer_sound (f b) (f' b) r x (drop at ws)
+            (record { nets = l.cells.nets; delivered = l.cells.delivered; lifts = l.lifts; charges = l.charges }) h.sound (says b h);
+      }
+
+  pub passed_on : (n : ℕ) → Passed ws last index before f text₀ text from to at end → enough (length (drop at ws)) last ≡ true →
+      read_of (drop at ws) ≡ Ok (x, n) → Added 72 text text' end end' (line_text (line (index + at) (name_of x) (number_in r) (count_in r))) →
+      Passed ws last index before f' text₀ text' from to (at + n) end'
+  passed_on n p q g a =
+      record {
+        on = omega (arith, p.on);
+        held = λ b h. kept b (p.held b h);
+        going = λ stray b₀ b h m.
+            let k = p.held b h in
+            let y = says b k in
+            going_again ws last stray index b₀ (f b) text text' at end (p.going stray b₀ b h m) x n end' (f' b) q g
+            (record {
+              printed = added_as 72 72 _ _ _ _ _ _ (omega arith) (same_line (index + at) _ _ _ _ _ _ refl y.refusal y.count) a;
+              book = y.book;
+              lengths = (kept b k).lengths;
+              sound = (kept b k).sound;
+            });
+      }
+
+-- a trade more
+module _ (ws : List ℕ) (last : Bool) (index : ℕ) (s : State) (before : Book → Book) (nets nets' : List ℤ) (text₀ text text' : List ℕ) (from to at end end' : ℕ)
+    (i f t x : ℕ) (r : Given) where
+  pub trade_on : Passed ws last index before (within_nets s nets) text₀ text from to at end → enough (length (drop at ws)) last ≡ true →
+      read_of (drop at ws) ≡ Ok (instruction.Trade i f t x, 2) → length nets' ≡ length nets →
+      ((b : Book) → sound (within_nets s nets b) ≡ true → TurnIs (called (within_nets s nets b) (Trade i f t x)) r (within_nets (state_after s r) nets' b) []) →
+      Added 72 text text' end end' (line_text (line (index + at) name.Trade (number_in r) (count_in r))) →
+      Passed ws last index before (within_nets s nets') text₀ text' from to (at + 2) end'
+  trade_on p q g e d a =
+      passed_on ws last index before (within_nets s nets) (within_nets s nets') text₀ text text' from to at end end' (instruction.Trade i f t x) r
+      (λ b h.
+      let l = h.lengths in
+      record { cells = record { nets = e ∙ l.cells.nets; delivered = l.cells.delivered }; lifts = l.lifts; charges = l.charges; ledger = l.ledger })
+      (λ b h. trade_says s nets nets' b i f t x r (drop at ws) (d b h.sound)) 2 p q g a
+
+-- a delivery more
+module _ (ws : List ℕ) (last : Bool) (index : ℕ) (s : State) (before : Book → Book) (nets : List ℤ) (delivered delivered' lifts lifts' : List ℕ) (text₀ text text' : List ℕ)
+    (from to at end end' : ℕ) (i a x : ℕ) (r : Given) where
+  pub deliver_on : Passed ws last index before (within_cells s nets delivered lifts) text₀ text from to at end → enough (length (drop at ws)) last ≡ true →
+      read_of (drop at ws) ≡ Ok (instruction.Deliver i a x, 2) → length delivered' ≡ length delivered → length lifts' ≡ length lifts →
+      ((b : Book) → sound (within_cells s nets delivered lifts b) ≡ true →
+      Says (called (within_cells s nets delivered lifts b) (Deliver i a x any_output)) r (within_cells (state_after s r) nets delivered' lifts' b)) →
+      Added 72 text text' end end' (line_text (line (index + at) name.Deliver (number_in r) (count_in r))) →
+      Passed ws last index before (within_cells s nets delivered' lifts') text₀ text' from to (at + 2) end'
+  deliver_on p q g e k d t =
+      passed_on ws last index before (within_cells s nets delivered lifts) (within_cells s nets delivered' lifts') text₀ text text' from to at end end'
+      (instruction.Deliver i a x) r
+      (λ b h.
+      let l = h.lengths in
+      record { cells = record { nets = l.cells.nets; delivered = e ∙ l.cells.delivered }; lifts = k ∙ l.lifts; charges = l.charges; ledger = l.ledger })
+      (λ b h. deliver_says s nets delivered delivered' lifts lifts' b i a x r (drop at ws) (d b h.sound)) 2 p q g t
