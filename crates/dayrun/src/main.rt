@@ -12,6 +12,7 @@ ghost use Rattle.dayrun.specs.Day.{Closed, Whole};
 use playing::{End, Sent, play, show};
 use rules::OUTPUT_WORDS;
 use std::io::Read;
+use waiting::Kept;
 
 // so many bytes are read at once, their words, and the bytes of their lines
 const READ_BYTES: usize = 16384;
@@ -73,11 +74,12 @@ fn day<P: Print + Eprint, R: Read>(
     words: &mut [u32],
     text: &mut [u8],
     out: &mut [u32],
+    kept: &mut [Kept],
 ) -> Outcome
-    requires { Buffers bytes.old words.old text.old out.old }
+    requires { Buffers bytes.old words.old text.old out.old kept.old }
     ensures { Whole result }
 {
-    let run = play(rt, reader, bytes, words, text, out);
+    let run = play(rt, reader, bytes, words, text, out, kept);
     let closing = close(rt, text, run);
     Outcome { run, closing }
 }
@@ -88,6 +90,7 @@ fn main(rt: HostRuntime) {
     let mut words = [0u32; READ_WORDS];
     let mut text = [0u8; TEXT_BYTES];
     let mut out = [0u32; OUTPUT_WORDS];
+    let mut kept = delivery::none_kept();
     day(
         &rt,
         &mut reader,
@@ -95,5 +98,6 @@ fn main(rt: HostRuntime) {
         &mut words,
         &mut text,
         &mut out,
+        &mut kept,
     );
 }

@@ -4,6 +4,7 @@ use Rattle.rules.specs.Book.{sound}
 use Rattle.rules.specs.Text.{lines_text, ran_of, PrintedAt}
 use Rattle.input.specs.declared.Words.{Words}
 use Rattle.input.specs.Fed.{Fed}
+use Rattle.waiting.specs.declared.Kept.{Kept}
 use Rattle.parts.specs.declared.Place.{Place}
 use Rattle.parts.specs.Parting.{Parted}
 use Rattle.playing.specs.declared.End.{End}
@@ -12,12 +13,13 @@ use Rattle.playing.specs.declared.End.{End}
 abbrev pub most_reads : ℕ
 most_reads = 35184372088831
 
--- 4,096 words and their bytes, room for the text of as many lines, and an output
-pub record Buffers (bytes words text out : List ℕ) : Type 0 where
+-- 4,096 words and their bytes, room for the text of as many lines, an output, and what is kept of each issue
+pub record Buffers (bytes words text out : List ℕ) (kept : List Kept) : Type 0 where
   pub input : length bytes ≡ 16384
   pub tape : length words ≡ 4096
   pub lines : length text ≡ 327680
   pub output : length out ≡ 4096
+  pub issues : length kept ≡ 16
 
 -- a sound book, and bytes in the buffer that are not yet used; where the run goes on there are fewer than thirty-three words and a
 -- stray, so a read has room; where the last read failed the run is not over

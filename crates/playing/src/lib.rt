@@ -7,6 +7,7 @@ ghost use Rattle.playing.specs.Playing.{Buffers, Standing, Stepped, Shown, Playe
 use parts::Place;
 use rules::Book;
 use std::io::Read;
+use waiting::Kept;
 
 // The most reads of a run: the loop has to end, and the bytes printed are counted in 64 bits.
 const MOST_READS: u64 = 35_184_372_088_831;
@@ -19,14 +20,15 @@ fn step<R: Read>(
     words: &mut [u32],
     text: &mut [u8],
     out: &mut [u32],
+    kept: &mut [Kept],
 ) -> Place
-    requires { Buffers bytes.old words.old text.old out.old × Standing p × (p.over ≡ false) × (p.failed ≡ false) × (p.index + 4096 < 2 ^ 64) }
-    ensures { Stepped p bytes.old bytes.new text.new result × Standing result × Buffers bytes.new words.new text.new out.new }
+    requires { Buffers bytes.old words.old text.old out.old kept.old × Standing p × (p.over ≡ false) × (p.failed ≡ false) × (p.index + 4096 < 2 ^ 64) }
+    ensures { Stepped p bytes.old bytes.new text.new result × Standing result × Buffers bytes.new words.new text.new out.new kept.new }
 {
     let start = p.start;
     let w = input::next(reader, bytes, words, start, p.end);
     let n = w.count;
-    parts::part(p, w, &words[..n], text, out)
+    parts::part(p, w, &words[..n], text, out, kept)
 }
 
 // After a write: how many bytes were handed over since the start, and whether this write took its own. The
@@ -87,9 +89,10 @@ pub fn play<P: Print + Eprint, R: Read>(
     words: &mut [u32],
     text: &mut [u8],
     out: &mut [u32],
+    kept: &mut [Kept],
 ) -> End
-    requires { Buffers bytes.old words.old text.old out.old }
-    ensures { Played result × Buffers bytes.new words.new text.new out.new }
+    requires { Buffers bytes.old words.old text.old out.old kept.old }
+    ensures { Played result × Buffers bytes.new words.new text.new out.new kept.new }
 {
     let book = book::fresh();
     let mut p = Place {
@@ -108,7 +111,7 @@ pub fn play<P: Print + Eprint, R: Read>(
     let mut reads: u64 = 0;
     while sent.written & !p.over & !p.failed & (reads < MOST_READS) {
         reads += 1;
-        p = step(reader, p, bytes, words, text, out);
+        p = step(reader, p, bytes, words, text, out, kept);
         let length = p.printed;
         sent = show(rt, sent, &text[..length]);
     }

@@ -17,6 +17,7 @@ ghost use Rattle.rules.specs.Book.{sound};
 use columns::LentColumns;
 use passing::{answer_line, deliveries, is_enough, trades};
 use rules::{Book, Instruction, Name, Refusal, State};
+use waiting::Kept;
 
 // After an instruction: where the text ends, and the state.
 #[derive(Clone, Copy, Drop)]
@@ -95,15 +96,15 @@ pub fn run(
     columns: &mut LentColumns,
     out: &mut [u32],
     text: &mut [u8],
+    kept: &mut [Kept],
 ) -> Part<State>
-    requires { IsReady s columns.old out.old × (72 * (length words.now + 1) ≤ length text.old) × (index + length words.now < 2 ^ 64) }
+    requires { IsReady s columns.old out.old × (length kept.old ≡ 16) × (72 * (length words.now + 1) ≤ length text.old) × (index + length words.now < 2 ^ 64) }
     ensures done { Went words.now last stray index (lent_book s columns.old) text.new result.used result.end result.over (lent_book result.after columns.new) }
     ensures same { SameColumns columns.old columns.new }
 {
     let mut at = 0;
     let mut end = 0;
     let mut state = s;
-    let mut kept = delivery::none_kept();
     // No range or iterator goes on by as many words as an instruction has: this loop counts its own.
     while is_enough(words.len() - at, last) {
         let (x, n) = match tape::read(&words[at..]) {
@@ -140,7 +141,7 @@ pub fn run(
             &mut *columns.nets,
             &mut *columns.delivered,
             &mut *columns.lifts,
-            &mut kept,
+            kept,
             text,
             p.at,
             p.end,
@@ -166,8 +167,9 @@ pub fn run_on(
     index: u64,
     text: &mut [u8],
     out: &mut [u32],
+    kept: &mut [Kept],
 ) -> Part<Book>
-    requires { (sound b ≡ true) × (output_words ≤ length out.old) × (72 * (length words.now + 1) ≤ length text.old) × (index + length words.now < 2 ^ 64) }
+    requires { (sound b ≡ true) × (length kept.old ≡ 16) × (output_words ≤ length out.old) × (72 * (length words.now + 1) ≤ length text.old) × (index + length words.now < 2 ^ 64) }
     ensures { Went words.now last stray index b text.new result.used result.end result.over result.after }
 {
     let Book {
@@ -193,7 +195,17 @@ pub fn run_on(
         lots: &mut lots,
         days: &mut days,
     };
-    let t = run(words, last, stray, index, state, &mut columns, out, text);
+    let t = run(
+        words,
+        last,
+        stray,
+        index,
+        state,
+        &mut columns,
+        out,
+        text,
+        kept,
+    );
     Part {
         used: t.used,
         end: t.end,

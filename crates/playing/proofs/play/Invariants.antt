@@ -6,7 +6,7 @@ use Rattle.playing.proofs.play.Given as goal
 
 abbrev pub invariant-loop-sent : goal.invariant-loop-sent
 invariant-loop-sent g l =
-    Buffers l.bytes l.words l.text l.out
+    Buffers l.bytes l.words l.text l.out l.kept
     × Standing l.p
     × (l.p.index ≤ 4096 * l.reads)
     × (l.sent.count ≤ 327680 * l.reads)

@@ -17,5 +17,6 @@ returns g c =
         tape = omega (arith, n.auto.words, b.tape);
         lines = omega (arith, t.auto.text, b.lines);
         output = omega (arith, t.auto.out, b.output);
+        issues = omega (arith, t.auto.kept, b.issues);
       },
     )

@@ -6,15 +6,15 @@ use Rattle.columns.specs.Books.{lent_book, IsReady, SameColumns}
 use Rattle.passing.specs.Going.{Going}
 use Rattle.turns.proofs.run.Given as goal
 
-abbrev pub invariant-loop-kept : goal.invariant-loop-kept
-invariant-loop-kept l =
+abbrev pub invariant-loop-read : goal.invariant-loop-read
+invariant-loop-read l =
     let i = l.initial in
     IsReady l.state l.columns l.out
     × (length l.out ≡ length i.out)
     × (length l.text ≡ length i.text)
-    × (length l.kept ≡ 16)
+    × (length l.kept ≡ length i.kept)
     × Going l.words l.last l.stray l.index (lent_book i.state i.columns) (lent_book l.state l.columns) l.text l.at l.end
     × SameColumns i.columns l.columns
 
-abbrev pub decreases-loop-kept : goal.decreases-loop-kept
-decreases-loop-kept l = length l.words - l.at
+abbrev pub decreases-loop-read : goal.decreases-loop-read
+decreases-loop-read l = length l.words - l.at
