@@ -7,6 +7,7 @@ use Rattle.rules.specs.Book.{cell, net_at, delivered_at, delivered_total, order_
 use Rattle.rules.specs.Records.{words, over}
 use Rattle.rules.specs.Calls.{Call, Answer, called, raised_delivered, raised_count, deliver_records}
 use Rattle.rules.specs.Refusals.{number_in}
+use Rattle.rules.specs.Run.{any_output}
 use Rattle.book.specs.Cells.{SoundCells}
 use Rattle.book.specs.States.{Lent, Shared}
 use Rattle.answers.specs.Turns.{Given, Within, SomeSound, within_cells, count_in, state_after}
@@ -69,9 +70,9 @@ pub record Says (d : Answer) (r : Given) (b : Book) : Type 0 where
   pub count : count_in r ≡ d.count
   pub book : b ≡ d.book
 
--- of a call on every sound book with what is lent
+-- of a call on every sound book with what is lent, whose records nobody reads
 abbrev pub Counts : Within → State → Call → Given → Type 0
-Counts w s c r = (b : Book) → sound (w.before s b) ≡ true → Says (called (w.before s b) c) r (w.after (state_after s r) b)
+Counts w s c r = (b : Book) → sound (w.before s b) ≡ true → Says (called (w.before s b) c any_output) r (w.after (state_after s r) b)
 
 abbrev pub count_ready : State → Shared ℤ → Lent ℕ → Lent ℕ → Lent Kept → Type 0
 count_ready s nets delivered lifts kept =

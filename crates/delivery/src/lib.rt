@@ -7,7 +7,6 @@ ghost use Rattle.rules.specs.Refusals.{number_in};
 ghost use Rattle.rules.specs.Questions.{first_no};
 ghost use Rattle.rules.specs.Calls.{raised_delivered, raised_count, deliver_asks, Deliver};
 ghost use Rattle.book.specs.Cells.{OwedCells};
-ghost use Rattle.rules.specs.Run.{any_output};
 ghost use Rattle.answers.specs.Turns.{Turns, on_delivered, deliver_ready};
 ghost use Rattle.delivery.specs.Deliver.{CanRaise, CanDeliver, Delivered, KeepsEach, NoneKept, CanMake, Made, count_ready, Counts};
 
@@ -163,7 +162,7 @@ pub fn deliver_counted(
     kept: &mut [Kept],
 ) -> Result<Turn, Refusal>
     requires { count_ready s nets delivered lifts kept }
-    ensures told { Counts (on_delivered nets delivered lifts) s (Deliver i a x any_output) result }
+    ensures told { Counts (on_delivered nets delivered lifts) s (Deliver i a x) result }
     ensures kept { KeepsEach nets.now delivered.new lifts.new kept.new }
 {
     deliver_asks(s, nets, delivered, i, a, x)?;

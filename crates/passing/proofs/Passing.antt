@@ -15,7 +15,7 @@ use Rattle.rules.specs.declared.State.{State}
 use Rattle.rules.specs.declared.Word.{Word}
 use Rattle.rules.specs.declared.Word.TheVariants.{Head}
 use Rattle.rules.specs.Book.{sound}
-use Rattle.rules.specs.Calls.{Effect, Trade, Deliver, answer, asks, lent_to, effect, called}
+use Rattle.rules.specs.Calls.{Effect, Trade, Deliver, answer, asks, effect, called}
 use Rattle.rules.specs.Questions.{first_no}
 use Rattle.rules.specs.Records.{issue_bits, from_bits, to_bits, lots_bits, of_field}
 use Rattle.rules.specs.Run.{line, name_of, any_output, answer_of}
@@ -73,31 +73,30 @@ answer_state : (n : ℕ) (b : Book) (out : List ℕ) (e : Effect) → e.book.sta
 answer_state zero b out e h = h
 answer_state (suc n) b out e h = refl
 
-trade_state : (b : Book) (i f t x : ℕ) → (called b (Trade i f t x)).book.state ≡ b.state
+trade_state : (b : Book) (i f t x : ℕ) (out : List ℕ) → (called b (Trade i f t x) out).book.state ≡ b.state
 unfolding called
-trade_state b i f t x = answer_state (first_no (asks b (Trade i f t x))) b (lent_to (Trade i f t x)) (effect b (Trade i f t x)) refl
+trade_state b i f t x out = answer_state (first_no (asks b (Trade i f t x) out)) b out (effect b (Trade i f t x)) refl
 
-deliver_state : (b : Book) (i a x : ℕ) → (called b (Deliver i a x any_output)).book.state ≡ b.state
+deliver_state : (b : Book) (i a x : ℕ) (out : List ℕ) → (called b (Deliver i a x) out).book.state ≡ b.state
 unfolding called
-deliver_state b i a x =
-    answer_state (first_no (asks b (Deliver i a x any_output))) b any_output (effect b (Deliver i a x any_output)) refl
+deliver_state b i a x out = answer_state (first_no (asks b (Deliver i a x) out)) b out (effect b (Deliver i a x)) refl
 
 -- so its answer on the nets is that of any book with this state and these nets
 trade_says : (s : State) (nets nets' : List ℤ) (b : Book) (i f t x : ℕ) (r : Given) (ws : List ℕ) →
-    TurnIs (called (within_nets s nets b) (Trade i f t x)) r (within_nets (state_after s r) nets' b) [] →
+    TurnIs (called (within_nets s nets b) (Trade i f t x) any_output) r (within_nets (state_after s r) nets' b) any_output →
     Says (answer_of (within_nets s nets b) (instruction.Trade i f t x) ws) r (within_nets s nets' b)
 unfolding answer_of
 trade_says s nets nets' b i f t x r ws d =
-    let e : state_after s r ≡ s = ap (λ (c : Book). c.state) d.book ∙ trade_state (within_nets s nets b) i f t x in
+    let e : state_after s r ≡ s = ap (λ (c : Book). c.state) d.book ∙ trade_state (within_nets s nets b) i f t x any_output in
     record { refusal = d.refusal; count = d.count; book = ap (λ (u : State). within_nets u nets' b) (sym e) ∙ d.book }
 
 -- and that of a delivery on the cells of any book with this state and these
 deliver_says : (s : State) (nets : List ℤ) (delivered delivered' lifts lifts' : List ℕ) (b : Book) (i a x : ℕ) (r : Given) (ws : List ℕ) →
-    Says (called (within_cells s nets delivered lifts b) (Deliver i a x any_output)) r (within_cells (state_after s r) nets delivered' lifts' b) →
+    Says (called (within_cells s nets delivered lifts b) (Deliver i a x) any_output) r (within_cells (state_after s r) nets delivered' lifts' b) →
     Says (answer_of (within_cells s nets delivered lifts b) (instruction.Deliver i a x) ws) r (within_cells s nets delivered' lifts' b)
 unfolding answer_of
 deliver_says s nets delivered delivered' lifts lifts' b i a x r ws d =
-    let e : state_after s r ≡ s = ap (λ (c : Book). c.state) d.book ∙ deliver_state (within_cells s nets delivered lifts b) i a x in
+    let e : state_after s r ≡ s = ap (λ (c : Book). c.state) d.book ∙ deliver_state (within_cells s nets delivered lifts b) i a x any_output in
     record { refusal = d.refusal; count = d.count; book = ap (λ (u : State). within_cells u nets delivered' lifts' b) (sym e) ∙ d.book }
 
 -- no instruction is passed yet
@@ -141,7 +140,7 @@ module _ (ws : List ℕ) (last : Bool) (index : ℕ) (s : State) (before : Book 
     (i f t x : ℕ) (r : Given) where
   pub trade_on : Passed ws last index before (within_nets s nets) text₀ text from to at end → enough (length (drop at ws)) last ≡ true →
       read_of (drop at ws) ≡ Ok (instruction.Trade i f t x, 2) → length nets' ≡ length nets →
-      ((b : Book) → sound (within_nets s nets b) ≡ true → TurnIs (called (within_nets s nets b) (Trade i f t x)) r (within_nets (state_after s r) nets' b) []) →
+      ((b : Book) → sound (within_nets s nets b) ≡ true → TurnIs (called (within_nets s nets b) (Trade i f t x) any_output) r (within_nets (state_after s r) nets' b) any_output) →
       Added 72 text text' end end' (line_text (line (index + at) name.Trade (number_in r) (count_in r))) →
       Passed ws last index before (within_nets s nets') text₀ text' from to (at + 2) end'
   trade_on p q g e d a =
@@ -157,7 +156,7 @@ module _ (ws : List ℕ) (last : Bool) (index : ℕ) (s : State) (before : Book 
   pub deliver_on : Passed ws last index before (within_cells s nets delivered lifts) text₀ text from to at end → enough (length (drop at ws)) last ≡ true →
       read_of (drop at ws) ≡ Ok (instruction.Deliver i a x, 2) → length delivered' ≡ length delivered → length lifts' ≡ length lifts →
       ((b : Book) → sound (within_cells s nets delivered lifts b) ≡ true →
-      Says (called (within_cells s nets delivered lifts b) (Deliver i a x any_output)) r (within_cells (state_after s r) nets delivered' lifts' b)) →
+      Says (called (within_cells s nets delivered lifts b) (Deliver i a x) any_output) r (within_cells (state_after s r) nets delivered' lifts' b)) →
       Added 72 text text' end end' (line_text (line (index + at) name.Deliver (number_in r) (count_in r))) →
       Passed ws last index before (within_cells s nets delivered' lifts') text₀ text' from to (at + 2) end'
   deliver_on p q g e k d t =

@@ -23,7 +23,7 @@ returns-in_err-deliver_asks-clause-told c b q =
     let p = err_from_is_err_and c.from_residual.result c.from_residual.ensures.1 in
     rw (p.1, p.2)
     (says
-    (turn_no (within_cells a.s a.nets.now a.delivered.now a.lifts.now b) (Deliver a.i a.a a.x any_output) (room_out any_output any_room) q _
+    (turn_no (within_cells a.s a.nets.now a.delivered.now a.lifts.now b) (Deliver a.i a.a a.x) any_output (room_out any_output any_room) q _
     c.in_err-deliver_asks.ensures))
 
 pub make-requires : goal.make-requires
@@ -67,7 +67,7 @@ returns-clause-told c b q =
     let m = c.more-count.ensures (order_in false a.nets.now a.lifts.now a.i) d c.make.ensures.here in
     let o = c.raise.ensures in
     says
-    (turn_yes (within_cells a.s a.nets.now a.delivered.now a.lifts.now b) (Deliver a.i a.a a.x any_output) (room_out any_output any_room) q
+    (turn_yes (within_cells a.s a.nets.now a.delivered.now a.lifts.now b) (Deliver a.i a.a a.x) any_output (room_out any_output any_room) q
     c.more-count.result 0 a.s _ (over (words (deliver_records (order_in new a.nets.now a.lifts.now) a.delivered.now a.i a.x)) any_output) c.in_ok-deliver_asks.ensures
     (delivered_to a.s new a.nets.now a.delivered.now _ a.lifts.now _ a.i a.a a.x any_output _ c.more-count.result b refl
     (record { column = o.0; counted = o.1; count = same_number new a.nets.now a.delivered.now a.lifts.now a.i a.x c.more-count.result m.1; output = refl })))

@@ -5,6 +5,7 @@ use Rattle.rules.specs.declared.Instruction.TheVariants as instruction
 use Rattle.rules.specs.Tape.{read_of}
 use Rattle.rereading.proofs.Sized.{read_sized}
 use Rattle.passing.specs.declared.Trade.{Trade}
+use Rattle.rules.specs.Run.{any_output}
 use Rattle.answers.specs.Turns.{within_nets}
 use Rattle.passing.specs.Going.{FoundTrade}
 use Rattle.passing.proofs.Goings.{rest_part, rest_enough}
@@ -30,5 +31,5 @@ loop-s-preserved c =
       search rules,
       trade_on a.words.now a.last a.index a.s (within_nets a.s a.nets.now) l.nets _ a.text.now l.text _ a.from a.to l.at l.end k.result
           t.issue t.from t.to t.lots c.trade-r.result l.invariant.4 (rest_enough a.words.now l.at a.last _ c.is_enough.ensures ∙ c.loop-s-test.true) b
-          (search rules) c.trade-r.ensures k.ensures,
+          (search rules) (c.trade-r.ensures any_output) k.ensures,
     )
