@@ -168,7 +168,9 @@ fn deliveries_on(
     Place { at, end }
 }
 
-// The same of any words: nothing is kept for others than deliveries.
+// The same of any words: for others than deliveries nothing is kept. In place at each call, for speed: most instructions are
+// no deliveries.
+#[inline(always)]
 pub fn deliveries(
     words: &[u32],
     last: bool,
