@@ -193,7 +193,7 @@ step_committed_by w phase b t out n k lifts words u =
     (λ h. stays b (Commit t) out _ (first_no (asks_at phase b (Commit t) out)) (some_number phase b (Commit t) out)
     (u.refusal ∙ ap (λ d. d.refusal) (sym (made_without w phase b (Commit t) out h))) (u.book ∙ ap (λ d. d.book) (sym (made_without w phase b (Commit t) out h))))
 
-step : (b : Book) (c : Call) (out : List ℕ) (r : Answer) → ByHost b c out r → Step b c out r
+pub step : (b : Book) (c : Call) (out : List ℕ) (r : Answer) → ByHost b c out r → Step b c out r
 step _ _ _ _ (told kind x quotes out h r c t) =
     step_called kind x quotes.entry.now out.entry.now h.phase (book_at h c) r (c.after (state_in r.state)) out.exit.now t
 step _ _ _ _ (asks phase b issue unit n ticket out t) = step_asked phase b issue unit n ticket out t

@@ -10,7 +10,7 @@ ghost use Rattle.columns.specs.Books.{SameColumns};
 ghost use Rattle.desk.specs.Fields.{instruction_of};
 ghost use Rattle.host.specs.Calls.{refused_by, turned_of, Made, InstructionMade, Called};
 
-use crate::{DayState, DayTurned, held, number_of};
+use crate::{DayState, DayTurned, held, numbers_of};
 use answers::Turn;
 use columns::LentColumns;
 use desk::fields::instruction_at;
@@ -47,21 +47,11 @@ pub fn refused(no: u32, state: DayState) -> DayTurned
 fn turned(t: Turn) -> DayTurned
     ensures { result ≡ turned_of t }
 {
-    let s = t.state;
-    let phase = s.phase;
-    let marks = s.marks;
-    let state = DayState {
-        day: s.day,
-        phase: number_of(phase),
-        entries: s.entries,
-        turn: s.turn,
-        marks,
-    };
     DayTurned {
         refusal: 0,
         count: t.count,
         cancelled: t.cancelled,
-        state,
+        state: numbers_of(t.state),
     }
 }
 

@@ -27,7 +27,7 @@ pub mod questions;
 
 ghost use Rattle.std.specs.Prelude.{◌≡◌};
 ghost use Rattle.columns.specs.Books.{shared_book};
-ghost use Rattle.host.specs.States.{phase_of, number_of, state_in, lengths_right, sound_at, Held};
+ghost use Rattle.host.specs.States.{phase_of, number_of, state_in, numbers_of, lengths_right, sound_at, Held};
 
 use columns::SharedColumns;
 use rules::{
@@ -84,6 +84,21 @@ pub fn state_in(h: DayState) -> State
 {
     let marks = h.marks;
     book::state_of(h.day, phase_of(h.phase), h.entries, h.turn, marks)
+}
+
+// The numbers of a state, as a host has it.
+pub fn numbers_of(s: State) -> DayState
+    ensures { result ≡ numbers_of s }
+{
+    let phase = s.phase;
+    let marks = s.marks;
+    DayState {
+        day: s.day,
+        phase: number_of(phase),
+        entries: s.entries,
+        turn: s.turn,
+        marks,
+    }
 }
 
 // Has each column the length of a book's?

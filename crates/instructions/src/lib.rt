@@ -4,7 +4,9 @@
 
 ghost use Rattle.std.specs.Prelude.{◌≡◌, length};
 ghost use Rattle.columns.specs.Books.{lent_book, IsReady, SameColumns};
-ghost use Rattle.answers.specs.Turns.{state_after};
+ghost use Rattle.rules.specs.Run.{call_of};
+ghost use Rattle.rules.specs.Tape.{quotes_of};
+ghost use Rattle.answers.specs.Turns.{state_after, Makes};
 ghost use Rattle.instructions.specs.Answering.{Begins, rolls_of, Quoted, AnsweredIn};
 
 use answers::Turn;
@@ -28,7 +30,8 @@ fn quotes_of(words: &[u32], x: Instruction, quotes: &mut [u32])
     }
 }
 
-// The answer to the instruction that the words begin with: number, count and book are the run's.
+// The answer to the instruction that the words begin with: number, count and book are the run's, and all that it gives is
+// what its call gives with this output.
 pub fn answer(
     words: &[u32],
     x: Instruction,
@@ -38,6 +41,7 @@ pub fn answer(
 ) -> Result<Turn, Refusal>
     requires { Begins words.now x × IsReady s columns.old out.old }
     ensures done { AnsweredIn words.now x (lent_book s columns.old) result (lent_book (state_after s result) columns.new) }
+    ensures given { Makes s (call_of x (quotes_of words.now)) result columns.old columns.new out.old out.new }
     ensures same { SameColumns columns.old columns.new }
 {
     let mut quotes = [0u32; QUOTE_COUNT];

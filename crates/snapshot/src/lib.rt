@@ -5,12 +5,12 @@
 ghost use Rattle.std.specs.Prelude.{◌≡◌};
 ghost use Rattle.rules.specs.Book.{fresh};
 ghost use Rattle.columns.specs.Books.{shared_book, lent_book, SameColumns};
-ghost use Rattle.host.specs.States.{state_in, numbers_of};
+ghost use Rattle.host.specs.States.{state_in};
 ghost use Rattle.snapshots.specs.Faults.{fault_number, fault_in};
 ghost use Rattle.snapshot.specs.Host.{SaveIs, refused_as, OpenIs};
 
 use columns::{LentColumns, SharedColumns, shared};
-use host::{DayState, held, lengths_right, number_of};
+use host::{DayState, held, lengths_right, numbers_of};
 use opening::open;
 use rules::{ISSUE_COUNT, Phase, State};
 use saving::save;
@@ -23,21 +23,6 @@ use snapshots::{Fault, WORDS};
 pub struct DayOpened {
     pub reason: u32,
     pub state: DayState,
-}
-
-// The numbers of a state.
-fn numbers_of(s: State) -> DayState
-    ensures { result ≡ numbers_of s }
-{
-    let phase = s.phase;
-    let marks = s.marks;
-    DayState {
-        day: s.day,
-        phase: number_of(phase),
-        entries: s.entries,
-        turn: s.turn,
-        marks,
-    }
 }
 
 // What a refusal gives a host: its number, and the state of a fresh book.

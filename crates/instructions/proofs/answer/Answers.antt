@@ -16,3 +16,6 @@ returns-clause-done c =
     let r = c.requires.1 in
     run_answer (lent_book a.s a.columns.now) _ c.answer.result a.words.now a.x (record { lengths = r.lengths; sound = r.sound }) _ a.out.now _
     c.quotes_of.ensures r.room c.answer.ensures.answered
+
+pub returns-clause-given : goal.returns-clause-given
+returns-clause-given c = rw c.quotes_of.ensures at c.answer.ensures.answered
