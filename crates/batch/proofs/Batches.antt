@@ -1,0 +1,319 @@
+-- A turn more, and the end. Invariant of the loop: what is done so far, with what is answered from here on behind it, is what is
+-- answered of all words.
+use mathlib.Core.Path.{◌≡◌, refl, sym, ap, ◌∙◌}
+use mathlib.Core.Bool.{Bool, true, false}
+use mathlib.Core.List.{List, [], ◌∷◌, ◌++◌, append_assoc, append-nil}
+use Prim.Native.Nat.{ℕ, zero, suc, ◌+◌, ◌-◌, ◌*◌, ◌≤◌, ◌<◌}
+use native.Mathlib.Omega.{arith}
+use native.Mathlib.Nat.{zero-add, suc-add}
+use borrow.Author.Tests.{leb-true}
+use lib.Dec.{leb}
+use lib.ListN.{length, take, drop, length-take, length-drop, length-append, drop_of_length-le, take-append-drop}
+use lib.Seq.{take_all, drop-drop}
+use Rattle.std.specs.Prelude.{Ok, Err}
+use Rattle.rules.specs.declared.Book.{Book}
+use Rattle.rules.specs.declared.Instruction.{Instruction}
+use Rattle.rules.specs.declared.Instruction.TheVariants as instruction
+use Rattle.rules.specs.declared.State.{State}
+use Rattle.rules.specs.Measures.{output_words}
+use Rattle.rules.specs.Questions.{ask, first_no}
+use Rattle.rules.specs.Records.{Rec, words, over}
+use Rattle.rules.specs.Calls.{Deliver, Cutoff, Resolve}
+use Rattle.rules.specs.Tape.{read_of}
+use Rattle.laws.proofs.Basics.{and_left, and_right}
+use Rattle.laws.proofs.Records.{length_words}
+use Rattle.laws.proofs.Answers.{said_yes, said_no, by_answer}
+use Rattle.columns.specs.declared.LentColumns.{LentColumns}
+use Rattle.columns.specs.Books.{lent_book}
+use Rattle.host.specs.declared.DayState.{DayState}
+use Rattle.host.specs.States.{number_of, numbers_of as state_numbers, state_in, sound_at}
+use Rattle.host.proofs.Holding.{back_state, same_stage, is_phase}
+use Rattle.batch.specs.declared.DayRan.{DayRan}
+use Rattle.batch.specs.Batch.{BatchIs, RanIs, DayRanIs, day_batch, stopped_by, answer_at, written_by, answer_numbers, numbers_of, has_room, Batch, stops, behind, followed, batch_from, batch_of, Stepped}
+
+-- Records that a call wrote stand in the words that it may write to
+
+over_fits : (rs : List Rec) (out : List ℕ) → 2 * length rs ≤ length (over (words rs) out)
+over_fits rs out = omega (arith, length_words rs, length-append (words rs) (drop (length (words rs)) out))
+
+pub written_fits : (b : Book) (x : Instruction) (ws out : List ℕ) → written_by x (answer_at b x ws out).count ≤ length (answer_at b x ws out).out
+written_fits b (instruction.Trade i f t l) ws out = omega arith
+written_fits b (instruction.Deliver i a l) ws out =
+    by_answer (λ d. 2 * d.count ≤ length d.out) b (Deliver i a l) out (λ y. over_fits _ out) (λ r. omega arith)
+written_fits b (instruction.Resolve i a l) ws out =
+    by_answer (λ d. 2 * d.count ≤ length d.out) b (Resolve i a l) out (λ y. over_fits _ out) (λ r. omega arith)
+written_fits b (instruction.PairOff i a) ws out = omega arith
+written_fits b instruction.Close ws out = omega arith
+written_fits b instruction.Cutoff ws out =
+    by_answer (λ d. 2 * d.count ≤ length d.out) b Cutoff out (λ y. over_fits _ out) (λ r. omega arith)
+written_fits b (instruction.Roll days rate) ws out = omega arith
+written_fits b (instruction.Mark i m) ws out = omega arith
+written_fits b (instruction.Turn d) ws out = omega arith
+
+-- Parts
+
+-- a list from a place on, as a part of it is lent
+pub rest_part : (xs : List ℕ) (at : ℕ) → take (length xs - at) (drop at xs) ≡ drop at xs
+rest_part xs at = take_all (length xs - at) (drop at xs) (omega (arith, length-drop at xs))
+
+-- and as it comes back
+pub back_part : (xs ys : List ℕ) (at : ℕ) → take at xs ++ (ys ++ drop (length xs - at) (drop at xs)) ≡ take at xs ++ ys
+back_part xs ys at =
+    let d : length (drop at xs) ≤ length xs - at = omega (arith, length-drop at xs) in
+    rw (drop_of_length-le (drop at xs) d, append-nil ys) refl
+
+-- beyond a place that is there
+front : (xs ys : List ℕ) (at n : ℕ) → at ≤ length xs → take (at + n) (take at xs ++ ys) ≡ take at xs ++ take n ys
+front xs ys zero n h = rw (zero-add n) refl
+front [] ys (suc at) n h = absurd (omega arith)
+front (x ∷ xs) ys (suc at) n h = rw (suc-add at n) (ap (λ l. x ∷ l) (front xs ys at n (omega arith)))
+
+back : (xs ys : List ℕ) (at n : ℕ) → at ≤ length xs → drop (at + n) (take at xs ++ ys) ≡ drop n ys
+back xs ys zero n h = rw (zero-add n) refl
+back [] ys (suc at) n h = absurd (omega arith)
+back (x ∷ xs) ys (suc at) n h = rw (suc-add at n) (back xs ys at n (omega arith))
+
+pub length_front : (xs ys : List ℕ) (at : ℕ) → at ≤ length xs → length (take at xs ++ ys) ≡ at + length ys
+length_front xs ys at h = omega (arith, length-append (take at xs) ys, length-take at xs)
+
+-- By what is read
+
+module _ (n : ℕ) (b : Book) where
+  pub ends : (answers out : List ℕ) → batch_from n b [] answers out ≡ stops 0 b answers out
+  unfolding batch_from
+  ends answers out = by_fuel n
+    where
+      by_fuel : (m : ℕ) → batch_from m b [] answers out ≡ stops 0 b answers out
+      by_fuel zero = refl
+      by_fuel (suc m) = refl
+
+  pub no_instruction : (ws answers out : List ℕ) → 0 < length ws → (r : ℕ) → read_of ws ≡ Err r → batch_from (suc n) b ws answers out ≡ stops r b answers out
+  unfolding batch_from
+  no_instruction [] answers out h r e = absurd (omega arith)
+  no_instruction (w ∷ ws) answers out h r e = rw e refl
+
+  module _ (x : Instruction) (k : ℕ) where
+    pub no_room : (ws answers out : List ℕ) → 0 < length ws → read_of ws ≡ Ok (x, k) → has_room (length answers) (length out) ≡ false →
+        batch_from (suc n) b ws answers out ≡ stops 0 b answers out
+    unfolding batch_from
+    no_room [] answers out h e g = absurd (omega arith)
+    no_room (w ∷ ws) answers out h e g = rw (e, g) refl
+
+    pub one_more : (ws answers out : List ℕ) → 0 < length ws → read_of ws ≡ Ok (x, k) → has_room (length answers) (length out) ≡ true →
+        batch_from (suc n) b ws answers out
+        ≡ followed x k (answer_at b x ws out) (λ rest. batch_from n (answer_at b x ws out).book (drop k ws) (drop answer_numbers answers) rest)
+    unfolding batch_from
+    one_more [] answers out h e g = absurd (omega arith)
+    one_more (w ∷ ws) answers out h e g = rw (e, g) refl
+
+-- On the way
+
+pub record Running (b₀ : Book) (ws answers₀ out₀ : List ℕ) (answered at written : ℕ) (b : Book) (answers out : List ℕ) : Type 0 where
+  pub within : at ≤ length ws
+  pub told : 3 * answered ≤ length answers
+  pub put : written ≤ length out
+  pub left : ℕ
+  pub enough : length ws ≤ at + left
+  pub same :
+      batch_of b₀ ws answers₀ out₀
+      ≡ behind answered at written (take (3 * answered) answers) (take written out)
+      (batch_from left b (drop at ws) (drop (3 * answered) answers) (drop written out))
+
+nothing_before : (d : Batch) → d ≡ behind 0 0 0 [] [] d
+nothing_before d =
+    λ j. record {
+      refusal = d.refusal;
+      answered = sym (zero-add d.answered) j;
+      used = sym (zero-add d.used) j;
+      written = sym (zero-add d.written) j;
+      book = d.book;
+      answers = d.answers;
+      out = d.out;
+    }
+
+before_both : (n k w m l v : ℕ) (ns os ms ps : List ℕ) (d : Batch) →
+    behind n k w ns os (behind m l v ms ps d) ≡ behind (n + m) (k + l) (w + v) (ns ++ ms) (os ++ ps) d
+before_both n k w m l v ns os ms ps d =
+    let a : n + (m + d.answered) ≡ n + m + d.answered = omega arith in
+    let u : k + (l + d.used) ≡ k + l + d.used = omega arith in
+    let p : w + (v + d.written) ≡ w + v + d.written = omega arith in
+    λ j. record {
+      refusal = d.refusal;
+      answered = a j;
+      used = u j;
+      written = p j;
+      book = d.book;
+      answers = sym (append_assoc ns ms d.answers) j;
+      out = sym (append_assoc os ps d.out) j;
+    }
+
+pub starts : (b : Book) (ws answers out : List ℕ) → Running b ws answers out 0 0 0 b answers out
+starts b ws answers out =
+    record { within = omega arith; told = omega arith; put = omega arith; left = length ws; enough = omega arith; same = nothing_before _ }
+
+-- The end
+
+-- what is given where it stops here
+pub record Stopped (d : Batch) (r n at w : ℕ) (b : Book) (numbers words' : List ℕ) : Type 0 where
+  pub refusal : r ≡ d.refusal
+  pub answered : n ≡ d.answered
+  pub used : at ≡ d.used
+  pub written : w ≡ d.written
+  pub book : b ≡ d.book
+  pub answers : numbers ≡ d.answers
+  pub out : words' ≡ d.out
+
+module _ (b₀ : Book) (ws answers₀ out₀ : List ℕ) (answered at written : ℕ) (b : Book) (answers out : List ℕ)
+    (g : Running b₀ ws answers₀ out₀ answered at written b answers out) where
+  -- instructions are left as long as words are
+  some_left : at < length ws → suc (g.left - 1) ≡ g.left
+  some_left h = omega (arith, g.enough)
+
+  words_left : at < length ws → 0 < length (drop at ws)
+  words_left h = omega (arith, length-drop at ws)
+
+  stopped : (r : ℕ) →
+      batch_from g.left b (drop at ws) (drop (3 * answered) answers) (drop written out) ≡ stops r b (drop (3 * answered) answers) (drop written out) →
+      Stopped (batch_of b₀ ws answers₀ out₀) r answered at written b answers out
+  stopped r e =
+      let s = g.same ∙ ap (behind answered at written (take (3 * answered) answers) (take written out)) e in
+      rw s
+      (record {
+        refusal = refl;
+        answered = omega arith;
+        used = omega arith;
+        written = omega arith;
+        book = refl;
+        answers = sym (take-append-drop (3 * answered) answers);
+        out = sym (take-append-drop written out);
+      })
+
+  pub stops_at_end : length ws ≤ at → Stopped (batch_of b₀ ws answers₀ out₀) 0 answered at written b answers out
+  stops_at_end h =
+      stopped 0 (rw (drop_of_length-le ws h) (ends g.left b (drop (3 * answered) answers) (drop written out)))
+
+  pub stops_refused : at < length ws → (r : ℕ) → read_of (drop at ws) ≡ Err r → Stopped (batch_of b₀ ws answers₀ out₀) r answered at written b answers out
+  stops_refused h r e =
+      stopped r (rw (← some_left h) (no_instruction (g.left - 1) b (drop at ws) (drop (3 * answered) answers) (drop written out) (words_left h) r e))
+
+  -- One more
+
+  module _ (h : at < length ws) (x : Instruction) (k : ℕ) (e : read_of (drop at ws) ≡ Ok (x, k)) where
+    room_here : (q : Bool) → has_room (length answers - 3 * answered) (length out - written) ≡ q →
+        has_room (length (drop (3 * answered) answers)) (length (drop written out)) ≡ q
+    room_here q p = rw (length-drop (3 * answered) answers, length-drop written out) p
+
+    pub stops_full : has_room (length answers - 3 * answered) (length out - written) ≡ false →
+        Stopped (batch_of b₀ ws answers₀ out₀) 0 answered at written b answers out
+    stops_full p =
+        stopped 0
+        (rw (← some_left h)
+        (no_room (g.left - 1) b x k (drop at ws) (drop (3 * answered) answers) (drop written out) (words_left h) e (room_here false p)))
+
+    goes_on : has_room (length answers - 3 * answered) (length out - written) ≡ true → k ≤ length (drop at ws) → 1 ≤ k → (numbers rest : List ℕ) (w : ℕ) (b' : Book) →
+        Stepped (drop at ws) x b (drop (3 * answered) answers) numbers (drop written out) rest w b' →
+        Running b₀ ws answers₀ out₀ (answered + 1) (at + k) (written + w) b' (take (3 * answered) answers ++ numbers) (take written out ++ rest)
+    goes_on p few some numbers rest w b' s =
+        let vs = drop at ws in
+        let told = drop (3 * answered) answers in
+        let lent = drop written out in
+        let a = answer_at b x vs lent in
+        let room = room_here true p in
+        let three : 3 ≤ length told = leb-true 3 (length told) (and_left (leb 3 (length told)) _ room) in
+        let fits : w ≤ length rest = rw (s.put, s.left) (written_fits b x vs lent) in
+        let thrice : 3 * (answered + 1) ≡ 3 * answered + 3 = omega arith in
+        let one = rw (some_left h) at (one_more (g.left - 1) b x k vs told lent (words_left h) e room) in
+        record {
+          within = omega (arith, few, length-drop at ws, g.within);
+          told = omega (arith, length_front answers numbers (3 * answered) g.told, ap length s.told);
+          put = omega (arith, length_front out rest written g.put, fits);
+          left = g.left - 1;
+          enough = omega (arith, g.enough, some);
+          same = rw (
+            thrice,
+            front answers numbers (3 * answered) 3 g.told,
+            back answers numbers (3 * answered) 3 g.told,
+            front out rest written w g.put,
+            back out rest written w g.put,
+            ← drop-drop k at ws,
+            s.told,
+            s.left,
+            s.put,
+            s.book,
+          )
+              (g.same ∙ ap (behind answered at written (take (3 * answered) answers) (take written out)) one
+              ∙ before_both answered at written 1 k (written_by x a.count) (take (3 * answered) answers) (take written out) (numbers_of a) (take (written_by x a.count) a.out) _);
+        }
+
+    -- with the parts as they come back
+    pub next : has_room (length answers - 3 * answered) (length out - written) ≡ true → k ≤ length (drop at ws) → 1 ≤ k → (numbers rest : List ℕ) (w : ℕ) (b' : Book) →
+        Stepped (drop at ws) x b (drop (3 * answered) answers) numbers (drop written out) rest w b' →
+        Running b₀ ws answers₀ out₀ (answered + 1) (at + k) (written + w) b'
+        (take (3 * answered) answers ++ (numbers ++ drop (length answers - 3 * answered) (drop (3 * answered) answers)))
+        (take written out ++ (rest ++ drop (length out - written) (drop written out)))
+    next p few some numbers rest w b' s =
+        rw (back_part answers numbers (3 * answered), back_part out rest written) (goes_on p few some numbers rest w b' s)
+
+-- room for one more in the parts that it is lent
+pub roomy : (answers out : List ℕ) (n w : ℕ) → has_room (length answers - n) (length out - w) ≡ true →
+    (3 ≤ length (take (length answers - n) (drop n answers))) × (output_words ≤ length (take (length out - w) (drop w out)))
+roomy answers out n w h =
+    let three : 3 ≤ length answers - n = leb-true 3 (length answers - n) (and_left (leb 3 (length answers - n)) _ h) in
+    let words : output_words ≤ length out - w = leb-true output_words (length out - w) (and_right (leb 3 (length answers - n)) _ h) in (
+      rw (rest_part answers n, length-drop n answers) three,
+      rw (rest_part out w, length-drop w out) words,
+    )
+
+-- What a function gives
+
+-- where it stops, in plain numbers
+pub given : (d : Batch) (r n at w : ℕ) (s : State) (c : LentColumns) (numbers words' : List ℕ) → Stopped d r n at w (lent_book s c) numbers words' →
+    (number : ℕ) → number ≡ r → (h : DayState) → h ≡ state_numbers s →
+    BatchIs d (number_of d.book.state.phase) (record { refusal = number; answered = n; used = at; written = w; state = h }) (lent_book (state_in h) c) numbers words'
+given d r n at w s c numbers words' q number e h p =
+    record {
+      refusal = e ∙ q.refusal;
+      answered = q.answered;
+      used = q.used;
+      written = q.written;
+      book = ap (λ (g : DayState). lent_book (state_in g) c) p ∙ ap (λ (t : State). lent_book t c) (back_state s) ∙ q.book;
+      stage = ap (λ (g : DayState). g.phase) p ∙ ap (λ (b : Book). number_of b.state.phase) q.book;
+      answers = q.answers;
+      out = q.out;
+    }
+
+module _ (h : DayState) (c : LentColumns) (ws answers out : List ℕ) where
+  abbrev book : Book
+  book = lent_book (state_in h) c
+
+  abbrev asked : ℕ
+  asked = first_no (ask 1 (has_room (length answers) (length out)) ∷ ask 2 (sound_at h.phase book) ∷ [])
+
+  -- a refusal by 1 or 2 leaves all as it came
+  refused : (n : ℕ) → asked ≡ suc n → DayRanIs ws h answers answers out out (stopped_by (suc n) h) c c
+  unfolding day_batch
+  refused n e =
+      rw e
+      (record {
+        refusal = refl;
+        answered = refl;
+        used = refl;
+        written = refl;
+        book = refl;
+        stage = same_stage h.phase;
+        answers = refl;
+        out = refl;
+      })
+
+  pub refused_short : has_room (length answers) (length out) ≡ false → DayRanIs ws h answers answers out out (stopped_by 1 h) c c
+  refused_short g = refused 0 (said_no 1 (has_room (length answers) (length out)) _ g)
+
+  module _ (room : has_room (length answers) (length out) ≡ true) where
+    pub refused_unsound : sound_at h.phase book ≡ false → DayRanIs ws h answers answers out out (stopped_by 2 h) c c
+    refused_unsound g = refused 1 (said_yes 1 (has_room (length answers) (length out)) _ room ∙ said_no 2 (sound_at h.phase book) [] g)
+
+    pub ran : sound_at h.phase book ≡ true → (r : DayRan) (after : LentColumns) (answers' out' : List ℕ) →
+        RanIs ws book answers answers' out out' r (lent_book (state_in r.state) after) → DayRanIs ws h answers answers' out out' r c after
+    unfolding day_batch
+    ran g r after answers' out' q =
+        rw (said_yes 1 (has_room (length answers) (length out)) (ask 2 (sound_at h.phase book) ∷ []) room, said_yes 2 (sound_at h.phase book) [] g, is_phase h.phase book g) q

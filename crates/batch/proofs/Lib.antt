@@ -1,0 +1,5 @@
+-- Laws of instructions answered in turn.
+pub mod Batches
+pub mod Turns
+pub mod Fed
+pub mod Contracts

@@ -1,0 +1,2 @@
+-- Instructions of some words, answered on one book in turn.
+pub mod Batch
