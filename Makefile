@@ -3,7 +3,7 @@
 BUILD := build
 
 # The crates whose functions hosts call, each by a crate NAME_c for C: one library is joined of them.
-LIBRARY_CRATES := callers desk entries funds host journal listing snapshot statement trust
+LIBRARY_CRATES := batch callers desk entries funds host journal listing snapshot statement trust
 # The programs that are installed, with a man page each; and those whose words a shell completes.
 PROGRAMS := target/bin/dayrun $(BUILD)/release/tape $(BUILD)/release/treasury $(BUILD)/release/daybook
 COMPLETED := tape treasury daybook

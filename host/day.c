@@ -1,9 +1,9 @@
 /* day: the settled day P5 to P9 run through the library, as a host in C runs its book. Prints the
  * units in their order, each delivery with what was handed over, a refused delivery, why units have
  * not come, a lift of unit 7 on a copy of the book with the cutoff that follows from it, then the fails
- * of the day's own cutoff and the charges of the roll; then, in a book of its own, an issue in
- * multiples of 100,000 yen; last, in another, the same market on the first day on which full units are
- * dealt in turn. */
+ * of the day's own cutoff and the charges of the roll, and the same day from its tape; then, in a book
+ * of its own, an issue in multiples of 100,000 yen; last, in another, the same market on the first day on
+ * which full units are dealt in turn. */
 #include <inttypes.h>
 #include <stdio.h>
 
@@ -203,6 +203,57 @@ static int roll(uint32_t days, uint32_t rate, uint32_t price, uint32_t accrued)
     return day_book_sound(&book) == 1;
 }
 
+/* Writes an instruction behind those that are there; how many words there are then, 0 where it is refused. */
+static size_t put(uint32_t *words, size_t length, uint32_t kind, uint32_t a, uint32_t b, uint32_t c,
+                  uint32_t d)
+{
+    uint32_t quotes[DAY_QUOTES] = {0};
+    size_t count = 0;
+    for (size_t issue = 0; issue < DAY_ISSUES; issue++) {
+        quotes[issue] = 100000;
+    }
+    uint32_t refusal = day_write(kind, a, b, c, d, quotes, DAY_QUOTES, words + length, DAY_TAPE_WORDS, &count);
+    return refusal == DAY_DONE ? length + count : 0;
+}
+
+/* The same day from its tape, two instructions a run: each is told as its own call was, and the book is the same. */
+static int run_at_once(void)
+{
+    static struct day_book again;
+    static uint32_t words[9 * DAY_TAPE_WORDS];
+    static uint32_t records[2 * DAY_OUT_WORDS];
+    uint64_t answers[2 * DAY_ANSWER_NUMBERS];
+    size_t length = 0, used = 0;
+    length = put(words, length, DAY_TRADE, ISSUE, 4, 1, 230000);
+    length = put(words, length, DAY_TRADE, ISSUE, 5, 2, 250000);
+    length = put(words, length, DAY_TRADE, ISSUE, 5, 3, 150000);
+    length = put(words, length, DAY_CLOSE, 0, 0, 0, 0);
+    length = put(words, length, DAY_DELIVER, ISSUE, 5, 345000, 0);
+    length = put(words, length, DAY_DELIVER, ISSUE, 4, 200000, 0);
+    length = put(words, length, DAY_DELIVER, ISSUE, 5, 55001, 0);
+    length = put(words, length, DAY_CUTOFF, 0, 0, 0, 0);
+    length = put(words, length, DAY_ROLL, 1, 300, 0, 0);
+    day_book_fresh(&again);
+    puts("the same day from its tape, two instructions a run:");
+    while (used < length) {
+        struct day_ran ran = day_book_run(&again, words + used, length - used, answers,
+                                          2 * DAY_ANSWER_NUMBERS, records, 2 * DAY_OUT_WORDS);
+        for (size_t at = 0; at < ran.answered; at++) {
+            printf("  refusal %" PRIu64 ", count %" PRIu64 ", cancelled %" PRIu64 "\n", answers[3 * at],
+                   answers[3 * at + 1], answers[3 * at + 2]);
+        }
+        printf("  %zu words used, %zu written\n", ran.used, ran.written);
+        if (ran.refusal != DAY_DONE || ran.answered == 0) {
+            return 0;
+        }
+        used += ran.used;
+    }
+    return length != 0 && again.state.day == book.state.day && again.state.entries == book.state.entries &&
+           memcmp(again.nets, book.nets, sizeof book.nets) == 0 &&
+           memcmp(again.charges, book.charges, sizeof book.charges) == 0 &&
+           memcmp(again.lots, book.lots, sizeof book.lots) == 0;
+}
+
 /* A marked issue takes even lots only, and keeps its mark while it has a net. */
 static int mark(uint32_t issue)
 {
@@ -278,7 +329,7 @@ int main(void)
     int as_expected = take_trades(&book) && show_units(&book) && deliver(&book, 5, 345000) &&
                       tell(2) && tell(3) && deliver(&book, 4, 200000) && deliver_too_much() &&
                       lift() && cut(&book) && tell(5) && tell(6) && tell(8) &&
-                      roll(1, 300, 100000, 0) && mark(1) && change_over() && login();
+                      roll(1, 300, 100000, 0) && run_at_once() && mark(1) && change_over() && login();
     if (fflush(stdout) != 0 || ferror(stdout)) {
         perror("day: the lines could not be written");
         return NOT_WRITTEN;

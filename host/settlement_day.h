@@ -5,6 +5,7 @@
  * `pkg-config --cflags --libs settlement-day` says how to compile and link. By the crate that they are
  * proved in:
  *
+ *     batch     day_run
  *     host      day_sound day_unit day_status day_simulate day_call day_ask day_commit
  *     callers   all but day_sound with a caller (day_unit_as, ..), and day_look
  *     desk      day_value day_charge day_read day_quotes day_write
@@ -52,7 +53,7 @@ extern "C" {
  * the library takes it whole. Nothing is promised from one MAJOR to the next. */
 
 #define DAY_VERSION_MAJOR 1u
-#define DAY_VERSION_MINOR 0u
+#define DAY_VERSION_MINOR 1u
 #define DAY_VERSION_PATCH 0u
 
 /* A version as one number, by which versions are compared: 1.2.3 is 1002003. */
@@ -93,6 +94,7 @@ static inline uint32_t day_version_fits(void)
 #define DAY_LIFT_PLACES 288u /* lifts: word w of issue i stands at i * 18 + w */
 #define DAY_ENTRIES 2048u   /* the most fail entries of the ledger */
 #define DAY_OUT_WORDS 4096u /* an output of deliver, commit, cutoff, resolve has at least so many words */
+#define DAY_ANSWER_NUMBERS 3u /* that day_run tells of an instruction: refusal, count, lots cancelled */
 #define DAY_TAPE_WORDS 33u  /* the output of day_write has at least so many words */
 #define DAY_RECORD_WORDS 36u /* a record of the journal has so many words */
 #define DAY_REPORTS 256u    /* the most trade reports, and the places of the output of day_trust */
@@ -320,6 +322,39 @@ struct day_turned day_call(uint32_t kind, uint32_t a, uint32_t b, uint32_t c, ui
                            uint32_t *lots, size_t lots_length,
                            uint16_t *days, size_t days_length,
                            uint32_t *out, size_t out_length);
+
+/* What a run gives. */
+struct day_ran {
+    uint32_t refusal; /* 1, 2: nothing is changed; 13, 14: the reader's, of the words from `used` on; else 0 */
+    size_t answered;  /* so many instructions are answered, the refused ones among them */
+    size_t used;      /* the words that they have */
+    size_t written;   /* the words of their records */
+    struct day_state state; /* after them; as it came on a refusal by 1 or 2 */
+};
+
+/* Runs the instructions of a tape's words on a book, in place and one after another, each as day_call makes
+ * it; the book is looked at for soundness once. Refused by 1, where answers has fewer than 3 places or out
+ * fewer than 4,096 words, and then by 2. Else it stops at the end of the words (0, all of them used), where
+ * the reader refuses (its number), or where answers has fewer than 3 places left or out fewer than 4,096 words
+ * (0, not all of the words used): then the host empties both and goes on from the first word that is not used.
+ * A refused instruction does not stop it. Instruction k, from 0, has DAY_ANSWER_NUMBERS places of answers from
+ * 3 * k on: refusal, count, lots cancelled. The records of deliver, cutoff and resolve, twice as many words as
+ * their count, stand one behind the other in out; the others write none. Places behind those that are written
+ * keep what they have. */
+DAY_NODISCARD
+struct day_ran day_run(const uint32_t *words, size_t words_length,
+                       struct day_state state,
+                       int32_t *nets, size_t nets_length,
+                       uint32_t *delivered, size_t delivered_length,
+                       uint32_t *lifts, size_t lifts_length,
+                       int64_t *charges, size_t charges_length,
+                       uint8_t *issues, size_t issues_length,
+                       uint8_t *froms, size_t froms_length,
+                       uint8_t *tos, size_t tos_length,
+                       uint32_t *lots, size_t lots_length,
+                       uint16_t *days, size_t days_length,
+                       uint64_t *answers, size_t answers_length,
+                       uint32_t *out, size_t out_length);
 
 /* Asks for a lift of an issue's unit, by its number, in Settling; changes nothing. The ticket is
  * issue, unit, account, lots, day, count; six times 0 on a refusal. */
@@ -794,6 +829,23 @@ static inline struct day_answer day_book_call(struct day_book *book, uint32_t ki
     answer.count = turned.count;
     answer.cancelled = turned.cancelled;
     return answer;
+}
+
+/* Runs the instructions of some words, with answers and an output of these lengths. */
+DAY_NODISCARD
+static inline struct day_ran day_book_run(struct day_book *book, const uint32_t *words,
+                                          size_t words_length, uint64_t *answers,
+                                          size_t answers_length, uint32_t *out, size_t out_length)
+{
+    struct day_ran ran =
+        day_run(words, words_length, book->state, book->nets, DAY_PLACES,
+                book->delivered, DAY_PLACES, book->lifts, DAY_LIFT_PLACES,
+                book->charges, DAY_ACCOUNTS, book->issues, DAY_ENTRIES,
+                book->froms, DAY_ENTRIES, book->tos, DAY_ENTRIES,
+                book->lots, DAY_ENTRIES, book->days, DAY_ENTRIES,
+                answers, answers_length, out, out_length);
+    book->state = ran.state;
+    return ran;
 }
 
 /* Asks for a lift of an issue's unit, by its number; changes nothing. */

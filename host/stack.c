@@ -161,12 +161,12 @@ static void make_simulation(void)
     refusal |= day_book_simulate(&book, settles, inventories, 7).refusal;
 }
 
-/* A tape with the trades of a day in all issues and accounts, its close, cutoff and a resolve. */
-static void make_statement(void)
+static uint32_t tape[2 * DAY_ISSUES * DAY_ACCOUNTS + 4];
+
+/* A tape with the trades of a day in all issues and accounts, its close, cutoff and a resolve; its length. */
+static size_t day_tape(void)
 {
-    static uint32_t tape[2 * DAY_ISSUES * DAY_ACCOUNTS + 4];
     size_t length = 0;
-    uint64_t numbers[DAY_STATEMENT_NUMBERS];
     for (uint32_t issue = 0; issue < DAY_ISSUES; issue++) {
         for (uint32_t other = 1; other < DAY_ACCOUNTS; other++) {
             tape[length++] = DAY_TRADE << 28 | issue << 24 | other << 18;
@@ -177,8 +177,30 @@ static void make_statement(void)
     tape[length++] = DAY_CUTOFF << 28;
     tape[length++] = DAY_RESOLVE << 28 | 62 << 18;
     tape[length++] = 8u << 28 | 400;
-    refusal |= day_statement(tape, length, 0, 62, numbers);
+    return length;
+}
+
+static void make_statement(void)
+{
+    uint64_t numbers[DAY_STATEMENT_NUMBERS];
+    refusal |= day_statement(tape, day_tape(), 0, 62, numbers);
     refusal |= numbers[2] != 150000 || numbers[3] != 400;
+}
+
+/* The same tape in one run, on a book of its own. */
+static void make_run(void)
+{
+    static struct day_book other;
+    static uint64_t answers[DAY_ANSWER_NUMBERS * (DAY_ISSUES * DAY_ACCOUNTS + 4)];
+    static uint32_t records[2 * DAY_OUT_WORDS];
+    size_t length = day_tape();
+    struct day_ran ran = day_book_run(&other, tape, length, answers, sizeof answers / sizeof *answers,
+                                      records, 2 * DAY_OUT_WORDS);
+    refusal |= ran.refusal;
+    refusal |= ran.used != length;
+    for (size_t number = 0; number < ran.answered; number++) {
+        refusal |= answers[DAY_ANSWER_NUMBERS * number] != DAY_DONE;
+    }
 }
 
 static void make_nothing(void) {}
@@ -206,6 +228,7 @@ static const struct measured measures[] = {
     {"cutoff, dealt", make_cutoff},      {"status, dealt", make_status},
     {"funds", make_funds},        {"markets", make_markets},
     {"simulated desk", make_simulation}, {"statement", make_statement},
+    {"run", make_run},
 };
 
 static void *run(void *make)

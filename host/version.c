@@ -9,6 +9,9 @@ LAYOUT(offsetof(struct day_state, entries) == 8 && offsetof(struct day_state, tu
 LAYOUT(offsetof(struct day_state, marks) == 20 && sizeof(((struct day_state *)0)->marks) == 16);
 LAYOUT(sizeof(struct day_turned) == 64 && offsetof(struct day_turned, count) == 8);
 LAYOUT(offsetof(struct day_turned, cancelled) == 16 && offsetof(struct day_turned, state) == 24);
+LAYOUT(sizeof(struct day_ran) == 72 && offsetof(struct day_ran, answered) == 8);
+LAYOUT(offsetof(struct day_ran, used) == 16 && offsetof(struct day_ran, written) == 24);
+LAYOUT(offsetof(struct day_ran, state) == 32);
 LAYOUT(sizeof(struct day_entry) == 12 && offsetof(struct day_entry, from) == 1);
 LAYOUT(offsetof(struct day_entry, to) == 2 && offsetof(struct day_entry, lots) == 4);
 LAYOUT(offsetof(struct day_entry, day) == 8);

@@ -74,6 +74,7 @@ step 'funds for a default beside the second engine' build/release/funds
 step 'every small market beside the second engine' build/release/markets
 step 'fails statements beside the second engine' build/release/statement
 step 'the calls beside the second engine' build/release/calls
+step 'many instructions in one call beside the second engine' build/release/runs
 step 'callers beside the second engine' build/release/callers
 step 'the program beside the second engine' build/release/tapes
 step 'the memory that the tool takes of long tapes' build/release/memory

@@ -4,7 +4,7 @@
 //! `host/settlement_day.h` has the same declarations for C.
 
 use crate::journal::Journalled;
-use crate::raw::{Seen, State, Turned};
+use crate::raw::{Ran, Seen, State, Turned};
 use crate::snapshot::Opened;
 use crate::{Caller, Entry};
 
@@ -139,6 +139,14 @@ macro_rules! declare {
             ) -> $answer;
         }
     };
+}
+
+// batch
+on_book! {
+    mut fn day_run(
+        words: *const u32, words_length: usize, state: State;
+        answers: *mut u64, answers_length: usize, out: *mut u32, out_length: usize
+    ) -> Ran
 }
 
 // host

@@ -26,6 +26,7 @@
 mod columns;
 
 pub mod access;
+pub mod batch;
 mod book;
 pub mod calls;
 mod declarations;

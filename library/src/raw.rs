@@ -6,8 +6,8 @@
 
 use crate::declarations::{
     day_ask, day_ask_as, day_call, day_call_as, day_charge, day_commit, day_commit_as, day_look,
-    day_open, day_quotes, day_read, day_save, day_simulate, day_simulate_as, day_sound, day_status,
-    day_status_as, day_unit, day_unit_as, day_value, day_write,
+    day_open, day_quotes, day_read, day_run, day_save, day_simulate, day_simulate_as, day_sound,
+    day_status, day_status_as, day_unit, day_unit_as, day_value, day_write,
 };
 use crate::{Caller, Entry, Fields, ISSUES, QUOTES};
 
@@ -44,6 +44,24 @@ pub struct Turned {
     /// Pair-off's lots.
     pub cancelled: u64,
     /// The state after the call; on a refusal it is as it came.
+    pub state: State,
+}
+
+/// What a run gives: why it stopped, what it answered, and the state after it.
+#[repr(C)]
+#[derive(Clone, Copy, Debug, PartialEq, Eq)]
+#[must_use = "a refusal would be missed"]
+pub struct Ran {
+    /// 1 or 2, with nothing done; the reader's number, of the words from those used on; or 0, at the end of the
+    /// words or where no room is left.
+    pub refusal: u32,
+    /// The instructions that are answered.
+    pub answered: usize,
+    /// The words that they have.
+    pub used: usize,
+    /// The words of their records.
+    pub written: usize,
+    /// The state after them.
     pub state: State,
 }
 
@@ -360,6 +378,21 @@ pub fn call(book: &mut ColumnsMut, fields: &Fields, quotes: &[u32], out: &mut [u
         ))
     };
     answered(book, turned)
+}
+
+/// The instructions of some words, made in place on any book one after another: of each three numbers in the
+/// answers, and all their records in the output.
+pub fn run(book: &mut ColumnsMut, words: &[u32], answers: &mut [u64], out: &mut [u32]) -> Ran {
+    // SAFETY: columns, words, answers and output are given with their lengths. All live through the call, and
+    // none of those that it may write overlaps another: each is a reference of its own.
+    let ran = unsafe {
+        with_columns!(day_run(
+            words.as_ptr(), words.len(), book.state();
+            book.as_mut_ptr; answers.as_mut_ptr(), answers.len(), out.as_mut_ptr(), out.len()
+        ))
+    };
+    book.put(ran.state);
+    ran
 }
 
 /// The call of an instruction by a caller; the answer is the house's.

@@ -36,12 +36,16 @@ pub fn day_tape(rng: &mut Rng, instructions: u32, few: bool) -> Vec<u8> {
         shape.accounts = (0..64).collect();
         shape.menu = MENU.to_vec();
     }
-    let mut book = Book::fresh();
+    tape_from(rng, &shape, Book::fresh(), instructions)
+}
+
+/// A whole tape of so many instructions for a sound book of a shape.
+pub fn tape_from(rng: &mut Rng, shape: &Shape, mut book: Book, instructions: u32) -> Vec<u8> {
     let mut output = vec![0; 4_096];
     let mut tape = Vec::new();
     let mut made = 0;
     while made < instructions {
-        let call = random_call(rng, &shape, &book);
+        let call = random_call(rng, shape, &book);
         if let Some(words) = words_of(&call) {
             tape.extend(words.iter().flat_map(|word| word.to_le_bytes()));
             by_reference_on_sound(&mut book, &call, &mut output);
@@ -84,8 +88,30 @@ pub fn words_of(call: &Call) -> Option<Vec<u32>> {
     (answer.number == 0).then_some(words)
 }
 
+/// The call of an instruction that some words begin with.
+pub fn call_of(instruction: &Instruction, words: &[u32]) -> Call {
+    let out = 0;
+    match *instruction {
+        Instruction::Trade { issue, from, to, lots } => Call::Trade { issue, from, to, lots },
+        Instruction::Close => Call::Close,
+        Instruction::Deliver { issue, account, lots } => {
+            Call::Deliver { issue, account, lots, out }
+        }
+        Instruction::Cutoff => Call::Cutoff { out },
+        Instruction::Resolve { issue, account, lots } => {
+            Call::Resolve { issue, account, lots, out }
+        }
+        Instruction::PairOff { issue, account } => Call::PairOff { issue, account },
+        Instruction::Mark { issue, mark } => Call::Mark { issue, mark },
+        Instruction::Turn { day } => Call::Turn { day },
+        Instruction::Roll { days, rate } => {
+            Call::Roll { days, rate, quotes: tape::quotes(words).to_vec() }
+        }
+    }
+}
+
 /// The tape cut short, with stray bytes, with a bit turned, or with a word put in or left out.
-fn damaged(rng: &mut Rng, mut tape: Vec<u8>) -> Vec<u8> {
+pub fn damaged(rng: &mut Rng, mut tape: Vec<u8>) -> Vec<u8> {
     let at = rng.range(0, tape.len() as u32 - 1) as usize;
     let word = at / 4 * 4;
     match rng.range(0, 5) {
