@@ -157,7 +157,7 @@ static inline uint32_t day_version_fits(void)
 
 #define DAY_DONE 0u
 #define DAY_REFUSED_OUTPUT 1u   /* the output has fewer than 4,096 words (writer: 33, trust: 256,
-                                 * markets: 19,755 places) */
+                                 * markets: 19,755 places), or the answers of a run fewer than 3 places */
 #define DAY_REFUSED_BOOK 2u     /* the book is not sound, or a column has another length */
 #define DAY_REFUSED_PHASE 3u    /* the call belongs to another phase */
 #define DAY_REFUSED_ISSUE 4u    /* the issue is above 15 */

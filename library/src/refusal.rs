@@ -8,8 +8,8 @@ use std::fmt;
 #[derive(Clone, Copy, Debug, PartialEq, Eq, PartialOrd, Ord)]
 #[non_exhaustive]
 pub enum Refusal {
-    /// 1: the lent output has fewer than 4,096 words (deliver, commit, cutoff, resolve) or 33
-    /// (writer), or 256 places (trust).
+    /// 1: the lent output has fewer than 4,096 words (deliver, commit, cutoff, resolve, a run) or 33
+    /// (writer), or 256 places (trust), or a run has no place for an answer.
     Output,
     /// 2: the book is not sound: it was changed by something other than the calls.
     Book,
