@@ -2,10 +2,10 @@
 use mathlib.Core.Path.{◌≡◌, refl, sym, ap, ◌∙◌}
 use mathlib.Core.Bool.{Bool, true, cond}
 use mathlib.Core.List.{List, [], ◌∷◌}
-use Prim.Native.Nat.{ℕ, zero, suc, ◌+◌, ◌/◌, ◌%◌, ◌≤◌}
+use Prim.Native.Nat.{ℕ, zero, suc, ◌+◌, ◌/◌, ◌%◌}
 use native.Mathlib.Omega.{arith}
 use lib.IntN.{ℤ}
-use lib.ListN.{length, get_or, drop}
+use lib.ListN.{length, drop}
 use Rattle.rules.specs.declared.Book.{Book}
 use Rattle.rules.specs.declared.Instruction.{Instruction}
 use Rattle.rules.specs.declared.Instruction.TheVariants as instruction
@@ -26,7 +26,7 @@ use Rattle.report.proofs.Texts.{added_as}
 use Rattle.rules.specs.Refusals.{number_in}
 use Rattle.answers.specs.Turns.{TurnIs, Given, count_in, state_after, within_nets, within_cells}
 use Rattle.delivery.specs.Deliver.{Says}
-use Rattle.passing.specs.Going.{enough, LengthsOf, Held, Passed}
+use Rattle.passing.specs.Going.{enough, TwoWords, LengthsOf, Held, Passed}
 use Rattle.passing.proofs.Goings.{answer_sound, same_line, going_again}
 
 div_one : (x : ℕ) → x / 1 ≡ x
@@ -35,38 +35,37 @@ div_one x = omega arith
 mod_one : (x : ℕ) → x % 1 ≡ 0
 mod_one x = omega arith
 
--- the words of a trade
+lots_word_lem : (y : ℕ) → kind_of y ≡ 8 → is_after 8 (word_as y 0) ≡ true
+lots_word_lem y h = simp (h, mod_one)
+
+-- two words are read as the instruction that their head is
+read_two : (ws : List ℕ) (kind unused head lots : ℕ) (x : Instruction) → TwoWords ws kind unused head lots →
+    word_as head (of_field lots_bits lots) ≡ Some (Head x 8 2) → read_of ws ≡ Ok (x, 2)
+unfolding read_of
+read_two [] kind unused head lots x t e = absurd (omega (arith, t.two))
+read_two (w ∷ []) kind unused head lots x t e = absurd (omega (arith, t.two))
+read_two (w ∷ y ∷ ws) kind unused head lots x t e =
+    let k : kind_of y ≡ 8 = sym (ap kind_of t.lots) ∙ t.after in
+    ap (λ (z : ℕ). read_from (word_as z (of_field lots_bits y)) (y ∷ ws)) (sym t.head)
+    ∙ ap (λ (z : ℕ). read_from (word_as head (of_field lots_bits z)) (y ∷ ws)) (sym t.lots)
+    ∙ ap (λ (f : Option Word). read_from f (y ∷ ws)) e ∙ ap (λ (b : Bool). read_as (cond b 0 14) x 2) (lots_word_lem y k)
+
+-- those of a trade, and of a delivery
 trade_head : (w x : ℕ) → kind_of w ≡ 1 → w % 4096 ≡ 0 →
     word_as w x ≡ Some (Head (instruction.Trade (of_field issue_bits w) (of_field from_bits w) (of_field to_bits w) x) 8 2)
 trade_head w x k u = simp (k, u, div_one)
 
-lots_word_lem : (y : ℕ) → kind_of y ≡ 8 → is_after 8 (word_as y 0) ≡ true
-lots_word_lem y h = simp (h, mod_one)
-
-pub read_trade : (ws : List ℕ) → 2 ≤ length ws → kind_of (get_or ws 0 0) ≡ 1 → get_or ws 0 0 % 4096 ≡ 0 → kind_of (get_or ws 1 0) ≡ 8 →
-    read_of ws
-    ≡ Ok (instruction.Trade (of_field issue_bits (get_or ws 0 0)) (of_field from_bits (get_or ws 0 0)) (of_field to_bits (get_or ws 0 0)) (of_field lots_bits (get_or ws 1 0)), 2)
-unfolding read_of
-read_trade [] l k u h = absurd (omega arith)
-read_trade (w ∷ []) l k u h = absurd (omega arith)
-read_trade (w ∷ y ∷ ws) l k u h =
-    let x = instruction.Trade (of_field issue_bits w) (of_field from_bits w) (of_field to_bits w) (of_field lots_bits y) in
-    ap (λ (f : Option Word). read_from f (y ∷ ws)) (trade_head w (of_field lots_bits y) k u) ∙ ap (λ (t : Bool). read_as (cond t 0 14) x 2) (lots_word_lem y h)
-
--- the words of a delivery
 deliver_head : (w x : ℕ) → kind_of w ≡ 2 → w % 262144 ≡ 0 →
     word_as w x ≡ Some (Head (instruction.Deliver (of_field issue_bits w) (of_field from_bits w) x) 8 2)
 deliver_head w x k u = simp (k, u, div_one)
 
-pub read_deliver : (ws : List ℕ) → 2 ≤ length ws → kind_of (get_or ws 0 0) ≡ 2 → get_or ws 0 0 % 262144 ≡ 0 → kind_of (get_or ws 1 0) ≡ 8 →
-    read_of ws
-    ≡ Ok (instruction.Deliver (of_field issue_bits (get_or ws 0 0)) (of_field from_bits (get_or ws 0 0)) (of_field lots_bits (get_or ws 1 0)), 2)
-unfolding read_of
-read_deliver [] l k u h = absurd (omega arith)
-read_deliver (w ∷ []) l k u h = absurd (omega arith)
-read_deliver (w ∷ y ∷ ws) l k u h =
-    let x = instruction.Deliver (of_field issue_bits w) (of_field from_bits w) (of_field lots_bits y) in
-    ap (λ (f : Option Word). read_from f (y ∷ ws)) (deliver_head w (of_field lots_bits y) k u) ∙ ap (λ (t : Bool). read_as (cond t 0 14) x 2) (lots_word_lem y h)
+pub read_trade : (ws : List ℕ) (head lots : ℕ) → TwoWords ws 1 4096 head lots →
+    read_of ws ≡ Ok (instruction.Trade (of_field issue_bits head) (of_field from_bits head) (of_field to_bits head) (of_field lots_bits lots), 2)
+read_trade ws head lots t = read_two ws 1 4096 head lots _ t (trade_head head (of_field lots_bits lots) t.kind t.clear)
+
+pub read_deliver : (ws : List ℕ) (head lots : ℕ) → TwoWords ws 2 262144 head lots →
+    read_of ws ≡ Ok (instruction.Deliver (of_field issue_bits head) (of_field from_bits head) (of_field lots_bits lots), 2)
+read_deliver ws head lots t = read_two ws 2 262144 head lots _ t (deliver_head head (of_field lots_bits lots) t.kind t.clear)
 
 -- a trade or a delivery leaves the state as it is
 answer_state : (n : ℕ) (b : Book) (out : List ℕ) (e : Effect) → e.book.state ≡ b.state → (answer n b out e).book.state ≡ b.state

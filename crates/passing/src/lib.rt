@@ -9,7 +9,7 @@ ghost use Rattle.rules.specs.Text.{line_text};
 ghost use Rattle.report.specs.Added.{Added};
 ghost use Rattle.answers.specs.Turns.{count_in, within_nets, within_cells};
 ghost use Rattle.delivery.specs.Deliver.{KeepsEach};
-ghost use Rattle.passing.specs.Going.{enough, FoundTrade, FoundDelivery, SomeHeld, Passed};
+ghost use Rattle.passing.specs.Going.{enough, HeadAndLots, FoundTrade, FoundDelivery, SomeHeld, Passed};
 
 use answers::Turn;
 use report::text;
@@ -67,18 +67,28 @@ pub fn is_enough(left: usize, last: bool) -> bool
     if last { 0 < left } else { TAPE_WORDS <= left }
 }
 
-// The trade that some words begin with, if they begin with one, whole and right.
-fn trade_of(ws: &[u32]) -> Option<Trade>
-    ensures { FoundTrade ws.now result }
+// The head and the lots of an instruction of two words, if some words begin with one of this kind, whole and right: the bits
+// below `unused` are 0.
+fn head_and_lots(ws: &[u32], kind: u32, unused: u32) -> Option<(u32, u32)>
+    requires { 0 < unused }
+    ensures { HeadAndLots ws.now kind unused result }
 {
     if ws.len() < 2 {
         return None;
     }
     let head = ws[0];
     let lots = ws[1];
-    if Field::Kind.of(head) != 1 || head % 4096 != 0 || Field::Kind.of(lots) != 8 {
+    if Field::Kind.of(head) != kind || head % unused != 0 || Field::Kind.of(lots) != 8 {
         return None;
     }
+    Some((head, lots))
+}
+
+// The trade that some words begin with, if they begin with one.
+fn trade_of(ws: &[u32]) -> Option<Trade>
+    ensures { FoundTrade ws.now result }
+{
+    let (head, lots) = head_and_lots(ws, 1, 4096)?;
     Some(Trade {
         issue: Field::Issue.of(head),
         from: Field::From.of(head),
@@ -87,18 +97,11 @@ fn trade_of(ws: &[u32]) -> Option<Trade>
     })
 }
 
-// The delivery that some words begin with, if they begin with one, whole and right.
+// The delivery that some words begin with, if they begin with one.
 fn delivery_of(ws: &[u32]) -> Option<Delivery>
     ensures { FoundDelivery ws.now result }
 {
-    if ws.len() < 2 {
-        return None;
-    }
-    let head = ws[0];
-    let lots = ws[1];
-    if Field::Kind.of(head) != 2 || head % 262144 != 0 || Field::Kind.of(lots) != 8 {
-        return None;
-    }
+    let (head, lots) = head_and_lots(ws, 2, 262144)?;
     Some(Delivery {
         issue: Field::Issue.of(head),
         account: Field::From.of(head),

@@ -1,9 +1,8 @@
 -- Both words are right, so they are read as a delivery.
-use Rattle.std.proofs.Common.{sym, ◌∙◌}
 use Rattle.passing.proofs.Passing.{read_deliver}
 use Rattle.passing.proofs.delivery_of.Goals as goal
 
 pub returns : goal.returns
 returns c =
-    rw (c.of-2.ensures, c.of-3.ensures, c.of-4.ensures)
-    (read_deliver c.args.ws.now c.if-ws-lt2.false (sym c.of.ensures ∙ c.if-of-ne2.false) c.if-head-ne0.false (sym c.of-else-head-ne0.ensures ∙ c.if-of-ne8.false))
+    rw (c.of.ensures, c.of-2.ensures, c.of-3.ensures)
+    (read_deliver c.args.ws.now _ _ c.in_ok-head.ensures)
