@@ -1,7 +1,7 @@
 -- One entry more is charged: what is left to charge, and how far a charge can have gone from where it was.
-use mathlib.Core.Path.{◌≡◌, refl, sym, ap, ◌∙◌}
+use mathlib.Core.Path.{◌≡◌, sym, ap, ◌∙◌}
 use mathlib.Core.Bool.{Bool, true, false, cond}
-use mathlib.Core.List.{List, [], ◌∷◌, tail}
+use mathlib.Core.List.{List, [], ◌∷◌}
 use Prim.Native.Nat.{ℕ, zero, suc, ◌+◌, ◌-◌, ◌≤◌, ◌<◌, ◌^◌}
 use native.Mathlib.Numerals.{add-one}
 use native.Mathlib.Omega.{arith}
@@ -11,7 +11,7 @@ use lib.Seq.{drop-cons}
 use lib.IntN.{ℤ, pos, negsuc, nat_abs, neg_ℤ, ◌+ℤ◌, ◌-ℤ◌}
 use Rattle.rules.specs.Measures.{price_in, accrued_in, charge_of}
 use Rattle.rules.specs.Ledger.{entry, charged}
-use Rattle.rules.specs.Book.{entries, head_or0}
+use Rattle.rules.specs.Book.{entries}
 use Rattle.laws.proofs.Ledger.{no_entry, length_entries, entry_at_lem}
 use Rattle.book.proofs.Signs.{abs_neg}
 use Rattle.charging.specs.Charging.{paid}
@@ -66,26 +66,18 @@ pub length_paid : (f t y : ℕ) (cs : List ℤ) → length (paid f t y cs) ≡ l
 length_paid f t y cs = simp length-set
 
 module _ (days rate : ℕ) (quotes : List ℕ) where
-  -- the days of the entries count for nothing
-  pub other_days : (n : ℕ) (is fs ts xs ds es : List ℕ) (cs : List ℤ) →
-      charged days rate quotes (entries n is fs ts xs ds) cs ≡ charged days rate quotes (entries n is fs ts xs es) cs
-  other_days zero is fs ts xs ds es cs = refl
-  other_days (suc n) is fs ts xs ds es cs =
-      other_days n (tail is) (tail fs) (tail ts) (tail xs) (tail ds) (tail es)
-      (paid (head_or0 fs) (head_or0 ts) (charge_of (head_or0 xs) (price_in quotes (head_or0 is)) days rate (accrued_in quotes (head_or0 is))) cs)
-
-  module _ (n : ℕ) (is fs ts xs : List ℕ) (k : ℕ) (whole cs : List ℤ) where
+  module _ (n : ℕ) (is fs ts xs ds : List ℕ) (k : ℕ) (whole cs : List ℤ) where
     pub charge_more : (y : ℕ) → k < n → y ≡ charge_of (get_or xs k 0) (price_in quotes (get_or is k 0)) days rate (accrued_in quotes (get_or is k 0)) →
-        charged days rate quotes (drop k (entries n is fs ts xs [])) cs ≡ whole →
-        charged days rate quotes (drop (k + 1) (entries n is fs ts xs [])) (paid (get_or fs k 0) (get_or ts k 0) y cs) ≡ whole
+        charged days rate quotes (drop k (entries n is fs ts xs ds)) cs ≡ whole →
+        charged days rate quotes (drop (k + 1) (entries n is fs ts xs ds)) (paid (get_or fs k 0) (get_or ts k 0) y cs) ≡ whole
     charge_more y h ey e =
-        let es = entries n is fs ts xs [] in
-        let l : k < length es = omega (arith, length_entries n is fs ts xs []) in
-        let d : drop k es ≡ entry (get_or is k 0) (get_or fs k 0) (get_or ts k 0) (get_or xs k 0) (get_or [] k 0) ∷ drop (suc k) es =
-        drop-cons es k no_entry l ∙ ap (λ v. v ∷ drop (suc k) es) (entry_at_lem n is fs ts xs [] k h) in
+        let es = entries n is fs ts xs ds in
+        let l : k < length es = omega (arith, length_entries n is fs ts xs ds) in
+        let d : drop k es ≡ entry (get_or is k 0) (get_or fs k 0) (get_or ts k 0) (get_or xs k 0) (get_or ds k 0) ∷ drop (suc k) es =
+        drop-cons es k no_entry l ∙ ap (λ v. v ∷ drop (suc k) es) (entry_at_lem n is fs ts xs ds k h) in
         rw (ey, add-one) (sym (ap (λ v. charged days rate quotes v cs) d) ∙ e)
 
-    pub charge_end : n ≤ k → charged days rate quotes (drop k (entries n is fs ts xs [])) cs ≡ whole → cs ≡ whole
+    pub charge_end : n ≤ k → charged days rate quotes (drop k (entries n is fs ts xs ds)) cs ≡ whole → cs ≡ whole
     charge_end h e =
-        let l : length (entries n is fs ts xs []) ≤ k = omega (arith, length_entries n is fs ts xs []) in
-        sym (ap (λ v. charged days rate quotes v cs) (drop_of_length-le (entries n is fs ts xs []) l)) ∙ e
+        let l : length (entries n is fs ts xs ds) ≤ k = omega (arith, length_entries n is fs ts xs ds) in
+        sym (ap (λ v. charged days rate quotes v cs) (drop_of_length-le (entries n is fs ts xs ds) l)) ∙ e

@@ -5,6 +5,7 @@ use Rattle.rules.specs.Ledger.{charged}
 use Rattle.rules.specs.Book.{entries}
 use Rattle.measures.specs.Range.{Termed}
 use Rattle.book.specs.States.{Lent, Column, Shared, SharedColumn}
+use Rattle.columns.specs.declared.SharedLedger.{SharedLedger}
 
 -- the charges after y yen were taken from f and given to t
 abbrev pub paid : ℕ → ℕ → ℕ → List ℤ → List ℤ
@@ -35,15 +36,12 @@ pub record Chargeable (days rate : ℕ) (quotes : List ℕ) (n : ℕ) (is fs ts 
   pub accounts : length cs ≡ 64
   pub charge : (a : ℕ) → nat_abs (get_or cs a (pos 0)) ≤ most_charge * last_day
 
--- each entry is charged; its day counts for nothing
-pub record Charged (days rate : ℕ) (quotes : List ℕ) (n : ℕ) (is fs ts xs : List ℕ) (cs after : List ℤ) : Type 0 where
-  pub charges : (ds : List ℕ) → after ≡ charged days rate quotes (entries n is fs ts xs ds) cs
+-- the same of a ledger and lent charges
+abbrev pub can_charge : SharedLedger → ℕ → ℕ → ℕ → Shared ℕ → Lent ℤ → Type 0
+can_charge l n days rate quotes charges =
+    Chargeable days rate quotes.now n l.issues.now l.froms.now l.tos.now l.lots.now charges.now
 
--- the same of lent columns
-abbrev pub can_charge : ℕ → ℕ → Shared ℕ → ℕ → Shared ℕ → Shared ℕ → Shared ℕ → Shared ℕ → Lent ℤ → Type 0
-can_charge days rate quotes n issues froms tos lots charges =
-    Chargeable days rate quotes.now n issues.now froms.now tos.now lots.now charges.now
-
-abbrev pub was_charged : ℕ → ℕ → SharedColumn ℕ → ℕ → SharedColumn ℕ → SharedColumn ℕ → SharedColumn ℕ → SharedColumn ℕ → Column ℤ → Type 0
-was_charged days rate quotes n issues froms tos lots charges =
-    Charged days rate quotes.entry.now n issues.entry.now froms.entry.now tos.entry.now lots.entry.now charges.entry.now charges.exit.now
+-- each entry was charged
+abbrev pub was_charged : SharedLedger → ℕ → ℕ → ℕ → SharedColumn ℕ → Column ℤ → Type 0
+was_charged l n days rate quotes charges =
+    charges.exit.now ≡ charged days rate quotes.entry.now (entries n l.issues.now l.froms.now l.tos.now l.lots.now l.days.now) charges.entry.now

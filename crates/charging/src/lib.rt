@@ -4,6 +4,7 @@
 ghost use Rattle.std.specs.Prelude.{◌≡◌};
 ghost use Rattle.charging.specs.Charging.{Payable, paid, can_charge, was_charged};
 
+use columns::SharedLedger;
 use rules::ISSUE_COUNT;
 
 // Yen are taken from one account and given to another.
@@ -15,27 +16,22 @@ fn pay(charges: &mut [i64], f: usize, t: usize, y: u64)
     charges[t] += y as i64;
 }
 
-// Each entry is charged: its charge is taken from 'from' and given to 'to'. Four of the ledger's columns, one by one: a roll
-// is lent these four only to be read, so no `Ledger` can be made of them, and it would ask for the days too. The number of
-// entries stands beside them: the definitions take whole columns and the number of entries, and cutting each column at each
-// call is no plainer.
-pub fn charge_entries<'a>(
+// Each entry is charged: its charge is taken from 'from' and given to 'to'.
+pub fn charge_entries(
+    ledger: SharedLedger,
+    entries: usize,
     days: u32,
     rate: u32,
     quotes: &[u32],
-    entries: usize,
-    issues: &'a [u8],
-    froms: &'a [u8],
-    tos: &'a [u8],
-    lots: &'a [u32],
     charges: &mut [i64],
 )
-    requires { can_charge days rate quotes entries issues froms tos lots charges }
-    ensures { was_charged days rate quotes entries issues froms tos lots charges }
+    requires { can_charge ledger entries days rate quotes charges }
+    ensures { was_charged ledger.entry entries days rate quotes charges }
 {
     for k in 0..entries {
-        let i = issues[k] as usize;
-        let y = measures::charge_of(lots[k], quotes[i], days, rate, quotes[ISSUE_COUNT + i]);
-        pay(charges, froms[k] as usize, tos[k] as usize, y);
+        let i = ledger.issues[k] as usize;
+        let x = ledger.lots[k];
+        let y = measures::charge_of(x, quotes[i], days, rate, quotes[ISSUE_COUNT + i]);
+        pay(charges, ledger.froms[k] as usize, ledger.tos[k] as usize, y);
     }
 }

@@ -7,10 +7,9 @@ use native.Mathlib.Omega.{arith}
 use lib.Dec.{eqb}
 use lib.ListN.{length}
 use borrow.Author.Tests.{ltb-true, eqb-true}
-use Rattle.rules.specs.declared.Book.{Book}
 use Rattle.rules.specs.declared.Phase.{Phase}
+use Rattle.rules.specs.declared.State.{State}
 use Rattle.rules.specs.Measures.{last_day, quote_count}
-use Rattle.rules.specs.Book.{sound}
 use Rattle.rules.specs.Questions.{first_no, term_right, quotes_right}
 use Rattle.rules.specs.Calls.{roll_asks}
 use Rattle.laws.proofs.Basics.{and_left, and_right}
@@ -19,6 +18,8 @@ use Rattle.laws.proofs.Ledger.{sound_at_lem}
 use Rattle.laws.proofs.Charges.{quotes_most}
 use Rattle.measures.proofs.Limits.{termed}
 use Rattle.laws.proofs.Answers.{AllYes, all_yes}
+use Rattle.columns.specs.declared.LentColumns.{LentColumns}
+use Rattle.columns.specs.Books.{lent_book, IsSound}
 use Rattle.charging.specs.Charging.{Chargeable}
 
 -- a roll's terms, found right
@@ -48,27 +49,27 @@ module _ (p : Phase) (today days rate : ℕ) (quotes : List ℕ) where
   not_last h = ltb-true today last_day (answered h).1.1.0
 
 -- the columns of a sound book
-pub chargeable : (b : Book) (days rate : ℕ) (quotes : List ℕ) → sound b ≡ true → first_no (roll_asks b.state.phase b.state.day days rate quotes) ≡ 0 → length b.issues ≡ 2048 →
-    length b.froms ≡ 2048 → length b.tos ≡ 2048 → length b.lots ≡ 2048 → length b.charges ≡ 64 →
-    Chargeable days rate quotes b.state.entries b.issues b.froms b.tos b.lots b.charges
-chargeable b days rate quotes h q li lf lt lx lc =
-    let s = sound_parts b h in
-    let t = terms b.state.phase b.state.day days rate quotes q in
-    let d = not_last b.state.phase b.state.day days rate quotes q in
-    let e = sound_at_lem b.state.day b.state.entries b.issues b.froms b.tos b.lots b.days s.ledger in
+pub chargeable : (s : State) (c : LentColumns) (days rate : ℕ) (quotes : List ℕ) → IsSound s c → first_no (roll_asks s.phase s.day days rate quotes) ≡ 0 →
+    Chargeable days rate quotes s.entries c.issues.now c.froms.now c.tos.now c.lots.now c.charges.now
+chargeable s c days rate quotes h q =
+    let l = h.lengths in
+    let b = sound_parts (lent_book s c) h.sound in
+    let t = terms s.phase s.day days rate quotes q in
+    let d = not_last s.phase s.day days rate quotes q in
+    let e = sound_at_lem s.day s.entries c.issues.now c.froms.now c.tos.now c.lots.now c.days.now b.ledger in
     record {
       term = termed days rate t.term;
       counted = t.count;
       quoted = quotes_most quotes t.quote;
-      count = s.ledger.count;
-      issues = li;
-      froms = lf;
-      tos = lt;
-      lots = lx;
+      count = b.ledger.count;
+      issues = l.ledger.issues;
+      froms = l.ledger.froms;
+      tos = l.ledger.tos;
+      lots = l.ledger.lots;
       issue = λ k h. (e k h).issue;
       from = λ k h. (e k h).from;
       to = λ k h. (e k h).to;
       most = λ k h. (e k h).most;
-      accounts = lc;
-      charge = λ a. omega (arith, charge_bounded b s a, d);
+      accounts = l.charges;
+      charge = λ a. omega (arith, charge_bounded (lent_book s c) b a, d);
     }

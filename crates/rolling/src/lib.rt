@@ -1,16 +1,16 @@
-// roll: its questions, and its effect in place.
+// roll: its questions, and its effect in place, on all columns of a book.
 #![tactic(auto)]
 
 ghost use Rattle.std.specs.Prelude.{◌≡◌, length};
 ghost use Rattle.rules.specs.Refusals.{number_in};
 ghost use Rattle.rules.specs.Questions.{first_no, quotes_right};
 ghost use Rattle.rules.specs.Calls.{roll_asks, Roll};
-ghost use Rattle.answers.specs.Turns.{TurnsAlone, on_charges, roll_ready};
-ghost use Rattle.charging.specs.Charging.{can_charge, was_charged};
-ghost use Rattle.rolling.specs.Rolling.{Cells, Rolled};
+ghost use Rattle.columns.specs.Books.{IsSound, SameColumns};
+ghost use Rattle.answers.specs.Turns.{MakesAlone};
 
 use answers::Turn;
 use charging::charge_entries;
+use columns::{LentColumns, SharedLedger};
 use rules::{ISSUE_COUNT, QUOTE_COUNT, Refusal, State};
 
 // Are price and accrued amount of each issue right?
@@ -49,58 +49,31 @@ fn roll_asks(s: State, days: u32, rate: u32, quotes: &[u32]) -> Result<(), Refus
     Err(Refusal::Day)
 }
 
-// Eight of the nine columns, one by one, and four of them only read: the struct of all would ask for the entries'
-// days, of which a roll needs nothing, and lend what it may not change. The number of entries stands beside them: the
-// definitions take whole columns and the number of entries, and cutting each column at each call is no plainer.
-
-// Entries are charged; then nets and delivered lots are 0, and lifts and counts are cleared.
-fn roll_in<'a>(
-    days: u32,
-    rate: u32,
-    quotes: &[u32],
-    entries: usize,
-    issues: &'a [u8],
-    froms: &'a [u8],
-    tos: &'a [u8],
-    lots: &'a [u32],
-    charges: &mut [i64],
-    nets: &mut [i32],
-    delivered: &mut [u32],
-    lifts: &mut [u32],
-)
-    requires { can_charge days rate quotes entries issues froms tos lots charges × Cells nets.old delivered.old lifts.old }
-    ensures { was_charged days rate quotes entries issues froms tos lots charges × Rolled nets.new delivered.new lifts.new }
-{
-    charge_entries(
-        days, rate, quotes, entries, issues, froms, tos, lots, charges,
-    );
-    nets.fill(0);
-    delivered.fill(0);
-    lifts.fill(0);
-}
-
-// roll: charges, nets, delivered lots and lifts, day and phase, unless it is refused.
-pub fn roll<'a>(
+// roll: each entry is charged, nets and delivered lots are 0, lifts and counts are cleared, and the next day begins,
+// unless it is refused. The ledger, only read, is lent by `&mut *`: beside a lent field the check knows no `&*` of another.
+pub fn roll(
     s: State,
-    nets: &mut [i32],
-    delivered: &mut [u32],
-    lifts: &mut [u32],
-    charges: &mut [i64],
-    issues: &'a [u8],
-    froms: &'a [u8],
-    tos: &'a [u8],
-    lots: &'a [u32],
+    columns: &mut LentColumns,
     days: u32,
     rate: u32,
     quotes: &[u32],
 ) -> Result<Turn, Refusal>
-    requires { roll_ready s nets delivered lifts charges issues froms tos lots }
-    ensures { TurnsAlone (on_charges nets delivered lifts charges issues froms tos lots) s (Roll days rate quotes.now) result }
+    requires { IsSound s columns.old }
+    ensures made { MakesAlone s (Roll days rate quotes.now) result columns.old columns.new }
+    ensures same { SameColumns columns.old columns.new }
 {
     roll_asks(s, days, rate, quotes)?;
-    roll_in(
-        days, rate, quotes, s.entries, issues, froms, tos, lots, charges, nets, delivered, lifts,
-    );
+    let ledger = SharedLedger {
+        issues: &mut *columns.issues,
+        froms: &mut *columns.froms,
+        tos: &mut *columns.tos,
+        lots: &mut *columns.lots,
+        days: &mut *columns.days,
+    };
+    charge_entries(ledger, s.entries, days, rate, quotes, &mut *columns.charges);
+    columns.nets.fill(0);
+    columns.delivered.fill(0);
+    columns.lifts.fill(0);
     let next = book::next_day(s);
     Ok(answers::done(next))
 }

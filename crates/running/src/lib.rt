@@ -1,7 +1,7 @@
 // An instruction of a run, answered in place on the columns of a sound book by the call that it is.
 #![tactic(auto)]
 
-ghost use Rattle.rules.specs.Calls.{HasRoom, Trade, Deliver, Resolve, PairOff, Cutoff, Roll, Mark};
+ghost use Rattle.rules.specs.Calls.{HasRoom, Trade, Deliver, Resolve, PairOff, Cutoff, Mark};
 ghost use Rattle.rules.specs.Run.{call_of};
 ghost use Rattle.columns.specs.Books.{IsSound, IsReady, SameColumns};
 ghost use Rattle.answers.specs.Turns.{Makes, MakesAlone, Answered};
@@ -11,8 +11,8 @@ use columns::LentColumns;
 use ledger::Ledger;
 use rules::{Instruction, Refusal, State};
 
-// Each call on the columns of a sound book: of all columns it is lent those that it reads or changes, and they
-// stay the same ones. A column that is only read is lent by `&mut *` too: beside a lent field the check knows no
+// Each call on the columns of a sound book, but roll, which is lent them all: of all columns it is lent those that it
+// reads or changes, and they stay the same ones. A column that is only read is lent by `&mut *` too: beside a lent field the check knows no
 // `&*` of another. The ledger's five stand in each call that is lent them: beside them it is lent others of the nine, and a
 // function that hands the five out holds all nine lent.
 fn trade(
@@ -113,33 +113,6 @@ fn cutoff(s: State, columns: &mut LentColumns, out: &mut [u32]) -> Result<Turn, 
     )
 }
 
-fn roll(
-    s: State,
-    columns: &mut LentColumns,
-    term: u32,
-    rate: u32,
-    quotes: &[u32],
-) -> Result<Turn, Refusal>
-    requires { IsSound s columns.old }
-    ensures made { MakesAlone s (Roll term rate quotes.now) result columns.old columns.new }
-    ensures same { SameColumns columns.old columns.new }
-{
-    rolling::roll(
-        s,
-        &mut *columns.nets,
-        &mut *columns.delivered,
-        &mut *columns.lifts,
-        &mut *columns.charges,
-        &mut *columns.issues,
-        &mut *columns.froms,
-        &mut *columns.tos,
-        &mut *columns.lots,
-        term,
-        rate,
-        quotes,
-    )
-}
-
 fn mark(s: State, columns: &mut LentColumns, i: u32, m: u32) -> Result<Turn, Refusal>
     requires { IsSound s columns.old }
     ensures made { MakesAlone s (Mark i m) result columns.old columns.new }
@@ -168,7 +141,7 @@ pub fn answer(
         Instruction::PairOff(i, a) => pair_off(s, columns, i, a),
         Instruction::Close => trading::close(s),
         Instruction::Cutoff => cutoff(s, columns, out),
-        Instruction::Roll(term, rate) => roll(s, columns, term, rate, quotes),
+        Instruction::Roll(term, rate) => rolling::roll(s, columns, term, rate, quotes),
         Instruction::Mark(i, m) => mark(s, columns, i, m),
         Instruction::Turn(d) => settings::turn(s, d),
     }
