@@ -80,9 +80,6 @@ within_ledger s issues froms tos lots days b = book_of s b.nets b.delivered b.li
 abbrev pub but_charges : State → List ℤ → List ℕ → List ℕ → List ℕ → List ℕ → List ℕ → List ℕ → List ℕ → Book → Book
 but_charges s nets delivered lifts issues froms tos lots days b = book_of s nets delivered lifts b.charges issues froms tos lots days
 
-abbrev pub but_days : State → List ℤ → List ℕ → List ℕ → List ℤ → List ℕ → List ℕ → List ℕ → List ℕ → Book → Book
-but_days s nets delivered lifts charges issues froms tos lots b = book_of s nets delivered lifts charges issues froms tos lots b.days
-
 abbrev pub within_use : State → List ℤ → List ℕ → Book → Book
 within_use s nets issues b = book_of s nets b.delivered b.lifts b.charges issues b.froms b.tos b.lots b.days
 
@@ -112,13 +109,6 @@ on_fails nets delivered lifts issues froms tos lots days =
     record {
       before = λ s. but_charges s nets.entry.now delivered.entry.now lifts.entry.now issues.entry.now froms.entry.now tos.entry.now lots.entry.now days.entry.now;
       after = λ s. but_charges s nets.entry.now delivered.entry.now lifts.entry.now issues.exit.now froms.exit.now tos.exit.now lots.exit.now days.exit.now;
-    }
-
-abbrev pub on_charges : Column ℤ → Column ℕ → Column ℕ → Column ℤ → SharedColumn ℕ → SharedColumn ℕ → SharedColumn ℕ → SharedColumn ℕ → Within
-on_charges nets delivered lifts charges issues froms tos lots =
-    record {
-      before = λ s. but_days s nets.entry.now delivered.entry.now lifts.entry.now charges.entry.now issues.entry.now froms.entry.now tos.entry.now lots.entry.now;
-      after = λ s. but_days s nets.exit.now delivered.exit.now lifts.exit.now charges.exit.now issues.entry.now froms.entry.now tos.entry.now lots.entry.now;
     }
 
 abbrev pub on_marks : SharedColumn ℤ → SharedColumn ℕ → Within
@@ -158,21 +148,6 @@ cutoff_ready s nets delivered lifts issues froms tos lots days out =
     CellLengths nets.now delivered.now × (length lifts.now ≡ lift_cells) × LedgerLengths issues.now froms.now tos.now lots.now days.now
     × SomeSound (but_charges s nets.now delivered.now lifts.now issues.now froms.now tos.now lots.now days.now)
     × (output_words ≤ length out.now)
-
--- the lengths of the columns that a roll reads or changes
-pub record RollLengths (nets : List ℤ) (delivered lifts : List ℕ) (charges : List ℤ) (issues froms tos lots : List ℕ) : Type 0 where
-  pub cells : CellLengths nets delivered
-  pub words : length lifts ≡ lift_cells
-  pub accounts : length charges ≡ 64
-  pub issue : length issues ≡ 2048
-  pub from : length froms ≡ 2048
-  pub to : length tos ≡ 2048
-  pub lot : length lots ≡ 2048
-
-abbrev pub roll_ready : State → Lent ℤ → Lent ℕ → Lent ℕ → Lent ℤ → Shared ℕ → Shared ℕ → Shared ℕ → Shared ℕ → Type 0
-roll_ready s nets delivered lifts charges issues froms tos lots =
-    RollLengths nets.now delivered.now lifts.now charges.now issues.now froms.now tos.now lots.now
-    × SomeSound (but_days s nets.now delivered.now lifts.now charges.now issues.now froms.now tos.now lots.now)
 
 abbrev pub mark_ready : State → Shared ℤ → Shared ℕ → Type 0
 mark_ready s nets issues = (length nets.now ≡ 1024) × (length issues.now ≡ 2048) × SomeSound (within_use s nets.now issues.now)
