@@ -3,6 +3,7 @@
 use crate::call::{records, Call, Record, FAILED};
 use crate::folder::{self, Numbers};
 use crate::orders::failing;
+use ::tape::batch::Batch;
 use ::tape::dealt::Dealt;
 use ::tape::facts::{Fact, Told};
 use ::tape::input::Stands;
@@ -177,7 +178,8 @@ fn begin<'a>(book: &Book, sink: &'a mut ::tape::story::Sink<'a>) -> Story<'a> {
     let dealt = if book.deals_in_turn() { issues.map(dealt).collect() } else { Vec::new() };
     let (book, output, known) = (book.clone(), vec![0; OUTPUT_WORDS], Known::default());
     let stands = Stands::default();
-    Story { book, output, handed, dealt, word: None, stands, known, sink }
+    let (batch, runs) = (Batch::default(), Vec::new());
+    Story { book, output, batch, handed, dealt, runs, word: None, stands, known, sink }
 }
 
 /// An instruction that begins at a word of the tape; answers how many words it has.

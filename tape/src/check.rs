@@ -1,5 +1,6 @@
 //! What the book will refuse of a tape, without running the program: a line or an object for each refusal.
 
+use crate::batch::{Batch, Made};
 use crate::facts::{Fact, Told};
 use crate::input::{Day, Stands};
 use crate::json;
@@ -7,10 +8,10 @@ use crate::known::Known;
 use crate::measure::{counted, Grouped};
 use crate::output::Untold;
 use crate::progress::Meter;
-use crate::story::{call, quotes_of, Sink};
+use crate::story::{quotes_of, Sink};
 use crate::text::why_ended;
 use crate::why::why;
-use settlement_day::{tape, Book, OUTPUT_WORDS};
+use settlement_day::Book;
 
 /// How many instructions there are, and how many refusals were told.
 #[derive(Clone, Copy, Debug, Default, PartialEq, Eq)]
@@ -37,42 +38,34 @@ impl Checked {
 
 /// Makes every call on a fresh book and tells each refusal: an instruction, or that reading ends.
 pub fn check(day: &Day, tell: &mut Sink) -> Result<Checked, Untold> {
-    let (mut book, mut output) = (Book::fresh(), vec![0; OUTPUT_WORDS]);
+    let (mut book, mut batch) = (Book::fresh(), Batch::default());
     let mut known = Known::of(&day.names);
     let mut checked = Checked::default();
     let (mut reading, mut meter) = (day.reading(), Meter::of_words(day.words()));
     while reading.more()? {
-        let word = reading.word();
-        meter.at(word);
-        let stands = reading.stands();
-        let words = reading.words();
-        let (fact, count) = match tape::read(words) {
-            Ok((instruction, count)) => {
-                checked.instructions += 1;
-                match call(&mut book, &instruction, words, &mut output) {
-                    Ok(_) => {
-                        known.done(&instruction);
-                        reading.pass(count);
-                        continue;
-                    }
-                    Err(refusal) => {
-                        let quotes = quotes_of(&instruction, words);
-                        let why = why(&book, &instruction, &quotes, refusal, &known);
-                        (Fact::Instruction { instruction, refusal: Some((refusal, why)) }, count)
-                    }
-                }
-            }
-            Err(refusal) => {
-                let why = why_ended(words, refusal);
-                (Fact::ReadingEnds { refusal, why }, 0)
-            }
-        };
-        checked.refused += 1;
-        tell(&Told { day: book.day, word: Some(word), stands, fact: &fact, known: &known })?;
-        if count == 0 {
+        if let Err(refusal) = batch.make(&mut book, reading.words(), |_, _| false) {
+            let (word, why) = (Some(reading.word()), why_ended(reading.words(), refusal));
+            let (stands, fact) = (reading.stands(), Fact::ReadingEnds { refusal, why });
+            checked.refused += 1;
+            tell(&Told { day: book.day, word, stands, fact: &fact, known: &known })?;
             break;
         }
-        reading.pass(count);
+        checked.instructions += batch.len();
+        meter.after(batch.len(), reading.word());
+        while let Some(Made { instruction, count, refusal }) = batch.next() {
+            if let Some(refusal) = refusal {
+                let (word, stands) = (Some(reading.word()), reading.stands());
+                let (book, words) = batch.refused();
+                let quotes = quotes_of(&instruction, words);
+                let why = why(book, &instruction, &quotes, refusal, &known);
+                let fact = Fact::Instruction { instruction, refusal: Some((refusal, why)) };
+                checked.refused += 1;
+                tell(&Told { day: book.day, word, stands, fact: &fact, known: &known })?;
+            } else {
+                known.done(&instruction);
+            }
+            reading.pass(count);
+        }
     }
     Ok(checked)
 }

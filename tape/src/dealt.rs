@@ -1,7 +1,8 @@
 //! The units of an issue on a day on which full units are dealt in turn: rounds, and who takes part.
 
-use crate::units::{Run, FULL};
-use settlement_day::{calls, Book};
+use crate::units::{unit_of, Run, FULL};
+use settlement_day::calls::{self, Unit};
+use settlement_day::Book;
 
 /// Where a full unit stands: its round and its receiver, both from 1, and how many take part in the
 /// round. Like units one after another are of the rounds up to `until`.
@@ -84,6 +85,14 @@ impl Dealt {
     /// The rounds, those with the same receivers together.
     pub fn rounds(&self) -> &[Rounds] {
         &self.rounds
+    }
+
+    /// A unit, if there is one of this number.
+    pub fn unit(&self, unit: u32) -> Option<Unit> {
+        match self.turn_of(unit) {
+            Some((account, _)) => Some(Unit { account, lots: FULL }),
+            None => unit_of(&self.small, unit),
+        }
     }
 
     /// The account of a full unit, and where it stands; none where it is small or there is none.

@@ -3,6 +3,7 @@
 //! participant sees of an account, every small market, an account's fails statement, and CSV in and out.
 
 pub mod account;
+pub mod batch;
 pub mod bytes;
 pub mod check;
 pub mod csv;

@@ -63,6 +63,15 @@ impl Meter {
         }
     }
 
+    /// The work is at this word, so many instructions further on.
+    pub fn after(&mut self, steps: usize, at: usize) {
+        self.steps = self.steps.saturating_add(u32::try_from(steps).unwrap_or(u32::MAX));
+        if self.steps >= self.every {
+            self.steps = 0;
+            self.look(at);
+        }
+    }
+
     /// Tells how far it is, if it is time to.
     fn look(&mut self, at: usize) {
         let now = Instant::now();

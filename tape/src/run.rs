@@ -2,13 +2,13 @@
 //! has no status but 0 for a run that could not be finished, so the lines are counted: the calls are made
 //! here too, and tell how many there must be.
 
+use crate::batch::Batch;
 use crate::input::Day;
 use crate::measure::counted;
 use crate::progress::Meter;
 use crate::source::BLOCK;
-use crate::story::call;
 use crate::text::older_roll;
-use settlement_day::{tape, Book, OUTPUT_WORDS};
+use settlement_day::Book;
 use std::env;
 use std::io::{self, BufRead, BufReader, BufWriter, Write};
 use std::path::{Path, PathBuf};
@@ -139,21 +139,21 @@ fn give(day: &Day, input: Option<impl Write>) -> Result<Given, String> {
             input = None;
         }
     };
-    let (mut book, mut output) = (Book::fresh(), vec![0; OUTPUT_WORDS]);
+    let (mut book, mut batch) = (Book::fresh(), Batch::default());
     let mut given = Given::default();
     let (mut reading, mut meter) = (day.reading(), Meter::of_words(day.words()));
     while reading.more()? {
-        meter.at(reading.word());
         let words = reading.words();
-        given.wanted.instructions += 1;
-        let Ok((instruction, count)) = tape::read(words) else {
+        let Ok(used) = batch.make(&mut book, words, |_, _| false) else {
+            given.wanted.instructions += 1;
             given.older = older_roll(words).map(|what| (reading.word(), what));
             break;
         };
         // What is refused changes nothing, and the run goes on.
-        let _ = call(&mut book, &instruction, words, &mut output);
-        put(&words[..count]);
-        reading.pass(count);
+        given.wanted.instructions += batch.len();
+        meter.after(batch.len(), reading.word());
+        put(&words[..used]);
+        reading.pass(used);
     }
     while reading.more()? && !reading.words().is_empty() {
         put(reading.words());

@@ -1,13 +1,13 @@
 //! A tape run on a fresh book up to a moment: before a word, at the end of a day, or at its own end.
 
+use crate::batch::Batch;
 use crate::input::Day;
 use crate::json::{Name, Object};
 use crate::known::Known;
 use crate::measure::counted;
 use crate::progress::Meter;
 use crate::reading::Reading;
-use crate::story::call;
-use settlement_day::{tape, Book, Instruction, Phase, OUTPUT_WORDS};
+use settlement_day::{tape, Book, Instruction, Phase};
 use std::io::Write;
 
 /// The moment up to which a tape is run.
@@ -90,36 +90,48 @@ impl At {
 
 /// Runs a tape up to a moment; an error is that there is no such moment, or that the tape cannot be read.
 pub fn run(day: &Day, when: When) -> Result<Stood, String> {
-    let (mut book, mut output) = (Book::fresh(), vec![0; OUTPUT_WORDS]);
+    let (mut book, mut batch) = (Book::fresh(), Batch::default());
     let mut known = Known::of(&day.names);
     let mut closed = None;
     let (mut reading, mut meter) = (day.reading(), Meter::of_words(day.words()));
     let until = if let When::Before(word) = when { word } else { usize::MAX };
     while reading.more()? && reading.word() < until {
         let at = reading.word();
-        meter.at(at);
+        let is_left = |instruction: &Instruction, end| is_roll(instruction) || until - at < end;
+        let Ok(used) = batch.make(&mut book, reading.words(), is_left) else { break };
+        meter.after(batch.len(), at);
+        if used > 0 {
+            reading.pass(used);
+            continue;
+        }
         let Ok((instruction, count)) = tape::read(reading.words()) else { break };
-        if until < at + count {
+        if until - at < count {
             return Err(inside(&instruction, at, count));
         }
-        let roll = matches!(instruction, Instruction::Roll { .. });
-        let before = roll.then(|| book.clone());
-        if call(&mut book, &instruction, reading.words(), &mut output).is_ok() {
+        // A roll: the book before it is that at the day's end.
+        let before = book.clone();
+        let Ok(used) = batch.make(&mut book, &reading.words()[..count], |_, _| false) else {
+            break;
+        };
+        if before.day != book.day {
             known.done(&instruction);
-        }
-        if let Some(before) = before.filter(|before| before.day != book.day) {
             let end = Moment::of(day, &mut reading);
             if when == When::EndOf(before.day) {
                 return Ok(end.stood(before, known, true, false));
             }
             closed = Some((before, end));
         }
-        reading.pass(count);
+        reading.pass(used);
     }
     let left = reading.more()?;
     let before = matches!(when, When::Before(_));
     let stood = Moment::of(day, &mut reading).stood(book, known, before, left && !before);
     reached(stood, when, closed)
+}
+
+/// Does the instruction end a day?
+fn is_roll(instruction: &Instruction) -> bool {
+    matches!(instruction, Instruction::Roll { .. })
 }
 
 /// Where a tape stands: the next word, by its name, and its line where that stands in a text.

@@ -1,15 +1,15 @@
 //! Fails statements over a tape's span: for each account asked, what it had to deliver in an issue, what
 //! came of it, and what it resolved.
 
+use crate::batch::{Batch, Made};
 use crate::input::Day;
 use crate::json;
 use crate::known::Known;
 use crate::measure::{counted, Face, Grouped};
 use crate::progress::Meter;
-use crate::story::call;
 use crate::telling::page::markup::{escaped, page_of, shares, Look, STATEMENT};
 use settlement_day::statement::{statement, Statement, MOST_INSTRUCTIONS};
-use settlement_day::{tape, Book, Instruction, Phase, Refusal, OUTPUT_WORDS};
+use settlement_day::{Book, Instruction, Phase, Refusal};
 use std::collections::BTreeSet;
 
 /// Why a span ends where it does.
@@ -248,7 +248,7 @@ struct Ran {
 
 /// Runs a span. The words behind it are not read.
 fn run(day: &Day) -> Result<Ran, String> {
-    let (mut book, mut output) = (Book::fresh(), vec![0; OUTPUT_WORDS]);
+    let (mut book, mut batch) = (Book::fresh(), Batch::default());
     let (mut known, mut words) = (Known::of(&day.names), Vec::new());
     let mut named = BTreeSet::new();
     let (mut instructions, mut refused) = (0, 0);
@@ -260,24 +260,28 @@ fn run(day: &Day) -> Result<Ran, String> {
         if instructions == MOST_INSTRUCTIONS {
             break End::Full(reading.word());
         }
-        let (instruction, count) = match tape::read(reading.words()) {
-            Ok(read) => read,
+        let mut left = MOST_INSTRUCTIONS - instructions;
+        let is_left = |_: &Instruction, _| left.checked_sub(1).map(|less| left = less).is_none();
+        let used = match batch.make(&mut book, reading.words(), is_left) {
+            Ok(used) => used,
             Err(refusal) => break End::Refused(reading.word(), refusal),
         };
-        match instruction {
-            Instruction::Trade { issue, from: account, .. }
-            | Instruction::Resolve { issue, account, .. } => {
-                named.insert((issue, account));
+        instructions += batch.len();
+        while let Some(Made { instruction, refusal, .. }) = batch.next() {
+            match instruction {
+                Instruction::Trade { issue, from: account, .. }
+                | Instruction::Resolve { issue, account, .. } => {
+                    named.insert((issue, account));
+                }
+                _ => {}
             }
-            _ => {}
+            match refusal {
+                None => known.done(&instruction),
+                Some(_) => refused += 1,
+            }
         }
-        match call(&mut book, &instruction, reading.words(), &mut output) {
-            Ok(_) => known.done(&instruction),
-            Err(_) => refused += 1,
-        }
-        words.extend(&reading.words()[..count]);
-        reading.pass(count);
-        instructions += 1;
+        words.extend(&reading.words()[..used]);
+        reading.pass(used);
     };
     let ends = match end {
         End::Tape => String::new(),

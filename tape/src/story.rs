@@ -1,9 +1,10 @@
 //! A tape run on a fresh book, and its facts told one after another.
 //!
 //! The library reads the words, makes the calls, and answers which unit is which and what is
-//! charged. A trade that nothing speaks against is booked here, so that a tape of a million trades
-//! takes no longer than it must; every other instruction is put to the library, refused trades too.
+//! charged. Trades, deliveries, resolves and settings that follow one another are made together: what is
+//! told of each is in what was answered, and in the book behind them all.
 
+use crate::batch::{Batch, Made};
 use crate::dealt::{Dealt, Turn};
 use crate::facts::{Fact, Terms, Told};
 use crate::input::{Day, Stands};
@@ -13,31 +14,33 @@ use crate::names::Names;
 use crate::output::Untold;
 use crate::progress::Meter;
 use crate::text::why_ended;
-use crate::units::{close, runs, waiting, Case, Run, Walk};
+use crate::units::{close, runs, unit_of, waiting, Case, Run, Walk};
 use crate::why::{owed_today, why};
-use settlement_day::calls::{self, Done};
+use settlement_day::calls::{self, Done, Unit};
 use settlement_day::{
-    desk, place, tape, Book, Entry, Instruction, Phase, Refusal, ACCOUNTS, ISSUES, OUTPUT_WORDS,
-    QUOTES,
+    desk, tape, Book, Entry, Instruction, ACCOUNTS, ISSUES, OUTPUT_WORDS, QUOTES,
 };
 use std::io;
 
 /// The kind of the record of a fail; the others are handovers.
 const FAIL: u32 = 12;
-/// The most lots of a trade, and of a net to either side.
-const MOST_LOTS: u32 = 20_000_000;
 
 /// What is done with each fact.
 pub type Sink<'a> = dyn FnMut(&Told) -> io::Result<()> + 'a;
 
 /// A tape as it runs.
 pub struct Story<'a> {
+    /// The book behind the last instruction that is made.
     pub book: Book,
     pub output: Vec<u32>,
+    /// Instructions that are made together, some of which may not be told.
+    pub batch: Batch,
     /// For each issue, today's handovers from the house: their number and lots.
     pub handed: [(u32, u64); ISSUES],
     /// For each issue, today's units where full ones are dealt in turn.
     pub dealt: Vec<Dealt>,
+    /// For each issue, today's units in the old order, where they are told.
+    pub runs: Vec<Vec<Run>>,
     /// The first word of the instruction that is at work, and where that stands.
     pub word: Option<usize>,
     pub stands: Stands<'a>,
@@ -79,8 +82,10 @@ impl<'a> Story<'a> {
         Story {
             book: Book::fresh(),
             output: vec![0; OUTPUT_WORDS],
+            batch: Batch::default(),
             handed: [(0, 0); ISSUES],
             dealt: Vec::new(),
+            runs: Vec::new(),
             word: None,
             stands: Stands::default(),
             known: Known::of(names),
@@ -89,7 +94,8 @@ impl<'a> Story<'a> {
     }
 
     /// Makes the call of the instruction that begins these words, the first of which has this index and stands
-    /// there, and tells it; answers how many words it has, or nothing where reading ends there.
+    /// there, and tells it; answers how many words it has, or nothing where reading ends there. It may have been
+    /// made with one before it already: the words are told of one after another.
     pub fn read(
         &mut self,
         words: &[u32],
@@ -97,7 +103,15 @@ impl<'a> Story<'a> {
         stands: Stands<'a>,
     ) -> io::Result<Option<usize>> {
         (self.word, self.stands) = (Some(word), stands);
-        match tape::read(words) {
+        if let Some(made) = self.batch.next() {
+            return self.made(&made).map(|()| Some(made.count));
+        }
+        let alone = |instruction: &Instruction, _| is_alone(instruction);
+        let used = self.batch.make(&mut self.book, words, alone);
+        if let Some(made) = self.batch.next() {
+            return self.made(&made).map(|()| Some(made.count));
+        }
+        match used.and_then(|_| tape::read(words)) {
             Ok((instruction, count)) => {
                 self.instruction(&instruction, words)?;
                 Ok(Some(count))
@@ -123,12 +137,38 @@ impl Story<'_> {
         (self.sink)(&Told { day, word: self.word, stands, fact, known: &self.known })
     }
 
+    /// Tells what an instruction did that was made with others, or why it was refused.
+    #[inline]
+    fn made(&mut self, made: &Made) -> io::Result<()> {
+        let Made { instruction, refusal, .. } = *made;
+        if refusal.is_none() && matches!(instruction, Instruction::Trade { .. }) {
+            return self.fact(&Fact::Instruction { instruction, refusal: None });
+        }
+        self.told(made)
+    }
+
+    /// The same of any instruction that is not to be made alone.
+    fn told(&mut self, made: &Made) -> io::Result<()> {
+        let Made { instruction, refusal, .. } = *made;
+        let refusal = refusal.map(|refusal| {
+            let (book, _) = self.batch.refused();
+            (refusal, why(book, &instruction, &[], refusal, &self.known))
+        });
+        let done = refusal.is_none();
+        self.fact(&Fact::Instruction { instruction, refusal })?;
+        let records = records(self.batch.records());
+        match instruction {
+            Instruction::Deliver { issue, account, .. } if done => {
+                self.delivered(issue, account, &records)
+            }
+            Instruction::Resolve { .. } if done => self.resolved(&records),
+            _ => Ok(()),
+        }
+    }
+
     /// Makes the call of an instruction and tells what it did, or why it was refused.
     pub fn instruction(&mut self, instruction: &Instruction, words: &[u32]) -> io::Result<()> {
         let instruction = *instruction;
-        if traded(&mut self.book, &instruction) {
-            return self.fact(&Fact::Instruction { instruction, refusal: None });
-        }
         let quotes = quotes_of(&instruction, words);
         let roll = matches!(instruction, Instruction::Roll { .. });
         let on_entries = roll || matches!(instruction, Instruction::PairOff { .. });
@@ -142,13 +182,14 @@ impl Story<'_> {
         }
         self.fact(&told)?;
         let Ok(done) = answer else { return Ok(()) };
+        let records = |story: &Story| records(&story.output[..2 * done.count]);
         match instruction {
             Instruction::Close => self.closed(),
             Instruction::Deliver { issue, account, .. } => {
-                self.delivered(issue, account, done.count)
+                self.delivered(issue, account, &records(self))
             }
-            Instruction::Cutoff => self.cut(done.count),
-            Instruction::Resolve { .. } => self.resolved(done.count),
+            Instruction::Cutoff => self.cut(&records(self)),
+            Instruction::Resolve { .. } => self.resolved(&records(self)),
             Instruction::PairOff { issue, account } => self.paired(done, entries, issue, account),
             Instruction::Trade { .. }
             | Instruction::Roll { .. }
@@ -157,16 +198,12 @@ impl Story<'_> {
         }
     }
 
-    /// The records that the last call wrote.
-    fn records(&self, count: usize) -> Vec<Record> {
-        self.output.chunks_exact(2).take(count).map(|words| record(words[0], words[1])).collect()
-    }
-
     /// The issues' units in their order, which case decided where they are close, and what each
     /// deliverer owes.
     fn closed(&mut self) -> io::Result<()> {
         self.handed = [(0, 0); ISSUES];
         self.dealt.clear();
+        self.runs.clear();
         for issue in 0..ISSUES as u32 {
             if self.book.deals_in_turn() {
                 self.dealt_in_turn(issue)?;
@@ -184,7 +221,9 @@ impl Story<'_> {
     fn account_by_account(&mut self, issue: u32) -> io::Result<()> {
         let runs = runs(&self.book, issue);
         runs.iter().try_for_each(|run| self.units(issue, run))?;
-        close(&runs).into_iter().try_for_each(|group| self.fact(&decided(issue, group)))
+        close(&runs).into_iter().try_for_each(|group| self.fact(&decided(issue, group)))?;
+        self.runs.push(runs);
+        Ok(())
     }
 
     /// An issue's units in the new order: the rounds, then the small units.
@@ -221,7 +260,7 @@ impl Story<'_> {
 
     /// What an account still owes, if it is at least so much.
     fn owes(&mut self, issue: u32, account: u32, least: u64) -> io::Result<()> {
-        let lots = owed_today(&self.book, issue, account);
+        let lots = owed_today(&self.book, issue, account) + self.batch.coming(issue, account).0;
         if lots < least {
             return Ok(());
         }
@@ -229,8 +268,7 @@ impl Story<'_> {
     }
 
     /// What was handed over, the stock that waits for the next unit, and what is still owed.
-    fn delivered(&mut self, issue: u32, account: u32, count: usize) -> io::Result<()> {
-        let records = self.records(count);
+    fn delivered(&mut self, issue: u32, account: u32, records: &[Record]) -> io::Result<()> {
         for like in records.chunk_by(|one, next| (one.to, one.lots) == (next.to, next.lots)) {
             let first = self.handed[issue as usize].0;
             like.iter().for_each(|record| self.hand(record));
@@ -240,15 +278,29 @@ impl Story<'_> {
             self.fact(&Fact::Handed { issue, first, last, account: to, lots, turn })?;
         }
         let (unit, handed) = self.handed[issue as usize];
-        let stock = self.book.delivered_total(issue).saturating_sub(handed);
+        let delivered = self.book.delivered_total(issue) - self.batch.coming(issue, account).1;
+        let stock = delivered.saturating_sub(handed);
         if stock > 0 {
-            if let Ok(Some(next)) = calls::unit(&self.book, issue, unit) {
-                let (account, lots) = (next.account, next.lots);
+            if let Some(Unit { account, lots }) = self.unit(issue, unit) {
                 let turn = self.turn_of(issue, unit, unit);
                 self.fact(&Fact::Waits { issue, stock, unit, account, lots, turn })?;
             }
         }
         self.owes(issue, account, 0)
+    }
+
+    /// A unit of an issue: of those that are told, where nothing is lifted; otherwise the library's answer.
+    fn unit(&self, issue: u32, unit: u32) -> Option<Unit> {
+        if self.book.lifts(issue).next().is_none() {
+            let told = match self.dealt.get(issue as usize) {
+                Some(dealt) => dealt.unit(unit),
+                None => self.runs.get(issue as usize).and_then(|runs| unit_of(runs, unit)),
+            };
+            if told.is_some() {
+                return told;
+            }
+        }
+        calls::unit(&self.book, issue, unit).ok().flatten()
     }
 
     /// Counts a handover from the house.
@@ -259,14 +311,16 @@ impl Story<'_> {
     }
 
     /// The remaining stock and the fails, issue by issue, with the units that they belong to.
-    fn cut(&mut self, count: usize) -> io::Result<()> {
-        let records = self.records(count);
+    fn cut(&mut self, records: &[Record]) -> io::Result<()> {
         for of_issue in records.chunk_by(|one, next| one.issue == next.issue) {
             let issue = of_issue[0].issue;
             let handed = self.handed[issue as usize].0;
             let mut walk = Walk::along(match self.dealt.get(issue as usize) {
                 Some(dealt) => dealt.waiting(handed),
-                None => waiting(runs(&self.book, issue), handed),
+                None => match self.runs.get(issue as usize) {
+                    Some(runs) => waiting(runs, handed),
+                    None => waiting(&runs(&self.book, issue), handed),
+                },
             });
             for &Record { kind, from, to, lots, .. } in of_issue {
                 let (first, last, units) = walk.take(lots);
@@ -285,8 +339,8 @@ impl Story<'_> {
     }
 
     /// Who received what in a resolve.
-    fn resolved(&mut self, count: usize) -> io::Result<()> {
-        for Record { issue, from, to, lots, .. } in self.records(count) {
+    fn resolved(&mut self, records: &[Record]) -> io::Result<()> {
+        for &Record { issue, from, to, lots, .. } in records {
             self.fact(&Fact::Resolved { issue, from, to, lots })?;
         }
         Ok(())
@@ -383,19 +437,6 @@ fn decided(issue: u32, group: &[Run]) -> Fact {
     }
 }
 
-/// Makes the call of an instruction that begins these words.
-pub(crate) fn call(
-    book: &mut Book,
-    instruction: &Instruction,
-    words: &[u32],
-    output: &mut [u32],
-) -> Result<Done, Refusal> {
-    if traded(book, instruction) {
-        return Ok(Done { count: 0, cancelled: 0 });
-    }
-    calls::call(book, instruction, &quotes_of(instruction, words), output)
-}
-
 /// The quotes of the roll that begins these words; 0 of another instruction.
 pub(crate) fn quotes_of(instruction: &Instruction, words: &[u32]) -> [u32; QUOTES] {
     match instruction {
@@ -404,24 +445,15 @@ pub(crate) fn quotes_of(instruction: &Instruction, words: &[u32]) -> [u32; QUOTE
     }
 }
 
-/// Books a trade that nothing speaks against on a book that is sound; answers whether it did.
-fn traded(book: &mut Book, instruction: &Instruction) -> bool {
-    let Instruction::Trade { issue, from, to, lots } = *instruction else { return false };
-    let (Some(low), Some(high)) = (place(issue, from), place(issue, to)) else { return false };
-    if book.phase != Phase::TAKING || low == high || lots == 0 || lots > MOST_LOTS {
-        return false;
-    }
-    if book.is_marked(issue) && lots % 2 != 0 {
-        return false;
-    }
-    let (most, lots) = (MOST_LOTS as i32, lots as i32);
-    let (fallen, risen) = (book.nets[low] - lots, book.nets[high] + lots);
-    if fallen < -most || risen > most {
-        return false;
-    }
-    book.nets[low] = fallen;
-    book.nets[high] = risen;
-    true
+/// Is the instruction made alone? What is told of these is in the book before them or right behind them.
+fn is_alone(instruction: &Instruction) -> bool {
+    use Instruction::{Close, Cutoff, PairOff, Roll};
+    matches!(instruction, Close | Cutoff | PairOff { .. } | Roll { .. })
+}
+
+/// The records that these words are.
+fn records(words: &[u32]) -> Vec<Record> {
+    words.chunks_exact(2).map(|words| record(words[0], words[1])).collect()
 }
 
 /// The record of a head and a lots word.
@@ -432,41 +464,5 @@ fn record(head: u32, lots: u32) -> Record {
         from: head >> 18 & 63,
         to: head >> 12 & 63,
         lots: lots & 0x0fff_ffff,
-    }
-}
-
-#[cfg(test)]
-mod tests {
-    use super::*;
-
-    #[test]
-    fn a_trade_booked_here_is_the_library_s() {
-        let mut numbers = 1_u64;
-        let mut next = |limit: u32| {
-            numbers =
-                numbers.wrapping_mul(0x5851_f42d_4c95_7f2d).wrapping_add(0x1405_7b7e_f767_814f);
-            (numbers >> 33) as u32 % limit
-        };
-        let (mut here, mut by_library) = (Book::fresh(), Book::fresh());
-        for issue in [0, 3, 4, 15] {
-            here.marks[issue] = [1, 2, 128, 255][issue % 4];
-        }
-        by_library.marks = here.marks;
-        let (mut booked, mut put) = (0, 0);
-        for step in 0..3_000 {
-            let lots = [0, 1, 100_000, MOST_LOTS, MOST_LOTS + 1, next(MOST_LOTS)][next(6) as usize];
-            let trade = Instruction::Trade { issue: next(17), from: next(6), to: next(65), lots };
-            if step % 500 == 499 {
-                let phase = Phase([0, 1, 2][next(3) as usize]);
-                (here.phase, by_library.phase) = (phase, phase);
-            }
-            let answer = calls::call(&mut by_library, &trade, &[], &mut []);
-            assert_eq!(traded(&mut here, &trade), answer.is_ok(), "{trade:?}");
-            assert!(here == by_library, "{trade:?}");
-            booked += u32::from(answer.is_ok());
-            put += u32::from(answer.is_err());
-        }
-        assert!(booked > 100 && put > 100, "{booked} booked, {put} refused");
-        assert!(!traded(&mut here, &Instruction::Close));
     }
 }

@@ -1,6 +1,7 @@
 //! The units of an issue as runs of like ones, out of the library's answers, and a walk along them.
 
-use settlement_day::{calls, Book};
+use settlement_day::calls::{self, Unit};
+use settlement_day::Book;
 
 /// The lots of a full unit.
 pub const FULL: u32 = 100_000;
@@ -96,10 +97,16 @@ pub fn close(runs: &[Run]) -> Vec<&[Run]> {
     close
 }
 
+/// A unit of runs, if it is one of them.
+pub fn unit_of(runs: &[Run], unit: u32) -> Option<Unit> {
+    let run = runs.get(runs.partition_point(|run| run.last() < unit))?;
+    Some(Unit { account: run.account, lots: run.lots })
+}
+
 /// The runs from a unit on.
-pub fn waiting(runs: Vec<Run>, unit: u32) -> Vec<Run> {
-    let rest = runs.into_iter().filter(|run| run.last() >= unit);
-    let cut = |run: Run| {
+pub fn waiting(runs: &[Run], unit: u32) -> Vec<Run> {
+    let rest = runs.iter().filter(|run| run.last() >= unit);
+    let cut = |&run: &Run| {
         let first = run.first.max(unit);
         Run { first, count: run.last() + 1 - first, ..run }
     };
@@ -248,7 +255,7 @@ mod tests {
 
     #[test]
     fn a_walk_along_p5_after_five_units() {
-        let mut walk = Walk::along(waiting(p5(), 5));
+        let mut walk = Walk::along(waiting(&p5(), 5));
         assert_eq!(walk.unit(), Some((5, 2, 50_000)));
         assert_eq!(walk.take(45_000), (5, 5, 1));
         assert_eq!(walk.lacks(), 5_000);
@@ -257,6 +264,6 @@ mod tests {
         assert_eq!(walk.take(25_000 + 30_000), (6, 7, 2));
         assert_eq!(walk.unit(), None);
         assert_eq!(Walk::along(p5()).take(450_000), (0, 4, 5));
-        assert_eq!(Walk::along(waiting(p5(), 1)).take(100_001), (1, 2, 2));
+        assert_eq!(Walk::along(waiting(&p5(), 1)).take(100_001), (1, 2, 2));
     }
 }

@@ -378,10 +378,24 @@ fn a_pipe_that_nobody_reads_ends_it_without_a_message() {
     fs::remove_dir_all(folder).unwrap();
 }
 
+/// Days that fill the ledger, and the trades of the next one, whose cutoff has no room for its fails: it takes long
+/// to be refused.
+fn full_ledger() -> String {
+    let trade = |issue, from: u32| format!("trade {issue} {from} {} 1\n", from + 32);
+    let trades: String =
+        (0..16).flat_map(|issue| (0..32).map(move |from| trade(issue, from))).collect();
+    let quotes = format!("1{} accrued 0{}", " 1".repeat(15), " 0".repeat(15));
+    let day = format!("{trades}close\ncutoff\nroll 1 0 {quotes}\n");
+    format!("{}{trades}close\n", day.repeat(4))
+}
+
 #[test]
 fn long_work_tells_its_progress_at_a_terminal() {
     let folder = folder("progress");
-    let day = file(&folder, "day.tape", &[0, 0, 0, 0x60].repeat(8_000_000));
+    let mut words = tape::text::to_tape(&full_ledger()).expect("a tape");
+    words.extend([0, 0, 0, 0x60].repeat(12_000_000));
+    let all = format!(" of {}, ", tape::measure::Grouped(words.len() as i128 / 4));
+    let day = file(&folder, "day.tape", &words);
     let tool = env!("CARGO_BIN_EXE_tape");
     for verb in ["check", "explain --html", "why --account 0 --issue 0", "run --program /bin/true"]
     {
@@ -401,7 +415,7 @@ fn long_work_tells_its_progress_at_a_terminal() {
         terminal.wait().expect("it ends");
         let shown = String::from_utf8_lossy(&shown);
         let line = "\r\u{1b}[Ktape: word ";
-        assert!(shown.starts_with(line) && shown.contains(" of 8,000,000, "), "{verb}: {shown:?}");
+        assert!(shown.starts_with(line) && shown.contains(&all), "{verb}: {shown:?}");
         assert!(shown.matches(line).count() > 1, "{verb}: {shown:?}");
     }
     fs::remove_dir_all(folder).unwrap();
