@@ -199,19 +199,16 @@ pub fn cells_even<'a>(s: State, nets: &'a [i32], delivered: &'a [u32]) -> bool
     good
 }
 
-// Are lots in this issue even, if it is marked? There is no mark of an issue above 15. In steps, for speed: each entry of a
-// host's book is asked.
+// Are lots in this issue even, if it is marked? There is no mark of an issue above 15. Even lots are asked first, for speed:
+// of a marked issue all are.
 fn even_by(marks: &[u8], i: u8, x: u32) -> bool
     requires { length marks.now ≡ 16 }
     ensures { result ≡ lots_even marks.now i x }
 {
-    if LAST_ISSUE < i {
+    if x % 2 == 0 {
         return true;
     }
-    if marks[i as usize] == 0 {
-        return true;
-    }
-    x % 2 == 0
+    LAST_ISSUE < i || marks[i as usize] == 0
 }
 
 // Are the lots of each entry even, if its issue is marked? The marks are lent: each entry reads one of them.
