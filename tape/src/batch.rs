@@ -6,7 +6,7 @@ use settlement_day::{place, tape, Book, Instruction, Refusal, ISSUES, OUTPUT_WOR
 use std::ops::Range;
 
 /// The most instructions that are made together.
-const MOST: usize = 4_096;
+const MOST: usize = 1_024;
 /// The words of room for their records. Where no whole output is left of it, the others are made later.
 const ROOM: usize = 4 * OUTPUT_WORDS;
 
@@ -121,8 +121,14 @@ impl Batch {
         self.read.len()
     }
 
+    /// Is there one that is not given?
+    #[inline(always)]
+    pub fn has_next(&self) -> bool {
+        self.given < self.read.len()
+    }
+
     /// The next of them that is not given, if there is one.
-    #[inline]
+    #[inline(always)]
     pub fn next(&mut self) -> Option<Made> {
         let &(instruction, count) = self.read.get(self.given)?;
         let numbers = self.answers[self.given];

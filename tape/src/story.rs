@@ -103,11 +103,10 @@ impl<'a> Story<'a> {
         stands: Stands<'a>,
     ) -> io::Result<Option<usize>> {
         (self.word, self.stands) = (Some(word), stands);
-        if let Some(made) = self.batch.next() {
-            return self.made(&made).map(|()| Some(made.count));
+        let mut used = Ok(0);
+        if !self.batch.has_next() {
+            used = self.batch.make(&mut self.book, words, |it, _| is_alone(it));
         }
-        let alone = |instruction: &Instruction, _| is_alone(instruction);
-        let used = self.batch.make(&mut self.book, words, alone);
         if let Some(made) = self.batch.next() {
             return self.made(&made).map(|()| Some(made.count));
         }
