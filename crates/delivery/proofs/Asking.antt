@@ -1,5 +1,5 @@
 -- What a sound book with what is lent gives; and where no question of a delivery is answered 'no', the delivery in place can be made.
-use mathlib.Core.Path.{◌≡◌}
+use mathlib.Core.Path.{◌≡◌, sym}
 use mathlib.Core.List.{List}
 use Prim.Native.Nat.{ℕ, ◌+◌, ◌≤◌}
 use native.Mathlib.Omega.{arith}
@@ -21,7 +21,7 @@ use Rattle.runs.proofs.Cells.{sound_cells}
 use Rattle.answers.specs.Turns.{SomeSound, within_cells}
 use Rattle.delivery.specs.Deliver.{CanDeliver}
 
-pub can_deliver : (phase : Phase) (marks : List ℕ) (nets : List ℤ) (delivered lifts : List ℕ) (i a x : ℕ) (out : List ℕ) → SoundCells nets delivered lifts →
+can_deliver : (phase : Phase) (marks : List ℕ) (nets : List ℤ) (delivered lifts : List ℕ) (i a x : ℕ) (out : List ℕ) → SoundCells nets delivered lifts →
     first_no (deliver_asks phase marks nets delivered i a x) ≡ 0 → output_words ≤ length out → CanDeliver nets delivered lifts i a x out
 can_deliver phase marks nets delivered lifts i a x out s h long =
     let y = (all_yes (deliver_asks phase marks nets delivered i a x) (omega arith) h).1 in
@@ -40,3 +40,9 @@ pub ready_cells : (s : State) (nets : List ℤ) (delivered lifts : List ℕ) →
 ready_cells s nets delivered lifts n l some =
     let b = within_cells s nets delivered lifts some.rest in
     sound_cells b (sound_parts b some.sound) n.nets n.delivered l
+
+-- so where the columns are lent and no question is answered 'no'
+module _ (s : State) (nets : List ℤ) (delivered lifts : List ℕ) (i a x : ℕ) (n : CellLengths nets delivered) (l : length lifts ≡ lift_cells)
+    (some : SomeSound (within_cells s nets delivered lifts)) (h : 0 ≡ first_no (deliver_asks s.phase s.marks nets delivered i a x)) where
+  pub asked : (out : List ℕ) → output_words ≤ length out → CanDeliver nets delivered lifts i a x out
+  asked out long = can_deliver s.phase s.marks nets delivered lifts i a x out (ready_cells s nets delivered lifts n l some) (sym h) long

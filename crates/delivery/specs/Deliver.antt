@@ -1,9 +1,11 @@
 -- What a delivery in place may assume, and what it does.
-use Rattle.std.specs.Prelude.{◌≡◌, Bool, false, true, List, [], ℕ, ◌+◌, ◌*◌, ◌≤◌, ◌<◌, length, get_or, ℤ}
+use Rattle.std.specs.Prelude.{◌≡◌, Bool, false, true, List, [], ℕ, ◌+◌, ◌-◌, ◌*◌, ◌≤◌, ◌<◌, length, get_or, take, drop, ℤ}
 use Rattle.rules.specs.declared.Book.{Book}
 use Rattle.rules.specs.declared.State.{State}
 use Rattle.rules.specs.Measures.{most_lots, output_words, lift_cells, owed_of}
-use Rattle.rules.specs.Book.{cell, net_at, delivered_at, delivered_total, order_in, sound, CellLengths}
+use Rattle.rules.specs.Units.{AccountLots}
+use Rattle.rules.specs.Handover.{covered}
+use Rattle.rules.specs.Book.{cell, net_at, delivered_at, delivered_total, order_in, in_force, sound, CellLengths}
 use Rattle.rules.specs.Records.{words, over}
 use Rattle.rules.specs.Calls.{Call, Answer, called, raised_delivered, raised_count, deliver_records}
 use Rattle.rules.specs.Refusals.{number_in}
@@ -12,7 +14,9 @@ use Rattle.book.specs.Cells.{SoundCells}
 use Rattle.book.specs.States.{Lent, Shared}
 use Rattle.answers.specs.Turns.{Given, Within, SomeSound, within_cells, count_in, state_after}
 use Rattle.waiting.specs.declared.Kept.{Kept}
-use Rattle.waiting.specs.Waiting.{Keeps}
+use Rattle.runs.specs.Runs.{units_of_words}
+use Rattle.waiting.specs.Waiting.{Ready, Keeps}
+use Rattle.serving.specs.Serving.{Served}
 
 -- what a sound book and the answered questions give
 pub record CanDeliver (nets : List ℤ) (delivered lifts : List ℕ) (i a x : ℕ) (out : List ℕ) : Type 0 where
@@ -79,3 +83,20 @@ count_ready s nets delivered lifts kept =
     CellLengths nets.now delivered.now × (length lifts.now ≡ lift_cells)
     × SomeSound (within_cells s nets.now delivered.now lifts.now)
     × KeepsEach nets.now delivered.now lifts.now kept.now
+
+-- x more lots can be handed on from what is kept of an issue: the records of the units that they cover have room
+pub record CanHandKept (k : Kept) (i x : ℕ) (out : List ℕ) : Type 0 where
+  pub ready : Ready k
+  pub issue : i < 16
+  pub small : k.stock + x < 4294967296
+  pub room : 2 * covered (units_of_words (take (k.number - k.first) (drop k.first k.runs))) (k.stock + x) ≤ length out
+
+-- what is kept goes on to what waits after them, and the records of the units that they hand over stand in front of the output
+abbrev pub HandsKept : Kept → Kept → ℕ → ℕ → List ℕ → List ℕ → ℕ → Type 0
+HandsKept before after i x lent out n =
+    (us : List AccountLots) (d : ℕ) → Keeps us d before → Keeps us (d + x) after × Served us i d x lent out n
+
+-- with room for the records, on a day on which full units are not dealt in turn
+abbrev pub kept_ready : State → Shared ℤ → Lent ℕ → Lent ℕ → Lent Kept → Lent ℕ → Type 0
+kept_ready s nets delivered lifts kept out =
+    count_ready s nets delivered lifts kept × (output_words ≤ length out.now) × (in_force s.turn s.day ≡ false)

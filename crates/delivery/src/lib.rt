@@ -8,7 +8,7 @@ ghost use Rattle.rules.specs.Questions.{first_no};
 ghost use Rattle.rules.specs.Calls.{raised_delivered, raised_count, deliver_asks, Deliver};
 ghost use Rattle.book.specs.Cells.{OwedCells};
 ghost use Rattle.answers.specs.Turns.{Turns, on_delivered, deliver_ready};
-ghost use Rattle.delivery.specs.Deliver.{CanRaise, CanDeliver, Delivered, KeepsEach, NoneKept, CanMake, Made, count_ready, Counts};
+ghost use Rattle.delivery.specs.Deliver.{CanRaise, CanDeliver, Delivered, KeepsEach, NoneKept, CanMake, Made, count_ready, Counts, CanHandKept, HandsKept, kept_ready};
 
 use answers::Turn;
 use rules::{ACCOUNT_COUNT, ISSUE_COUNT, LAST_ACCOUNT, LAST_ISSUE, LIFT_WORDS, Refusal, State};
@@ -170,6 +170,48 @@ pub fn deliver_counted(
     make(nets, delivered, lifts, n, kept);
     raise(delivered, lifts, i, a, x);
     let count = waiting::more(&mut kept[n], x) as usize;
+    Ok(Turn {
+        count,
+        cancelled: 0,
+        state: s,
+    })
+}
+
+// The units of what waits of an issue that x more lots cover: their records go to the output, and what waits then is kept;
+// answers their number.
+fn hand_kept(k: &mut Kept, i: u32, x: u32, out: &mut [u32]) -> usize
+    requires { CanHandKept k.old i x out.old }
+    ensures { HandsKept k.old k.new i x out.old out.new result }
+{
+    let runs = &k.runs[k.first..k.number];
+    let count = handover::handover(runs, k.stock + x).count as usize;
+    handing::hand(runs, i, 0, count, out);
+    waiting::more(k, x);
+    count
+}
+
+// A delivery on a day of the old order, answered as `deliver` is: the units come from what is kept of the issue, and what
+// waits then is kept for the next one.
+pub fn deliver_kept(
+    s: State,
+    nets: &[i32],
+    delivered: &mut [u32],
+    lifts: &mut [u32],
+    i: u32,
+    a: u32,
+    x: u32,
+    kept: &mut [Kept],
+    out: &mut [u32],
+) -> Result<Turn, Refusal>
+    requires { kept_ready s nets delivered lifts kept out }
+    ensures turned { Turns (on_delivered nets delivered lifts) s (Deliver i a x) result out.old out.new }
+    ensures kept { KeepsEach nets.now delivered.new lifts.new kept.new }
+{
+    deliver_asks(s, nets, delivered, i, a, x)?;
+    let n = i as usize;
+    make(nets, delivered, lifts, n, kept);
+    raise(delivered, lifts, i, a, x);
+    let count = hand_kept(&mut kept[n], i, x, out);
     Ok(Turn {
         count,
         cancelled: 0,

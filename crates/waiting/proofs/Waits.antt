@@ -62,11 +62,16 @@ mid_take runs first number h =
     let e : first + (number - first) ≡ number = omega arith in
     sym (drop-take first (number - first) runs) ∙ ap (λ n. drop first (take n runs)) e
 
+-- the part of the runs that waits
+pub waits_in : (us : List AccountLots) (d : ℕ) (k : Kept) → Keeps us d k →
+    units_of_words (take (k.number - k.first) (drop k.first k.runs)) ≡ waiting us d
+waits_in us d k keeps = ap units_of_words (mid_take k.runs k.first k.number keeps.ready.first) ∙ keeps.waits
+
 module _ (k : Kept) (p : Place) (new : List ℕ) (x : ℕ) (ready : Ready k) (same : length new ≡ k.number - k.first)
     (on : HandsOn (units_of_words (take (k.number - k.first) (drop k.first k.runs))) new (k.stock + x) p)
     (us : List AccountLots) (d : ℕ) (keeps : Keeps us d k) where
   these : units_of_words (take (k.number - k.first) (drop k.first k.runs)) ≡ waiting us d
-  these = ap units_of_words (mid_take k.runs k.first k.number ready.first) ∙ keeps.waits
+  these = waits_in us d k keeps
 
   pub keeps_more : Keeps us (d + x) (record { runs = put_mid k.first (k.number - k.first) k.runs new; number = k.number; first = k.first + p.run; stock = p.stock })
   keeps_more =
