@@ -1,21 +1,25 @@
 // An instruction of a run, answered in place on the columns of a sound book by the call that it is.
 #![tactic(auto)]
 
+ghost use Rattle.std.specs.Prelude.{◌≡◌, false};
+ghost use Rattle.rules.specs.Book.{in_force};
 ghost use Rattle.rules.specs.Calls.{HasRoom, Trade, Deliver, Resolve, PairOff, Cutoff, Mark};
 ghost use Rattle.rules.specs.Run.{call_of};
 ghost use Rattle.columns.specs.Books.{IsSound, IsReady, SameColumns};
 ghost use Rattle.answers.specs.Turns.{Makes, MakesAlone, Answered};
+ghost use Rattle.delivery.specs.Deliver.{KeepsEach};
 
 use answers::Turn;
 use columns::LentColumns;
 use ledger::Ledger;
 use rules::{Instruction, Refusal, State};
+use waiting::Kept;
 
 // Each call on the columns of a sound book, but roll, which is lent them all: of all columns it is lent those that it
 // reads or changes, and they stay the same ones. A column that is only read is lent by `&mut *` too: beside a lent field the check knows no
 // `&*` of another. The ledger's five stand in each call that is lent them: beside them it is lent others of the nine, and a
 // function that hands the five out holds all nine lent.
-fn trade(
+pub fn trade(
     s: State,
     columns: &mut LentColumns,
     i: u32,
@@ -50,6 +54,35 @@ fn deliver(
         i,
         a,
         x,
+        out,
+    )
+}
+
+// A delivery on a day of the old order: the units come from what is kept of the issue, and what waits then is kept for the
+// next one.
+pub fn deliver_kept(
+    s: State,
+    columns: &mut LentColumns,
+    i: u32,
+    a: u32,
+    x: u32,
+    kept: &mut [Kept],
+    out: &mut [u32],
+) -> Result<Turn, Refusal>
+    requires { IsReady s columns.old out.old × KeepsEach columns.old.nets.now columns.old.delivered.now columns.old.lifts.now kept.old × (in_force s.turn s.day ≡ false) }
+    ensures made { Makes s (Deliver i a x) result columns.old columns.new out.old out.new }
+    ensures same { SameColumns columns.old columns.new }
+    ensures kept { KeepsEach columns.new.nets.now columns.new.delivered.now columns.new.lifts.now kept.new }
+{
+    delivery::deliver_kept(
+        s,
+        &mut *columns.nets,
+        &mut *columns.delivered,
+        &mut *columns.lifts,
+        i,
+        a,
+        x,
+        kept,
         out,
     )
 }
