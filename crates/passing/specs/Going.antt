@@ -1,16 +1,12 @@
 -- A run part by part: what is printed of the words that are there, and the run from where it stands then.
-use Rattle.std.specs.Prelude.{◌≡◌, Bool, true, false, cond, List, [], ◌++◌, ℕ, ◌+◌, ◌*◌, ◌%◌, ◌≤◌, ◌<◌, leb, ltb, length, get_or, take, drop, Option, IfSome, Ok}
+use Rattle.std.specs.Prelude.{◌≡◌, Bool, true, false, cond, List, [], ◌++◌, ℕ, ◌+◌, ◌*◌, ◌≤◌, ◌<◌, leb, ltb, length, take, drop}
 use Rattle.rules.specs.declared.Book.{Book}
 use Rattle.rules.specs.declared.Instruction.{Instruction}
-use Rattle.rules.specs.declared.Instruction.TheVariants as instruction
 use Rattle.rules.specs.declared.Name.TheVariants.{Tape}
 use Rattle.rules.specs.Book.{sound, Lengths}
-use Rattle.rules.specs.Tape.{kind_of, read_of}
 use Rattle.rules.specs.Run.{Ran, line, name_of, answer_of, stopped, run_rest}
 use Rattle.rules.specs.Text.{line_text, lines_text}
 use Rattle.report.specs.Added.{Added}
-use Rattle.passing.specs.declared.Delivery.{Delivery}
-use Rattle.passing.specs.declared.Trade.{Trade}
 
 -- one turn: the instruction's line is put down, and the book is the answer's
 pub record Stepped (ws : List ℕ) (x : Instruction) (index : ℕ) (b : Book) (text text' : List ℕ) (at end : ℕ) (b' : Book) : Type 0 where
@@ -59,25 +55,6 @@ pub record Going (ws : List ℕ) (last stray : Bool) (index : ℕ) (b₀ b : Boo
   pub short : end ≤ 72 * at
   pub run : (more : List ℕ) (then : Bool) → Follows last stray more then →
       Goes (run_rest index b₀ (ws ++ more) then) (take end text) (run_rest (index + at) b (drop at ws ++ more) then)
-
--- the head and the lots of two words that are found: of this kind, with no bit set that is unused
-pub record TwoWords (ws : List ℕ) (k unused w x : ℕ) : Type 0 where
-  pub two : 2 ≤ length ws
-  pub head : w ≡ get_or ws 0 0
-  pub lots : x ≡ get_or ws 1 0
-  pub kind : kind_of w ≡ k
-  pub clear : w % unused ≡ 0
-  pub after : kind_of x ≡ 8
-
-abbrev pub HeadAndLots : List ℕ → ℕ → ℕ → Option (ℕ × ℕ) → Type 0
-HeadAndLots ws kind unused r = IfSome r (λ p. TwoWords ws kind unused p.0 p.1)
-
--- a trade or a delivery that is found is the instruction that the words begin with, and has two of them
-abbrev pub FoundTrade : List ℕ → Option Trade → Type 0
-FoundTrade ws r = IfSome r (λ t. read_of ws ≡ Ok (instruction.Trade t.issue t.from t.to t.lots, 2))
-
-abbrev pub FoundDelivery : List ℕ → Option Delivery → Type 0
-FoundDelivery ws r = IfSome r (λ d. read_of ws ≡ Ok (instruction.Deliver d.issue d.account d.lots, 2))
 
 -- a book's columns have a book's lengths
 abbrev pub LengthsOf : Book → Type 0

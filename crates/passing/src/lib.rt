@@ -9,30 +9,13 @@ ghost use Rattle.rules.specs.Text.{line_text};
 ghost use Rattle.report.specs.Added.{Added};
 ghost use Rattle.answers.specs.Turns.{count_in, within_nets, within_cells};
 ghost use Rattle.delivery.specs.Deliver.{KeepsEach};
-ghost use Rattle.passing.specs.Going.{enough, HeadAndLots, FoundTrade, FoundDelivery, SomeHeld, Passed};
+ghost use Rattle.passing.specs.Going.{enough, SomeHeld, Passed};
 
 use answers::Turn;
 use report::text;
 use rules::{Name, Refusal, State, TAPE_WORDS};
+use tape::{delivery_of, trade_of};
 use waiting::Kept;
-use words::Field;
-
-// The numbers of a trade.
-#[derive(Clone, Copy, Drop)]
-pub struct Trade {
-    pub issue: u32,
-    pub from: u32,
-    pub to: u32,
-    pub lots: u32,
-}
-
-// The numbers of a delivery.
-#[derive(Clone, Copy, Drop)]
-pub struct Delivery {
-    pub issue: u32,
-    pub account: u32,
-    pub lots: u32,
-}
 
 // Where a run stands: at which word, and where its text ends.
 #[derive(Clone, Copy, Drop)]
@@ -65,48 +48,6 @@ pub fn is_enough(left: usize, last: bool) -> bool
     ensures { result ≡ enough left last }
 {
     if last { 0 < left } else { TAPE_WORDS <= left }
-}
-
-// The head and the lots of an instruction of two words, if some words begin with one of this kind, whole and right: the bits
-// below `unused` are 0.
-fn head_and_lots(ws: &[u32], kind: u32, unused: u32) -> Option<(u32, u32)>
-    requires { 0 < unused }
-    ensures { HeadAndLots ws.now kind unused result }
-{
-    if ws.len() < 2 {
-        return None;
-    }
-    let head = ws[0];
-    let lots = ws[1];
-    if Field::Kind.of(head) != kind || head % unused != 0 || Field::Kind.of(lots) != 8 {
-        return None;
-    }
-    Some((head, lots))
-}
-
-// The trade that some words begin with, if they begin with one.
-fn trade_of(ws: &[u32]) -> Option<Trade>
-    ensures { FoundTrade ws.now result }
-{
-    let (head, lots) = head_and_lots(ws, 1, 4096)?;
-    Some(Trade {
-        issue: Field::Issue.of(head),
-        from: Field::From.of(head),
-        to: Field::To.of(head),
-        lots: Field::Lots.of(lots),
-    })
-}
-
-// The delivery that some words begin with, if they begin with one.
-fn delivery_of(ws: &[u32]) -> Option<Delivery>
-    ensures { FoundDelivery ws.now result }
-{
-    let (head, lots) = head_and_lots(ws, 2, 262144)?;
-    Some(Delivery {
-        issue: Field::Issue.of(head),
-        account: Field::From.of(head),
-        lots: Field::Lots.of(lots),
-    })
 }
 
 // The trades from a place on, up to another instruction, each answered on the nets alone, and their lines.

@@ -1,3 +1,4 @@
 -- Laws of the tape.
 pub mod Reading
 pub mod QuoteWords
+pub mod Found

@@ -1,17 +1,35 @@
 // The tape: its reader and its writer.
 #![tactic(auto)]
 
-ghost use Rattle.std.specs.Prelude.{◌≡◌, cond, ◌-◌, eqb, get_or, drop, Some, None};
+ghost use Rattle.std.specs.Prelude.{◌≡◌, ◌<◌, cond, ◌-◌, eqb, get_or, drop, Some, None};
 ghost use Rattle.std.proofs.lemmas.List.Edits.{sets};
 ghost use Rattle.rules.specs.Records.{lots_bits, of_field};
 ghost use Rattle.rules.specs.Refusals.{numbered, number_in};
 ghost use Rattle.rules.specs.declared.Word.TheVariants.{Head};
 ghost use Rattle.rules.specs.Tape.{word_as, is_after, words_wrong, read_of, quotes_of, write_of};
 ghost use Rattle.writing.specs.Answers.{written};
+ghost use Rattle.tape.specs.Found.{HeadAndLots, FoundTrade, FoundDelivery};
 
 use rules::{Instruction, QUOTE_COUNT, Refusal, TAPE_WORDS, Word};
 use words::Field;
 use writing::{put_head, put_mark, put_roll, put_turn};
+
+// The numbers of a trade.
+#[derive(Clone, Copy, Drop)]
+pub struct Trade {
+    pub issue: u32,
+    pub from: u32,
+    pub to: u32,
+    pub lots: u32,
+}
+
+// The numbers of a delivery.
+#[derive(Clone, Copy, Drop)]
+pub struct Delivery {
+    pub issue: u32,
+    pub account: u32,
+    pub lots: u32,
+}
 
 // A word taken as x, where its unused bits, which hold `unused`, are 0.
 fn clear(unused: u32, x: Word) -> Option<Word>
@@ -120,6 +138,48 @@ pub fn read(tape: &[u32]) -> Result<(Instruction, usize), Refusal>
         }
         _ => Err(Refusal::Word),
     }
+}
+
+// The head and the lots of an instruction of two words, if some words begin with one of this kind, whole and right: the bits
+// below `unused` are 0.
+fn head_and_lots(ws: &[u32], kind: u32, unused: u32) -> Option<(u32, u32)>
+    requires { 0 < unused }
+    ensures { HeadAndLots ws.now kind unused result }
+{
+    if ws.len() < 2 {
+        return None;
+    }
+    let head = ws[0];
+    let lots = ws[1];
+    if Field::Kind.of(head) != kind || head % unused != 0 || Field::Kind.of(lots) != 8 {
+        return None;
+    }
+    Some((head, lots))
+}
+
+// The trade that some words begin with, if they begin with one.
+pub fn trade_of(ws: &[u32]) -> Option<Trade>
+    ensures { FoundTrade ws.now result }
+{
+    let (head, lots) = head_and_lots(ws, 1, 4096)?;
+    Some(Trade {
+        issue: Field::Issue.of(head),
+        from: Field::From.of(head),
+        to: Field::To.of(head),
+        lots: Field::Lots.of(lots),
+    })
+}
+
+// The delivery that some words begin with, if they begin with one.
+pub fn delivery_of(ws: &[u32]) -> Option<Delivery>
+    ensures { FoundDelivery ws.now result }
+{
+    let (head, lots) = head_and_lots(ws, 2, 262144)?;
+    Some(Delivery {
+        issue: Field::Issue.of(head),
+        account: Field::From.of(head),
+        lots: Field::Lots.of(lots),
+    })
 }
 
 // A roll's quotes, sixteen prices and then sixteen accrued amounts, issue 0 first in both, from the words

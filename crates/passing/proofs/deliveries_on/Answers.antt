@@ -5,8 +5,8 @@ use Rattle.rules.specs.declared.Instruction.TheVariants as instruction
 use Rattle.rules.specs.Tape.{read_of}
 use Rattle.rereading.proofs.Sized.{read_sized}
 use Rattle.answers.specs.Turns.{within_cells}
-use Rattle.passing.specs.declared.Delivery.{Delivery}
-use Rattle.passing.specs.Going.{FoundDelivery}
+use Rattle.tape.specs.declared.Delivery.{Delivery}
+use Rattle.tape.specs.Found.{FoundDelivery}
 use Rattle.passing.proofs.Goings.{rest_part, rest_enough}
 use Rattle.passing.proofs.Passing.{deliver_on}
 use Rattle.passing.proofs.deliveries_on.Goals as goal

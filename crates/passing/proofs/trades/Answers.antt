@@ -4,10 +4,10 @@ use lib.ListN.{length-drop}
 use Rattle.rules.specs.declared.Instruction.TheVariants as instruction
 use Rattle.rules.specs.Tape.{read_of}
 use Rattle.rereading.proofs.Sized.{read_sized}
-use Rattle.passing.specs.declared.Trade.{Trade}
+use Rattle.tape.specs.declared.Trade.{Trade}
 use Rattle.rules.specs.Run.{any_output}
 use Rattle.answers.specs.Turns.{within_nets}
-use Rattle.passing.specs.Going.{FoundTrade}
+use Rattle.tape.specs.Found.{FoundTrade}
 use Rattle.passing.proofs.Goings.{rest_part, rest_enough}
 use Rattle.passing.proofs.Passing.{trade_on}
 use Rattle.passing.proofs.trades.Goals as goal

@@ -1,6 +1,6 @@
 -- Both words are right, so they are read as a trade.
-use Rattle.passing.proofs.Passing.{read_trade}
-use Rattle.passing.proofs.trade_of.Goals as goal
+use Rattle.tape.proofs.Found.{read_trade}
+use Rattle.tape.proofs.trade_of.Goals as goal
 
 pub returns : goal.returns
 returns c =

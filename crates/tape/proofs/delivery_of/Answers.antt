@@ -1,6 +1,6 @@
 -- Both words are right, so they are read as a delivery.
-use Rattle.passing.proofs.Passing.{read_deliver}
-use Rattle.passing.proofs.delivery_of.Goals as goal
+use Rattle.tape.proofs.Found.{read_deliver}
+use Rattle.tape.proofs.delivery_of.Goals as goal
 
 pub returns : goal.returns
 returns c =

@@ -1,0 +1,2 @@
+-- What the contracts of the tape's reader cite.
+pub mod Found
