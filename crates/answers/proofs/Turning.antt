@@ -16,8 +16,8 @@ use Rattle.rules.specs.Measures.{output_words}
 use Rattle.rules.specs.Book.{sound}
 use Rattle.rules.specs.Records.{words, over}
 use Rattle.rules.specs.Questions.{first_no, ask_output}
-use Rattle.rules.specs.Calls.{Call, Effect, HasRoom, own_asks, effect, called}
-use Rattle.laws.proofs.Answers.{said_yes, own_first, refused_as, accepted_as}
+use Rattle.rules.specs.Calls.{Call, Trade, Deliver, Effect, HasRoom, own_asks, effect, called}
+use Rattle.laws.proofs.Answers.{said_yes, own_first, refused_as, accepted_as, by_answer}
 use Rattle.laws.proofs.Refused.{some_number}
 use Rattle.answers.specs.Turns.{turn_of, TurnIs}
 
@@ -46,3 +46,10 @@ module _ (b : Book) (c : Call) (out : List ℕ) (room : HasRoom c out) (q : soun
   turn_yes k x s b' out' e d =
       rw (accepted_as b c out (own_first b c out room q ∙ sym e))
       (record { refusal = refl; count = d.count; cancelled = d.cancelled; book = d.book; out = d.written })
+
+-- a trade or a delivery leaves the state as it is
+pub trade_state : (b : Book) (i f t x : ℕ) (out : List ℕ) → (called b (Trade i f t x) out).book.state ≡ b.state
+trade_state b i f t x out = by_answer (λ d. d.book.state ≡ b.state) b (Trade i f t x) out (λ y. refl) (λ r. refl)
+
+pub deliver_state : (b : Book) (i a x : ℕ) (out : List ℕ) → (called b (Deliver i a x) out).book.state ≡ b.state
+deliver_state b i a x out = by_answer (λ d. d.book.state ≡ b.state) b (Deliver i a x) out (λ y. refl) (λ r. refl)

@@ -2,7 +2,7 @@
 use mathlib.Core.Path.{◌≡◌, refl, sym, ap, ◌∙◌}
 use mathlib.Core.Bool.{Bool, true}
 use mathlib.Core.List.{List}
-use Prim.Native.Nat.{ℕ, zero, suc, ◌+◌}
+use Prim.Native.Nat.{ℕ, ◌+◌}
 use native.Mathlib.Omega.{arith}
 use lib.IntN.{ℤ}
 use lib.ListN.{length, drop}
@@ -13,8 +13,7 @@ use Rattle.rules.specs.declared.Name.TheVariants as name
 use Rattle.std.specs.Prelude.{Ok}
 use Rattle.rules.specs.declared.State.{State}
 use Rattle.rules.specs.Book.{sound}
-use Rattle.rules.specs.Calls.{Effect, Trade, Deliver, answer, asks, effect, called}
-use Rattle.rules.specs.Questions.{first_no}
+use Rattle.rules.specs.Calls.{Trade, Deliver, called}
 use Rattle.rules.specs.Run.{line, name_of, any_output, answer_of}
 use Rattle.rules.specs.Tape.{read_of}
 use Rattle.rules.specs.Text.{line_text}
@@ -22,24 +21,12 @@ use Rattle.report.specs.Added.{Added}
 use Rattle.report.proofs.Texts.{added_as}
 use Rattle.rules.specs.Refusals.{number_in}
 use Rattle.answers.specs.Turns.{TurnIs, Given, count_in, state_after, within_nets, within_cells}
+use Rattle.answers.proofs.Turning.{trade_state, deliver_state}
 use Rattle.delivery.specs.Deliver.{Says}
 use Rattle.passing.specs.Going.{enough, LengthsOf, Held, Passed}
 use Rattle.passing.proofs.Goings.{answer_sound, same_line, going_again}
 
--- a trade or a delivery leaves the state as it is
-answer_state : (n : ℕ) (b : Book) (out : List ℕ) (e : Effect) → e.book.state ≡ b.state → (answer n b out e).book.state ≡ b.state
-answer_state zero b out e h = h
-answer_state (suc n) b out e h = refl
-
-trade_state : (b : Book) (i f t x : ℕ) (out : List ℕ) → (called b (Trade i f t x) out).book.state ≡ b.state
-unfolding called
-trade_state b i f t x out = answer_state (first_no (asks b (Trade i f t x) out)) b out (effect b (Trade i f t x)) refl
-
-deliver_state : (b : Book) (i a x : ℕ) (out : List ℕ) → (called b (Deliver i a x) out).book.state ≡ b.state
-unfolding called
-deliver_state b i a x out = answer_state (first_no (asks b (Deliver i a x) out)) b out (effect b (Deliver i a x)) refl
-
--- so its answer on the nets is that of any book with this state and these nets
+-- the answer of a trade on the nets is that of any book with this state and these nets
 trade_says : (s : State) (nets nets' : List ℤ) (b : Book) (i f t x : ℕ) (r : Given) (ws : List ℕ) →
     TurnIs (called (within_nets s nets b) (Trade i f t x) any_output) r (within_nets (state_after s r) nets' b) any_output →
     Says (answer_of (within_nets s nets b) (instruction.Trade i f t x) ws) r (within_nets s nets' b)
