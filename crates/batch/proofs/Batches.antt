@@ -1,6 +1,6 @@
 -- A turn more, and the end. Invariant of the loop: what is done so far, with what is answered from here on behind it, is what is
 -- answered of all words.
-use mathlib.Core.Path.{◌≡◌, refl, sym, ap, ◌∙◌}
+use mathlib.Core.Path.{◌≡◌, refl, sym, ap, subst, ◌∙◌}
 use mathlib.Core.Bool.{Bool, true, false}
 use mathlib.Core.List.{List, [], ◌∷◌, ◌++◌, append_assoc, append-nil}
 use Prim.Native.Nat.{ℕ, zero, suc, ◌+◌, ◌-◌, ◌*◌, ◌≤◌, ◌<◌}
@@ -27,9 +27,12 @@ use Rattle.columns.specs.declared.LentColumns.{LentColumns}
 use Rattle.columns.specs.Books.{lent_book}
 use Rattle.host.specs.declared.DayState.{DayState}
 use Rattle.host.specs.States.{number_of, numbers_of as state_numbers, state_in, sound_at}
+use Rattle.rereading.proofs.Sized.{read_sized}
 use Rattle.host.proofs.Holding.{back_state, same_stage, is_phase}
 use Rattle.batch.specs.declared.DayRan.{DayRan}
-use Rattle.batch.specs.Batch.{BatchIs, RanIs, DayRanIs, day_batch, stopped_by, answer_at, written_by, answer_numbers, numbers_of, has_room, Batch, stops, behind, followed, batch_from, batch_of, Stepped}
+use Rattle.batch.specs.declared.Ran.{Ran}
+use Rattle.batch.specs.declared.Stand.{Stand}
+use Rattle.batch.specs.Batch.{BatchIs, DayRanIs, day_batch, stopped_by, answer_at, written_by, answer_numbers, numbers_of, has_room, Batch, stops, behind, followed, batch_from, batch_of, Stepped, Running, Stopped, RanIs, told_of}
 
 -- Records that a call wrote stand in the words that it may write to
 
@@ -57,7 +60,7 @@ pub rest_part : (xs : List ℕ) (at : ℕ) → take (length xs - at) (drop at xs
 rest_part xs at = take_all (length xs - at) (drop at xs) (omega (arith, length-drop at xs))
 
 -- and as it comes back
-pub back_part : (xs ys : List ℕ) (at : ℕ) → take at xs ++ (ys ++ drop (length xs - at) (drop at xs)) ≡ take at xs ++ ys
+back_part : (xs ys : List ℕ) (at : ℕ) → take at xs ++ (ys ++ drop (length xs - at) (drop at xs)) ≡ take at xs ++ ys
 back_part xs ys at =
     let d : length (drop at xs) ≤ length xs - at = omega (arith, length-drop at xs) in
     rw (drop_of_length-le (drop at xs) d, append-nil ys) refl
@@ -73,7 +76,7 @@ back xs ys zero n h = rw (zero-add n) refl
 back [] ys (suc at) n h = absurd (omega arith)
 back (x ∷ xs) ys (suc at) n h = rw (suc-add at n) (back xs ys at n (omega arith))
 
-pub length_front : (xs ys : List ℕ) (at : ℕ) → at ≤ length xs → length (take at xs ++ ys) ≡ at + length ys
+length_front : (xs ys : List ℕ) (at : ℕ) → at ≤ length xs → length (take at xs ++ ys) ≡ at + length ys
 length_front xs ys at h = omega (arith, length-append (take at xs) ys, length-take at xs)
 
 -- By what is read
@@ -108,17 +111,6 @@ module _ (n : ℕ) (b : Book) where
 
 -- On the way
 
-pub record Running (b₀ : Book) (ws answers₀ out₀ : List ℕ) (answered at written : ℕ) (b : Book) (answers out : List ℕ) : Type 0 where
-  pub within : at ≤ length ws
-  pub told : 3 * answered ≤ length answers
-  pub put : written ≤ length out
-  pub left : ℕ
-  pub enough : length ws ≤ at + left
-  pub same :
-      batch_of b₀ ws answers₀ out₀
-      ≡ behind answered at written (take (3 * answered) answers) (take written out)
-      (batch_from left b (drop at ws) (drop (3 * answered) answers) (drop written out))
-
 nothing_before : (d : Batch) → d ≡ behind 0 0 0 [] [] d
 nothing_before d =
     λ j. record {
@@ -147,36 +139,28 @@ before_both n k w m l v ns os ms ps d =
       out = sym (append_assoc os ps d.out) j;
     }
 
-pub starts : (b : Book) (ws answers out : List ℕ) → Running b ws answers out 0 0 0 b answers out
+pub starts : (b : Book) (ws answers out : List ℕ) → Running b ws answers out (record { used = 0; answered = 0; written = 0 }) b answers out
 starts b ws answers out =
     record { within = omega arith; told = omega arith; put = omega arith; left = length ws; enough = omega arith; same = nothing_before _ }
 
 -- The end
 
--- what is given where it stops here
-pub record Stopped (d : Batch) (r n at w : ℕ) (b : Book) (numbers words' : List ℕ) : Type 0 where
-  pub refusal : r ≡ d.refusal
-  pub answered : n ≡ d.answered
-  pub used : at ≡ d.used
-  pub written : w ≡ d.written
-  pub book : b ≡ d.book
-  pub answers : numbers ≡ d.answers
-  pub out : words' ≡ d.out
+module _ (b₀ : Book) (ws answers₀ out₀ : List ℕ) (p : Stand) (b : Book) (answers out : List ℕ) (g : Running b₀ ws answers₀ out₀ p b answers out) where
+  abbrev told : ℕ
+  told = 3 * p.answered
 
-module _ (b₀ : Book) (ws answers₀ out₀ : List ℕ) (answered at written : ℕ) (b : Book) (answers out : List ℕ)
-    (g : Running b₀ ws answers₀ out₀ answered at written b answers out) where
   -- instructions are left as long as words are
-  some_left : at < length ws → suc (g.left - 1) ≡ g.left
+  some_left : p.used < length ws → suc (g.left - 1) ≡ g.left
   some_left h = omega (arith, g.enough)
 
-  words_left : at < length ws → 0 < length (drop at ws)
-  words_left h = omega (arith, length-drop at ws)
+  words_left : p.used < length ws → 0 < length (drop p.used ws)
+  words_left h = omega (arith, length-drop p.used ws)
 
   stopped : (r : ℕ) →
-      batch_from g.left b (drop at ws) (drop (3 * answered) answers) (drop written out) ≡ stops r b (drop (3 * answered) answers) (drop written out) →
-      Stopped (batch_of b₀ ws answers₀ out₀) r answered at written b answers out
+      batch_from g.left b (drop p.used ws) (drop told answers) (drop p.written out) ≡ stops r b (drop told answers) (drop p.written out) →
+      Stopped (batch_of b₀ ws answers₀ out₀) r p b answers out
   stopped r e =
-      let s = g.same ∙ ap (behind answered at written (take (3 * answered) answers) (take written out)) e in
+      let s = g.same ∙ ap (behind p.answered p.used p.written (take told answers) (take p.written out)) e in
       rw s
       (record {
         refusal = refl;
@@ -184,77 +168,109 @@ module _ (b₀ : Book) (ws answers₀ out₀ : List ℕ) (answered at written : 
         used = omega arith;
         written = omega arith;
         book = refl;
-        answers = sym (take-append-drop (3 * answered) answers);
-        out = sym (take-append-drop written out);
+        answers = sym (take-append-drop told answers);
+        out = sym (take-append-drop p.written out);
       })
 
-  pub stops_at_end : length ws ≤ at → Stopped (batch_of b₀ ws answers₀ out₀) 0 answered at written b answers out
+  pub stops_at_end : length ws ≤ p.used → Stopped (batch_of b₀ ws answers₀ out₀) 0 p b answers out
   stops_at_end h =
-      stopped 0 (rw (drop_of_length-le ws h) (ends g.left b (drop (3 * answered) answers) (drop written out)))
+      stopped 0 (rw (drop_of_length-le ws h) (ends g.left b (drop told answers) (drop p.written out)))
 
-  pub stops_refused : at < length ws → (r : ℕ) → read_of (drop at ws) ≡ Err r → Stopped (batch_of b₀ ws answers₀ out₀) r answered at written b answers out
+  pub stops_refused : p.used < length ws → (r : ℕ) → read_of (drop p.used ws) ≡ Err r → Stopped (batch_of b₀ ws answers₀ out₀) r p b answers out
   stops_refused h r e =
-      stopped r (rw (← some_left h) (no_instruction (g.left - 1) b (drop at ws) (drop (3 * answered) answers) (drop written out) (words_left h) r e))
+      stopped r (rw (← some_left h) (no_instruction (g.left - 1) b (drop p.used ws) (drop told answers) (drop p.written out) (words_left h) r e))
 
   -- One more
 
-  module _ (h : at < length ws) (x : Instruction) (k : ℕ) (e : read_of (drop at ws) ≡ Ok (x, k)) where
-    room_here : (q : Bool) → has_room (length answers - 3 * answered) (length out - written) ≡ q →
-        has_room (length (drop (3 * answered) answers)) (length (drop written out)) ≡ q
-    room_here q p = rw (length-drop (3 * answered) answers, length-drop written out) p
+  module _ (x : Instruction) (k : ℕ) (e : read_of (drop p.used ws) ≡ Ok (x, k)) where
+    room_here : (q : Bool) → has_room (length answers - told) (length out - p.written) ≡ q →
+        has_room (length (drop told answers)) (length (drop p.written out)) ≡ q
+    room_here q r = rw (length-drop told answers, length-drop p.written out) r
 
-    pub stops_full : has_room (length answers - 3 * answered) (length out - written) ≡ false →
-        Stopped (batch_of b₀ ws answers₀ out₀) 0 answered at written b answers out
-    stops_full p =
+    words_here : p.used < length ws
+    words_here = let z = read_sized (drop p.used ws) x k e in omega (arith, z.0, z.1, length-drop p.used ws)
+
+    pub stops_full : has_room (length answers - told) (length out - p.written) ≡ false → Stopped (batch_of b₀ ws answers₀ out₀) 0 p b answers out
+    stops_full r =
         stopped 0
-        (rw (← some_left h)
-        (no_room (g.left - 1) b x k (drop at ws) (drop (3 * answered) answers) (drop written out) (words_left h) e (room_here false p)))
+        (rw (← some_left words_here)
+        (no_room (g.left - 1) b x k (drop p.used ws) (drop told answers) (drop p.written out) (words_left words_here) e (room_here false r)))
 
-    goes_on : has_room (length answers - 3 * answered) (length out - written) ≡ true → k ≤ length (drop at ws) → 1 ≤ k → (numbers rest : List ℕ) (w : ℕ) (b' : Book) →
-        Stepped (drop at ws) x b (drop (3 * answered) answers) numbers (drop written out) rest w b' →
-        Running b₀ ws answers₀ out₀ (answered + 1) (at + k) (written + w) b' (take (3 * answered) answers ++ numbers) (take written out ++ rest)
-    goes_on p few some numbers rest w b' s =
-        let vs = drop at ws in
-        let told = drop (3 * answered) answers in
-        let lent = drop written out in
-        let a = answer_at b x vs lent in
-        let room = room_here true p in
-        let three : 3 ≤ length told = leb-true 3 (length told) (and_left (leb 3 (length told)) _ room) in
-        let fits : w ≤ length rest = rw (s.put, s.left) (written_fits b x vs lent) in
-        let thrice : 3 * (answered + 1) ≡ 3 * answered + 3 = omega arith in
-        let one = rw (some_left h) at (one_more (g.left - 1) b x k vs told lent (words_left h) e room) in
-        record {
-          within = omega (arith, few, length-drop at ws, g.within);
-          told = omega (arith, length_front answers numbers (3 * answered) g.told, ap length s.told);
-          put = omega (arith, length_front out rest written g.put, fits);
-          left = g.left - 1;
-          enough = omega (arith, g.enough, some);
-          same = rw (
-            thrice,
-            front answers numbers (3 * answered) 3 g.told,
-            back answers numbers (3 * answered) 3 g.told,
-            front out rest written w g.put,
-            back out rest written w g.put,
-            ← drop-drop k at ws,
-            s.told,
-            s.left,
-            s.put,
-            s.book,
-          )
-              (g.same ∙ ap (behind answered at written (take (3 * answered) answers) (take written out)) one
-              ∙ before_both answered at written 1 k (written_by x a.count) (take (3 * answered) answers) (take written out) (numbers_of a) (take (written_by x a.count) a.out) _);
-        }
+    module _ (room : has_room (length answers - told) (length out - p.written) ≡ true) (numbers rest : List ℕ) (w : ℕ) (b' : Book)
+        (s : Stepped (drop p.used ws) x b (drop told answers) numbers (drop p.written out) rest w b') where
+      goes_on : Running b₀ ws answers₀ out₀ (record { used = p.used + k; answered = p.answered + 1; written = p.written + w }) b'
+          (take told answers ++ numbers) (take p.written out ++ rest)
+      goes_on =
+          let vs = drop p.used ws in
+          let lent = drop p.written out in
+          let a = answer_at b x vs lent in
+          let z = read_sized vs x k e in
+          let r = room_here true room in
+          let three : 3 ≤ length (drop told answers) = leb-true 3 (length (drop told answers)) (and_left (leb 3 (length (drop told answers))) _ r) in
+          let fits : w ≤ length rest = rw (s.put, s.left) (written_fits b x vs lent) in
+          let thrice : 3 * (p.answered + 1) ≡ told + 3 = omega arith in
+          let one = rw (some_left words_here) at (one_more (g.left - 1) b x k vs (drop told answers) lent (words_left words_here) e r) in
+          record {
+            within = omega (arith, z.1, length-drop p.used ws, g.within);
+            told = omega (arith, length_front answers numbers told g.told, ap length s.told);
+            put = omega (arith, length_front out rest p.written g.put, fits);
+            left = g.left - 1;
+            enough = omega (arith, g.enough, z.0);
+            same = rw (
+              thrice,
+              front answers numbers told 3 g.told,
+              back answers numbers told 3 g.told,
+              front out rest p.written w g.put,
+              back out rest p.written w g.put,
+              ← drop-drop k p.used ws,
+              s.told,
+              s.left,
+              s.put,
+              s.book,
+            )
+                (g.same ∙ ap (behind p.answered p.used p.written (take told answers) (take p.written out)) one
+                ∙ before_both p.answered p.used p.written 1 k (written_by x a.count) (take told answers) (take p.written out) (numbers_of a)
+                (take (written_by x a.count) a.out) _);
+          }
 
-    -- with the parts as they come back
-    pub next : has_room (length answers - 3 * answered) (length out - written) ≡ true → k ≤ length (drop at ws) → 1 ≤ k → (numbers rest : List ℕ) (w : ℕ) (b' : Book) →
-        Stepped (drop at ws) x b (drop (3 * answered) answers) numbers (drop written out) rest w b' →
-        Running b₀ ws answers₀ out₀ (answered + 1) (at + k) (written + w) b'
-        (take (3 * answered) answers ++ (numbers ++ drop (length answers - 3 * answered) (drop (3 * answered) answers)))
-        (take written out ++ (rest ++ drop (length out - written) (drop written out)))
-    next p few some numbers rest w b' s =
-        rw (back_part answers numbers (3 * answered), back_part out rest written) (goes_on p few some numbers rest w b' s)
+      -- with the parts as they come back
+      next : Running b₀ ws answers₀ out₀ (record { used = p.used + k; answered = p.answered + 1; written = p.written + w }) b'
+          (take told answers ++ (numbers ++ drop (length answers - told) (drop told answers)))
+          (take p.written out ++ (rest ++ drop (length out - p.written) (drop p.written out)))
+      next = rw (back_part answers numbers told, back_part out rest p.written) goes_on
 
--- room for one more in the parts that it is lent
+      -- of a call that is lent no output
+      pub keeps_out : rest ≡ drop p.written out → w ≡ 0 →
+          Running b₀ ws answers₀ out₀ (record { used = p.used + k; answered = p.answered + 1; written = p.written }) b'
+          (take told answers ++ (numbers ++ drop (length answers - told) (drop told answers))) out
+      keeps_out same none =
+          let n : p.written + w ≡ p.written = omega arith in
+          let o : take p.written out ++ rest ≡ out = ap (λ l. take p.written out ++ l) same ∙ take-append-drop p.written out in
+          subst (λ (l : List ℕ). Running b₀ ws answers₀ out₀ (record { used = p.used + k; answered = p.answered + 1; written = p.written }) b'
+          (take told answers ++ (numbers ++ drop (length answers - told) (drop told answers))) l) o
+          (rw (back_part answers numbers told) (rw n at goes_on))
+
+    -- of a turn in the parts that it is lent
+    pub turned : (room : has_room (length answers - told) (length out - p.written) ≡ true) (numbers rest : List ℕ) (w : ℕ) (b' : Book) →
+        Stepped (take (length ws - p.used) (drop p.used ws)) x b (take (length answers - told) (drop told answers)) numbers
+        (take (length out - p.written) (drop p.written out)) rest w b' →
+        Running b₀ ws answers₀ out₀ (record { used = p.used + k; answered = p.answered + 1; written = p.written + w }) b'
+        (take told answers ++ (numbers ++ drop (length answers - told) (drop told answers)))
+        (take p.written out ++ (rest ++ drop (length out - p.written) (drop p.written out)))
+    turned room numbers rest w b' s = next room numbers rest w b' (rw (rest_part ws p.used, rest_part answers told, rest_part out p.written) at s)
+
+-- room for one more in the numbers, whatever is told of it
+pub told_fits : (n m k room : ℕ) → has_room (m - 3 * n) room ≡ true → k ≡ m → 3 * (n + 1) ≤ k
+told_fits n m k room h e = omega (arith, e, leb-true 3 (m - 3 * n) (and_left (leb 3 (m - 3 * n)) _ h))
+
+-- and for the words that it puts into the rest of an output
+pub put_fits : (out rest : List ℕ) (at w k : ℕ) → at ≤ length out → w ≤ length rest → length rest ≡ length (take (length out - at) (drop at out)) →
+    k ≡ length out → at + w ≤ k
+put_fits out rest at w k h f e s =
+    let part : length (take (length out - at) (drop at out)) ≡ length out - at = rw (rest_part out at) (length-drop at out) in
+    omega (arith, h, f, e, s, part)
+
+-- and in the parts that it is lent
 pub roomy : (answers out : List ℕ) (n w : ℕ) → has_room (length answers - n) (length out - w) ≡ true →
     (3 ≤ length (take (length answers - n) (drop n answers))) × (output_words ≤ length (take (length out - w) (drop w out)))
 roomy answers out n w h =
@@ -267,17 +283,16 @@ roomy answers out n w h =
 -- What a function gives
 
 -- where it stops, in plain numbers
-pub given : (d : Batch) (r n at w : ℕ) (s : State) (c : LentColumns) (numbers words' : List ℕ) → Stopped d r n at w (lent_book s c) numbers words' →
-    (number : ℕ) → number ≡ r → (h : DayState) → h ≡ state_numbers s →
-    BatchIs d (number_of d.book.state.phase) (record { refusal = number; answered = n; used = at; written = w; state = h }) (lent_book (state_in h) c) numbers words'
-given d r n at w s c numbers words' q number e h p =
+given : (d : Batch) (r : Ran) (c : LentColumns) (numbers words : List ℕ) → Stopped d r.refusal r.stand (lent_book r.state c) numbers words →
+    BatchIs d (number_of d.book.state.phase) (told_of r) (lent_book (state_in (state_numbers r.state)) c) numbers words
+given d r c numbers words q =
     record {
-      refusal = e ∙ q.refusal;
+      refusal = q.refusal;
       answered = q.answered;
       used = q.used;
       written = q.written;
-      book = ap (λ (g : DayState). lent_book (state_in g) c) p ∙ ap (λ (t : State). lent_book t c) (back_state s) ∙ q.book;
-      stage = ap (λ (g : DayState). g.phase) p ∙ ap (λ (b : Book). number_of b.state.phase) q.book;
+      book = ap (λ (t : State). lent_book t c) (back_state r.state) ∙ q.book;
+      stage = ap (λ (b : Book). number_of b.state.phase) q.book;
       answers = q.answers;
       out = q.out;
     }
@@ -312,8 +327,9 @@ module _ (h : DayState) (c : LentColumns) (ws answers out : List ℕ) where
     pub refused_unsound : sound_at h.phase book ≡ false → DayRanIs ws h answers answers out out (stopped_by 2 h) c c
     refused_unsound g = refused 1 (said_yes 1 (has_room (length answers) (length out)) _ room ∙ said_no 2 (sound_at h.phase book) [] g)
 
-    pub ran : sound_at h.phase book ≡ true → (r : DayRan) (after : LentColumns) (answers' out' : List ℕ) →
-        RanIs ws book answers answers' out out' r (lent_book (state_in r.state) after) → DayRanIs ws h answers answers' out out' r c after
+    pub ran : sound_at h.phase book ≡ true → (n : DayRan) (r : Ran) → n ≡ told_of r → (after : LentColumns) (answers' out' : List ℕ) →
+        RanIs ws book answers answers' out out' r (lent_book r.state after) → DayRanIs ws h answers answers' out out' n c after
     unfolding day_batch
-    ran g r after answers' out' q =
-        rw (said_yes 1 (has_room (length answers) (length out)) (ask 2 (sound_at h.phase book) ∷ []) room, said_yes 2 (sound_at h.phase book) [] g, is_phase h.phase book g) q
+    ran g n r e after answers' out' q =
+        rw (e, said_yes 1 (has_room (length answers) (length out)) (ask 2 (sound_at h.phase book) ∷ []) room, said_yes 2 (sound_at h.phase book) [] g, is_phase h.phase book g)
+        (given (batch_of book ws answers out) r after answers' out' q)

@@ -1,6 +1,6 @@
 -- Instructions of a tape's words on a book, made as their calls one by one: each gets the book that the last one left, and the
 -- rest of both outputs.
-use Rattle.std.specs.Prelude.{◌≡◌, Bool, true, cond, ◌&&◌, List, [], ◌∷◌, ◌++◌, ℕ, zero, suc, ◌+◌, ◌*◌, leb, length, take, drop, Result, Ok, Err}
+use Rattle.std.specs.Prelude.{◌≡◌, Bool, true, cond, ◌&&◌, List, [], ◌∷◌, ◌++◌, ℕ, zero, suc, ◌+◌, ◌-◌, ◌*◌, ◌≤◌, leb, length, take, drop, Result, Ok, Err}
 use Rattle.rules.specs.declared.Book.{Book}
 use Rattle.rules.specs.declared.Instruction.{Instruction}
 use Rattle.rules.specs.Measures.{output_words}
@@ -14,8 +14,10 @@ use Rattle.book.specs.States.{Column, SharedColumn, Columns}
 use Rattle.columns.specs.declared.LentColumns.{LentColumns}
 use Rattle.columns.specs.Books.{lent_book}
 use Rattle.host.specs.declared.DayState.{DayState}
-use Rattle.host.specs.States.{number_of, state_in, book_at, sound_at}
+use Rattle.host.specs.States.{number_of, state_in, numbers_of as state_numbers, book_at, sound_at}
 use Rattle.batch.specs.declared.DayRan.{DayRan}
+use Rattle.batch.specs.declared.Ran.{Ran}
+use Rattle.batch.specs.declared.Stand.{Stand}
 
 -- the answer to an instruction that stands at the front of some words, beside an output
 abbrev pub answer_at : Book → Instruction → List ℕ → List ℕ → Answer
@@ -114,12 +116,6 @@ pub record BatchIs (d : Batch) (phase : ℕ) (r : DayRan) (after : Book) (number
   pub answers : numbers ≡ d.answers
   pub out : words ≡ d.out
 
--- of a sound book, before and after
-abbrev pub RanIs : List ℕ → Book → List ℕ → List ℕ → List ℕ → List ℕ → DayRan → Book → Type 0
-RanIs ws b answers answers' out out' r b' =
-    let d = batch_of b ws answers out in
-    BatchIs d (number_of d.book.state.phase) r b' answers' out'
-
 -- of a host's book: a number that is no phase stays
 abbrev pub DayRanIs : List ℕ → DayState → List ℕ → List ℕ → List ℕ → List ℕ → DayRan → LentColumns → LentColumns → Type 0
 DayRanIs ws h answers answers' out out' r before after =
@@ -145,3 +141,55 @@ pub record Stepped (ws : List ℕ) (x : Instruction) (b : Book) (answers answers
   pub book : b' ≡ (answer_at b x ws out).book
   pub lengths : Lengths b'.nets b'.delivered b'.lifts b'.charges b'.issues b'.froms b'.tos b'.lots b'.days
   pub sound : sound b' ≡ true
+
+-- A run on its way
+
+-- a place within the words and the answers
+abbrev pub within : List ℕ → List ℕ → Stand → Type 0
+within ws answers p = (p.used ≤ length ws) × (answer_numbers * p.answered ≤ length answers)
+
+-- what is done so far, with what is answered from here on behind it, is what is answered of all words
+pub record Running (b₀ : Book) (ws answers₀ out₀ : List ℕ) (p : Stand) (b : Book) (answers out : List ℕ) : Type 0 where
+  pub within : p.used ≤ length ws
+  pub told : answer_numbers * p.answered ≤ length answers
+  pub put : p.written ≤ length out
+  pub left : ℕ
+  pub enough : length ws ≤ p.used + left
+  pub same :
+      batch_of b₀ ws answers₀ out₀
+      ≡ behind p.answered p.used p.written (take (answer_numbers * p.answered) answers) (take p.written out)
+      (batch_from left b (drop p.used ws) (drop (answer_numbers * p.answered) answers) (drop p.written out))
+
+-- instructions that are passed: a run that stands in front of them goes on behind them
+pub record Passed (ws : List ℕ) (b b' : Book) (answers answers' out out' : List ℕ) (from to : Stand) : Type 0 where
+  pub on : from.used ≤ to.used
+  pub going : (b₀ : Book) (answers₀ out₀ : List ℕ) → Running b₀ ws answers₀ out₀ from b answers out → Running b₀ ws answers₀ out₀ to b' answers' out'
+
+-- with whichever output has so much room
+abbrev pub PassedBeside : List ℕ → Book → Book → List ℕ → List ℕ → ℕ → Stand → Stand → Type 0
+PassedBeside ws b b' answers answers' room from to =
+    (out : List ℕ) → length out - from.written ≡ room → Passed ws b b' answers answers' out out from to
+
+-- where a run ends, and what it leaves
+pub record Stopped (d : Batch) (r : ℕ) (p : Stand) (b : Book) (numbers words : List ℕ) : Type 0 where
+  pub refusal : r ≡ d.refusal
+  pub answered : p.answered ≡ d.answered
+  pub used : p.used ≡ d.used
+  pub written : p.written ≡ d.written
+  pub book : b ≡ d.book
+  pub answers : numbers ≡ d.answers
+  pub out : words ≡ d.out
+
+abbrev pub RanIs : List ℕ → Book → List ℕ → List ℕ → List ℕ → List ℕ → Ran → Book → Type 0
+RanIs ws b answers answers' out out' r b' = Stopped (batch_of b ws answers out) r.refusal r.stand b' answers' out'
+
+-- in plain numbers
+abbrev pub told_of : Ran → DayRan
+told_of r =
+    record {
+      refusal = r.refusal;
+      answered = r.stand.answered;
+      used = r.stand.used;
+      written = r.stand.written;
+      state = state_numbers r.state;
+    }

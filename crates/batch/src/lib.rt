@@ -9,12 +9,13 @@ ghost use Rattle.columns.specs.Books.{lent_book, IsSound, IsReady, SameColumns};
 ghost use Rattle.answers.specs.Turns.{count_in, cancelled_in};
 ghost use Rattle.instructions.specs.Answering.{Begins};
 ghost use Rattle.host.specs.States.{state_in};
-ghost use Rattle.batch.specs.Batch.{answer_numbers, writes_records, has_room, stopped_by, Stepped, RanIs, DayRanIs};
+ghost use Rattle.batch.specs.Batch.{answer_numbers, writes_records, has_room, within, stopped_by, told_of, Stepped, Passed, PassedBeside, RanIs, DayRanIs};
 
 use answers::Turn;
 use columns::{LentColumns, shared};
 use host::{DayState, held, numbers_of};
 use rules::{Instruction, OUTPUT_WORDS, Refusal, State};
+use waiting::Kept;
 
 // of an answer: the refusal's number, the count, the lots cancelled
 const ANSWER_NUMBERS: usize = 3;
@@ -35,6 +36,22 @@ pub struct DayRan {
 #[derive(Clone, Copy, Drop)]
 struct Step {
     written: usize,
+    state: State,
+}
+
+// Where a run stands: how many words are used, how many instructions answered, and the words of their records.
+#[derive(Clone, Copy, Drop)]
+struct Stand {
+    used: usize,
+    answered: usize,
+    written: usize,
+}
+
+// Where a run ends, and the state after it.
+#[derive(Clone, Copy, Drop)]
+struct Ran {
+    refusal: u32,
+    stand: Stand,
     state: State,
 }
 
@@ -110,6 +127,93 @@ fn has_room(answers: usize, out: usize) -> bool
     (ANSWER_NUMBERS <= answers) & (OUTPUT_WORDS <= out)
 }
 
+// The trades from a place on, up to another instruction, while there is room: each is answered on the nets, and of the words for
+// records `room` stay as they are.
+fn trades(
+    words: &[u32],
+    s: State,
+    columns: &mut LentColumns,
+    answers: &mut [u64],
+    room: usize,
+    from: Stand,
+) -> Stand
+    requires { IsSound s columns.old × within words.now answers.old from }
+    ensures done { PassedBeside words.now (lent_book s columns.old) (lent_book s columns.new) answers.old answers.new room from result }
+    ensures sound { IsSound s columns.new }
+    ensures same { SameColumns columns.old columns.new }
+{
+    let mut used = from.used;
+    let mut answered = from.answered;
+    // It goes on by two words a trade, up to another instruction.
+    while has_room(answers.len() - ANSWER_NUMBERS * answered, room) {
+        let Some(t) = tape::trade_of(&words[used..]) else {
+            return Stand {
+                used,
+                answered,
+                ..from
+            };
+        };
+        let r = running::trade(s, columns, t.issue, t.from, t.to, t.lots);
+        tell(r, &mut answers[ANSWER_NUMBERS * answered..]);
+        used += 2;
+        answered += 1;
+    }
+    Stand {
+        used,
+        answered,
+        ..from
+    }
+}
+
+// The deliveries from a place on, up to another instruction, while there is room. Where full units are not dealt in turn, each
+// goes on from what is kept of its issue's units; of nothing that stood before them is anything kept.
+fn deliveries(
+    words: &[u32],
+    s: State,
+    columns: &mut LentColumns,
+    kept: &mut [Kept],
+    answers: &mut [u64],
+    out: &mut [u32],
+    from: Stand,
+) -> Stand
+    requires { IsSound s columns.old × (length kept.old ≡ 16) × within words.now answers.old from × (from.written ≤ length out.old) }
+    ensures done { Passed words.now (lent_book s columns.old) (lent_book s columns.new) answers.old answers.new out.old out.new from result }
+    ensures sound { IsSound s columns.new }
+    ensures same { SameColumns columns.old columns.new }
+{
+    if book::dealt_today(s) || tape::delivery_of(&words[from.used..]).is_none() {
+        return from;
+    }
+    delivery::forget(kept);
+    let mut p = from;
+    // It goes on by two words a delivery, up to another instruction.
+    while has_room(
+        answers.len() - ANSWER_NUMBERS * p.answered,
+        out.len() - p.written,
+    ) {
+        let Some(d) = tape::delivery_of(&words[p.used..]) else {
+            return p;
+        };
+        let r = running::deliver_kept(
+            s,
+            columns,
+            d.issue,
+            d.account,
+            d.lots,
+            kept,
+            &mut out[p.written..],
+        );
+        tell(r, &mut answers[ANSWER_NUMBERS * p.answered..]);
+        let x = Instruction::Deliver(d.issue, d.account, d.lots);
+        p = Stand {
+            used: p.used + 2,
+            answered: p.answered + 1,
+            written: p.written + words_written(x, r),
+        };
+    }
+    p
+}
+
 // The instructions of the words on a sound book: up to their end, a reader's refusal, or where no room is left.
 fn run(
     words: &[u32],
@@ -117,58 +221,77 @@ fn run(
     columns: &mut LentColumns,
     answers: &mut [u64],
     out: &mut [u32],
-) -> DayRan
+) -> Ran
     requires { IsSound s columns.old }
-    ensures done { RanIs words.now (lent_book s columns.old) answers.old answers.new out.old out.new result (lent_book (state_in result.state) columns.new) }
+    ensures done { RanIs words.now (lent_book s columns.old) answers.old answers.new out.old out.new result (lent_book result.state columns.new) }
     ensures same { SameColumns columns.old columns.new }
 {
-    let mut at = 0;
-    let mut answered = 0;
-    let mut written = 0;
+    let mut stand = Stand {
+        used: 0,
+        answered: 0,
+        written: 0,
+    };
     let mut state = s;
+    let mut kept = delivery::none_kept();
     // No range or iterator goes on by as many words as an instruction has: this loop counts its own.
-    while at < words.len() {
-        let (x, n) = match tape::read(&words[at..]) {
+    while stand.used < words.len() {
+        let (x, n) = match tape::read(&words[stand.used..]) {
             Ok(read) => read,
-            Err(r) => {
-                return DayRan {
-                    refusal: r.number(),
-                    answered,
-                    used: at,
-                    written,
-                    state: numbers_of(state),
-                };
-            }
+            Err(r) => return Ran {
+                refusal: r.number(),
+                stand,
+                state,
+            },
         };
-        let told = ANSWER_NUMBERS * answered;
-        if !has_room(answers.len() - told, out.len() - written) {
-            return DayRan {
+        let told = ANSWER_NUMBERS * stand.answered;
+        if !has_room(answers.len() - told, out.len() - stand.written) {
+            return Ran {
                 refusal: 0,
-                answered,
-                used: at,
-                written,
-                state: numbers_of(state),
+                stand,
+                state,
             };
         }
         let t = turn(
-            &words[at..],
+            &words[stand.used..],
             x,
             state,
             columns,
             &mut answers[told..],
-            &mut out[written..],
+            &mut out[stand.written..],
         );
         state = t.state;
-        written += t.written;
-        at += n;
-        answered += 1;
+        let next = Stand {
+            used: stand.used + n,
+            answered: stand.answered + 1,
+            written: stand.written + t.written,
+        };
+        let p = trades(
+            words,
+            state,
+            columns,
+            answers,
+            out.len() - next.written,
+            next,
+        );
+        stand = deliveries(words, state, columns, &mut kept, answers, out, p);
     }
-    DayRan {
+    Ran {
         refusal: 0,
-        answered,
-        used: at,
-        written,
-        state: numbers_of(state),
+        stand,
+        state,
+    }
+}
+
+// What a run gives a host, in plain numbers.
+fn told(r: Ran) -> DayRan
+    ensures { result ≡ told_of r }
+{
+    DayRan {
+        refusal: r.refusal,
+        answered: r.stand.answered,
+        used: r.stand.used,
+        written: r.stand.written,
+        state: numbers_of(r.state),
     }
 }
 
@@ -200,7 +323,7 @@ pub fn day_run(
         return refused(Refusal::Output.number(), state);
     }
     match held(state, shared(columns)) {
-        Ok(s) => run(words, s, columns, answers, out),
+        Ok(s) => told(run(words, s, columns, answers, out)),
         Err(r) => refused(r.number(), state),
     }
 }

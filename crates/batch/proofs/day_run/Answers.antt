@@ -23,7 +23,8 @@ pub returns-in-Ok-clause-ran : goal.returns-in-Ok-clause-ran
 returns-in-Ok-clause-ran c =
     let a = c.args in
     ran a.state a.columns.now a.words.now a.answers.now a.out.now (sym c.has_room.ensures ∙ c.if-not-has_room.false)
-    (rw (c.shared.ensures (state_in a.state)) at c.in-Ok.ensures.1) c.run.result c.run.new.columns _ _ (rw c.in-Ok.ensures.0 at c.run.ensures.done)
+    (rw (c.shared.ensures (state_in a.state)) at c.in-Ok.ensures.1) c.told.result c.run.result c.told.ensures c.run.new.columns _ _
+    (rw c.in-Ok.ensures.0 at c.run.ensures.done)
 
 pub returns-in-Err-clause-ran : goal.returns-in-Err-clause-ran
 returns-in-Err-clause-ran c =

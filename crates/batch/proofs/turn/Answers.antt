@@ -2,6 +2,7 @@
 use Rattle.std.proofs.Common.{arith}
 use Rattle.columns.specs.Books.{lent_book}
 use Rattle.batch.proofs.Batches.{written_fits}
+use Rattle.batch.proofs.Stepping.{stepped}
 use Rattle.batch.proofs.turn.Goals as goal
 
 pub words_written-written-requires : goal.words_written-written-requires
@@ -13,14 +14,8 @@ words_written-written-requires c =
 
 pub returns-clause-done : goal.returns-clause-done
 returns-clause-done c =
-    let g = c.answer-answer.ensures.given in
-    let d = c.answer-answer.ensures.done in
+    let a = c.args in
+    let h = c.requires.1 in
     rw c.state_after-state.ensures
-    (record {
-      told = rw (g.refusal, g.count, g.cancelled) at c.tell.ensures;
-      left = g.out;
-      put = rw g.count at c.words_written-written.ensures;
-      book = g.book;
-      lengths = d.lengths;
-      sound = d.sound;
-    })
+    (stepped a.words.now a.x (lent_book a.s a.columns.now) _ c.answer-answer.result a.answers.now _ a.out.now _ _
+    (record { lengths = h.lengths; sound = h.sound }) c.answer-answer.ensures.given c.tell.ensures c.words_written-written.ensures)

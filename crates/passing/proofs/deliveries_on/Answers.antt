@@ -7,14 +7,10 @@ use Rattle.rereading.proofs.Sized.{read_sized}
 use Rattle.answers.specs.Turns.{within_cells}
 use Rattle.tape.specs.declared.Delivery.{Delivery}
 use Rattle.tape.specs.Found.{FoundDelivery}
-use Rattle.passing.proofs.Goings.{rest_part, rest_enough}
+use Rattle.tape.proofs.Found.{found_delivery}
+use Rattle.passing.proofs.Goings.{rest_enough}
 use Rattle.passing.proofs.Passing.{deliver_on}
 use Rattle.passing.proofs.deliveries_on.Goals as goal
-
--- the words from a place on begin with a delivery
-begins : (ws : List ℕ) (at : ℕ) (r : Option Delivery) (d : Delivery) → r ≡ Some d → FoundDelivery (take (length ws - at) (drop at ws)) r →
-    read_of (drop at ws) ≡ Ok (instruction.Deliver d.issue d.account d.lots, 2)
-begins ws at r d e h = ap read_of (sym (rest_part ws at)) ∙ (rw e at h)
 
 pub loop-s-preserved : goal.loop-s-preserved
 loop-s-preserved c =
@@ -22,7 +18,7 @@ loop-s-preserved c =
     let l = c.loop-s in
     let i = l.invariant in
     let d = c.in-Some.d in
-    let b = begins a.words.now l.at _ d c.in-Some.is c.delivery_of.ensures in
+    let b = found_delivery a.words.now l.at _ d c.in-Some.is c.delivery_of.ensures in
     let z = read_sized _ _ 2 b in
     let r = c.deliver_counted-r in
     let k = c.answer_line-end in (

@@ -8,21 +8,17 @@ use Rattle.tape.specs.declared.Trade.{Trade}
 use Rattle.rules.specs.Run.{any_output}
 use Rattle.answers.specs.Turns.{within_nets}
 use Rattle.tape.specs.Found.{FoundTrade}
-use Rattle.passing.proofs.Goings.{rest_part, rest_enough}
+use Rattle.tape.proofs.Found.{found_trade}
+use Rattle.passing.proofs.Goings.{rest_enough}
 use Rattle.passing.proofs.Passing.{trade_on}
 use Rattle.passing.proofs.trades.Goals as goal
-
--- the words from a place on begin with a trade
-begins : (ws : List ℕ) (at : ℕ) (r : Option Trade) (t : Trade) → r ≡ Some t → FoundTrade (take (length ws - at) (drop at ws)) r →
-    read_of (drop at ws) ≡ Ok (instruction.Trade t.issue t.from t.to t.lots, 2)
-begins ws at r t e h = ap read_of (sym (rest_part ws at)) ∙ (rw e at h)
 
 pub loop-s-preserved : goal.loop-s-preserved
 loop-s-preserved c =
     let a = c.args in
     let l = c.loop-s in
     let t = c.in-Some.t in
-    let b = begins a.words.now l.at _ t c.in-Some.is c.trade_of.ensures in
+    let b = found_trade a.words.now l.at _ t c.in-Some.is c.trade_of.ensures in
     let z = read_sized _ _ 2 b in
     let k = c.answer_line-end in (
       omega (arith, z.1, l.invariant.0, length-drop l.at a.words.now),
