@@ -32,7 +32,7 @@ use Rattle.host.proofs.Holding.{back_state, same_stage, is_phase}
 use Rattle.batch.specs.declared.DayRan.{DayRan}
 use Rattle.batch.specs.declared.Ran.{Ran}
 use Rattle.batch.specs.declared.Stand.{Stand}
-use Rattle.batch.specs.Batch.{BatchIs, DayRanIs, day_batch, stopped_by, answer_at, written_by, answer_numbers, numbers_of, has_room, Batch, stops, behind, followed, batch_from, batch_of, Stepped, Running, Stopped, RanIs, told_of}
+use Rattle.batch.specs.Batch.{BatchIs, DayRanIs, day_batch, stopped_by, answer_at, written_by, answer_numbers, numbers_of, has_room, Batch, stops, behind, followed, batch_from, batch_of, Stepped, place_behind, Running, Stopped, RanIs, told_of}
 
 -- Records that a call wrote stand in the words that it may write to
 
@@ -198,7 +198,7 @@ module _ (b₀ : Book) (ws answers₀ out₀ : List ℕ) (p : Stand) (b : Book) 
 
     module _ (room : has_room (length answers - told) (length out - p.written) ≡ true) (numbers rest : List ℕ) (w : ℕ) (b' : Book)
         (s : Stepped (drop p.used ws) x b (drop told answers) numbers (drop p.written out) rest w b') where
-      goes_on : Running b₀ ws answers₀ out₀ (record { used = p.used + k; answered = p.answered + 1; written = p.written + w }) b'
+      goes_on : Running b₀ ws answers₀ out₀ (place_behind p k w) b'
           (take told answers ++ numbers) (take p.written out ++ rest)
       goes_on =
           let vs = drop p.used ws in
@@ -234,27 +234,25 @@ module _ (b₀ : Book) (ws answers₀ out₀ : List ℕ) (p : Stand) (b : Book) 
           }
 
       -- with the parts as they come back
-      next : Running b₀ ws answers₀ out₀ (record { used = p.used + k; answered = p.answered + 1; written = p.written + w }) b'
+      next : Running b₀ ws answers₀ out₀ (place_behind p k w) b'
           (take told answers ++ (numbers ++ drop (length answers - told) (drop told answers)))
           (take p.written out ++ (rest ++ drop (length out - p.written) (drop p.written out)))
       next = rw (back_part answers numbers told, back_part out rest p.written) goes_on
 
       -- of a call that is lent no output
-      pub keeps_out : rest ≡ drop p.written out → w ≡ 0 →
-          Running b₀ ws answers₀ out₀ (record { used = p.used + k; answered = p.answered + 1; written = p.written }) b'
-          (take told answers ++ (numbers ++ drop (length answers - told) (drop told answers))) out
-      keeps_out same none =
-          let n : p.written + w ≡ p.written = omega arith in
+      pub keeps_out : rest ≡ drop p.written out →
+          Running b₀ ws answers₀ out₀ (place_behind p k w) b' (take told answers ++ (numbers ++ drop (length answers - told) (drop told answers))) out
+      keeps_out same =
           let o : take p.written out ++ rest ≡ out = ap (λ l. take p.written out ++ l) same ∙ take-append-drop p.written out in
-          subst (λ (l : List ℕ). Running b₀ ws answers₀ out₀ (record { used = p.used + k; answered = p.answered + 1; written = p.written }) b'
+          subst (λ (l : List ℕ). Running b₀ ws answers₀ out₀ (place_behind p k w) b'
           (take told answers ++ (numbers ++ drop (length answers - told) (drop told answers))) l) o
-          (rw (back_part answers numbers told) (rw n at goes_on))
+          (rw (back_part answers numbers told) goes_on)
 
     -- of a turn in the parts that it is lent
     pub turned : (room : has_room (length answers - told) (length out - p.written) ≡ true) (numbers rest : List ℕ) (w : ℕ) (b' : Book) →
         Stepped (take (length ws - p.used) (drop p.used ws)) x b (take (length answers - told) (drop told answers)) numbers
         (take (length out - p.written) (drop p.written out)) rest w b' →
-        Running b₀ ws answers₀ out₀ (record { used = p.used + k; answered = p.answered + 1; written = p.written + w }) b'
+        Running b₀ ws answers₀ out₀ (place_behind p k w) b'
         (take told answers ++ (numbers ++ drop (length answers - told) (drop told answers)))
         (take p.written out ++ (rest ++ drop (length out - p.written) (drop p.written out)))
     turned room numbers rest w b' s = next room numbers rest w b' (rw (rest_part ws p.used, rest_part answers told, rest_part out p.written) at s)

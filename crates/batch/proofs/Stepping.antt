@@ -2,7 +2,7 @@
 use mathlib.Core.Path.{◌≡◌, refl, sym, ap, subst, ◌∙◌}
 use mathlib.Core.Bool.{true}
 use mathlib.Core.List.{List, [], ◌∷◌, ◌++◌}
-use Prim.Native.Nat.{ℕ, ◌+◌, ◌-◌, ◌*◌, ◌≤◌}
+use Prim.Native.Nat.{ℕ, ◌-◌, ◌*◌, ◌≤◌}
 use native.Mathlib.Omega.{arith}
 use lib.ListN.{length, take, drop}
 use Rattle.std.specs.Prelude.{Ok}
@@ -21,7 +21,7 @@ use Rattle.columns.specs.Books.{lent_book, IsSound}
 use Rattle.answers.specs.Turns.{Given, count_in, cancelled_in, state_after, TurnIs, Makes, MakesAlone}
 use Rattle.answers.proofs.Turning.{trade_state, deliver_state}
 use Rattle.batch.specs.declared.Stand.{Stand}
-use Rattle.batch.specs.Batch.{answer_at, written_by, has_room, Stepped, Passed, PassedBeside}
+use Rattle.batch.specs.Batch.{answer_at, written_by, has_room, place_behind, Stepped, Passed, PassedBeside}
 use Rattle.batch.proofs.Batches.{written_fits, rest_part, keeps_out, turned}
 
 pub stepped : (ws : List ℕ) (x : Instruction) (b b' : Book) (r : Given) (answers numbers out out' : List ℕ) (w : ℕ) → Reached b →
@@ -77,7 +77,7 @@ module _ (ws : List ℕ) (s : State) (c c' c'' : LentColumns) (answers answers' 
     pub trade_passed : (i f t x room : ℕ) → p.written ≡ from.written →
         PassedBeside ws (lent_book s c) (lent_book s c') answers answers' room from p →
         read_of (drop p.used ws) ≡ Ok (instruction.Trade i f t x, 2) → has_room (length answers' - told) room ≡ true → MakesAlone s (Trade i f t x) r c' c'' →
-        PassedBeside ws (lent_book s c) (lent_book s c'') answers numbers_after room from (record { used = p.used + 2; answered = p.answered + 1; written = p.written })
+        PassedBeside ws (lent_book s c) (lent_book s c'') answers numbers_after room from (place_behind p 2 0)
     trade_passed i f t' x room w q e h m out z =
         let lent = drop p.written out in
         record {
@@ -88,7 +88,7 @@ module _ (ws : List ℕ) (s : State) (c c' c'' : LentColumns) (answers answers' 
               (stepped (drop p.used ws) (instruction.Trade i f t' x) (lent_book s c') (lent_book s c'') r (drop told answers') numbers lent lent 0
               (record { lengths = sound.lengths; sound = sound.sound }) (trade_turn s c' c'' i f t' x r lent (m lent))
               (t ∙ ap (over (number_in r ∷ count_in r ∷ cancelled_in r ∷ [])) (rest_part answers' told)) refl)
-              refl refl;
+              refl;
         }
 
     pub delivery_passed : (i a x w : ℕ) (out out' rest : List ℕ) →
@@ -97,7 +97,7 @@ module _ (ws : List ℕ) (s : State) (c c' c'' : LentColumns) (answers answers' 
         Makes s (Deliver i a x) r c' c'' (take (length out' - p.written) (drop p.written out')) rest → w ≡ 2 * count_in r →
         Passed ws (lent_book s c) (lent_book s c'') answers numbers_after out
         (take p.written out' ++ (rest ++ drop (length out' - p.written) (drop p.written out'))) from
-        (record { used = p.used + 2; answered = p.answered + 1; written = p.written + w })
+        (place_behind p 2 w)
     delivery_passed i a x w out out' rest q e h m n =
         record {
           on = omega (arith, q.on);

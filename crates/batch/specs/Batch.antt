@@ -1,8 +1,9 @@
 -- Instructions of a tape's words on a book, made as their calls one by one: each gets the book that the last one left, and the
 -- rest of both outputs.
-use Rattle.std.specs.Prelude.{◌≡◌, Bool, true, cond, ◌&&◌, List, [], ◌∷◌, ◌++◌, ℕ, zero, suc, ◌+◌, ◌-◌, ◌*◌, ◌≤◌, leb, length, take, drop, Result, Ok, Err}
+use Rattle.std.specs.Prelude.{◌≡◌, Bool, true, cond, ◌&&◌, List, [], ◌∷◌, ◌++◌, ℕ, zero, suc, ◌+◌, ◌-◌, ◌*◌, ◌≤◌, ◌<◌, ◌^◌, leb, length, take, drop, Result, Ok, Err}
 use Rattle.rules.specs.declared.Book.{Book}
 use Rattle.rules.specs.declared.Instruction.{Instruction}
+use Rattle.rules.specs.declared.State.{State}
 use Rattle.rules.specs.Measures.{output_words}
 use Rattle.rules.specs.Book.{sound, Lengths}
 use Rattle.rules.specs.Questions.{ask, first_no}
@@ -148,6 +149,15 @@ pub record Stepped (ws : List ℕ) (x : Instruction) (b : Book) (answers answers
 abbrev pub within : List ℕ → List ℕ → Stand → Type 0
 within ws answers p = (p.used ≤ length ws) × (answer_numbers * p.answered ≤ length answers)
 
+-- the place behind one more instruction, of so many words, the records of which have so many
+abbrev pub place_behind : Stand → ℕ → ℕ → Stand
+place_behind p k w = record { used = p.used + k; answered = p.answered + 1; written = p.written + w }
+
+pub record CanGoOn (p : Stand) (k w : ℕ) : Type 0 where
+  pub words : p.used + k < 2 ^ 64
+  pub numbers : p.answered + 1 < 2 ^ 64
+  pub records : p.written + w < 2 ^ 64
+
 -- what is done so far, with what is answered from here on behind it, is what is answered of all words
 pub record Running (b₀ : Book) (ws answers₀ out₀ : List ℕ) (p : Stand) (b : Book) (answers out : List ℕ) : Type 0 where
   pub within : p.used ≤ length ws
@@ -182,6 +192,9 @@ pub record Stopped (d : Batch) (r : ℕ) (p : Stand) (b : Book) (numbers words :
 
 abbrev pub RanIs : List ℕ → Book → List ℕ → List ℕ → List ℕ → List ℕ → Ran → Book → Type 0
 RanIs ws b answers answers' out out' r b' = Stopped (batch_of b ws answers out) r.refusal r.stand b' answers' out'
+
+abbrev pub ended_at : ℕ → Stand → State → Ran
+ended_at r p s = record { refusal = r; stand = p; state = s }
 
 -- in plain numbers
 abbrev pub told_of : Ran → DayRan

@@ -9,7 +9,7 @@ ghost use Rattle.columns.specs.Books.{lent_book, IsSound, IsReady, SameColumns};
 ghost use Rattle.answers.specs.Turns.{count_in, cancelled_in};
 ghost use Rattle.instructions.specs.Answering.{Begins};
 ghost use Rattle.host.specs.States.{state_in};
-ghost use Rattle.batch.specs.Batch.{answer_numbers, writes_records, has_room, within, stopped_by, told_of, Stepped, Passed, PassedBeside, RanIs, DayRanIs};
+ghost use Rattle.batch.specs.Batch.{answer_numbers, writes_records, has_room, within, stopped_by, CanGoOn, place_behind, ended_at, told_of, Stepped, Passed, PassedBeside, RanIs, DayRanIs};
 
 use answers::Turn;
 use columns::{LentColumns, shared};
@@ -53,6 +53,29 @@ struct Ran {
     refusal: u32,
     stand: Stand,
     state: State,
+}
+
+// The place behind one more instruction.
+fn behind(p: Stand, words: usize, written: usize) -> Stand
+    requires { CanGoOn p words written }
+    ensures { result ≡ place_behind p words written }
+{
+    Stand {
+        used: p.used + words,
+        answered: p.answered + 1,
+        written: p.written + written,
+    }
+}
+
+// The end of a run.
+fn ended(refusal: u32, stand: Stand, state: State) -> Ran
+    ensures { result ≡ ended_at refusal stand state }
+{
+    Ran {
+        refusal,
+        stand,
+        state,
+    }
 }
 
 // Does the instruction write records?
@@ -142,27 +165,17 @@ fn trades(
     ensures sound { IsSound s columns.new }
     ensures same { SameColumns columns.old columns.new }
 {
-    let mut used = from.used;
-    let mut answered = from.answered;
+    let mut p = from;
     // It goes on by two words a trade, up to another instruction.
-    while has_room(answers.len() - ANSWER_NUMBERS * answered, room) {
-        let Some(t) = tape::trade_of(&words[used..]) else {
-            return Stand {
-                used,
-                answered,
-                ..from
-            };
+    while has_room(answers.len() - ANSWER_NUMBERS * p.answered, room) {
+        let Some(t) = tape::trade_of(&words[p.used..]) else {
+            return p;
         };
         let r = running::trade(s, columns, t.issue, t.from, t.to, t.lots);
-        tell(r, &mut answers[ANSWER_NUMBERS * answered..]);
-        used += 2;
-        answered += 1;
+        tell(r, &mut answers[ANSWER_NUMBERS * p.answered..]);
+        p = behind(p, 2, 0);
     }
-    Stand {
-        used,
-        answered,
-        ..from
-    }
+    p
 }
 
 // The deliveries from a place on, up to another instruction, while there is room. Where full units are not dealt in turn, each
@@ -205,11 +218,7 @@ fn deliveries(
         );
         tell(r, &mut answers[ANSWER_NUMBERS * p.answered..]);
         let x = Instruction::Deliver(d.issue, d.account, d.lots);
-        p = Stand {
-            used: p.used + 2,
-            answered: p.answered + 1,
-            written: p.written + words_written(x, r),
-        };
+        p = behind(p, 2, words_written(x, r));
     }
     p
 }
@@ -237,19 +246,11 @@ fn run(
     while stand.used < words.len() {
         let (x, n) = match tape::read(&words[stand.used..]) {
             Ok(read) => read,
-            Err(r) => return Ran {
-                refusal: r.number(),
-                stand,
-                state,
-            },
+            Err(r) => return ended(r.number(), stand, state),
         };
         let told = ANSWER_NUMBERS * stand.answered;
         if !has_room(answers.len() - told, out.len() - stand.written) {
-            return Ran {
-                refusal: 0,
-                stand,
-                state,
-            };
+            return ended(0, stand, state);
         }
         let t = turn(
             &words[stand.used..],
@@ -260,26 +261,12 @@ fn run(
             &mut out[stand.written..],
         );
         state = t.state;
-        let next = Stand {
-            used: stand.used + n,
-            answered: stand.answered + 1,
-            written: stand.written + t.written,
-        };
-        let p = trades(
-            words,
-            state,
-            columns,
-            answers,
-            out.len() - next.written,
-            next,
-        );
+        let next = behind(stand, n, t.written);
+        let room = out.len() - next.written;
+        let p = trades(words, state, columns, answers, room, next);
         stand = deliveries(words, state, columns, &mut kept, answers, out, p);
     }
-    Ran {
-        refusal: 0,
-        stand,
-        state,
-    }
+    ended(0, stand, state)
 }
 
 // What a run gives a host, in plain numbers.

@@ -1,13 +1,13 @@
 -- An instruction that is read, with room for what it gives, is one more, and the trades and deliveries behind it are passed; else
 -- the run stops here.
 use Rattle.std.proofs.Common.{rules, arith, ◌≡◌, ◌-◌, ◌*◌, length, take, drop, ℕ, List, Result, refl, sym, ap, ◌∙◌}
-use lib.ListN.{length-drop}
 use Rattle.rules.specs.declared.Instruction.{Instruction}
 use Rattle.rules.specs.declared.Refusal.{Refusal}
 use Rattle.rules.specs.Refusals.{numbered}
 use Rattle.rules.specs.Tape.{read_of}
 use Rattle.rereading.proofs.Sized.{read_sized}
 use Rattle.columns.proofs.Same.{same_then}
+use Rattle.batch.specs.declared.Stand.{Stand}
 use Rattle.batch.proofs.Batches.{starts, rest_part, stops_at_end, stops_refused, stops_full, turned, roomy}
 use Rattle.batch.proofs.run.Goals as goal
 
@@ -22,14 +22,15 @@ loop-stand-init c = (c.requires, starts _ _ _ _, refl, refl, search rules, searc
 pub returns-in-Err-clause-done : goal.returns-in-Err-clause-done
 returns-in-Err-clause-done c =
     let l = c.loop-stand in
-    rw c.number.ensures
+    rw (c.ended.ensures, c.number.ensures)
     (stops_refused _ _ _ _ _ _ _ _ l.invariant.1 c.loop-stand-test.true _ (begins c.args.words.now l.stand.used _ _ c.read.ensures c.in-Err.is))
 
 pub returns-then-not-has_room-clause-done : goal.returns-then-not-has_room-clause-done
 returns-then-not-has_room-clause-done c =
     let l = c.loop-stand in
-    stops_full _ _ _ _ _ _ _ _ l.invariant.1 c.in-Ok.read.0 c.in-Ok.read.1 (begins c.args.words.now l.stand.used _ _ c.read.ensures c.in-Ok.is)
-    (sym c.has_room.ensures ∙ c.if-not-has_room.true)
+    rw c.ended-then-not-has_room.ensures
+    (stops_full _ _ _ _ _ _ _ _ l.invariant.1 c.in-Ok.read.0 c.in-Ok.read.1 (begins c.args.words.now l.stand.used _ _ c.read.ensures c.in-Ok.is)
+    (sym c.has_room.ensures ∙ c.if-not-has_room.true))
 
 pub turn-t-requires : goal.turn-t-requires
 turn-t-requires c =
@@ -40,23 +41,21 @@ turn-t-requires c =
       r.0,
     )
 
-pub overflow_add-next : goal.overflow_add-next
-overflow_add-next c =
-    let a = c.args in
-    let l = c.loop-stand in
-    let z = read_sized _ _ c.in-Ok.read.1 (begins a.words.now l.stand.used _ _ c.read.ensures c.in-Ok.is) in
-    record { fits = omega (arith, z.1, l.invariant.1.within, length-drop l.stand.used a.words.now) }
-
-pub overflow_add-next-in-loop-stand-2 : goal.overflow_add-next-in-loop-stand-2
-overflow_add-next-in-loop-stand-2 c =
+pub behind-next-requires : goal.behind-next-requires
+behind-next-requires c =
     let l = c.loop-stand in
     let n = turned _ _ _ _ _ _ _ _ l.invariant.1 c.in-Ok.read.0 c.in-Ok.read.1 (begins c.args.words.now l.stand.used _ _ c.read.ensures c.in-Ok.is)
     (sym c.has_room.ensures ∙ c.if-not-has_room.false) _ _ _ _ c.turn-t.ensures.done in
-    record { fits = omega (arith, n.put, c.turn-t.auto.out, l.auto.out) }
+    record {
+      words = omega (arith, n.within);
+      numbers = omega (arith, n.told, c.turn-t.auto.answers, l.auto.answers);
+      records = omega (arith, n.put, c.turn-t.auto.out, l.auto.out);
+    }
 
-pub overflow_sub-out-in-loop-stand : goal.overflow_sub-out-in-loop-stand
-overflow_sub-out-in-loop-stand c =
+pub overflow_sub-room : goal.overflow_sub-room
+overflow_sub-room c =
     let l = c.loop-stand in
+    rw c.behind-next.ensures
     (turned _ _ _ _ _ _ _ _ l.invariant.1 c.in-Ok.read.0 c.in-Ok.read.1 (begins c.args.words.now l.stand.used _ _ c.read.ensures c.in-Ok.is)
     (sym c.has_room.ensures ∙ c.if-not-has_room.false) _ _ _ _ c.turn-t.ensures.done).put
 
@@ -66,22 +65,21 @@ trades-p-requires c =
     let s = c.turn-t.ensures.done in
     let n = turned _ _ _ _ _ _ _ _ l.invariant.1 c.in-Ok.read.0 c.in-Ok.read.1 (begins c.args.words.now l.stand.used _ _ c.read.ensures c.in-Ok.is)
     (sym c.has_room.ensures ∙ c.if-not-has_room.false) _ _ _ _ s in
-    (record { lengths = s.lengths; sound = s.sound }, (n.within, n.told))
+    rw c.behind-next.ensures (record { lengths = s.lengths; sound = s.sound }, (n.within, n.told))
 
 pub deliveries-stand-requires : goal.deliveries-stand-requires
 deliveries-stand-requires c =
     let l = c.loop-stand in
-    let t = c.trades-p.ensures in
     let n = turned _ _ _ _ _ _ _ _ l.invariant.1 c.in-Ok.read.0 c.in-Ok.read.1 (begins c.args.words.now l.stand.used _ _ c.read.ensures c.in-Ok.is)
     (sym c.has_room.ensures ∙ c.if-not-has_room.false) _ _ _ _ c.turn-t.ensures.done in
-    let p = (t.done _ refl).going _ _ _ n in
-    (t.sound, l.invariant.4, (p.within, p.told), p.put)
+    let p = (c.trades-p.ensures.done _ refl).going _ _ _ (rw (← c.behind-next.ensures) at n) in
+    (c.trades-p.ensures.sound, l.invariant.4, (p.within, p.told), p.put)
 
 pub loop-stand-smaller : goal.loop-stand-smaller
 loop-stand-smaller c =
     let l = c.loop-stand in
     let z = read_sized _ _ c.in-Ok.read.1 (begins c.args.words.now l.stand.used _ _ c.read.ensures c.in-Ok.is) in
-    omega (arith, z.0, c.loop-stand-test.true, (c.trades-p.ensures.done _ refl).on, c.deliveries-stand.ensures.done.on)
+    omega (arith, z.0, c.loop-stand-test.true, ap (λ (q : Stand). q.used) c.behind-next.ensures, (c.trades-p.ensures.done _ refl).on, c.deliveries-stand.ensures.done.on)
 
 pub loop-stand-preserved : goal.loop-stand-preserved
 loop-stand-preserved c =
@@ -91,7 +89,7 @@ loop-stand-preserved c =
     let n = turned _ _ _ _ _ _ _ _ l.invariant.1 c.in-Ok.read.0 c.in-Ok.read.1 (begins c.args.words.now l.stand.used _ _ c.read.ensures c.in-Ok.is)
     (sym c.has_room.ensures ∙ c.if-not-has_room.false) _ _ _ _ c.turn-t.ensures.done in (
       d.sound,
-      d.done.going _ _ _ ((t.done _ refl).going _ _ _ n),
+      d.done.going _ _ _ ((t.done _ refl).going _ _ _ (rw (← c.behind-next.ensures) at n)),
       search rules,
       search rules,
       search rules,
@@ -99,4 +97,4 @@ loop-stand-preserved c =
     )
 
 pub returns-clause-done : goal.returns-clause-done
-returns-clause-done c = stops_at_end _ _ _ _ _ _ _ _ c.loop-stand.invariant.1 c.loop-stand-test.false
+returns-clause-done c = rw c.ended-2.ensures (stops_at_end _ _ _ _ _ _ _ _ c.loop-stand.invariant.1 c.loop-stand-test.false)
