@@ -1,5 +1,5 @@
 -- A run part by part: what is printed of the words that are there, and the run from where it stands then.
-use Rattle.std.specs.Prelude.{◌≡◌, Bool, true, false, cond, List, [], ◌++◌, ℕ, ◌+◌, ◌*◌, ◌≤◌, ◌<◌, leb, ltb, length, take, drop}
+use Rattle.std.specs.Prelude.{◌≡◌, Bool, true, false, cond, List, [], ◌++◌, ℕ, ◌+◌, ◌*◌, ◌≤◌, ◌<◌, ◌^◌, leb, ltb, length, take, drop}
 use Rattle.rules.specs.declared.Book.{Book}
 use Rattle.rules.specs.declared.Instruction.{Instruction}
 use Rattle.rules.specs.declared.Name.TheVariants.{Tape}
@@ -69,6 +69,10 @@ pub record Held (b : Book) : Type 0 where
 pub record SomeHeld (within : Book → Book) : Type 0 where
   pub rest : Book
   pub held : Held (within rest)
+
+-- a place of a run, at a word and at the end of its text: a line for each word has room, and the index of each is a number of 64 bits
+abbrev pub IsPlace : List ℕ → ℕ → List ℕ → ℕ → ℕ → Type 0
+IsPlace ws index text at end = (at ≤ length ws) × (end ≤ 72 * at) × (72 * (length ws + 1) ≤ length text) × (index + length ws < 2 ^ 64)
 
 -- instructions that are passed on a way, whichever book it is that has what is lent: it stays sound, and the way goes on behind them
 pub record Passed (ws : List ℕ) (last : Bool) (index : ℕ) (before after : Book → Book) (text text' : List ℕ) (at end at' end' : ℕ) : Type 0 where

@@ -9,7 +9,7 @@ ghost use Rattle.rules.specs.Text.{line_text};
 ghost use Rattle.report.specs.Added.{Added};
 ghost use Rattle.answers.specs.Turns.{count_in, within_nets, within_cells};
 ghost use Rattle.delivery.specs.Deliver.{KeepsEach};
-ghost use Rattle.passing.specs.Going.{enough, SomeHeld, Passed};
+ghost use Rattle.passing.specs.Going.{enough, SomeHeld, IsPlace, Passed};
 
 use answers::Turn;
 use report::text;
@@ -61,7 +61,7 @@ pub fn trades(
     from: usize,
     to: usize,
 ) -> Place
-    requires { SomeHeld (within_nets s nets.old) × (from ≤ length words.now) × (to ≤ 72 * from) × (72 * (length words.now + 1) ≤ length text.old) × (index + length words.now < 2 ^ 64) }
+    requires { SomeHeld (within_nets s nets.old) × IsPlace words.now index text.old from to }
     ensures { Passed words.now last index (within_nets s nets.old) (within_nets s nets.new) text.old text.new from to result.at result.end }
 {
     let mut at = from;
@@ -78,7 +78,7 @@ pub fn trades(
     Place { at, end }
 }
 
-// The deliveries from a place on, up to another instruction, where nothing is kept yet: each answered on what is kept of
+// The deliveries from a place on, up to another instruction, where what is kept is right: each answered on what is kept of
 // its issue, and their lines.
 fn deliveries_on(
     words: &[u32],
@@ -93,7 +93,7 @@ fn deliveries_on(
     from: usize,
     to: usize,
 ) -> Place
-    requires { SomeHeld (within_cells s nets.now delivered.old lifts.old) × KeepsEach nets.now delivered.old lifts.old kept.old × (from ≤ length words.now) × (to ≤ 72 * from) × (72 * (length words.now + 1) ≤ length text.old) × (index + length words.now < 2 ^ 64) }
+    requires { SomeHeld (within_cells s nets.now delivered.old lifts.old) × KeepsEach nets.now delivered.old lifts.old kept.old × IsPlace words.now index text.old from to }
     ensures { Passed words.now last index (within_cells s nets.now delivered.old lifts.old) (within_cells s nets.now delivered.new lifts.new) text.old text.new from to result.at result.end }
 {
     let mut at = from;
@@ -128,7 +128,7 @@ pub fn deliveries(
     from: usize,
     to: usize,
 ) -> Place
-    requires { SomeHeld (within_cells s nets.now delivered.old lifts.old) × (length kept.old ≡ 16) × (from ≤ length words.now) × (to ≤ 72 * from) × (72 * (length words.now + 1) ≤ length text.old) × (index + length words.now < 2 ^ 64) }
+    requires { SomeHeld (within_cells s nets.now delivered.old lifts.old) × (length kept.old ≡ 16) × IsPlace words.now index text.old from to }
     ensures { Passed words.now last index (within_cells s nets.now delivered.old lifts.old) (within_cells s nets.now delivered.new lifts.new) text.old text.new from to result.at result.end }
 {
     if delivery_of(&words[from..]).is_none() {

@@ -1,12 +1,8 @@
 -- A delivery that was found is one more that is passed.
-use Rattle.std.proofs.Common.{◌≡◌, rules, arith, ◌-◌, length, take, drop, ℕ, List, sym, ap, ◌∙◌, Option, Some, Ok}
+use Rattle.std.proofs.Common.{rules, arith, ◌∙◌}
 use lib.ListN.{length-drop}
-use Rattle.rules.specs.declared.Instruction.TheVariants as instruction
-use Rattle.rules.specs.Tape.{read_of}
 use Rattle.rereading.proofs.Sized.{read_sized}
 use Rattle.answers.specs.Turns.{within_cells}
-use Rattle.tape.specs.declared.Delivery.{Delivery}
-use Rattle.tape.specs.Found.{FoundDelivery}
 use Rattle.tape.proofs.Found.{found_delivery}
 use Rattle.passing.proofs.Goings.{rest_enough}
 use Rattle.passing.proofs.Passing.{deliver_on}

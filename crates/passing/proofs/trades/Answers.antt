@@ -1,13 +1,9 @@
 -- A trade that was found is one more that is passed.
-use Rattle.std.proofs.Common.{◌≡◌, rules, arith, ◌-◌, length, take, drop, ℕ, List, sym, ap, ◌∙◌, Option, Some, Ok}
+use Rattle.std.proofs.Common.{rules, arith, ◌∙◌}
 use lib.ListN.{length-drop}
-use Rattle.rules.specs.declared.Instruction.TheVariants as instruction
-use Rattle.rules.specs.Tape.{read_of}
 use Rattle.rereading.proofs.Sized.{read_sized}
-use Rattle.tape.specs.declared.Trade.{Trade}
 use Rattle.rules.specs.Run.{any_output}
 use Rattle.answers.specs.Turns.{within_nets}
-use Rattle.tape.specs.Found.{FoundTrade}
 use Rattle.tape.proofs.Found.{found_trade}
 use Rattle.passing.proofs.Goings.{rest_enough}
 use Rattle.passing.proofs.Passing.{trade_on}

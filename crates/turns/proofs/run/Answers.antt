@@ -51,10 +51,7 @@ trades-p-requires c =
     let t = c.turn-t.ensures.done in
     let z = read_sized _ _ c.in-Ok.read.1 (begins a.words.now l.at _ _ c.read.ensures c.in-Ok.is) in (
       record { rest = lent_book c.turn-t.result.state c.turn-t.new.columns; held = record { lengths = t.lengths; sound = t.sound } },
-      omega (arith, z.1, l.invariant.4.within, length-drop l.at a.words.now),
-      omega (arith, z.0, l.invariant.4.short, t.printed.few),
-      search rules,
-      c.requires.3,
+      (omega (arith, z.1, l.invariant.4.within, length-drop l.at a.words.now), omega (arith, z.0, l.invariant.4.short, t.printed.few), search rules, c.requires.3),
     )
 
 pub deliveries-d-requires : goal.deliveries-d-requires
@@ -72,10 +69,7 @@ deliveries-d-requires c =
     (rw (rest_part a.words.now l.at) at t)) in (
       record { rest = within_nets turned.state c.trades-p.new.nets turned; held = p.held turned h },
       l.invariant.3 ∙ c.requires.1,
-      g.within,
-      g.short,
-      search rules,
-      c.requires.3,
+      (g.within, g.short, search rules, c.requires.3),
     )
 
 pub loop-read-smaller : goal.loop-read-smaller
