@@ -4,6 +4,7 @@
 
 pub mod account;
 pub mod batch;
+pub mod block;
 pub mod bytes;
 pub mod check;
 pub mod csv;

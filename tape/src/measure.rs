@@ -1,5 +1,6 @@
 //! Numbers for people: lots with their face in yen, and digits in threes.
 
+use crate::block::{put, Piece, Text};
 use std::fmt;
 use std::io::{self, Write};
 
@@ -35,7 +36,7 @@ const fn firsts() -> [[u8; 3]; 1_000] {
 }
 
 /// The room that a number takes at most: seven times three digits, and the six commas between them.
-const ROOM: usize = 27;
+pub const ROOM: usize = 27;
 
 /// Writes a number below 1,000 at the front of a room; answers how many digits it has.
 #[inline(always)]
@@ -47,7 +48,7 @@ fn first(number: usize, room: &mut [u8; ROOM]) -> usize {
 /// Writes a number from the front of a room, three digits at a time, with a comma before every three behind
 /// the first where they are grouped; answers how many bytes it takes. What stands behind them does not count.
 #[inline(always)]
-fn digits(number: u64, grouped: bool, room: &mut [u8; ROOM]) -> usize {
+pub fn digits(number: u64, grouped: bool, room: &mut [u8; ROOM]) -> usize {
     if number < 1_000 {
         return first(number as usize, room);
     }
@@ -69,68 +70,6 @@ fn digits(number: u64, grouped: bool, room: &mut [u8; ROOM]) -> usize {
     at
 }
 
-/// A line that is put together piece by piece, without the cost of a format, and written at once. It
-/// has room for the longest line of a trade; what does not fit is left out.
-pub struct Line {
-    bytes: [u8; 192],
-    length: usize,
-}
-
-impl Line {
-    /// An empty line.
-    pub fn new() -> Line {
-        Line { bytes: [0; 192], length: 0 }
-    }
-
-    /// Puts a piece.
-    #[inline(always)]
-    pub fn put(&mut self, piece: &[u8]) -> &mut Line {
-        let end = self.length + piece.len();
-        if let Some(room) = self.bytes.get_mut(self.length..end) {
-            room.copy_from_slice(piece);
-            self.length = end;
-        }
-        self
-    }
-
-    /// Puts a number.
-    #[inline(always)]
-    pub fn number(&mut self, number: u64) -> &mut Line {
-        self.digits(number, false)
-    }
-
-    /// Puts a number with a comma before every three digits.
-    pub fn grouped(&mut self, number: u64) -> &mut Line {
-        self.digits(number, true)
-    }
-
-    /// Puts the digits of a number where they are to stand, if there is room for the longest.
-    #[inline(always)]
-    fn digits(&mut self, number: u64, grouped: bool) -> &mut Line {
-        let room = self.bytes.get_mut(self.length..).and_then(|rest| rest.first_chunk_mut());
-        if let Some(room) = room {
-            self.length += digits(number, grouped, room);
-        }
-        self
-    }
-
-    /// Takes away what was put.
-    pub fn clear(&mut self) {
-        self.length = 0;
-    }
-
-    /// What was put.
-    pub fn bytes(&self) -> &[u8] {
-        &self.bytes[..self.length]
-    }
-}
-
-impl Default for Line {
-    fn default() -> Line {
-        Line::new()
-    }
-}
-
 /// Writes a number, without the cost of a format.
 pub fn write_number(out: &mut impl Write, number: u64) -> io::Result<()> {
     let mut written = [0; ROOM];
@@ -138,16 +77,22 @@ pub fn write_number(out: &mut impl Write, number: u64) -> io::Result<()> {
     out.write_all(&written[..size])
 }
 
-impl fmt::Display for Grouped {
-    fn fmt(&self, text: &mut fmt::Formatter) -> fmt::Result {
+impl Piece for Grouped {
+    fn put(&self, out: &mut impl Text) -> io::Result<()> {
         if self.0 < 0 {
-            text.write_str("-")?;
+            out.write_all(b"-")?;
         }
         let size = self.0.unsigned_abs();
-        let Ok(number) = u64::try_from(size) else { return write!(text, "{size}") };
-        let mut written = [0; ROOM];
-        let size = digits(number, true, &mut written);
-        text.write_str(std::str::from_utf8(&written[..size]).unwrap_or_default())
+        match u64::try_from(size) {
+            Ok(number) => out.number(number, true),
+            Err(_) => write!(out, "{size}"),
+        }
+    }
+}
+
+impl fmt::Display for Grouped {
+    fn fmt(&self, text: &mut fmt::Formatter) -> fmt::Result {
+        text.write_str(&self.alone())
     }
 }
 
@@ -160,9 +105,17 @@ pub fn counted(count: usize, thing: &str) -> String {
 #[derive(Clone, Copy, Debug, PartialEq, Eq)]
 pub struct Lots(pub u64);
 
+impl Piece for Lots {
+    #[inline(always)]
+    fn put(&self, out: &mut impl Text) -> io::Result<()> {
+        out.number(self.0, true)?;
+        if self.0 == 1 { " lot" } else { " lots" }.put(out)
+    }
+}
+
 impl fmt::Display for Lots {
     fn fmt(&self, text: &mut fmt::Formatter) -> fmt::Result {
-        write!(text, "{} lot{}", Grouped(self.0.into()), if self.0 == 1 { "" } else { "s" })
+        text.write_str(&self.alone())
     }
 }
 
@@ -170,9 +123,21 @@ impl fmt::Display for Lots {
 #[derive(Clone, Copy, Debug, PartialEq, Eq)]
 pub struct Face(pub u64);
 
+impl Piece for Face {
+    #[inline(always)]
+    fn put(&self, out: &mut impl Text) -> io::Result<()> {
+        put!(out, Lots(self.0), " (")?;
+        match self.0.checked_mul(50_000) {
+            Some(yen) => out.number(yen, true)?,
+            None => Grouped(i128::from(self.0) * 50_000).put(out)?,
+        }
+        " yen face)".put(out)
+    }
+}
+
 impl fmt::Display for Face {
     fn fmt(&self, text: &mut fmt::Formatter) -> fmt::Result {
-        write!(text, "{} ({} yen face)", Lots(self.0), Grouped(i128::from(self.0) * 50_000))
+        text.write_str(&self.alone())
     }
 }
 
@@ -212,9 +177,6 @@ mod tests {
             write_number(&mut written, number).unwrap();
             assert_eq!(String::from_utf8(written).unwrap(), number.to_string());
         }
-        let mut line = Line::new();
-        line.put(b"a ").grouped(1_234_567).put(b" ").number(u64::MAX);
-        assert_eq!(line.bytes(), b"a 1,234,567 18446744073709551615");
         assert_eq!(Grouped(i128::MIN).to_string(), i128::MIN.to_string());
     }
 

@@ -7,11 +7,12 @@
 //! account 5 Nomura
 //! ```
 
+use crate::block::{Piece, Text};
 use crate::fault::{shown, words_of, Fault, Faults, Word};
 use crate::measure::counted;
 use crate::text::digits_of;
 use settlement_day::{ACCOUNTS, ISSUES};
-use std::fmt;
+use std::{fmt, io};
 
 /// The most letters of a name.
 pub const MOST_LETTERS: usize = 32;
@@ -286,6 +287,16 @@ pub struct Called<'a> {
     pub name: Option<&'a str>,
     /// Its number.
     pub number: u32,
+}
+
+impl Piece for Called<'_> {
+    #[inline(always)]
+    fn put(&self, out: &mut impl Text) -> io::Result<()> {
+        match self.name {
+            Some(name) => name.put(out),
+            None => u64::from(self.number).put(out),
+        }
+    }
 }
 
 impl fmt::Display for Called<'_> {

@@ -4,6 +4,7 @@ pub mod json;
 pub(crate) mod page;
 pub mod text;
 
+use crate::block::Block;
 use crate::facts::{Fact, Told};
 use crate::input::Day;
 use crate::story;
@@ -68,7 +69,7 @@ fn tell<'a>(day: &'a Day, only: Only, sink: &'a mut story::Sink<'a>) -> Result<u
 
 /// Runs a day and tells its facts in a form; answers the day on which it ends.
 pub fn explain(day: &Day, form: Form, only: Only, output: &mut dyn Write) -> Result<u16, Untold> {
-    let mut output = io::BufWriter::with_capacity(1 << 16, output);
+    let mut output = Block::before(output);
     let out = &mut output;
     let last = match form {
         Form::Text => {

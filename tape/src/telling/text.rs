@@ -1,39 +1,35 @@
 //! The facts as sentences: a line for each instruction, and below it what it did.
 
+use crate::block::{put, Block, Piece, Text};
 use crate::dealt::{Rounds, Turn};
 use crate::facts::{Fact, Told};
 use crate::input::Stands;
 use crate::known::Known;
 use crate::ledger::Step;
-use crate::measure::{counted, Face, Grouped, Line, Lots, Price, Rate};
+use crate::measure::{counted, Face, Grouped, Lots, Price, Rate};
 use crate::units::Case;
 use settlement_day::Instruction;
 use std::fmt::Display;
 use std::io::{self, Write};
 
 /// Tells a fact of an instruction that stands there.
-pub fn tell(out: &mut impl Write, told: &Told, stands: Stands) -> io::Result<()> {
+pub fn tell(out: &mut Block, told: &Told, stands: Stands) -> io::Result<()> {
     let Told { day, word, fact, known, .. } = *told;
     match fact {
         Fact::Day { day, turn } => writeln!(out, "Day {}", day_text(*day, *turn, known)),
         Fact::Instruction { instruction, refusal } => {
-            let mut line = Line::new();
-            head(out, &mut line, word, stands)?;
-            let plain = refusal.is_none() && known.names.is_empty();
-            if plain && matches!(instruction, Instruction::Trade { .. }) {
-                return trade(out, &mut line, instruction);
+            if stands.file.is_some() {
+                said_at(out, word, stands, instruction, known)?;
+            } else {
+                out.line(|line| said_at(line, word, stands, instruction, known))?;
             }
-            out.write_all(line.put(b": ").bytes())?;
-            sentence(out, instruction, known)?;
             match refusal {
-                Some((_, why)) => writeln!(out, ": {why}"),
-                None => writeln!(out),
+                Some((_, why)) => put!(out, ": ", why.as_str(), "\n"),
+                None => "\n".put(out),
             }
         }
         Fact::ReadingEnds { refusal, why } => {
-            let mut line = Line::new();
-            head(out, &mut line, word, stands)?;
-            out.write_all(line.bytes())?;
+            head(out, word, stands)?;
             writeln!(out, ": reading ends, refused by {}: {why}", refusal.number())
         }
         Fact::End { phase, entries, charged } => {
@@ -44,48 +40,42 @@ pub fn tell(out: &mut impl Write, told: &Told, stands: Stands) -> io::Result<()>
             writeln!(out, "and {charged} with charges")
         }
         _ => {
-            write!(out, "      ")?;
+            "      ".put(out)?;
             detail(out, fact, known)?;
-            writeln!(out)
+            "\n".put(out)
         }
     }
 }
 
-/// The beginning of an instruction's line: its first word, and where it stands. A name is written at
-/// once, for it may be long.
+/// An instruction behind where it stands. A tape may have a million.
 #[inline(always)]
-fn head(
-    out: &mut impl Write,
-    line: &mut Line,
+fn said_at(
+    out: &mut impl Text,
     word: Option<usize>,
     stands: Stands,
+    instruction: &Instruction,
+    known: &Known,
 ) -> io::Result<()> {
-    line.put(b"  word ").number(word.unwrap_or_default() as u64);
-    if stands.file.is_some() || stands.line.is_some() {
-        line.put(b",");
-    }
-    if let Some(file) = stands.file {
-        out.write_all(line.bytes())?;
-        write!(out, " {file}")?;
-        line.clear();
-    }
-    if let Some(number) = stands.line {
-        line.put(b" line ").number(number as u64);
-    }
-    Ok(())
+    head(out, word, stands)?;
+    ": ".put(out)?;
+    sentence(out, instruction, known)
 }
 
-/// The rest of the line of a trade that was done and of which nothing is named, without the cost of a
-/// format: a tape may have a million.
+/// The beginning of an instruction's line: its first word, and where it stands.
 #[inline(always)]
-fn trade(out: &mut impl Write, line: &mut Line, instruction: &Instruction) -> io::Result<()> {
-    let Instruction::Trade { issue, from, to, lots } = *instruction else { return Ok(()) };
-    let lots = u64::from(lots);
-    line.put(b": trade: account ").number(from.into());
-    line.put(b" sells account ").number(to.into()).put(b" ").grouped(lots);
-    line.put(if lots == 1 { b" lot (" } else { b" lots (" }).grouped(lots * 50_000);
-    line.put(b" yen face) of issue ").number(issue.into()).put(b"\n");
-    out.write_all(line.bytes())
+fn head(out: &mut impl Text, word: Option<usize>, stands: Stands) -> io::Result<()> {
+    put!(out, "  word ", word.unwrap_or_default() as u64)?;
+    if stands.file.is_none() && stands.line.is_none() {
+        return Ok(());
+    }
+    ",".put(out)?;
+    if let Some(file) = stands.file {
+        put!(out, " ", file)?;
+    }
+    match stands.line {
+        Some(number) => put!(out, " line ", number as u64),
+        None => Ok(()),
+    }
 }
 
 /// What an instruction says, as a text.
@@ -104,22 +94,33 @@ pub fn told(fact: &Fact, known: &Known) -> String {
 }
 
 /// What an instruction says.
-fn sentence(out: &mut impl Write, instruction: &Instruction, known: &Known) -> io::Result<()> {
+#[inline(always)]
+fn sentence(out: &mut impl Text, instruction: &Instruction, known: &Known) -> io::Result<()> {
     match *instruction {
         Instruction::Trade { issue, from, to, lots } => {
             let (issue, lots) = (known.issue(issue), Face(lots.into()));
             let (from, to) = (known.account(from), known.account(to));
-            write!(out, "trade: account {from} sells account {to} {lots} of issue {issue}")
+            put!(
+                out,
+                "trade: account ",
+                from,
+                " sells account ",
+                to,
+                " ",
+                lots,
+                " of issue ",
+                issue
+            )
         }
         Instruction::Deliver { issue, account, lots } => {
             let (issue, account) = (known.issue(issue), known.account(account));
             let lots = Face(lots.into());
-            write!(out, "deliver: account {account} delivers {lots} of issue {issue}")
+            put!(out, "deliver: account ", account, " delivers ", lots, " of issue ", issue)
         }
         Instruction::Resolve { issue, account, lots } => {
             let (issue, account) = (known.issue(issue), known.account(account));
             let lots = Face(lots.into());
-            write!(out, "resolve: account {account} hands over {lots} of issue {issue}")
+            put!(out, "resolve: account ", account, " hands over ", lots, " of issue ", issue)
         }
         Instruction::PairOff { issue, account } => {
             let (issue, account) = (known.issue(issue), known.account(account));
@@ -148,7 +149,7 @@ fn multiples(mark: u32) -> &'static str {
 }
 
 /// Something that an instruction did, or that stands in the book at the end.
-fn detail(out: &mut impl Write, fact: &Fact, known: &Known) -> io::Result<()> {
+fn detail(out: &mut impl Text, fact: &Fact, known: &Known) -> io::Result<()> {
     match fact {
         Fact::ChangeOver { turn } => {
             write!(out, "full units are dealt in turn from day {} on", known.day(*turn))
@@ -167,15 +168,13 @@ fn detail(out: &mut impl Write, fact: &Fact, known: &Known) -> io::Result<()> {
 }
 
 /// The units in their order, and what is owed.
-fn order(out: &mut impl Write, fact: &Fact, known: &Known) -> io::Result<()> {
+fn order(out: &mut impl Text, fact: &Fact, known: &Known) -> io::Result<()> {
     match fact {
         Fact::Units { issue, first, last, account, lots, due } => {
             let (issue, account) = (known.issue(*issue), known.account(*account));
-            let (units, is) = units_text(*first, *last);
-            let (lots, due) = (Lots((*lots).into()), Lots((*due).into()));
-            let each = if first == last { "" } else { " each" };
-            write!(out, "issue {issue}: {units} {is} account {account}'s, {lots}{each}, ")?;
-            write!(out, "of {due} due")
+            let (units, lots) = (Units::of(*first, *last), Lots((*lots).into()));
+            put!(out, "issue ", issue, ": ", units, units.is(), "account ", account, "'s, ", lots)?;
+            put!(out, units.each(), ", of ", Lots((*due).into()), " due")
         }
         Fact::Rounds { issue, rounds } => {
             write!(out, "issue {}: ", known.issue(*issue))?;
@@ -183,26 +182,26 @@ fn order(out: &mut impl Write, fact: &Fact, known: &Known) -> io::Result<()> {
         }
         Fact::Owes { issue, account, lots } => {
             let (issue, account) = (known.issue(*issue), known.account(*account));
+            put!(out, "account ", account)?;
             match lots {
-                0 => write!(out, "account {account} owes nothing more of issue {issue} today"),
-                lots => {
-                    let lots = Lots(*lots);
-                    write!(out, "account {account} still owes {lots} of issue {issue} today")
-                }
+                0 => " owes nothing more".put(out)?,
+                lots => put!(out, " still owes ", Lots(*lots))?,
             }
+            put!(out, " of issue ", issue, " today")
         }
         _ => Ok(()),
     }
 }
 
 /// Units dealt in turn: their rounds, and the accounts that take part in each.
-fn rounds_text(out: &mut impl Write, rounds: &Rounds, known: &Known) -> io::Result<()> {
+fn rounds_text(out: &mut impl Text, rounds: &Rounds, known: &Known) -> io::Result<()> {
     let Rounds { first, last, round, until, accounts } = rounds;
-    let (units, are) = units_text(*first, *last);
+    let units = Units::of(*first, *last);
+    put!(out, units, units.is())?;
     if round == until {
-        write!(out, "{units} {are} round {round}: one full unit ")?;
+        write!(out, "round {round}: one full unit ")?;
     } else {
-        write!(out, "{units} {are} rounds {round} to {until}: in each one full unit ")?;
+        write!(out, "rounds {round} to {until}: in each one full unit ")?;
     }
     match accounts.len() {
         1 => write!(out, "to account {}", known.accounts(accounts)),
@@ -211,7 +210,7 @@ fn rounds_text(out: &mut impl Write, rounds: &Rounds, known: &Known) -> io::Resu
 }
 
 /// Which case of the rule decided between close neighbours.
-fn decided(out: &mut impl Write, fact: &Fact, known: &Known) -> io::Result<()> {
+fn decided(out: &mut impl Text, fact: &Fact, known: &Known) -> io::Result<()> {
     match fact {
         Fact::Tie { issue, case, lots, accounts } => {
             let full = *case == Case::BothFull;
@@ -233,19 +232,20 @@ fn decided(out: &mut impl Write, fact: &Fact, known: &Known) -> io::Result<()> {
 }
 
 /// Units handed over, whole and in part, and stock that waits.
-fn handover(out: &mut impl Write, fact: &Fact, known: &Known) -> io::Result<()> {
+fn handover(out: &mut impl Text, fact: &Fact, known: &Known) -> io::Result<()> {
     match fact {
         Fact::Handed { first, last, account, lots, turn, .. } => {
-            let (units, is) = units_text(*first, *last);
-            let (lots, each) = (Face((*lots).into()), if first == last { "" } else { " each" });
+            let (units, lots) = (Units::of(*first, *last), Face((*lots).into()));
             let account = known.account(*account);
-            write!(out, "{units} {is} handed to account {account}: {lots}{each}{}", dealt(turn))
+            put!(out, units, units.is(), "handed to account ", account, ": ", lots, units.each())?;
+            dealt(out, turn)
         }
         Fact::Waits { stock, unit, account, lots, turn, .. } => {
-            let (wait, lots) = (if *stock == 1 { "waits" } else { "wait" }, Lots((*lots).into()));
-            let account = known.account(*account);
-            write!(out, "{} {wait} for unit {unit} of account {account}, {lots}", Lots(*stock))?;
-            out.write_all(dealt(turn).as_bytes())
+            let wait = if *stock == 1 { " waits" } else { " wait" };
+            let (unit, account) = (u64::from(*unit), known.account(*account));
+            put!(out, Lots(*stock), wait, " for unit ", unit, " of account ", account, ", ")?;
+            Lots((*lots).into()).put(out)?;
+            dealt(out, turn)
         }
         Fact::Partly { issue, unit, account, lots, lacks } => {
             let go = if *lots == 1 { "goes" } else { "go" };
@@ -262,18 +262,19 @@ fn handover(out: &mut impl Write, fact: &Fact, known: &Known) -> io::Result<()> 
 }
 
 /// Fails as they arise, are met and stand in the ledger.
-fn fail(out: &mut impl Write, fact: &Fact, known: &Known) -> io::Result<()> {
+fn fail(out: &mut impl Text, fact: &Fact, known: &Known) -> io::Result<()> {
     match fact {
         Fact::Fails { issue, from, to, lots, first, last, units } => {
             let (lots, units) = (Face((*lots).into()), failed_units(*first, *last, *units));
             let (from, to) = (known.account(*from), known.account(*to));
             let issue = known.issue(*issue);
-            write!(out, "issue {issue}: account {from} fails account {to}: {lots}, of {units}")
+            put!(out, "issue ", issue, ": account ", from, " fails account ", to, ": ", lots)?;
+            put!(out, ", of ", units.as_str())
         }
         Fact::NothingFails => write!(out, "nothing fails"),
         Fact::Resolved { from, to, lots, .. } => {
             let (from, to) = (known.account(*from), known.account(*to));
-            write!(out, "account {from} hands to account {to}: {}", Face((*lots).into()))
+            put!(out, "account ", from, " hands to account ", to, ": ", Face((*lots).into()))
         }
         Fact::Paired { steps, cancelled, .. } => {
             write!(out, "{}, {} cancelled", counted(*steps, "step"), Lots(*cancelled))
@@ -291,7 +292,7 @@ fn fail(out: &mut impl Write, fact: &Fact, known: &Known) -> io::Result<()> {
 }
 
 /// A step of an account's pair-off: the entries that meet, and what comes of it.
-fn met(out: &mut impl Write, account: u32, step: &Step, known: &Known) -> io::Result<()> {
+fn met(out: &mut impl Text, account: u32, step: &Step, known: &Known) -> io::Result<()> {
     let Step { from, from_since, to, to_since, lots } = *step;
     let (from_since, to_since) = (known.day(from_since), known.day(to_since));
     let (account, face) = (known.account(account), Face(lots.into()));
@@ -306,7 +307,7 @@ fn met(out: &mut impl Write, account: u32, step: &Step, known: &Known) -> io::Re
 
 /// An account's charges; or one charge, with the value, the price, accrued interest, the rate and the
 /// days behind it.
-fn charge(out: &mut impl Write, fact: &Fact, known: &Known) -> io::Result<()> {
+fn charge(out: &mut impl Text, fact: &Fact, known: &Known) -> io::Result<()> {
     if let Fact::Charged { account, yen } = fact {
         return write!(out, "account {}: {} yen", known.account(*account), Grouped((*yen).into()));
     }
@@ -321,11 +322,12 @@ fn charge(out: &mut impl Write, fact: &Fact, known: &Known) -> io::Result<()> {
 }
 
 /// A fail entry of the ledger.
-fn entry(out: &mut impl Write, numbers: &[u32; 4], since: u16, known: &Known) -> io::Result<()> {
+fn entry(out: &mut impl Text, numbers: &[u32; 4], since: u16, known: &Known) -> io::Result<()> {
     let [issue, from, to, lots] = *numbers;
     let (issue, lots, since) = (known.issue(issue), Face(lots.into()), known.day(since));
     let (from, to) = (known.account(from), known.account(to));
-    write!(out, "issue {issue}: account {from} owes account {to} {lots}, since day {since}")
+    put!(out, "issue ", issue, ": account ", from, " owes account ", to, " ", lots)?;
+    write!(out, ", since day {since}")
 }
 
 /// A day, and its order where a change-over day is named.
@@ -341,25 +343,58 @@ fn day_text(day: u16, turn: u32, known: &Known) -> String {
 }
 
 /// Where a unit stands that was dealt in turn.
-fn dealt(turn: &Option<Turn>) -> String {
-    turn.map_or(String::new(), |turn| format!(", {}", turn.words()))
+fn dealt(out: &mut impl Text, turn: &Option<Turn>) -> io::Result<()> {
+    turn.map_or(Ok(()), |turn| put!(out, ", ", turn.words().as_str()))
 }
 
 /// The units of a fail: those from the first to the last, or so many of them that lie apart.
 pub fn failed_units(first: u32, last: u32, units: u32) -> String {
     match units {
-        _ if last + 1 - first == units => units_text(first, last).0,
+        _ if last + 1 - first == units => Units::of(first, last).alone(),
         2 => format!("units {first} and {last}"),
         units => format!("{units} units from {first} to {last} that lie apart"),
     }
 }
 
-/// Units from the first to the last, and the verb that follows them.
-fn units_text(first: u32, last: u32) -> (String, &'static str) {
-    if first == last {
-        return (format!("unit {first}"), "is");
+/// Units from the first to the last.
+#[derive(Clone, Copy)]
+struct Units {
+    first: u32,
+    last: u32,
+}
+
+impl Units {
+    fn of(first: u32, last: u32) -> Units {
+        Units { first, last }
     }
-    (format!("units {first} to {last}"), "are")
+
+    /// The verb that follows them.
+    fn is(self) -> &'static str {
+        if self.first == self.last {
+            " is "
+        } else {
+            " are "
+        }
+    }
+
+    /// What follows the lots of one of them.
+    fn each(self) -> &'static str {
+        if self.first == self.last {
+            ""
+        } else {
+            " each"
+        }
+    }
+}
+
+impl Piece for Units {
+    #[inline]
+    fn put(&self, out: &mut impl Text) -> io::Result<()> {
+        if self.first == self.last {
+            return put!(out, "unit ", u64::from(self.first));
+        }
+        put!(out, "units ", u64::from(self.first), " to ", u64::from(self.last))
+    }
 }
 
 /// Days with their measure.
@@ -379,24 +414,39 @@ pub fn listed<T: Display>(things: &[T]) -> String {
 #[cfg(test)]
 mod tests {
     use super::*;
+    use crate::names::{Names, MOST_LETTERS};
 
     /// A fact of the instruction at a word.
     fn of<'a>(word: usize, fact: &'a Fact, known: &'a Known) -> Told<'a> {
         Told { day: 0, word: Some(word), stands: Stands::default(), fact, known }
     }
 
+    /// A fact as it is told.
+    fn text_of(told: &Told, stands: Stands) -> String {
+        let mut text = Vec::new();
+        tell(&mut Block::before(&mut text), told, stands).unwrap();
+        String::from_utf8(text).unwrap()
+    }
+
     #[test]
-    fn the_quick_line_of_a_trade_is_the_sentence() {
-        for lots in [0, 1, 2, 999, 1_000, 20_000_000, u32::MAX] {
-            let instruction = Instruction::Trade { issue: 15, from: 63, to: 0, lots };
+    fn a_trade_is_told_with_the_longest_names() {
+        let long = "\u{20000}".repeat(MOST_LETTERS);
+        let names =
+            Names::parse(&format!("issue 15 {long}i\naccount 63 {long}a\naccount 0 {long}b"));
+        assert!(names.is_err(), "a name is too long");
+        let names = format!("issue 15 {long}\naccount 63 A{}", &long[4..]);
+        let known = Known::of(&Names::parse(&names).unwrap());
+        for (lots, measured) in
+            [(0, "0 lots (0"), (1, "1 lot (50,000"), (u32::MAX, "4,294,967,295 lots")]
+        {
+            let instruction = Instruction::Trade { issue: 15, from: 63, to: 63, lots };
             let fact = Fact::Instruction { instruction, refusal: None };
-            let known = Known::default();
-            let told = of(1_234, &fact, &known);
-            let (mut quick, mut slow) = (Vec::new(), b"  word 1234: ".to_vec());
-            tell(&mut quick, &told, Stands::default()).unwrap();
-            sentence(&mut slow, &instruction, &known).unwrap();
-            slow.push(b'\n');
-            assert_eq!(String::from_utf8(quick), String::from_utf8(slow));
+            let line = Some(usize::MAX);
+            let told = of(usize::MAX, &fact, &known);
+            let text = text_of(&told, Stands { file: None, line, column: None });
+            let said = said(&instruction, &known);
+            assert!(said.contains(measured), "{said}");
+            assert_eq!(text, format!("  word {0}, line {0}: {said}\n", usize::MAX));
         }
     }
 
@@ -405,11 +455,7 @@ mod tests {
         let fact = Fact::Instruction { instruction: Instruction::Close, refusal: None };
         let known = Known::default();
         let told = of(7, &fact, &known);
-        let at = |file, line| {
-            let mut text = Vec::new();
-            tell(&mut text, &told, Stands { file, line, column: line }).unwrap();
-            String::from_utf8(text).unwrap()
-        };
+        let at = |file, line| text_of(&told, Stands { file, line, column: line });
         assert_eq!(at(None, None), "  word 7: close\n");
         assert_eq!(at(None, Some(9)), "  word 7, line 9: close\n");
         assert_eq!(at(Some("tue.txt"), Some(9)), "  word 7, tue.txt line 9: close\n");
