@@ -1,9 +1,8 @@
 //! A tape run on a fresh book, and its facts told one after another.
 //!
 //! The library reads the words, makes the calls, and answers which unit is which and what is
-//! charged. Deliveries, resolves and settings that follow one another are made together: what is told of
-//! each is in what was answered, and in the book behind them all. A trade that nothing speaks against is
-//! booked here, so that a tape of a million trades takes no longer than it must.
+//! charged. Trades, deliveries, resolves and settings that follow one another are made together: what is told
+//! of each is in what was answered, and in the book behind them all.
 
 use crate::batch::{Batch, Made};
 use crate::dealt::{Dealt, Turn};
@@ -19,14 +18,12 @@ use crate::units::{close, runs, unit_of, waiting, Case, Run, Walk};
 use crate::why::{owed_today, why};
 use settlement_day::calls::{self, Done, Unit};
 use settlement_day::{
-    desk, place, tape, Book, Entry, Instruction, Phase, ACCOUNTS, ISSUES, OUTPUT_WORDS, QUOTES,
+    desk, tape, Book, Entry, Instruction, ACCOUNTS, ISSUES, OUTPUT_WORDS, QUOTES,
 };
 use std::io;
 
 /// The kind of the record of a fail; the others are handovers.
 const FAIL: u32 = 12;
-/// The most lots of a trade, and of a net to either side.
-const MOST_LOTS: u32 = 20_000_000;
 
 /// What is done with each fact.
 pub type Sink<'a> = dyn FnMut(&Told) -> io::Result<()> + 'a;
@@ -108,15 +105,7 @@ impl<'a> Story<'a> {
         (self.word, self.stands) = (Some(word), stands);
         let mut used = Ok(0);
         if !self.batch.has_next() {
-            let first = tape::read(words).ok();
-            if let Some((instruction, count)) = first.filter(|(it, _)| traded(&mut self.book, it)) {
-                self.fact(&Fact::Instruction { instruction, refusal: None })?;
-                return Ok(Some(count));
-            }
-            // Behind a trade that is refused the others are made together too.
-            let trades = first.is_some_and(|(it, _)| is_trade(&it));
-            let is_left = |it: &Instruction, _| is_alone(it) || !trades && is_trade(it);
-            used = self.batch.make(&mut self.book, words, is_left);
+            used = self.batch.make(&mut self.book, words, |it, _| is_alone(it));
         }
         if let Some(made) = self.batch.next() {
             return self.made(&made).map(|()| Some(made.count));
@@ -461,31 +450,6 @@ fn is_alone(instruction: &Instruction) -> bool {
     matches!(instruction, Close | Cutoff | PairOff { .. } | Roll { .. })
 }
 
-fn is_trade(instruction: &Instruction) -> bool {
-    matches!(instruction, Instruction::Trade { .. })
-}
-
-/// Books a trade that nothing speaks against on a book that is sound; answers whether it did. The library takes five
-/// times as many instructions for it in a run, and a tape may have a million.
-fn traded(book: &mut Book, instruction: &Instruction) -> bool {
-    let Instruction::Trade { issue, from, to, lots } = *instruction else { return false };
-    let (Some(low), Some(high)) = (place(issue, from), place(issue, to)) else { return false };
-    if book.phase != Phase::TAKING || low == high || lots == 0 || lots > MOST_LOTS {
-        return false;
-    }
-    if book.is_marked(issue) && lots % 2 != 0 {
-        return false;
-    }
-    let (most, lots) = (MOST_LOTS as i32, lots as i32);
-    let (fallen, risen) = (book.nets[low] - lots, book.nets[high] + lots);
-    if fallen < -most || risen > most {
-        return false;
-    }
-    book.nets[low] = fallen;
-    book.nets[high] = risen;
-    true
-}
-
 /// The records that these words are.
 fn records(words: &[u32]) -> Vec<Record> {
     words.chunks_exact(2).map(|words| record(words[0], words[1])).collect()
@@ -499,41 +463,5 @@ fn record(head: u32, lots: u32) -> Record {
         from: head >> 18 & 63,
         to: head >> 12 & 63,
         lots: lots & 0x0fff_ffff,
-    }
-}
-
-#[cfg(test)]
-mod tests {
-    use super::*;
-
-    #[test]
-    fn a_trade_booked_here_is_the_library_s() {
-        let mut numbers = 1_u64;
-        let mut next = |limit: u32| {
-            numbers =
-                numbers.wrapping_mul(0x5851_f42d_4c95_7f2d).wrapping_add(0x1405_7b7e_f767_814f);
-            (numbers >> 33) as u32 % limit
-        };
-        let (mut here, mut by_library) = (Book::fresh(), Book::fresh());
-        for issue in [0, 3, 4, 15] {
-            here.marks[issue] = [1, 2, 128, 255][issue % 4];
-        }
-        by_library.marks = here.marks;
-        let (mut booked, mut put) = (0, 0);
-        for step in 0..3_000 {
-            let lots = [0, 1, 100_000, MOST_LOTS, MOST_LOTS + 1, next(MOST_LOTS)][next(6) as usize];
-            let trade = Instruction::Trade { issue: next(17), from: next(6), to: next(65), lots };
-            if step % 500 == 499 {
-                let phase = Phase([0, 1, 2][next(3) as usize]);
-                (here.phase, by_library.phase) = (phase, phase);
-            }
-            let answer = calls::call(&mut by_library, &trade, &[], &mut []);
-            assert_eq!(traded(&mut here, &trade), answer.is_ok(), "{trade:?}");
-            assert!(here == by_library, "{trade:?}");
-            booked += u32::from(answer.is_ok());
-            put += u32::from(answer.is_err());
-        }
-        assert!(booked > 100 && put > 100, "{booked} booked, {put} refused");
-        assert!(!traded(&mut here, &Instruction::Close));
     }
 }
