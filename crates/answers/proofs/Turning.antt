@@ -16,10 +16,10 @@ use Rattle.rules.specs.Measures.{output_words}
 use Rattle.rules.specs.Book.{sound}
 use Rattle.rules.specs.Records.{words, over}
 use Rattle.rules.specs.Questions.{first_no, ask_output}
-use Rattle.rules.specs.Calls.{Call, Trade, Deliver, Effect, HasRoom, own_asks, effect, called}
+use Rattle.rules.specs.Calls.{Call, Answer, Trade, Deliver, Effect, HasRoom, own_asks, effect, called}
 use Rattle.laws.proofs.Answers.{said_yes, own_first, refused_as, accepted_as, by_answer}
 use Rattle.laws.proofs.Refused.{some_number}
-use Rattle.answers.specs.Turns.{turn_of, TurnIs}
+use Rattle.answers.specs.Turns.{turn_of, Given, Says, TurnIs}
 
 -- an output that is long enough has room
 pub room_out : (out : List ℕ) → output_words ≤ length out → first_no (ask_output output_words out ∷ []) ≡ 0
@@ -46,6 +46,10 @@ module _ (b : Book) (c : Call) (out : List ℕ) (room : HasRoom c out) (q : soun
   turn_yes k x s b' out' e d =
       rw (accepted_as b c out (own_first b c out room q ∙ sym e))
       (record { refusal = refl; count = d.count; cancelled = d.cancelled; book = d.book; out = d.written })
+
+-- of an answer what is told
+pub says : {d : Answer} {r : Given} {b : Book} {out : List ℕ} → TurnIs d r b out → Says d r b
+says t = record { refusal = t.refusal; count = t.count; book = t.book }
 
 -- a trade or a delivery leaves the state as it is
 pub trade_state : (b : Book) (i f t x : ℕ) (out : List ℕ) → (called b (Trade i f t x) out).book.state ≡ b.state

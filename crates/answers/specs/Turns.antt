@@ -35,7 +35,13 @@ abbrev pub state_after : State → Given → State
 state_after s (Ok t) = t.state
 state_after s (Err r) = s
 
--- number, count, lots cancelled, book and words are an answer's
+-- number, count and book are an answer's
+pub record Says (d : Answer) (r : Given) (b : Book) : Type 0 where
+  pub refusal : number_in r ≡ d.refusal
+  pub count : count_in r ≡ d.count
+  pub book : b ≡ d.book
+
+-- and so are the lots cancelled and the words
 pub record TurnIs (d : Answer) (r : Given) (b : Book) (words : List ℕ) : Type 0 where
   pub refusal : number_in r ≡ d.refusal
   pub count : count_in r ≡ d.count

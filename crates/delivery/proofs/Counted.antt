@@ -14,9 +14,7 @@ use Rattle.rules.specs.Units.{AccountLots}
 use Rattle.rules.specs.Handover.{covered, stock, handovers}
 use Rattle.rules.specs.Book.{delivered_at, delivered_total, order_in}
 use Rattle.rules.specs.Records.{handover}
-use Rattle.rules.specs.declared.Book.{Book}
-use Rattle.answers.specs.Turns.{Given, TurnIs}
-use Rattle.rules.specs.Calls.{Answer, raised_delivered, raised_count, deliver_records}
+use Rattle.rules.specs.Calls.{raised_delivered, raised_count, deliver_records}
 use Rattle.rules.specs.Run.{any_output}
 use Rattle.laws.proofs.Basics.{by_test}
 use Rattle.laws.proofs.Cells.{row_other, delivered_rises}
@@ -26,7 +24,7 @@ use Rattle.laws.proofs.LiftColumn.{raised_order}
 use Rattle.laws.proofs.SoundRows.{order_lots}
 use Rattle.waiting.specs.declared.Kept.{Kept}
 use Rattle.waiting.specs.Waiting.{Keeps}
-use Rattle.delivery.specs.Deliver.{CanDeliver, nothing, kept_at, KeepsEach, Made, Says}
+use Rattle.delivery.specs.Deliver.{CanDeliver, nothing, kept_at, KeepsEach, Made}
 use Rattle.delivery.proofs.Serving.{can_serve}
 
 -- an output of the program has room
@@ -97,7 +95,3 @@ same_number new nets delivered lifts i x n e =
     let d = delivered_total delivered i in
     let s = same_covered us (order_in false nets lifts i) (order_lots new nets lifts i) in
     e ∙ rw (← s (d + x), ← s d) (sym (handovers_length us d x)) ∙ sym (length-map (handovers us d x) (handover i))
-
--- of an answer what is told
-pub says : {d : Answer} {r : Given} {b : Book} {out : List ℕ} → TurnIs d r b out → Says d r b
-says t = record { refusal = t.refusal; count = t.count; book = t.book }

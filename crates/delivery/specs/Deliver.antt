@@ -7,12 +7,11 @@ use Rattle.rules.specs.Units.{AccountLots}
 use Rattle.rules.specs.Handover.{covered}
 use Rattle.rules.specs.Book.{cell, net_at, delivered_at, delivered_total, order_in, in_force, sound, CellLengths}
 use Rattle.rules.specs.Records.{words, over}
-use Rattle.rules.specs.Calls.{Call, Answer, called, raised_delivered, raised_count, deliver_records}
-use Rattle.rules.specs.Refusals.{number_in}
+use Rattle.rules.specs.Calls.{Call, called, raised_delivered, raised_count, deliver_records}
 use Rattle.rules.specs.Run.{any_output}
 use Rattle.book.specs.Cells.{SoundCells}
 use Rattle.book.specs.States.{Lent, Shared}
-use Rattle.answers.specs.Turns.{Given, Within, SomeSound, within_cells, count_in, state_after}
+use Rattle.answers.specs.Turns.{Given, Says, Within, SomeSound, within_cells, state_after}
 use Rattle.waiting.specs.declared.Kept.{Kept}
 use Rattle.runs.specs.Runs.{units_of_words}
 use Rattle.waiting.specs.Waiting.{Ready, Keeps}
@@ -68,13 +67,7 @@ pub record Made (nets : List ℤ) (delivered lifts : List ℕ) (i : ℕ) (after 
   pub kept : KeepsEach nets delivered lifts after
   pub here : Keeps (order_in false nets lifts i) (delivered_total delivered i) (kept_at after i)
 
--- number, count and book are an answer's
-pub record Says (d : Answer) (r : Given) (b : Book) : Type 0 where
-  pub refusal : number_in r ≡ d.refusal
-  pub count : count_in r ≡ d.count
-  pub book : b ≡ d.book
-
--- of a call on every sound book with what is lent, whose records nobody reads
+-- the answer of a call on every sound book with what is lent, whose records nobody reads
 abbrev pub Counts : Within → State → Call → Given → Type 0
 Counts w s c r = (b : Book) → sound (w.before s b) ≡ true → Says (called (w.before s b) c any_output) r (w.after (state_after s r) b)
 

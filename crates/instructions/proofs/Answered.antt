@@ -9,7 +9,7 @@ use Rattle.rules.specs.declared.Book.{Book}
 use Rattle.rules.specs.declared.Instruction.{Instruction}
 use Rattle.rules.specs.declared.Instruction.TheVariants as instruction
 use Rattle.rules.specs.Measures.{output_words}
-use Rattle.rules.specs.Calls.{Call, called}
+use Rattle.rules.specs.Calls.{called}
 use Rattle.rules.specs.Tape.{quotes_of}
 use Rattle.rules.specs.Run.{call_of, any_output, answer_of}
 use Rattle.tally.proofs.Reached.{Reached, called_reached}
@@ -42,11 +42,10 @@ module _ (b b' : Book) (t : Given) (ws : List ℕ) (x : Instruction) (h : Reache
       TurnIs (called b (call_of x quotes) out) t b' lent → AnsweredIn ws x b t b'
   run_answer quotes out lent p room i =
       let a = answer_lent b out room x ws in
-      let e : b' ≡ (answer_of b x ws).book = i.book ∙ ap (λ (k : Call). (called b k out).book) p ∙ a.book in
+      let j = rw p at i in
+      let k = run_reached (j.book ∙ a.book) in
       record {
-        refusal = i.refusal ∙ ap (λ (k : Call). (called b k out).refusal) p ∙ a.refusal;
-        count = i.count ∙ ap (λ (k : Call). (called b k out).count) p ∙ a.count;
-        book = e;
-        lengths = (run_reached e).lengths;
-        sound = (run_reached e).sound;
+        says = record { refusal = j.refusal ∙ a.refusal; count = j.count ∙ a.count; book = j.book ∙ a.book };
+        lengths = k.lengths;
+        sound = k.sound;
       }

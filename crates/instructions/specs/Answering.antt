@@ -6,8 +6,7 @@ use Rattle.rules.specs.declared.Instruction.TheVariants as instruction
 use Rattle.rules.specs.Book.{sound, Lengths}
 use Rattle.rules.specs.Tape.{read_of, quotes_of}
 use Rattle.rules.specs.Run.{call_of, answer_of}
-use Rattle.rules.specs.Refusals.{number_in}
-use Rattle.answers.specs.Turns.{Given, count_in}
+use Rattle.answers.specs.Turns.{Given, Says}
 
 -- the words begin with an instruction
 pub record Begins (ws : List ℕ) (x : Instruction) : Type 0 where
@@ -30,10 +29,8 @@ rolls_of (instruction.Turn d) = false
 abbrev pub Quoted : List ℕ → Instruction → List ℕ → Type 0
 Quoted ws x quotes = call_of x quotes ≡ call_of x (quotes_of ws)
 
--- number, count and book are those of the run; the book is sound, and in columns of a book's lengths
+-- the answer is the run's, and the book is sound, in columns of a book's lengths
 pub record AnsweredIn (ws : List ℕ) (x : Instruction) (b : Book) (r : Given) (b' : Book) : Type 0 where
-  pub refusal : number_in r ≡ (answer_of b x ws).refusal
-  pub count : count_in r ≡ (answer_of b x ws).count
-  pub book : b' ≡ (answer_of b x ws).book
+  pub says : Says (answer_of b x ws) r b'
   pub lengths : Lengths b'.nets b'.delivered b'.lifts b'.charges b'.issues b'.froms b'.tos b'.lots b'.days
   pub sound : sound b' ≡ true

@@ -24,8 +24,7 @@ use Rattle.laws.proofs.Called.{Sizes, called_sound}
 use Rattle.rereading.proofs.Run.{run_ended, run_refused, run_instruction, not_ended}
 use Rattle.rereading.proofs.Sized.{read_sized}
 use Rattle.rereading.proofs.Window.{read_append, quotes_append}
-use Rattle.answers.specs.Turns.{Given}
-use Rattle.delivery.specs.Deliver.{Says}
+use Rattle.answers.specs.Turns.{Given, Says}
 use Rattle.passing.specs.Going.{Stepped, enough, stray_text, Follows, Goes, onward, Went, Going}
 
 -- An answer

@@ -1,5 +1,5 @@
 -- Instructions one behind another: each leaves the state of a book as it is, so the columns that it changes alone are lent to it.
-use mathlib.Core.Path.{◌≡◌, refl, sym, ap, ◌∙◌}
+use mathlib.Core.Path.{◌≡◌, refl, ap, ◌∙◌}
 use mathlib.Core.Bool.{Bool, true}
 use mathlib.Core.List.{List}
 use Prim.Native.Nat.{ℕ, ◌+◌}
@@ -20,9 +20,8 @@ use Rattle.rules.specs.Text.{line_text}
 use Rattle.report.specs.Added.{Added}
 use Rattle.report.proofs.Texts.{added_as}
 use Rattle.rules.specs.Refusals.{number_in}
-use Rattle.answers.specs.Turns.{TurnIs, Given, count_in, state_after, within_nets, within_cells}
-use Rattle.answers.proofs.Turning.{trade_state, deliver_state}
-use Rattle.delivery.specs.Deliver.{Says}
+use Rattle.answers.specs.Turns.{Says, TurnIs, Given, count_in, state_after, within_nets, within_cells}
+use Rattle.answers.proofs.Turning.{says, trade_state, deliver_state}
 use Rattle.passing.specs.Going.{enough, LengthsOf, Held, Passed}
 use Rattle.passing.proofs.Goings.{answer_sound, same_line, going_again}
 
@@ -33,7 +32,7 @@ trade_says : (s : State) (nets nets' : List ℤ) (b : Book) (i f t x : ℕ) (r :
 unfolding answer_of
 trade_says s nets nets' b i f t x r ws d =
     let e : state_after s r ≡ s = ap (λ (c : Book). c.state) d.book ∙ trade_state (within_nets s nets b) i f t x any_output in
-    record { refusal = d.refusal; count = d.count; book = ap (λ (u : State). within_nets u nets' b) (sym e) ∙ d.book }
+    says (rw e at d)
 
 -- and that of a delivery on the cells of any book with this state and these
 deliver_says : (s : State) (nets : List ℤ) (delivered delivered' lifts lifts' : List ℕ) (b : Book) (i a x : ℕ) (r : Given) (ws : List ℕ) →
@@ -42,7 +41,7 @@ deliver_says : (s : State) (nets : List ℤ) (delivered delivered' lifts lifts' 
 unfolding answer_of
 deliver_says s nets delivered delivered' lifts lifts' b i a x r ws d =
     let e : state_after s r ≡ s = ap (λ (c : Book). c.state) d.book ∙ deliver_state (within_cells s nets delivered lifts b) i a x any_output in
-    record { refusal = d.refusal; count = d.count; book = ap (λ (u : State). within_cells u nets delivered' lifts' b) (sym e) ∙ d.book }
+    rw e at d
 
 -- no instruction is passed yet
 pub passed_none : (ws : List ℕ) (last : Bool) (index : ℕ) (f : Book → Book) (text : List ℕ) (at end : ℕ) → Passed ws last index f f text text at end at end
@@ -51,14 +50,14 @@ passed_none ws last index f text at end = record { on = omega arith; held = λ b
 -- one more
 module _ (ws : List ℕ) (last : Bool) (index : ℕ) (before f f' : Book → Book) (text₀ text text' : List ℕ) (from to at end end' : ℕ)
     (x : Instruction) (r : Given) (lengths : (b : Book) → Held (f b) → LengthsOf (f' b))
-    (says : (b : Book) → Held (f b) → Says (answer_of (f b) x (drop at ws)) r (f' b)) where
+    (told : (b : Book) → Held (f b) → Says (answer_of (f b) x (drop at ws)) r (f' b)) where
   kept : (b : Book) → Held (f b) → Held (f' b)
   kept b h =
       let l = h.lengths in
       record {
         lengths = lengths b h;
         sound = answer_sound (f b) (f' b) r x (drop at ws)
-            (record { nets = l.cells.nets; delivered = l.cells.delivered; lifts = l.lifts; charges = l.charges }) h.sound (says b h);
+            (record { nets = l.cells.nets; delivered = l.cells.delivered; lifts = l.lifts; charges = l.charges }) h.sound (told b h);
       }
 
   pub passed_on : (n : ℕ) → Passed ws last index before f text₀ text from to at end → enough (length (drop at ws)) last ≡ true →
@@ -70,7 +69,7 @@ module _ (ws : List ℕ) (last : Bool) (index : ℕ) (before f f' : Book → Boo
         held = λ b h. kept b (p.held b h);
         going = λ stray b₀ b h m.
             let k = p.held b h in
-            let y = says b k in
+            let y = told b k in
             going_again ws last stray index b₀ (f b) text text' at end (p.going stray b₀ b h m) x n end' (f' b) q g
             (record {
               printed = added_as 72 72 _ _ _ _ _ _ (omega arith) (same_line (index + at) _ _ _ _ _ _ refl y.refusal y.count) a;

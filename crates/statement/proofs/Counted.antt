@@ -85,10 +85,10 @@ pub stepped : (ws : List ℕ) (x : Instruction) (i a : ℕ) (c : Statement) (b :
 stepped ws x i a c b s w t b' net e r q g h =
     record {
       counted = q ∙ ap (λ (n : ℤ). added_in c x (number_in t) n (delivered_at b.delivered i a) i a) e
-          ∙ ap (λ (n : ℕ). added_in c x n (net_at b.nets i a) (delivered_at b.delivered i a) i a) h.refusal
+          ∙ ap (λ (n : ℕ). added_in c x n (net_at b.nets i a) (delivered_at b.delivered i a) i a) h.says.refusal
           ∙ added_turn i a (omega (arith, w.issue)) (omega (arith, w.account)) c b s x ws;
       grown = g;
-      book = h.book;
+      book = h.says.book;
       lengths = h.lengths;
       sound = h.sound;
     }

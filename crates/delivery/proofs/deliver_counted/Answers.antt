@@ -6,10 +6,11 @@ use Rattle.rules.specs.Book.{in_force, delivered_total, order_in}
 use Rattle.rules.specs.Records.{words, over}
 use Rattle.rules.specs.Run.{any_output}
 use Rattle.runs.proofs.Cells.{owed_cells}
+use Rattle.answers.proofs.Turning.{says}
 use Rattle.delivery.proofs.Asking.{asked, ready_cells}
 use Rattle.delivery.proofs.Serving.{can_raise}
 use Rattle.delivery.proofs.Turned.{delivery_refused, delivery_made}
-use Rattle.delivery.proofs.Counted.{any_room, stock_fits, kept_on, same_number, says}
+use Rattle.delivery.proofs.Counted.{any_room, stock_fits, kept_on, same_number}
 use Rattle.delivery.proofs.deliver_counted.Goals as goal
 
 pub deliver_asks-requires : goal.deliver_asks-requires

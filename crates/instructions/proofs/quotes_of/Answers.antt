@@ -1,5 +1,5 @@
 -- Where the instruction is no roll, any quotes will do.
-use Rattle.std.proofs.Common.{◌≡◌, Bool, true, false, sym, ◌∙◌}
+use Rattle.std.proofs.Common.{sym, ◌∙◌}
 use mathlib.Core.Bool.{false≢true}
 use Rattle.instructions.proofs.Answered.{quoted}
 use Rattle.instructions.proofs.quotes_of.Goals as goal

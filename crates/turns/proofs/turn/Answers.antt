@@ -9,8 +9,8 @@ returns-clause-done c =
     let i = c.answer-answer.ensures.done in
     rw c.state_after-state.ensures
     (record {
-      printed = added_as 72 72 _ _ _ _ _ _ (omega arith) (same_line c.args.index _ _ _ _ _ _ c.name_of.ensures i.refusal i.count) c.answer_line-end.ensures;
-      book = i.book;
+      printed = added_as 72 72 _ _ _ _ _ _ (omega arith) (same_line c.args.index _ _ _ _ _ _ c.name_of.ensures i.says.refusal i.says.count) c.answer_line-end.ensures;
+      book = i.says.book;
       lengths = i.lengths;
       sound = i.sound;
     })
