@@ -1,14 +1,17 @@
--- The scan of marked issues: a flag along an issue's cells and along entries.
+-- The scan of marked issues: a flag along an issue's cells and along entries; the table of marks.
 use mathlib.Core.Path.{◌≡◌, refl, ap, sym, ◌∙◌}
-use mathlib.Core.Bool.{Bool, true, ◌&&◌}
+use mathlib.Core.Bool.{Bool, true, false, ◌&&◌}
 use mathlib.Core.List.{List, [], ◌∷◌, tail}
-use Prim.Native.Nat.{ℕ, zero, suc, ◌≤◌}
+use Prim.Native.Nat.{ℕ, zero, suc, ◌+◌, ◌≤◌, ◌<◌}
 use native.Mathlib.Omega.{arith}
-use lib.ListN.{length, take, get_or}
+use lib.Dec.{ltb, eqb}
+use lib.ListN.{length, take, get_or, set, replicate, get_or-eq_default}
+use lib.Seq.{get_or-set_same, get_or-set_other}
+use borrow.Author.Tests.{ltb-true, ltb-false, lt-ltb, le-ltb, eqb-true, eqb-false}
 use lib.IntN.{ℤ}
 use Rattle.rules.specs.Measures.{issue_count}
-use Rattle.rules.specs.Book.{tabulate, all, head_or0, entries, is_zero, lots_even, cells_even, entry_even}
-use Rattle.laws.proofs.Basics.{all_of}
+use Rattle.rules.specs.Book.{tabulate, all, head_or0, entries, is_zero, is_marked, lots_even, cells_even, entry_even}
+use Rattle.laws.proofs.Basics.{all_of, by_test}
 use Rattle.laws.proofs.Sound.{zero_at_lem}
 use Rattle.laws.proofs.Scans.{rest_of_issues}
 use Rattle.balancing.specs.EvenScan.{all_cells, pairs_even, all_lots}
@@ -63,3 +66,38 @@ pairs_lots marks zero is xs h k = refl
 pairs_lots marks (suc n) [] xs h k = absurd (omega arith)
 pairs_lots marks (suc n) (i ∷ is) [] h k = absurd (omega arith)
 pairs_lots marks (suc n) (i ∷ is) (x ∷ xs) h k = ap (λ t. lots_even marks i x && t) (pairs_lots marks n is xs (omega arith) (omega arith))
+
+-- The table of marks: false throughout, an issue more, and all issues
+
+false_at : (n j : ℕ) → get_or (replicate n false) j false ≡ false
+false_at zero j = refl
+false_at (suc n) zero = refl
+false_at (suc n) (suc j) = false_at n j
+
+pub table_empty : (marks : List ℕ) (n j : ℕ) → get_or (replicate n false) j false ≡ ltb j 0 && is_marked marks j
+table_empty marks n j = rw (le-ltb j 0 (omega arith)) (false_at n j)
+
+ltb_more : (i j : ℕ) → (j ≡ i → ⊥) → ltb j (i + 1) ≡ ltb j i
+ltb_more i j ne =
+    by_test (ltb j i)
+    (λ t. rw t (lt-ltb j (i + 1) (omega (arith, ltb-true j i t))))
+    (λ t. rw t (le-ltb j (i + 1) (omega (arith, ltb-false j i t))))
+
+pub table_more : (marks : List ℕ) (table : List Bool) (i : ℕ) → i < length table →
+    ((j : ℕ) → get_or table j false ≡ ltb j i && is_marked marks j) →
+    (j : ℕ) → get_or (set table i (is_marked marks i)) j false ≡ ltb j (i + 1) && is_marked marks j
+table_more marks table i h before j =
+    by_test (eqb j i)
+    (λ t. rw (eqb-true j i t, lt-ltb i (i + 1) (omega arith)) (get_or-set_same table i (is_marked marks i) false h))
+    (λ t.
+    let ne = eqb-false j i t in
+    rw (ltb_more i j ne) (get_or-set_other table i j (is_marked marks i) false ne ∙ before j))
+
+pub table_whole : (marks : List ℕ) (table : List Bool) (n : ℕ) → length marks ≡ n →
+    ((j : ℕ) → get_or table j false ≡ ltb j n && is_marked marks j) →
+    (j : ℕ) → get_or table j false ≡ is_marked marks j
+table_whole marks table n h before j =
+    before j
+    ∙ by_test (ltb j n)
+    (λ t. rw t refl)
+    (λ t. rw (t, get_or-eq_default marks 0 {n = j} (omega (arith, h, ltb-false j n t))) refl)

@@ -2,9 +2,9 @@
 // an issue is marked, entries' lots too.
 #![tactic(auto)]
 
-ghost use Rattle.std.specs.Prelude.{◌≡◌, ℕ, true, ◌≤◌, ◌<◌, length, nat_abs};
+ghost use Rattle.std.specs.Prelude.{◌≡◌, ℕ, true, ◌≤◌, ◌<◌, false, length, get_or, nat_abs};
 ghost use Rattle.rules.specs.Measures.{most_lots};
-ghost use Rattle.rules.specs.Book.{CellLengths, all, is_zero, balanced, within_size, within_owed, is_even, lots_even, cells_even};
+ghost use Rattle.rules.specs.Book.{CellLengths, all, is_zero, balanced, within_size, within_owed, is_marked, is_even, cells_even};
 ghost use Rattle.balancing.specs.Scan.{all_balanced, nets_sound, RowLengths, RowWithin};
 ghost use Rattle.balancing.specs.EvenScan.{row_even, all_cells, pairs_even, all_lots};
 
@@ -13,6 +13,9 @@ use rules::{ACCOUNT_COUNT, ISSUE_COUNT, State};
 
 // the last issue, as the ledger's column has it
 pub const LAST_ISSUE: u8 = 15;
+
+// how many numbers a column of issues can hold
+const ISSUE_NUMBERS: usize = 256;
 
 // A number of a column, of any width.
 pub trait Number: Copy {
@@ -199,28 +202,29 @@ pub fn cells_even<'a>(s: State, nets: &'a [i32], delivered: &'a [u32]) -> bool
     good
 }
 
-// Are lots in this issue even, if it is marked? There is no mark of an issue above 15. Even lots are asked first, for speed:
-// of a marked issue all are.
-fn even_by(marks: &[u8], i: u8, x: u32) -> bool
+// For each number that a column of issues can hold, whether an issue of this number is marked: above 15 none is.
+fn marked(marks: &[u8]) -> [bool; ISSUE_NUMBERS]
     requires { length marks.now ≡ 16 }
-    ensures { result ≡ lots_even marks.now i x }
+    ensures { (length result ≡ 256) × ((i : ℕ) → get_or result i false ≡ is_marked marks.now i) }
 {
-    if x % 2 == 0 {
-        return true;
+    let mut marked = [false; ISSUE_NUMBERS];
+    for i in 0..ISSUE_COUNT {
+        marked[i] = 0 < marks[i];
     }
-    LAST_ISSUE < i || marks[i as usize] == 0
+    marked
 }
 
-// Are the lots of each entry even, if its issue is marked? The marks are lent: each entry reads one of them.
+// Are the lots of each entry even, if its issue is marked? Each mark is looked up in a table, with no branch, for speed.
 fn lots_even<'a>(marks: &'a [u8], issues: &'a [u8], lots: &'a [u32]) -> bool
     requires { (length marks.now ≡ 16) × (length issues.now ≡ length lots.now) }
     ensures { result ≡ pairs_even marks.now issues.now lots.now }
 {
-    let mut good = true;
+    let marked = marked(marks);
+    let mut odd = false;
     for (i, x) in issues.iter().zip(lots) {
-        good &= even_by(marks, *i, *x);
+        odd |= marked[*i as usize] & (*x % 2 != 0);
     }
-    good
+    !odd
 }
 
 // The same of all entries. Where no issue is marked there is nothing to look at.
