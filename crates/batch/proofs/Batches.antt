@@ -19,6 +19,7 @@ use Rattle.rules.specs.Measures.{output_words}
 use Rattle.rules.specs.Questions.{ask, first_no}
 use Rattle.rules.specs.Records.{Rec, words, over}
 use Rattle.rules.specs.Calls.{Deliver, Cutoff, Resolve}
+use Rattle.rules.specs.Refusals.{number_in}
 use Rattle.rules.specs.Tape.{read_of}
 use Rattle.laws.proofs.Basics.{and_left, and_right}
 use Rattle.laws.proofs.Records.{length_words}
@@ -281,7 +282,7 @@ roomy answers out n w h =
 -- What a function gives
 
 -- where it stops, in plain numbers
-given : (d : Batch) (r : Ran) (c : LentColumns) (numbers words : List ℕ) → Stopped d r.refusal r.stand (lent_book r.state c) numbers words →
+given : (d : Batch) (r : Ran) (c : LentColumns) (numbers words : List ℕ) → Stopped d (number_in r.stop) r.stand (lent_book r.state c) numbers words →
     BatchIs d (number_of d.book.state.phase) (told_of r) (lent_book (state_in (state_numbers r.state)) c) numbers words
 given d r c numbers words q =
     record {

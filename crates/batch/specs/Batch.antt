@@ -3,7 +3,9 @@
 use Rattle.std.specs.Prelude.{◌≡◌, Bool, true, cond, ◌&&◌, List, [], ◌∷◌, ◌++◌, ℕ, zero, suc, ◌+◌, ◌-◌, ◌*◌, ◌≤◌, ◌<◌, ◌^◌, leb, length, take, drop, Result, Ok, Err}
 use Rattle.rules.specs.declared.Book.{Book}
 use Rattle.rules.specs.declared.Instruction.{Instruction}
+use Rattle.rules.specs.declared.Refusal.{Refusal}
 use Rattle.rules.specs.declared.State.{State}
+use Rattle.rules.specs.Refusals.{number_in}
 use Rattle.rules.specs.Measures.{output_words}
 use Rattle.rules.specs.Book.{sound, Lengths}
 use Rattle.rules.specs.Questions.{ask, first_no}
@@ -191,16 +193,16 @@ pub record Stopped (d : Batch) (r : ℕ) (p : Stand) (b : Book) (numbers words :
   pub out : words ≡ d.out
 
 abbrev pub RanIs : List ℕ → Book → List ℕ → List ℕ → List ℕ → List ℕ → Ran → Book → Type 0
-RanIs ws b answers answers' out out' r b' = Stopped (batch_of b ws answers out) r.refusal r.stand b' answers' out'
+RanIs ws b answers answers' out out' r b' = Stopped (batch_of b ws answers out) (number_in r.stop) r.stand b' answers' out'
 
-abbrev pub ended_at : ℕ → Stand → State → Ran
-ended_at r p s = record { refusal = r; stand = p; state = s }
+abbrev pub ended_at : Result Unit Refusal → Stand → State → Ran
+ended_at r p s = record { stop = r; stand = p; state = s }
 
 -- in plain numbers
 abbrev pub told_of : Ran → DayRan
 told_of r =
     record {
-      refusal = r.refusal;
+      refusal = number_in r.stop;
       answered = r.stand.answered;
       used = r.stand.used;
       written = r.stand.written;

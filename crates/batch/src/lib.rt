@@ -14,7 +14,7 @@ ghost use Rattle.batch.specs.Batch.{answer_numbers, writes_records, has_room, wi
 use answers::Turn;
 use columns::{LentColumns, shared};
 use host::{DayState, held, numbers_of};
-use rules::{Instruction, OUTPUT_WORDS, Refusal, State};
+use rules::{Instruction, OUTPUT_WORDS, Refusal, State, number_in};
 use waiting::Kept;
 
 // of an answer: the refusal's number, the count, the lots cancelled
@@ -47,10 +47,10 @@ struct Stand {
     written: usize,
 }
 
-// Where a run ends, and the state after it.
+// Where a run ends, by a reader's refusal or without one, and the state after it.
 #[derive(Clone, Copy, Drop)]
 struct Ran {
-    refusal: u32,
+    stop: Result<(), Refusal>,
     stand: Stand,
     state: State,
 }
@@ -68,14 +68,10 @@ fn behind(p: Stand, words: usize, written: usize) -> Stand
 }
 
 // The end of a run.
-fn ended(refusal: u32, stand: Stand, state: State) -> Ran
-    ensures { result ≡ ended_at refusal stand state }
+fn ended(stop: Result<(), Refusal>, stand: Stand, state: State) -> Ran
+    ensures { result ≡ ended_at stop stand state }
 {
-    Ran {
-        refusal,
-        stand,
-        state,
-    }
+    Ran { stop, stand, state }
 }
 
 // Does the instruction write records?
@@ -246,11 +242,11 @@ fn run(
     while stand.used < words.len() {
         let (x, n) = match tape::read(&words[stand.used..]) {
             Ok(read) => read,
-            Err(r) => return ended(r.number(), stand, state),
+            Err(r) => return ended(Err(r), stand, state),
         };
         let told = ANSWER_NUMBERS * stand.answered;
         if !has_room(answers.len() - told, out.len() - stand.written) {
-            return ended(0, stand, state);
+            return ended(Ok(()), stand, state);
         }
         let t = turn(
             &words[stand.used..],
@@ -266,7 +262,7 @@ fn run(
         let p = trades(words, state, columns, answers, room, next);
         stand = deliveries(words, state, columns, &mut kept, answers, out, p);
     }
-    ended(0, stand, state)
+    ended(Ok(()), stand, state)
 }
 
 // What a run gives a host, in plain numbers.
@@ -274,7 +270,7 @@ fn told(r: Ran) -> DayRan
     ensures { result ≡ told_of r }
 {
     DayRan {
-        refusal: r.refusal,
+        refusal: number_in(r.stop),
         answered: r.stand.answered,
         used: r.stand.used,
         written: r.stand.written,

@@ -22,7 +22,7 @@ loop-stand-init c = (c.requires, starts _ _ _ _, refl, refl, search rules, searc
 pub returns-in-Err-clause-done : goal.returns-in-Err-clause-done
 returns-in-Err-clause-done c =
     let l = c.loop-stand in
-    rw (c.ended.ensures, c.number.ensures)
+    rw c.ended.ensures
     (stops_refused _ _ _ _ _ _ _ _ l.invariant.1 c.loop-stand-test.true _ (begins c.args.words.now l.stand.used _ _ c.read.ensures c.in-Err.is))
 
 pub returns-then-not-has_room-clause-done : goal.returns-then-not-has_room-clause-done
