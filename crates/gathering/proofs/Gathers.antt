@@ -7,31 +7,19 @@ use native.Mathlib.Omega.{arith}
 use lib.Dec.{leb, ltb, eqb}
 use lib.ListN.{length, take, drop, get_or, set, replicate, length-set, get_or-eq_default}
 use native.Mathlib.Numerals.{add-one}
-use lib.Seq.{drop-cons, drop-set-lt, take-suc, take-suc-set, take-set-lt, length-take-le, take-length, drop-length, get_or-set_same, get_or-set_other}
+use lib.Seq.{drop-cons, drop-set-lt, take-suc, take-suc-set, take-length, drop-length, get_or-set_same, get_or-set_other}
 use borrow.Author.Tests.{ltb-true, ltb-false, leb-true, leb-false, le-leb, lt-leb, eqb-true, eqb-false, eq-eqb}
+use Rattle.std.proofs.lemmas.List.{drop-set}
 use Rattle.rules.specs.Measures.{unit_lots}
 use Rattle.rules.specs.Units.{AccountLots, account_lots}
-use Rattle.rules.specs.Handover.{stock, waiting}
+use Rattle.rules.specs.Handover.{waiting}
 use Rattle.rules.specs.Fails.{is_full_of, full_lots}
-use Rattle.laws.proofs.Basics.{by_test, Every}
-use Rattle.runs.specs.Runs.{part_of, runs_in, units_of_runs, units_in, Plain}
-use Rattle.gathering.specs.Gathering.{HandsOn, spent, laid}
-use Rattle.runs.proofs.Units.{stock_run, waits_run, stock_over, waits_over}
-use Rattle.runs.proofs.Loops.{runs_at_lem, runs_end}
+use Rattle.laws.proofs.Basics.{by_test, Every, each_drop}
+use Rattle.runs.specs.Runs.{part_of, units_of_run, units_of_runs, units_of_words, Plain}
+use Rattle.gathering.specs.Gathering.{spent, laid}
+use Rattle.runs.proofs.Units.{waits_run, waits_over}
+use Rattle.runs.proofs.Words.{word_at, units_at_word}
 use Rattle.runs.proofs.Numbers.{plain_less}
-
--- a total d of all is a total e of what comes from here
-pub record Seeking (us vs : List AccountLots) (d e : ℕ) : Type 0 where
-  pub left : stock (units_of_runs us) d ≡ stock (units_of_runs vs) e
-  pub wait : waiting (units_of_runs us) d ≡ waiting (units_of_runs vs) e
-
-pub seeking_starts : (us : List AccountLots) (d : ℕ) → Seeking us us d d
-seeking_starts us d = record { left = refl; wait = refl }
-
-pub seeking_more : (us : List AccountLots) (u : AccountLots) (vs : List AccountLots) (d e : ℕ) → u.lots ≤ e → Seeking us (u ∷ vs) d e →
-    Seeking us vs d (e - u.lots)
-seeking_more us u vs d e h s =
-    record { left = s.left ∙ stock_over u (units_of_runs vs) e h; wait = s.wait ∙ waits_over u (units_of_runs vs) e h }
 
 pub laid_same : (s t : ℕ → ℕ) (us : List AccountLots) → ((a : ℕ) → s a ≡ t a) → laid s us ≡ laid t us
 laid_same s t [] e = refl
@@ -48,46 +36,34 @@ drop_map zero ws = refl
 drop_map (suc j) [] = refl
 drop_map (suc j) (w ∷ ws) = drop_map j ws
 
-drop_set : (ws : List ℕ) (j v : ℕ) → j < length ws → drop j (set ws j v) ≡ v ∷ drop (suc j) ws
-drop_set [] j v h = absurd (omega arith)
-drop_set (w ∷ ws) zero v h = refl
-drop_set (w ∷ ws) (suc j) v h = drop_set ws j v (omega arith)
+module _ (runs : List ℕ) (j : ℕ) (h : j < length runs) where
+  -- past a word, or in it
+  pub waits_past_word : (d : ℕ) → get_or runs j 0 / 64 ≤ d →
+      waiting (units_of_runs (drop j (map part_of runs))) d ≡ waiting (units_of_runs (drop (j + 1) (map part_of runs))) (d - get_or runs j 0 / 64)
+  waits_past_word d g =
+      rw (units_at_word runs j h) (waits_over (part_of (get_or runs j 0)) (units_of_runs (drop (j + 1) (map part_of runs))) d g)
 
-module _ (before runs : List ℕ) (n j d e : ℕ) (l : n ≤ length runs) (s : Seeking (runs_in before n) (drop j (runs_in runs n)) d e)
-    (p : Every Plain (drop j (runs_in runs n))) where
-  pub hand_stops : j < n → e < get_or runs j 0 / 64 → (v : ℕ) → v ≡ get_or runs j 0 - e / 100000 * 6400000 →
-      HandsOn before (set runs j v) n d (record { run = j; stock = e % 100000 })
-  unfolding units_in
-  hand_stops h g v ev =
-      let key = get_or runs j 0 in
-      let rest = drop (suc j) (runs_in runs n) in
-      let seen = runs_at_lem runs n j l h in
-      let s' = rw seen at s in
-      let v₁ : v % 64 ≡ key % 64 = omega arith in
-      let v₂ : v / 64 ≡ key / 64 - e / 100000 * 100000 = omega arith in
-      let here : drop j (runs_in (set runs j v) n) ≡ part_of v ∷ rest =
-      drop_map j (take n (set runs j v))
-      ∙ ap (map part_of) (ap (drop j) (take-set-lt n runs j v h) ∙ drop_set (take n runs) j v (omega (arith, length-take-le n runs l)))
-      ∙ ap (λ l. part_of v ∷ l) (sym (drop_map (suc j) (take n runs))) in
-      record {
-        few = omega arith;
-        waits = ap units_of_runs here ∙ rw (v₁, v₂) (sym (waits_run (part_of key) (units_of_runs rest) e g)) ∙ sym s'.wait;
-        left = sym (s'.left ∙ stock_run (part_of key) (units_of_runs rest) e g);
-        some = λ _. rw (get_or-set_same runs j v 0 (omega arith)) (omega arith);
-        plain = rw here ((λ q. ap (λ y. y % 100000) v₂ ∙ plain_less (key / 64) (e / 100000) (omega arith) ((rw seen at p).0 (omega arith))), (rw seen at p).1);
-      }
+  waits_in_word : (d : ℕ) → d < get_or runs j 0 / 64 →
+      waiting (units_of_runs (drop j (map part_of runs))) d
+      ≡ units_of_run (account_lots (get_or runs j 0 % 64) (get_or runs j 0 / 64 - d / 100000 * 100000)) ++ units_of_runs (drop (j + 1) (map part_of runs))
+  waits_in_word d g =
+      rw (units_at_word runs j h) (waits_run (part_of (get_or runs j 0)) (units_of_runs (drop (j + 1) (map part_of runs))) d g)
 
-  pub hand_ends : j ≡ n → HandsOn before runs n d (record { run = j; stock = e })
-  unfolding units_in
-  hand_ends h =
-      let z = runs_end runs n j l (omega arith) in
-      record {
-        few = omega arith;
-        waits = rw z (sym (rw z at s).wait);
-        left = sym (rw z at s).left;
-        some = λ q. absurd (omega arith);
-        plain = p;
-      }
+  -- what is not handed of a word, and the words behind it
+  module _ (v d : ℕ) (g : d < get_or runs j 0 / 64) (e : v ≡ get_or runs j 0 - d / 100000 * 6400000) where
+    rest_lots : v / 64 ≡ get_or runs j 0 / 64 - d / 100000 * 100000
+    rest_lots = omega arith
+
+    pub rest_of_word : units_of_words (drop j (set runs j v)) ≡ waiting (units_of_runs (drop j (map part_of runs))) d
+    rest_of_word =
+        let a : v % 64 ≡ get_or runs j 0 % 64 = omega arith in
+        ap units_of_words (drop-set runs j v h) ∙ rw (a, rest_lots, ← drop_map (j + 1) runs) (sym (waits_in_word d g))
+
+    pub plain_rest : Every Plain (map part_of runs) → Every Plain (map part_of (drop j (set runs j v)))
+    plain_rest p =
+        let q = rw (word_at runs j h) at (each_drop Plain j (map part_of runs) p) in
+        rw (drop-set runs j v h, ← drop_map (j + 1) runs)
+        ((λ f. ap (λ x. x % 100000) rest_lots ∙ plain_less (get_or runs j 0 / 64) (d / 100000) (omega arith) (q.0 (omega (arith, rest_lots)))), q.1)
 
 -- Each account's full lots
 

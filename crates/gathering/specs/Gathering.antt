@@ -2,18 +2,19 @@
 use Rattle.std.specs.Prelude.{◌≡◌, cond, List, [], ◌∷◌, map, ℕ, ◌/◌, ◌≤◌, ◌<◌, leb, eqb, length, drop, get_or}
 use Rattle.rules.specs.Measures.{Every, unit_lots, most_lots}
 use Rattle.rules.specs.Units.{AccountLots, account_lots}
-use Rattle.rules.specs.Handover.{stock, waiting}
+use Rattle.rules.specs.Handover.{covered, stock, waiting}
 use Rattle.rules.specs.Fails.{full_lots}
 use Rattle.gathering.specs.declared.Waiting.{Waiting}
-use Rattle.runs.specs.Runs.{part_of, runs_in, units_of_runs, units_in, Plain}
+use Rattle.runs.specs.Runs.{part_of, units_of_words, Plain}
 
--- from a run on, the runs stand for the units that wait
-pub record HandsOn (before after : List ℕ) (n d : ℕ) (r : Waiting) : Type 0 where
-  pub few : r.run ≤ n
-  pub waits : units_of_runs (drop r.run (runs_in after n)) ≡ waiting (units_in before n) d
-  pub left : r.stock ≡ stock (units_in before n) d
-  pub some : r.run < n → r.stock < get_or after r.run 0 / 64
-  pub plain : Every Plain (drop r.run (runs_in after n))
+-- a total taken off runs: how many of their units it covers, the stock, and the runs of those that wait, plain if all were
+pub record HandsOn (before after : List ℕ) (d : ℕ) (r : Waiting) : Type 0 where
+  pub within : r.run ≤ length after
+  pub covers : r.count ≡ covered (units_of_words before) d
+  pub left : r.stock ≡ stock (units_of_words before) d
+  pub waits : units_of_words (drop r.run after) ≡ waiting (units_of_words before) d
+  pub some : r.run < length after → r.stock < get_or after r.run 0 / 64
+  pub plain : Every Plain (map part_of before) → Every Plain (map part_of (drop r.run after))
 
 -- a number for each account, with account a's set to 0
 abbrev pub spent : (ℕ → ℕ) → ℕ → ℕ → ℕ

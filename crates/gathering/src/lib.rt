@@ -2,39 +2,45 @@
 // its first full run, however many lifts have parted them.
 #![tactic(auto)]
 
-ghost use Rattle.std.specs.Prelude.{◌≡◌, map, length, get_or};
-ghost use Rattle.runs.specs.Runs.{part_of, Held};
+ghost use Rattle.std.specs.Prelude.{◌≡◌, ◌≤◌, map, length, get_or};
+ghost use Rattle.runs.specs.Runs.{part_of};
 ghost use Rattle.gathering.specs.Gathering.{laid, fulls_of, SumsAre, HandsOn, CanGather, CanSum, CanSpread};
 
 use rules::{ACCOUNT_COUNT, ACCOUNTS, UNIT_LOTS};
-use runs::UNIT_WORD;
+use runs::{MOST_SMALL, UNIT_WORD};
 
-// Where a delivered total ends: the first run that waits, and the stock.
+// Where a delivered total ends: how many units it covers, the first run that waits behind them, and the stock.
 #[derive(Clone, Copy, Drop)]
 pub struct Waiting {
     pub run: usize,
+    pub count: u32,
     pub stock: u32,
 }
 
-// The runs that wait after a delivered total: in the run where it ends stays what is not handed.
-pub fn hand(runs: &mut [u32], d: u32) -> Waiting
-    requires { Held runs.old (length runs.old) }
-    ensures { HandsOn runs.old runs.new (length runs.old) d result }
+// What a delivered total covers of the units is taken off their runs: those that wait are left.
+pub fn hand_on(runs: &mut [u32], total: u32) -> Waiting
+    requires { length runs.old ≤ 144 }
+    ensures { HandsOn runs.old runs.new total result }
 {
-    let mut left = d;
+    let mut left = total;
+    let mut count: u32 = 0;
     for (j, key) in runs.iter_mut().enumerate() {
-        let held = *key / ACCOUNTS;
-        if left < held {
-            *key -= left / UNIT_LOTS * UNIT_WORD;
+        let lots = *key / ACCOUNTS;
+        if left < lots {
+            let whole = left / UNIT_LOTS;
+            *key -= whole * UNIT_WORD;
             return Waiting {
                 run: j,
+                count: count + whole,
                 stock: left % UNIT_LOTS,
             };
         }
-        left -= held;
+        left -= lots;
+        count += (lots + MOST_SMALL) / UNIT_LOTS;
     }
     Waiting {
         run: runs.len(),
+        count,
         stock: left,
     }
 }

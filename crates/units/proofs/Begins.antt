@@ -116,8 +116,31 @@ cursor_lacks runs n j a x st vs e missing =
     overlaps_short0 (by_account 0 missing) us 0
     ∙ sym (overlaps_skip0 (by_account 0 missing) us) ∙ ap (overlaps (by_account 0 missing)) e ∙ overlaps_skip0 (by_account 0 missing) vs
 
+-- of the first n words, which are all: from a run on, the runs stand for the units that wait
+pub record Hands (before after : List ℕ) (n d : ℕ) (r : Waiting) : Type 0 where
+  pub few : r.run ≤ n
+  pub waits : units_of_runs (drop r.run (runs_in after n)) ≡ waiting (units_in before n) d
+  pub left : r.stock ≡ stock (units_in before n) d
+  pub some : r.run < n → r.stock < get_or after r.run 0 / 64
+  pub plain : Every Plain (drop r.run (runs_in after n))
+
+pub all_handed : (before after : List ℕ) (n d : ℕ) (r : Waiting) → n ≡ length before → n ≡ length after → Every Plain (runs_in before (length before)) →
+    HandsOn before after d r → Hands before after n d r
+unfolding units_in
+all_handed before after n d r e f p h =
+    let b : take n before ≡ before = take_all n before (omega arith) in
+    let a : drop r.run (runs_in after n) ≡ map part_of (drop r.run after) =
+    drop_map r.run (take n after) ∙ ap (λ l. map part_of (drop r.run l)) (take_all n after (omega arith)) in
+    record {
+      few = omega (arith, h.within);
+      waits = rw (a, b) h.waits;
+      left = rw b h.left;
+      some = λ g. h.some (omega arith);
+      plain = rw a (h.plain (rw (take_all (length before) before (omega arith)) at p));
+    }
+
 -- all runs are handed
-pub begins_none : (before after : List ℕ) (n d : ℕ) (s : Waiting) → n ≤ length after → HandsOn before after n d s → n ≤ s.run →
+pub begins_none : (before after : List ℕ) (n d : ℕ) (s : Waiting) → n ≤ length after → Hands before after n d s → n ≤ s.run →
     Started (units_in before n) after n d (position s.run 0 0 s.stock)
 unfolding lacks
 begins_none before after n d s l h g =
@@ -203,7 +226,7 @@ full_total a (v ∷ vs) =
         (λ e. by_test (leb unit_lots v.lots) (λ t. simp (e, t) (omega arith)) (λ t. simp (e, t) (omega arith)))
         (λ e. simp e (omega arith))
 
-module _ (before runs : List ℕ) (n d : ℕ) (s : Waiting) (h : HandsOn before runs n d s) where
+module _ (before runs : List ℕ) (n d : ℕ) (s : Waiting) (h : Hands before runs n d s) where
   pub can_gather : ((a : ℕ) → total (of_account a) (units_in before n) ≤ 20000000) → CanGather (take (n - s.run) (drop s.run runs))
   can_gather small =
       let e = lent_runs runs n s.run h.few in

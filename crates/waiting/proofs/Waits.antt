@@ -1,9 +1,9 @@
--- What waits of the units that words stand for, word by word.
+-- What waits of an issue's units after more lots, and where nothing is kept yet.
 use mathlib.Core.Path.{◌≡◌, sym, ap, ◌∙◌}
-use mathlib.Core.List.{List, ◌++◌, map}
-use Prim.Native.Nat.{ℕ, ◌+◌, ◌-◌, ◌*◌, ◌/◌, ◌%◌, ◌≤◌, ◌<◌}
+use mathlib.Core.List.{List, ◌++◌}
+use Prim.Native.Nat.{ℕ, ◌+◌, ◌-◌, ◌≤◌}
 use native.Mathlib.Omega.{arith}
-use lib.ListN.{length, take, drop, get_or, set, length-append}
+use lib.ListN.{length, take, drop, length-append}
 use lib.Seq.{take-append_seam, drop-append-add, drop-drop, length-take-le}
 use Rattle.std.proofs.lemmas.Slice.{take-put_mid}
 use Rattle.std.proofs.lemmas.List.{drop-take}
@@ -11,37 +11,11 @@ use borrow.Rule.Slice.PartMut.{put_mid, same_len_mid, mid_len}
 use Rattle.rules.specs.Units.{AccountLots}
 use Rattle.laws.proofs.Handover.{covered_more, stock_more}
 use Rattle.waiting.specs.declared.Kept.{Kept}
-use Rattle.waiting.specs.declared.Place.{Place}
-use Rattle.waiting.specs.Waiting.{HandsOn, Ready, Keeps}
-use Rattle.std.proofs.lemmas.List.{drop-set}
-use Rattle.rules.specs.Units.{account_lots}
+use Rattle.gathering.specs.declared.Waiting.{Waiting}
+use Rattle.gathering.specs.Gathering.{HandsOn}
+use Rattle.waiting.specs.Waiting.{Ready, Keeps}
 use Rattle.rules.specs.Handover.{covered, stock, waiting}
-use Rattle.runs.specs.Runs.{part_of, units_of_run, units_of_runs, units_of_words}
-use Rattle.runs.proofs.Units.{waits_run, waits_over}
-use Rattle.runs.proofs.Words.{units_at_word}
-use Rattle.gathering.proofs.Gathers.{drop_map}
-
-module _ (runs : List ℕ) (j : ℕ) (h : j < length runs) where
-  -- past a word, or in it
-  pub waits_past_word : (d : ℕ) → get_or runs j 0 / 64 ≤ d →
-      waiting (units_of_runs (drop j (map part_of runs))) d ≡ waiting (units_of_runs (drop (j + 1) (map part_of runs))) (d - get_or runs j 0 / 64)
-  waits_past_word d g =
-      rw (units_at_word runs j h) (waits_over (part_of (get_or runs j 0)) (units_of_runs (drop (j + 1) (map part_of runs))) d g)
-
-  pub waits_in_word : (d : ℕ) → d < get_or runs j 0 / 64 →
-      waiting (units_of_runs (drop j (map part_of runs))) d
-      ≡ units_of_run (account_lots (get_or runs j 0 % 64) (get_or runs j 0 / 64 - d / 100000 * 100000)) ++ units_of_runs (drop (j + 1) (map part_of runs))
-  waits_in_word d g =
-      rw (units_at_word runs j h) (waits_run (part_of (get_or runs j 0)) (units_of_runs (drop (j + 1) (map part_of runs))) d g)
-
-  -- what is not handed of a word, and the words behind it
-  pub rest_of_word : (v d : ℕ) → d < get_or runs j 0 / 64 → v ≡ get_or runs j 0 - d / 100000 * 6400000 →
-      units_of_words (drop j (set runs j v)) ≡ waiting (units_of_runs (drop j (map part_of runs))) d
-  rest_of_word v d g e =
-      let a : v % 64 ≡ get_or runs j 0 % 64 = omega arith in
-      let b : v / 64 ≡ get_or runs j 0 / 64 - d / 100000 * 100000 = omega arith in
-      ap units_of_words (drop-set runs j v h)
-      ∙ rw (a, b, ← drop_map (j + 1) runs) (sym (waits_in_word d g))
+use Rattle.runs.specs.Runs.{units_of_words}
 
 -- What waits after more lots
 
@@ -67,8 +41,8 @@ pub waits_in : (us : List AccountLots) (d : ℕ) (k : Kept) → Keeps us d k →
     units_of_words (take (k.number - k.first) (drop k.first k.runs)) ≡ waiting us d
 waits_in us d k keeps = ap units_of_words (mid_take k.runs k.first k.number keeps.ready.first) ∙ keeps.waits
 
-module _ (k : Kept) (p : Place) (new : List ℕ) (x : ℕ) (ready : Ready k) (same : length new ≡ k.number - k.first)
-    (on : HandsOn (units_of_words (take (k.number - k.first) (drop k.first k.runs))) new (k.stock + x) p)
+module _ (k : Kept) (p : Waiting) (new : List ℕ) (x : ℕ) (ready : Ready k) (same : length new ≡ k.number - k.first)
+    (on : HandsOn (take (k.number - k.first) (drop k.first k.runs)) new (k.stock + x) p)
     (us : List AccountLots) (d : ℕ) (keeps : Keeps us d k) where
   these : units_of_words (take (k.number - k.first) (drop k.first k.runs)) ≡ waiting us d
   these = waits_in us d k keeps
@@ -88,8 +62,8 @@ module _ (k : Kept) (p : Place) (new : List ℕ) (x : ℕ) (ready : Ready k) (sa
 
 -- What is kept first
 
-pub kept_first : (us : List AccountLots) (runs new : List ℕ) (n d : ℕ) (p : Place) → units_of_words (take n runs) ≡ us → n ≤ 144 → n ≤ length runs →
-    length new ≡ n → HandsOn (units_of_words (take n runs)) new d p →
+pub kept_first : (us : List AccountLots) (runs new : List ℕ) (n d : ℕ) (p : Waiting) → units_of_words (take n runs) ≡ us → n ≤ 144 → n ≤ length runs →
+    length new ≡ n → HandsOn (take n runs) new d p →
     Keeps us d (record { runs = new ++ drop n runs; number = n; first = p.run; stock = p.stock })
 kept_first us runs new n d p e few there same on =
     let t : take n (new ++ drop n runs) ≡ new = ap (λ m. take m (new ++ drop n runs)) (sym same) ∙ take-append_seam new (drop n runs) in

@@ -3,15 +3,7 @@ use Rattle.std.specs.Prelude.{◌≡◌, List, ℕ, ◌+◌, ◌-◌, ◌≤◌,
 use Rattle.rules.specs.Units.{AccountLots}
 use Rattle.rules.specs.Handover.{covered, stock, waiting}
 use Rattle.runs.specs.Runs.{units_of_words}
-use Rattle.waiting.specs.declared.Place.{Place}
 use Rattle.waiting.specs.declared.Kept.{Kept}
-
--- a total taken off the runs of some units: how many it covers, the stock, and the runs of those that wait
-pub record HandsOn (us : List AccountLots) (after : List ℕ) (d : ℕ) (r : Place) : Type 0 where
-  pub within : r.run ≤ length after
-  pub covers : r.count ≡ covered us d
-  pub left : r.stock ≡ stock us d
-  pub waits : units_of_words (drop r.run after) ≡ waiting us d
 
 -- the runs kept are in their places
 pub record Ready (k : Kept) : Type 0 where

@@ -2,49 +2,13 @@
 // order is not made again.
 #![tactic(auto)]
 
-ghost use Rattle.std.specs.Prelude.{◌+◌, ◌≤◌, ◌<◌, false, length};
+ghost use Rattle.std.specs.Prelude.{◌+◌, ◌<◌, false};
 ghost use Rattle.rules.specs.Book.{order_in};
-ghost use Rattle.runs.specs.Runs.{CanOrder, units_of_words};
-ghost use Rattle.waiting.specs.Waiting.{HandsOn, Ready, Keeps, More};
+ghost use Rattle.runs.specs.Runs.{CanOrder};
+ghost use Rattle.waiting.specs.Waiting.{Ready, Keeps, More};
 
-use rules::{ACCOUNTS, UNIT_LOTS};
-use runs::{MOST_SMALL, RUN_COUNT, UNIT_WORD};
-
-// Where a total ends: how many units it covers, the first run that waits behind them, and the stock.
-#[derive(Clone, Copy, Drop)]
-struct Place {
-    run: usize,
-    count: u32,
-    stock: u32,
-}
-
-// What a total covers of the units is taken off their runs: those that wait are left.
-fn hand_on(runs: &mut [u32], total: u32) -> Place
-    requires { length runs.old ≤ 144 }
-    ensures { HandsOn (units_of_words runs.old) runs.new total result }
-{
-    let mut left = total;
-    let mut count: u32 = 0;
-    for (j, key) in runs.iter_mut().enumerate() {
-        let lots = *key / ACCOUNTS;
-        if left < lots {
-            let whole = left / UNIT_LOTS;
-            *key -= whole * UNIT_WORD;
-            return Place {
-                run: j,
-                count: count + whole,
-                stock: left % UNIT_LOTS,
-            };
-        }
-        left -= lots;
-        count += (lots + MOST_SMALL) / UNIT_LOTS;
-    }
-    Place {
-        run: runs.len(),
-        count,
-        stock: left,
-    }
-}
+use gathering::hand_on;
+use runs::RUN_COUNT;
 
 // What is kept of an issue: the runs of its units, of which those from `first` on wait, their number, and the stock.
 #[derive(Clone, Copy, Drop)]

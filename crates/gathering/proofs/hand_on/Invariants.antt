@@ -2,7 +2,7 @@
 use Rattle.std.proofs.Common.{◌≡◌, ◌+◌, ◌*◌, ◌≤◌, drop, map}
 use Rattle.rules.specs.Handover.{covered, stock, waiting}
 use Rattle.runs.specs.Runs.{part_of, units_of_runs, units_of_words}
-use Rattle.waiting.proofs.hand_on.Given as goal
+use Rattle.gathering.proofs.hand_on.Given as goal
 
 abbrev pub invariant-loop-j : goal.invariant-loop-j
 invariant-loop-j l =

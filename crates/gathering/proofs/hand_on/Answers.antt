@@ -4,10 +4,11 @@ use Prim.Native.Nat.{◌-◌, ◌*◌, ◌/◌}
 use native.Mathlib.Omega.{arith}
 use lib.ListN.{get_or, length-set}
 use borrow.Author.Rules.{rules}
+use lib.Seq.{get_or-set_same}
 use Rattle.std.proofs.lemmas.List.{set-get_or}
 use Rattle.runs.proofs.Words.{covered_past_word, stock_past_word, covered_in_word, stock_in_word}
-use Rattle.waiting.proofs.Waits.{waits_past_word, rest_of_word}
-use Rattle.waiting.proofs.hand_on.Goals as goal
+use Rattle.gathering.proofs.Gathers.{waits_past_word, rest_of_word, plain_rest}
+use Rattle.gathering.proofs.hand_on.Goals as goal
 
 pub returns-then-left-lots : goal.returns-then-left-lots
 returns-then-left-lots c =
@@ -20,6 +21,8 @@ returns-then-left-lots c =
       covers = omega (arith, i.2, covered_in_word runs l.j (search rules) l.left (omega arith));
       left = sym (i.3 ∙ stock_in_word runs l.j (search rules) l.left (omega arith));
       waits = rest_of_word runs l.j (search rules) _ l.left (omega arith) refl ∙ sym i.4;
+      some = λ _. rw (get_or-set_same runs l.j (get_or runs l.j 0 - l.left / 100000 * 6400000) 0 (search rules)) (omega arith);
+      plain = plain_rest runs l.j (search rules) _ l.left (omega arith) refl;
     })
 
 pub loop-j-preserved : goal.loop-j-preserved
