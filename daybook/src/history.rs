@@ -4,6 +4,7 @@ use crate::call::{records, Call, Record, FAILED};
 use crate::folder::{self, Numbers};
 use crate::orders::failing;
 use ::tape::batch::Batch;
+use ::tape::block::Block;
 use ::tape::dealt::Dealt;
 use ::tape::facts::{Fact, Told};
 use ::tape::input::Stands;
@@ -126,7 +127,7 @@ impl History {
 
     /// The story: what each call did, day by day. A word's number is that of the tape's words.
     pub fn explain(&self, as_json: bool, out: &mut dyn Write) -> io::Result<()> {
-        let out = RefCell::new(out);
+        let out = RefCell::new(Block::before(out));
         if let (Some(beginning), false) = (self.beginning(), as_json) {
             writeln!(out.borrow_mut(), "The story {beginning}\n")?;
         }
@@ -156,7 +157,8 @@ impl History {
                 })?,
             }
         }
-        story.end()
+        story.end()?;
+        out.into_inner().flush()
     }
 }
 

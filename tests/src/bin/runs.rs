@@ -97,12 +97,22 @@ struct Met {
     wrong: u64,
     short: u64,
     unsound: u64,
+    /// Trades behind a trade, done, and deliveries behind one of the same issue that hand over units: in the old
+    /// order, the same where a unit of the issue was lifted, and where full units are dealt in turn.
+    trades: u64,
+    deliveries: u64,
+    lifted: u64,
+    dealt: u64,
 }
 
 impl Met {
     /// How often each was met.
-    fn all(&self) -> [u64; 12] {
+    fn all(&self) -> [u64; 16] {
         [
+            self.trades,
+            self.deliveries,
+            self.lifted,
+            self.dealt,
             self.done,
             self.refused,
             self.steps,
@@ -118,6 +128,24 @@ impl Met {
         ]
     }
 
+    /// Notes an instruction that is done behind another, with its records.
+    fn follows(&mut self, book: &Book, last: Instruction, next: Instruction, records: u64) {
+        use Instruction::{Deliver, Trade};
+        match (last, next) {
+            (Trade { .. }, Trade { .. }) => self.trades += 1,
+            (Deliver { issue, .. }, Deliver { issue: same, .. })
+                if issue == same && records > 0 =>
+            {
+                let dealt = book.turn != 0 && book.turn <= book.day.into();
+                let lifted = book.lifts[issue as usize].number > 0;
+                self.dealt += u64::from(dealt);
+                self.deliveries += u64::from(!dealt);
+                self.lifted += u64::from(!dealt && lifted);
+            }
+            _ => {}
+        }
+    }
+
     /// The second engine: the calls one by one, each with all its questions.
     fn model(&mut self, book: &mut Book, words: &[u32], lent: &mut Lent) -> Ran {
         let (answers, out) = lent.inner();
@@ -130,6 +158,7 @@ impl Met {
             return (2, 0, 0, 0);
         }
         let (mut answered, mut used, mut written) = (0, 0, 0);
+        let mut last = Instruction::Close;
         while used < words.len() {
             let rest = &words[used..];
             let (instruction, count) = match tape::read(rest) {
@@ -160,6 +189,10 @@ impl Met {
                     self.records += records;
                 }
             }
+            if answer.number == 0 {
+                self.follows(book, last, instruction, records);
+            }
+            last = instruction;
             self.done += u64::from(answer.number == 0);
             self.refused += u64::from(answer.number != 0);
             self.cancelled += cancelled;
@@ -308,9 +341,11 @@ fn run(options: &Options) -> Result<String, String> {
         return Err(format!("one was never met: {:?}, seed {}", met.all(), options.seed));
     }
     let Met { runs, done, refused, records, few_answers, few_words, short, unsound, .. } = met;
+    let Met { trades, deliveries, lifted, dealt, .. } = met;
     Ok(format!(
         "runs: {} tapes agree in {runs} runs: {done} instructions done and {refused} refused, {records} records; \
-         {few_answers} and {few_words} runs went on for want of answers and of words, {short} were refused by 1 and \
+         {trades} trades and {deliveries} deliveries behind others alike ({lifted} where units were lifted), {dealt} \
+         deliveries dealt in turn; {few_answers} and {few_words} runs went on for want of answers and of words, {short} were refused by 1 and \
          {unsound} by 2, {} and {} stopped by 13 and 14",
         options.cases, met.cut, met.wrong
     ))
