@@ -1,10 +1,11 @@
 //! `runs`: the instructions of a tape's words on a host's book, by the library in one run and by the second engine one by
 //! one.
 //!
-//! Random tapes, whole, damaged and cut, on fresh books and on random ones, some of them not sound; with answers and
-//! outputs of any length. Where a run stops for want of room, it goes on with both emptied. Number and counts, the numbers
-//! of each instruction, the records, all words around them and the book are compared. `--replay` takes the places of the
-//! answers, the words of the output and a tape in hexadecimal, for a fresh book.
+//! Every list of four instructions out of a few, in both orders of full units. Then random tapes, whole, damaged and cut,
+//! on fresh books and on random ones, some of them not sound; with answers and outputs of any length. Where a run stops
+//! for want of room, it goes on with both emptied. Number and counts, the numbers of each instruction, the records, all
+//! words around them and the book are compared. `--replay` takes the places of the answers, the words of the output and a
+//! tape in hexadecimal, for a fresh book.
 
 use ::tape::bytes;
 use reference::book::Book;
@@ -16,9 +17,10 @@ use tests::books::{random_book, Shape};
 use tests::convert::{library_book, same_numbers};
 use tests::engines::{book_difference, by_reference, pattern};
 use tests::options::{number, Options};
-use tests::random_tapes::{call_of, damaged, small_tape, tape_from};
+use tests::random_tapes::{call_of, damaged, small_tape, tape_from, words_of};
 use tests::report::{progress, Mismatch};
 use tests::rng::Rng;
+use tests::steps::Call;
 
 const DEFAULT_CASES: u64 = 6_000;
 /// The numbers that are told of an instruction.
@@ -274,6 +276,50 @@ fn random(rng: &mut Rng) -> (Case, Book) {
     (Case { words: bytes::split(&tape).0, answers, out }, book)
 }
 
+/// Every list of four instructions out of a few, as one run, in both orders of full units: on two nets that tie and end
+/// inside a unit, deliveries that end at a unit's end, inside it and behind it, of two accounts and of another issue, one
+/// that is refused, a mark and a cutoff between them.
+fn every(met: &mut Met) -> Result<u64, String> {
+    let deliver = |issue, account, lots| Call::Deliver { issue, account, lots, out: 0 };
+    let trade = |issue, from, to, lots| Call::Trade { issue, from, to, lots };
+    let choices = [
+        deliver(0, 4, 100_000),
+        deliver(0, 4, 70_000),
+        deliver(0, 5, 30_000),
+        deliver(1, 4, 1),
+        deliver(0, 4, 0),
+        Call::Mark { issue: 2, mark: 1 },
+        Call::Cutoff { out: 0 },
+    ];
+    let day = [
+        trade(0, 4, 1, 230_000),
+        trade(0, 4, 2, 230_000),
+        trade(0, 5, 3, 150_000),
+        trade(1, 4, 1, 3),
+        Call::Close,
+    ];
+    let words = |calls: &[Call]| calls.iter().filter_map(words_of).flatten().collect();
+    let day: Vec<u32> = words(&day);
+    let choices: Vec<Vec<u32>> = choices.iter().map(|call| words(&[call.clone()])).collect();
+    let most = choices.len();
+    let mut lists = 0;
+    for dealt in [0, 1] {
+        let book = Book { day: dealt, turn: dealt.into(), ..Book::fresh() };
+        for list in 0..most.pow(4) {
+            let picked = [list, list / most, list / most.pow(2), list / most.pow(3)];
+            let picked = picked.iter().flat_map(|at| &choices[at % most]);
+            let words = day.iter().chain(picked).copied().collect();
+            met.compare(&Case { words, answers: 1_000, out: 2 * OUTPUT_WORDS }, &book)?;
+            lists += 1;
+        }
+    }
+    match (met.deliveries, met.dealt, met.unsound) {
+        (0, ..) | (_, 0, _) => Err(format!("no units are handed over: {lists} lists")),
+        (.., 0) => Ok(lists),
+        _ => Err("a book is not sound".to_string()),
+    }
+}
+
 /// What the second engine's book cannot hold, and what the typed form says.
 fn lent() -> Result<(), String> {
     let words = [5 << 28];
@@ -330,6 +376,7 @@ fn run(options: &Options) -> Result<String, String> {
         return replay(words);
     }
     lent()?;
+    let lists = every(&mut Met::default())?;
     let mut met = Met::default();
     for at in 0..options.cases {
         let (case, book) = random(&mut Rng::of_case(options.seed, at));
@@ -343,7 +390,7 @@ fn run(options: &Options) -> Result<String, String> {
     let Met { runs, done, refused, records, few_answers, few_words, short, unsound, .. } = met;
     let Met { trades, deliveries, lifted, dealt, .. } = met;
     Ok(format!(
-        "runs: {} tapes agree in {runs} runs: {done} instructions done and {refused} refused, {records} records; \
+        "runs: {lists} lists of four and {} tapes agree in {runs} runs: {done} instructions done and {refused} refused, {records} records; \
          {trades} trades and {deliveries} deliveries behind others alike ({lifted} where units were lifted), {dealt} \
          deliveries dealt in turn; {few_answers} and {few_words} runs went on for want of answers and of words, {short} were refused by 1 and \
          {unsound} by 2, {} and {} stopped by 13 and 14",
