@@ -17,14 +17,13 @@ use Rattle.rules.specs.Calls.{Call, Answer, answer, lends, output_asks, HasRoom,
 use Rattle.rules.specs.Run.{call_of}
 use Rattle.laws.proofs.Basics.{by_test, cond_true, cond_false}
 use Rattle.laws.proofs.Answers.{no_first, room, unsound_first, refused_as}
-use Rattle.answers.specs.declared.Turn.{Turn}
 use Rattle.answers.specs.Turns.{Given, TurnIs, state_after}
 use Rattle.columns.specs.declared.LentColumns.{LentColumns}
 use Rattle.columns.specs.Books.{lent_book}
 use Rattle.desk.specs.Fields.{is_kind}
 use Rattle.host.specs.declared.DayState.{DayState}
 use Rattle.host.specs.declared.DayTurned.{DayTurned}
-use Rattle.host.specs.States.{phase_of, number_of, state_in, numbers_of, holds, sound_at}
+use Rattle.host.specs.States.{phase_of, number_of, state_in, holds, sound_at}
 use Rattle.host.specs.Calls.{day_made, day_called, refused_by, given_of, CallIs}
 use Rattle.host.proofs.Holding.{back_state, same_stage, is_phase, is_held, not_held}
 

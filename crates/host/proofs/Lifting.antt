@@ -2,8 +2,7 @@
 use mathlib.Core.Path.{◌≡◌, refl, sym, ap, subst, ◌∙◌}
 use mathlib.Core.Bool.{Bool, true, false}
 use mathlib.Core.List.{List, []}
-use Prim.Native.Nat.{ℕ, zero, suc, ◌≤◌, ◌<◌}
-use native.Mathlib.Omega.{arith}
+use Prim.Native.Nat.{ℕ, suc, ◌≤◌, ◌<◌}
 use lib.Dec.{leb}
 use lib.ListN.{length}
 use borrow.Author.Tests.{le-leb}
@@ -12,7 +11,7 @@ use Rattle.rules.specs.declared.Ticket.{Ticket}
 use Rattle.rules.specs.Measures.{output_words}
 use Rattle.rules.specs.Book.{dealt_today, with_lifts}
 use Rattle.rules.specs.Questions.{first_no}
-use Rattle.rules.specs.Calls.{Call, Commit, HasRoom, asks, called}
+use Rattle.rules.specs.Calls.{Call, Commit, HasRoom, asks}
 use Rattle.laws.proofs.Answers.{said_yes, short_first, own_first, refused_as, accepted_as}
 use Rattle.std.specs.Prelude.{Result, Ok, Err, pred}
 use Rattle.rules.specs.declared.Refusal.{Refusal}

@@ -15,7 +15,7 @@ use Rattle.rules.specs.Run.{Ran, run_rest, stopped}
 use Rattle.rules.specs.Text.{lines_text, ran_of, closing_text, printed_of}
 use Rattle.laws.proofs.Sound.{sound_parts}
 use Rattle.rereading.proofs.Run.{run_start}
-use Rattle.input.specs.Fed.{is_ended, is_failed, brought, says_end, says_failed}
+use Rattle.input.specs.Fed.{is_ended, brought, says_end, says_failed}
 use Rattle.input.proofs.WordLaws.{tail_in, words_append, words_tail, words_length, words_from, stray_from}
 use Rattle.parts.specs.declared.Place.{Place}
 use Rattle.passing.specs.Going.{Follows, Goes, onward, Went}

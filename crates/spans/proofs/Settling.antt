@@ -1,13 +1,12 @@
 -- A day still settling adds its resolves and nothing else. A book's stage, three times its day and the place of its phase, never
 -- falls along a run, and a close, a cutoff and a roll raise it; so between two books of one day in Settling there is no cutoff and
 -- no trade.
-use mathlib.Core.Path.{◌≡◌, refl, sym, ap, ◌∙◌}
-use mathlib.Core.Bool.{Bool, true, false, cond, false≢true}
-use mathlib.Core.List.{List, [], ◌∷◌, ◌++◌}
-use Prim.Native.Nat.{ℕ, zero, suc, ◌+◌, ◌*◌, ◌≤◌, ◌<◌}
+use mathlib.Core.Path.{◌≡◌, refl, ap, ◌∙◌}
+use mathlib.Core.Bool.{true, false, false≢true}
+use mathlib.Core.List.{List, [], ◌∷◌}
+use Prim.Native.Nat.{ℕ, zero, suc, ◌+◌, ◌*◌, ◌≤◌}
 use native.Mathlib.Omega.{arith}
 use lib.ListN.{drop}
-use lib.IntN.{ℤ}
 use Rattle.rules.specs.declared.Book.{Book}
 use Rattle.rules.specs.declared.Instruction.{Instruction}
 use Rattle.rules.specs.declared.Instruction.TheVariants as instruction
@@ -16,10 +15,9 @@ use Rattle.rules.specs.declared.Phase.TheVariants.{Taking, Settling, Cut}
 use Rattle.std.specs.Prelude.{Result, Ok, Err}
 use Rattle.rules.specs.Measures.{total, Every}
 use Rattle.rules.specs.Book.{is_taking, is_settling, is_cut}
-use Rattle.rules.specs.Calls.{Answer, Call}
+use Rattle.rules.specs.Calls.{Answer}
 use Rattle.rules.specs.Tape.{read_of, quotes_of}
 use Rattle.rules.specs.Run.{call_of, any_output, answer_of}
-use Rattle.rules.specs.Tally.{accepted}
 use Rattle.laws.proofs.Basics.{total_append}
 use Rattle.laws.proofs.Answers.{by_answer}
 use Rattle.spans.specs.Span.{Turn, turn_of, turns_from, book_behind, words_behind}

@@ -11,7 +11,7 @@ use Rattle.rules.specs.declared.Instruction.{Instruction}
 use Rattle.std.specs.Prelude.{Result, Ok, Err}
 use Rattle.rules.specs.Book.{fresh}
 use Rattle.rules.specs.Tape.{read_of}
-use Rattle.rules.specs.Run.{Ran, answer_of, ended, run_from, run_rest, run_of}
+use Rattle.rules.specs.Run.{Ran, answer_of, ended, run_from, run_of}
 use Rattle.laws.proofs.Basics.{by_test}
 use Rattle.rereading.proofs.Run.{run_fuel, run_start, not_ended}
 use Rattle.spans.specs.Span.{Turn, turn_of, turns_from, book_behind, words_behind}

@@ -1,5 +1,5 @@
 -- The kind; without the right the number of the refusal, with it the call.
-use Rattle.std.proofs.Common.{◌≡◌, ◌∙◌, refl, sym, ap, [], Bool}
+use Rattle.std.proofs.Common.{◌≡◌, ◌∙◌, refl, sym, ap, []}
 use Rattle.rules.specs.declared.Book.{Book}
 use Rattle.rules.specs.declared.Instruction.{Instruction}
 use Rattle.rules.specs.Access.{has_right}

@@ -1,6 +1,5 @@
 -- The operator is answered as without a caller, any other by the number of its refusal.
 use Rattle.std.proofs.Common.{◌∙◌, sym, ap}
-use Rattle.rules.specs.declared.Book.{Book}
 use Rattle.rules.specs.Book.{is_settling}
 use Rattle.rules.specs.Calls.{Commit}
 use Rattle.rules.specs.Refusals.{number_of}

@@ -3,7 +3,7 @@ use mathlib.Core.Path.{◌∙◌}
 use mathlib.Core.Bool.{false}
 use mathlib.Core.List.{◌++◌}
 use native.Mathlib.Omega.{arith}
-use lib.ListN.{take, drop}
+use lib.ListN.{drop}
 use lib.Seq.{length-take-le}
 use Rattle.rules.specs.Book.{order_in}
 use Rattle.runs.proofs.Cells.{row_part, total_small}

@@ -1,16 +1,14 @@
 -- A turn is made where all lines are written, the run goes on and a read is left; behind the last the run is the definition's.
 use mathlib.Core.Path.{◌≡◌, refl, sym, ap, ◌∙◌}
 use mathlib.Core.Bool.{Bool, true, false, not, ◌&&◌}
-use Prim.Native.Nat.{ℕ, zero, suc, ◌+◌, ◌≤◌, ◌<◌}
+use Prim.Native.Nat.{ℕ, zero, suc, ◌≤◌, ◌<◌}
 use native.Mathlib.Omega.{arith}
 use lib.Dec.{ltb}
-use lib.ListN.{length, take}
 use lib.Seq.{length-take-le}
 use borrow.Author.Tests.{not-true, ltb-true, ltb-false}
 use Rattle.rules.specs.Book.{sound}
 use Rattle.laws.proofs.Basics.{and_left, and_right}
 use Rattle.laws.proofs.Called.{fresh_sound}
-use Rattle.playing.specs.Playing.{most_reads}
 use Rattle.playing.proofs.Sofar.{sofar_starts, sofar_on, few_words, shown, played}
 use Rattle.playing.proofs.play.Goals as goal
 

@@ -1,5 +1,5 @@
 -- The run so far, of the bytes that came, printed as many bytes as were sent; the reads made are so few that no number wraps.
-use Rattle.std.proofs.Common.{◌≡◌, true, false, length, ℕ, ◌-◌, ◌*◌, ◌≤◌}
+use Rattle.std.proofs.Common.{◌≡◌, true, false, ◌-◌, ◌*◌, ◌≤◌}
 use Rattle.playing.specs.Playing.{most_reads, Buffers, Standing, unused}
 use Rattle.playing.proofs.Sofar.{Sofar}
 use Rattle.playing.proofs.play.Given as goal

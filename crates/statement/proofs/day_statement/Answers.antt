@@ -1,6 +1,4 @@
 -- Questions 4 and 5, and then the statement's numbers.
-use Rattle.std.proofs.Common.{rules, ◌≡◌, ℕ, zero, suc, ◌+◌, ◌-◌, ◌*◌, ◌/◌, ◌%◌, ◌≤◌, ◌<◌, min, List, [], ◌∷◌, ◌++◌, map, length, get_or, take, drop, set, replicate, refl, sym, ap, ◌∙◌, arith, Bool, true, false, cond, ◌&&◌, not, length-set, add-one, leb, ltb, eqb, eq-eqb, ne_eqb, le-leb, lt-ltb, le-ltb, ltb-true, ltb-false, leb-true, leb-false, eqb-true, subst, get_or-set_other, get_or-set_same}
-use borrow.Author.Tests.{lt-leb}
 use Rattle.statement.proofs.Counted.{above_issues, above_accounts, in_range}
 use Rattle.statement.proofs.day_statement.Goals as goal
 

@@ -1,6 +1,5 @@
 -- The columns are those of a fresh book.
-use Rattle.std.proofs.Common.{rules, ◌≡◌, ℕ, zero, suc, ◌+◌, ◌-◌, ◌*◌, ◌/◌, ◌%◌, ◌≤◌, ◌<◌, min, List, [], ◌∷◌, ◌++◌, map, length, get_or, take, drop, set, replicate, refl, sym, ap, ◌∙◌, arith, Bool, true, false, cond, ◌&&◌, not, length-set, add-one, leb, ltb, eqb, eq-eqb, ne_eqb, le-leb, lt-ltb, le-ltb, ltb-true, ltb-false, leb-true, leb-false, eqb-true, subst, get_or-set_other, get_or-set_same}
-use borrow.Author.Tests.{lt-leb}
+use Rattle.std.proofs.Common.{◌∙◌}
 use Rattle.statement.proofs.Counted.{fresh_lengths, fresh_is_sound, fresh_room, on_fresh_book}
 use Rattle.statement.proofs.on_fresh.Goals as goal
 

@@ -1,13 +1,11 @@
 -- A turn more, or the span ends.
-use Rattle.std.proofs.Common.{rules, ◌≡◌, ℕ, zero, suc, ◌+◌, ◌-◌, ◌*◌, ◌/◌, ◌%◌, ◌≤◌, ◌<◌, min, List, [], ◌∷◌, ◌++◌, map, length, get_or, take, drop, set, replicate, refl, sym, ap, ◌∙◌, arith, Bool, true, false, cond, ◌&&◌, not, length-set, add-one, leb, ltb, eqb, eq-eqb, ne_eqb, le-leb, lt-ltb, le-ltb, ltb-true, ltb-false, leb-true, leb-false, eqb-true, subst, get_or-set_other, get_or-set_same}
-use borrow.Author.Tests.{lt-leb}
-use Rattle.std.specs.Prelude.{Ok, Err}
+use Rattle.std.proofs.Common.{rules, ◌≡◌, ℕ, ◌+◌, ◌-◌, ◌≤◌, ◌<◌, List, length, drop, refl, sym, ap, ◌∙◌, arith}
+use Rattle.std.specs.Prelude.{Ok}
 use lib.ListN.{length-drop}
 use Rattle.rules.specs.declared.Instruction.{Instruction}
-use Rattle.rules.specs.Book.{book_of}
 use Rattle.rules.specs.Tape.{read_of}
 use Rattle.rereading.proofs.Sized.{read_sized}
-use Rattle.statement.proofs.Counted.{Counting, starts, one_more, read_few, again_at, rest_part, ends_refused, ends_out}
+use Rattle.statement.proofs.Counted.{starts, one_more, read_few, again_at, rest_part, ends_refused, ends_out}
 use Rattle.columns.proofs.Same.{same_then}
 use Rattle.statement.proofs.span.Goals as goal
 

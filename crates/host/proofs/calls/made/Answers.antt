@@ -1,5 +1,5 @@
 -- Questions 1 and 2, and then the call in place.
-use Rattle.std.proofs.Common.{◌≡◌, ◌∙◌, refl, sym}
+use Rattle.std.proofs.Common.{◌∙◌, refl, sym}
 use Rattle.std.proofs.lemmas.Result.{err_from_is_err_and}
 use Rattle.columns.specs.Books.{lent_book}
 use Rattle.host.specs.States.{state_in}

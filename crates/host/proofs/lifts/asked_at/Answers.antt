@@ -1,5 +1,4 @@
 -- Question 2, and then the ask in place.
-use Rattle.std.proofs.Common.{◌≡◌}
 use Rattle.std.proofs.lemmas.Result.{err_from_is_err_and}
 use Rattle.rules.specs.Calls.{asked_answer}
 use Rattle.columns.specs.Books.{shared_book}

@@ -1,7 +1,5 @@
 -- Questions 1 and 2, and then the commit in place.
-use Rattle.std.proofs.Common.{◌≡◌, refl}
 use Rattle.std.proofs.lemmas.Result.{err_from_is_err_and}
-use Rattle.rules.specs.Book.{dealt_today}
 use Rattle.host.specs.States.{state_in}
 use Rattle.host.specs.Lifts.{lifting_book}
 use Rattle.host.proofs.Holding.{cells_of}

@@ -1,5 +1,5 @@
 -- The questions in order, and then the simulation.
-use Rattle.std.proofs.Common.{◌≡◌, ◌∙◌, refl, sym, ap, arith, ℕ, Bool}
+use Rattle.std.proofs.Common.{◌≡◌, ◌∙◌, refl, sym, ap, arith, ℕ}
 use Rattle.rules.specs.declared.Book.{Book}
 use Rattle.rules.specs.Refusals.{number_of}
 use Rattle.rules.specs.Questions.{first_no}

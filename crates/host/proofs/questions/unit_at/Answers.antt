@@ -1,5 +1,5 @@
 -- Each refusal is the first question answered 'no'; else the unit that the nets give.
-use Rattle.std.proofs.Common.{◌≡◌, arith}
+use Rattle.std.proofs.Common.{arith}
 use Rattle.std.proofs.lemmas.Result.{err_from_is_err_and}
 use Rattle.columns.specs.Books.{shared_book}
 use Rattle.runs.proofs.Cells.{can_order}
