@@ -14,7 +14,7 @@ use crate::names::Names;
 use crate::output::Untold;
 use crate::progress::Meter;
 use crate::text::why_ended;
-use crate::units::{close, runs, unit_of, waiting, Case, Run, Walk};
+use crate::units::{close, runs, runs_at_close, unit_of, waiting, Case, Run, Walk};
 use crate::why::{owed_today, why};
 use settlement_day::calls::{self, Done, Unit};
 use settlement_day::{
@@ -203,6 +203,10 @@ impl Story<'_> {
         self.handed = [(0, 0); ISSUES];
         self.dealt.clear();
         self.runs.clear();
+        if !self.book.deals_in_turn() {
+            let one_by_one = || (0..ISSUES as u32).map(|issue| runs(&self.book, issue)).collect();
+            self.runs = runs_at_close(&self.book).unwrap_or_else(one_by_one);
+        }
         for issue in 0..ISSUES as u32 {
             if self.book.deals_in_turn() {
                 self.dealt_in_turn(issue)?;
@@ -218,11 +222,9 @@ impl Story<'_> {
 
     /// An issue's units in the old order.
     fn account_by_account(&mut self, issue: u32) -> io::Result<()> {
-        let runs = runs(&self.book, issue);
+        let runs = self.runs[issue as usize].clone();
         runs.iter().try_for_each(|run| self.units(issue, run))?;
-        close(&runs).into_iter().try_for_each(|group| self.fact(&decided(issue, group)))?;
-        self.runs.push(runs);
-        Ok(())
+        close(&runs).into_iter().try_for_each(|group| self.fact(&decided(issue, group)))
     }
 
     /// An issue's units in the new order: the rounds, then the small units.

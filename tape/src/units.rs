@@ -1,7 +1,8 @@
 //! The units of an issue as runs of like ones, out of the library's answers, and a walk along them.
 
+use crate::batch::{Batch, Made};
 use settlement_day::calls::{self, Unit};
-use settlement_day::Book;
+use settlement_day::{tape, Book, Instruction, ACCOUNTS, ISSUES, WRITER_WORDS};
 
 /// The lots of a full unit.
 pub const FULL: u32 = 100_000;
@@ -85,6 +86,50 @@ pub fn runs(book: &Book, issue: u32) -> Vec<Run> {
         first += count;
     }
     runs
+}
+
+/// The runs of all issues of a book that was closed just now and is not dealt in turn, by one look at the book: the
+/// units in their order are those that are handed over where all that is owed is delivered. None, if that is refused.
+pub fn runs_at_close(book: &Book) -> Option<Vec<Vec<Run>>> {
+    let (mut all, mut words) = (vec![Vec::new(); ISSUES], Vec::new());
+    for issue in 0..ISSUES as u32 {
+        for account in 0..ACCOUNTS as u32 {
+            let owed = book.net(issue, account).min(0).unsigned_abs();
+            if owed > 0 {
+                let mut written = [0; WRITER_WORDS];
+                let deliver = Instruction::Deliver { issue, account, lots: owed };
+                let count = tape::write(&deliver, &[], &mut written).ok()?;
+                words.extend_from_slice(&written[..count]);
+            }
+        }
+    }
+    let (mut delivered, mut batch, mut at) = (book.clone(), Batch::default(), 0);
+    while at < words.len() {
+        at += batch.make(&mut delivered, &words[at..], |_, _| false).ok()?;
+        while let Some(made) = batch.next() {
+            let Made { instruction: Instruction::Deliver { issue, .. }, refusal: None, .. } = made
+            else {
+                return None;
+            };
+            for record in batch.records().chunks_exact(2) {
+                hand(&mut all[issue as usize], book, issue, record);
+            }
+        }
+    }
+    Some(all)
+}
+
+/// Counts the unit of a handover's record: it is like the last one, or begins a run.
+fn hand(runs: &mut Vec<Run>, book: &Book, issue: u32, record: &[u32]) {
+    let (account, lots) = (record[0] >> 12 & 63, record[1] & 0x0fff_ffff);
+    let first = runs.last().map_or(0, |run| run.last() + 1);
+    match runs.last_mut() {
+        Some(run) if (run.account, run.lots) == (account, lots) => run.count += 1,
+        _ => {
+            let due = book.net(issue, account).max(0).unsigned_abs();
+            runs.push(Run { first, count: 1, account, lots, due });
+        }
+    }
 }
 
 /// Where neighbours are close: the groups of runs that are ranked equal, two or more each, and a small
@@ -226,6 +271,22 @@ mod tests {
             }
         }
         assert_eq!((k, calls::unit(&book, 0, k)), (195 + 1 + 1 + 4, Ok(None)));
+    }
+
+    #[test]
+    fn the_runs_at_a_close_are_those_asked_one_by_one() {
+        let day = "trade 0 9 1 19500000\ntrade 0 9 2 500000\ntrade 0 8 2 500000\ntrade 0 8 3 500000\ntrade 0 7 4 99999\n\
+                   trade 0 7 5 99999\ntrade 0 7 6 1\ntrade 3 1 9 250000\ntrade 3 2 9 1\nmark 15 1\ntrade 15 5 6 300002\n\
+                   close\n";
+        let words = crate::bytes::split(&crate::text::to_tape(day).unwrap()).0;
+        let mut book = Book::fresh();
+        let used = Batch::default().make(&mut book, &words, |_, _| false);
+        assert_eq!((used, book.phase), (Ok(words.len()), settlement_day::Phase::SETTLING));
+        let by_one: Vec<Vec<Run>> = (0..ISSUES as u32).map(|issue| runs(&book, issue)).collect();
+        assert_eq!(by_one.iter().map(Vec::len).collect::<Vec<_>>()[..4], [6, 0, 0, 2]);
+        assert_eq!(runs_at_close(&book), Some(by_one));
+        book.nets[0] += 1;
+        assert_eq!(runs_at_close(&book), None);
     }
 
     #[test]
