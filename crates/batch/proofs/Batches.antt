@@ -9,7 +9,7 @@ use native.Mathlib.Nat.{zero-add, suc-add}
 use borrow.Author.Tests.{leb-true}
 use lib.Dec.{leb}
 use lib.ListN.{length, take, drop, length-take, length-drop, length-append, drop_of_length-le, take-append-drop}
-use lib.Seq.{take_all, drop-drop}
+use lib.Seq.{drop-drop}
 use Rattle.std.specs.Prelude.{Ok, Err}
 use Rattle.rules.specs.declared.Book.{Book}
 use Rattle.rules.specs.declared.Instruction.{Instruction}
@@ -28,6 +28,7 @@ use Rattle.columns.specs.declared.LentColumns.{LentColumns}
 use Rattle.columns.specs.Books.{lent_book}
 use Rattle.host.specs.declared.DayState.{DayState}
 use Rattle.host.specs.States.{number_of, numbers_of as state_numbers, state_in, sound_at}
+use Rattle.tape.proofs.Rest.{rest_part}
 use Rattle.rereading.proofs.Sized.{read_sized}
 use Rattle.host.proofs.Holding.{back_state, same_stage, is_phase}
 use Rattle.batch.specs.declared.DayRan.{DayRan}
@@ -56,11 +57,7 @@ written_fits b (instruction.Turn d) ws out = omega arith
 
 -- Parts
 
--- a list from a place on, as a part of it is lent
-pub rest_part : (xs : List ℕ) (at : ℕ) → take (length xs - at) (drop at xs) ≡ drop at xs
-rest_part xs at = take_all (length xs - at) (drop at xs) (omega (arith, length-drop at xs))
-
--- and as it comes back
+-- a part of a list as it comes back
 back_part : (xs ys : List ℕ) (at : ℕ) → take at xs ++ (ys ++ drop (length xs - at) (drop at xs)) ≡ take at xs ++ ys
 back_part xs ys at =
     let d : length (drop at xs) ≤ length xs - at = omega (arith, length-drop at xs) in

@@ -22,7 +22,8 @@ use Rattle.answers.specs.Turns.{Given, count_in, cancelled_in, state_after, Turn
 use Rattle.answers.proofs.Turning.{trade_state, deliver_state}
 use Rattle.batch.specs.declared.Stand.{Stand}
 use Rattle.batch.specs.Batch.{answer_at, written_by, has_room, place_behind, Stepped, Passed, PassedBeside}
-use Rattle.batch.proofs.Batches.{written_fits, rest_part, keeps_out, turned}
+use Rattle.tape.proofs.Rest.{rest_part}
+use Rattle.batch.proofs.Batches.{written_fits, keeps_out, turned}
 
 pub stepped : (ws : List ℕ) (x : Instruction) (b b' : Book) (r : Given) (answers numbers out out' : List ℕ) (w : ℕ) → Reached b →
     TurnIs (answer_at b x ws out) r b' out' → numbers ≡ over (number_in r ∷ count_in r ∷ cancelled_in r ∷ []) answers → w ≡ written_by x (count_in r) →

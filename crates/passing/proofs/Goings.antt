@@ -7,7 +7,7 @@ use Prim.Native.Nat.{ℕ, ◌+◌, ◌-◌, ◌≤◌, ◌<◌}
 use native.Mathlib.Omega.{arith}
 use borrow.Author.Tests.{leb-true, leb-false, ltb-true, ltb-false}
 use lib.ListN.{length, take, drop, length-drop}
-use lib.Seq.{drop-append-le, drop-drop, take_all}
+use lib.Seq.{drop-append-le, drop-drop}
 use Rattle.rules.specs.declared.Book.{Book}
 use Rattle.rules.specs.declared.Instruction.{Instruction}
 use Rattle.rules.specs.declared.Line.{Line}
@@ -127,9 +127,6 @@ goes_out a text i b true stray rest more then h f g =
 goes_out a text i b false stray rest more then h f g = goes_none a text (run_rest i b (rest ++ more) then) g
 
 -- The words from a place on
-
-pub rest_part : (ws : List ℕ) (at : ℕ) → take (length ws - at) (drop at ws) ≡ drop at ws
-rest_part ws at = take_all (length ws - at) (drop at ws) (rw length-drop (omega arith))
 
 pub rest_enough : (ws : List ℕ) (at : ℕ) (last t : Bool) → t ≡ enough (length ws - at) last → enough (length (drop at ws)) last ≡ t
 rest_enough ws at last t e = ap (λ (n : ℕ). enough n last) (length-drop at ws) ∙ sym e

@@ -6,8 +6,8 @@ use mathlib.Core.List.{List, [], ◌∷◌}
 use Prim.Native.Nat.{ℕ, zero, suc, ◌+◌, ◌-◌, ◌*◌, ◌≤◌, ◌<◌}
 use native.Mathlib.Omega.{arith}
 use lib.Dec.{leb, eqb}
-use lib.ListN.{length, take, drop, replicate, length-take, length-drop, length-replicate}
-use lib.Seq.{take_all, drop-drop}
+use lib.ListN.{length, take, drop, replicate, length-take, length-replicate}
+use lib.Seq.{drop-drop}
 use lib.IntN.{ℤ, pos}
 use borrow.Author.Tests.{le-leb, lt-leb}
 use Rattle.rules.specs.declared.Book.{Book}
@@ -194,10 +194,6 @@ pub again_at : (i a : ℕ) (b₀ : Book) (ws : List ℕ) (c : Statement) (b : Bo
     d ≡ plus_turn i a c (turn_of b x (drop at ws)) → Grown c d → b' ≡ (answer_of b x (drop at ws)).book → Counting i a b₀ ws (left - 1) d b' (drop (at + k) ws)
 again_at i a b₀ ws c b at left h g x k e d b' q w p =
     rw (← drop-drop k at ws) (again i a b₀ ws c b (drop at ws) left h g x k e d b' q w p)
-
--- the words from a place on
-pub rest_part : (ws : List ℕ) (at : ℕ) → take (length ws - at) (drop at ws) ≡ drop at ws
-rest_part ws at = take_all (length ws - at) (drop at ws) (rw length-drop (omega arith))
 
 -- The answer, by its questions
 

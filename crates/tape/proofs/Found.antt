@@ -3,8 +3,7 @@ use mathlib.Core.Path.{◌≡◌, sym, ap, ◌∙◌}
 use mathlib.Core.Bool.{Bool, true, cond}
 use mathlib.Core.List.{List, [], ◌∷◌}
 use Prim.Native.Nat.{ℕ, ◌-◌, ◌/◌, ◌%◌}
-use lib.ListN.{length, take, drop, length-drop}
-use lib.Seq.{take_all}
+use lib.ListN.{length, take, drop}
 use native.Mathlib.Omega.{arith}
 use Rattle.std.specs.Prelude.{Option, Some, Ok}
 use Rattle.rules.specs.declared.Instruction.{Instruction}
@@ -15,6 +14,7 @@ use Rattle.rules.specs.Records.{issue_bits, from_bits, to_bits, lots_bits, of_fi
 use Rattle.rules.specs.Tape.{kind_of, word_as, is_after, read_as, read_from, read_of}
 use Rattle.tape.specs.declared.Delivery.{Delivery}
 use Rattle.tape.specs.declared.Trade.{Trade}
+use Rattle.tape.proofs.Rest.{rest_part}
 use Rattle.tape.specs.Found.{TwoWords, FoundTrade, FoundDelivery}
 
 div_one : (x : ℕ) → x / 1 ≡ x
@@ -56,13 +56,11 @@ pub read_deliver : (ws : List ℕ) (head lots : ℕ) → TwoWords ws 2 262144 he
 read_deliver ws head lots t = read_two ws 2 262144 head lots _ t (deliver_head head (of_field lots_bits lots) t.kind t.clear)
 
 -- what is found of the words from a place on is read there
-from_there : (ws : List ℕ) (at : ℕ) → take (length ws - at) (drop at ws) ≡ drop at ws
-from_there ws at = take_all (length ws - at) (drop at ws) (rw length-drop (omega arith))
 
 pub found_trade : (ws : List ℕ) (at : ℕ) (r : Option Trade) (t : Trade) → r ≡ Some t → FoundTrade (take (length ws - at) (drop at ws)) r →
     read_of (drop at ws) ≡ Ok (instruction.Trade t.issue t.from t.to t.lots, 2)
-found_trade ws at r t e h = ap read_of (sym (from_there ws at)) ∙ (rw e at h)
+found_trade ws at r t e h = ap read_of (sym (rest_part ws at)) ∙ (rw e at h)
 
 pub found_delivery : (ws : List ℕ) (at : ℕ) (r : Option Delivery) (d : Delivery) → r ≡ Some d → FoundDelivery (take (length ws - at) (drop at ws)) r →
     read_of (drop at ws) ≡ Ok (instruction.Deliver d.issue d.account d.lots, 2)
-found_delivery ws at r d e h = ap read_of (sym (from_there ws at)) ∙ (rw e at h)
+found_delivery ws at r d e h = ap read_of (sym (rest_part ws at)) ∙ (rw e at h)

@@ -1,20 +1,13 @@
 -- An instruction that is read, with room for what it gives, is one more, and the trades and deliveries behind it are passed; else
 -- the run stops here.
-use Rattle.std.proofs.Common.{rules, arith, ◌≡◌, ◌-◌, ◌*◌, length, take, drop, ℕ, List, Result, refl, sym, ap, ◌∙◌}
-use Rattle.rules.specs.declared.Instruction.{Instruction}
-use Rattle.rules.specs.declared.Refusal.{Refusal}
+use Rattle.std.proofs.Common.{rules, arith, ◌*◌, refl, sym, ap, ◌∙◌}
 use Rattle.rules.specs.Refusals.{numbered}
-use Rattle.rules.specs.Tape.{read_of}
 use Rattle.rereading.proofs.Sized.{read_sized}
 use Rattle.columns.proofs.Same.{same_then}
 use Rattle.batch.specs.declared.Stand.{Stand}
-use Rattle.batch.proofs.Batches.{starts, rest_part, stops_at_end, stops_refused, stops_full, turned, roomy}
+use Rattle.tape.proofs.Rest.{begins}
+use Rattle.batch.proofs.Batches.{starts, stops_at_end, stops_refused, stops_full, turned, roomy}
 use Rattle.batch.proofs.run.Goals as goal
-
--- what is read of the words from a place on
-begins : (ws : List ℕ) (at : ℕ) (r s : Result (Instruction × ℕ) Refusal) → numbered r ≡ read_of (take (length ws - at) (drop at ws)) → r ≡ s →
-    read_of (drop at ws) ≡ numbered s
-begins ws at r s e h = ap read_of (sym (rest_part ws at)) ∙ sym e ∙ ap numbered h
 
 pub loop-stand-init : goal.loop-stand-init
 loop-stand-init c = (c.requires, starts _ _ _ _, refl, refl, search rules, search rules)

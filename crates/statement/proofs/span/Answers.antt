@@ -5,7 +5,8 @@ use lib.ListN.{length-drop}
 use Rattle.rules.specs.declared.Instruction.{Instruction}
 use Rattle.rules.specs.Tape.{read_of}
 use Rattle.rereading.proofs.Sized.{read_sized}
-use Rattle.statement.proofs.Counted.{starts, one_more, read_few, again_at, rest_part, ends_refused, ends_out}
+use Rattle.tape.proofs.Rest.{rest_part}
+use Rattle.statement.proofs.Counted.{starts, one_more, read_few, again_at, ends_refused, ends_out}
 use Rattle.columns.proofs.Same.{same_then}
 use Rattle.statement.proofs.span.Goals as goal
 

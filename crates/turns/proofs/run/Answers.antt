@@ -1,23 +1,16 @@
 -- An instruction that is read is one more turn; a refusal, or too few words, end the part.
-use mathlib.Core.Path.{◌≡◌, sym, ap, ◌∙◌}
-use Rattle.std.proofs.Common.{rules, arith, ◌-◌, length, take, drop, ℕ, List, Result}
+use mathlib.Core.Path.{sym, ap, ◌∙◌}
+use Rattle.std.proofs.Common.{rules, arith}
 use lib.ListN.{length-drop}
-use Rattle.rules.specs.declared.Instruction.{Instruction}
-use Rattle.rules.specs.declared.Refusal.{Refusal}
 use Rattle.rules.specs.Refusals.{numbered}
 use Rattle.columns.specs.Books.{lent_book}
 use Rattle.columns.proofs.Same.{same_then}
-use Rattle.rules.specs.Tape.{read_of}
 use Rattle.rereading.proofs.Sized.{read_sized}
 use Rattle.answers.specs.Turns.{within_nets}
 use Rattle.passing.specs.Going.{Held}
-use Rattle.passing.proofs.Goings.{going_again, going_refused, going_ends, rest_part, rest_enough}
+use Rattle.tape.proofs.Rest.{rest_part, begins}
+use Rattle.passing.proofs.Goings.{going_again, going_refused, going_ends, rest_enough}
 use Rattle.turns.proofs.run.Goals as goal
-
--- what is read of the words from a place on
-begins : (ws : List ℕ) (at : ℕ) (r s : Result (Instruction × ℕ) Refusal) → numbered r ≡ read_of (take (length ws - at) (drop at ws)) → r ≡ s →
-    read_of (drop at ws) ≡ numbered s
-begins ws at r s e h = ap read_of (sym (rest_part ws at)) ∙ sym e ∙ ap numbered h
 
 pub returns-in-Err-clause-done : goal.returns-in-Err-clause-done
 returns-in-Err-clause-done c =
