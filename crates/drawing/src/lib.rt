@@ -11,11 +11,15 @@ const WORD_BITS: usize = 64;
 
 const WINDOW_WORDS: usize = 1024;
 
-// Is each number of the column below the limit?
+// Is each number of the column below the limit? With no early end, so that many are compared at once.
 pub fn below(column: &[u32], limit: usize) -> bool
     ensures { result ≡ all (λ x. ltb x limit) column.now }
 {
-    column.iter().all(|x| (*x as usize) < limit)
+    let mut good = true;
+    for x in column {
+        good &= (*x as usize) < limit;
+    }
+    good
 }
 
 // Is bit b of the word set?

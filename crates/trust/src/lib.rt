@@ -21,11 +21,15 @@ const MOST_REPORTS: usize = 256;
 // sub-accounts are 0 to 31
 const SUB_COUNT: usize = 32;
 
-// Are each report's lots within ±20,000,000?
+// Are each report's lots within ±20,000,000? With no early end, so that many are compared at once.
 fn lots_right(lots: &[i32]) -> bool
     ensures { result ≡ all (within_size most_lots) lots.now }
 {
-    lots.iter().all(|x| book::within(*x))
+    let mut good = true;
+    for x in lots {
+        good &= book::within(*x);
+    }
+    good
 }
 
 // Has every column a place for each report, and is the draw each report number just once?
