@@ -37,6 +37,11 @@ pub fill_any : {A B : Type 0} (f : A → B) (d : A) (src : List A) (out : List B
     take i out ≡ map f (take i src) → take (i + 1) (set out i (f (get_or src i d))) ≡ map f (take (i + 1) src)
 fill_any f d src out i h g e = rw (add-one, take-suc-set out i (f (get_or src i d)) g, take-suc src i d h, map-append, e)
 
+-- the same of words as they are
+pub fill_same : (src out : List ℕ) (i : ℕ) → i < length src → i < length out → take i out ≡ take i src →
+    take (i + 1) (set out i (get_or src i 0)) ≡ take (i + 1) src
+fill_same src out i h g e = rw (add-one, take-suc-set out i (get_or src i 0) g, take-suc src i 0 h, e)
+
 longs_take : (i n : ℕ) (ws : List ℕ) → n ≡ 2 * i → n + 1 < length ws →
     longs_in (take (suc (suc n)) ws) ≡ longs_in (take n ws) ++ (long_in (get_or ws n 0) (get_or ws (suc n) 0) ∷ [])
 longs_take i n [] e h = absurd (omega arith)

@@ -124,7 +124,10 @@ fn take32(words: &[u32], column: &mut [u32])
     requires { length words.now ≡ length column.old }
     ensures { column.new ≡ words.now }
 {
-    column.copy_from_slice(words);
+    // one by one: a slice copied at once makes the archive ask its host for `memmove`
+    for (i, w) in words.iter().enumerate() {
+        column[i] = *w;
+    }
 }
 
 // Charges of their words, two of each.

@@ -94,7 +94,10 @@ fn put32(column: &[u32], out: &mut [u32], at: usize)
     ensures stored { out.new ≡ sets out.old at column.now }
     ensures words { all (below word_size) column.now ≡ true }
 {
-    out[at..at + column.len()].copy_from_slice(column);
+    // one by one: a slice copied at once makes the archive ask its host for `memmove`
+    for (i, x) in column.iter().enumerate() {
+        out[at + i] = *x;
+    }
 }
 
 // Charges as words, two of each.
