@@ -83,6 +83,8 @@ fn word_as(w: u32, lots: u32) -> Option<Word>
             1,
         ),
         14 => head(w / 65536 % 4096, Instruction::Turn(Field::Day.of(w)), 0, 1),
+        0 => None,
+        10..=15 => None,
         _ => None,
     }
 }

@@ -2,7 +2,7 @@
 // may come behind them.
 #![tactic(auto)]
 
-ghost use Rattle.std.specs.Prelude.{◌≡◌, ◌+◌, ◌*◌, ◌≤◌, ◌<◌, ◌^◌, length, true};
+ghost use Rattle.std.specs.Prelude.{IsErr, Err, ◌≡◌, ◌+◌, ◌*◌, ◌≤◌, ◌<◌, ◌^◌, length, true};
 ghost use Rattle.rules.specs.Refusals.{number_in};
 ghost use Rattle.rules.specs.Run.{line, name_of};
 ghost use Rattle.rules.specs.Text.{line_text};
@@ -74,6 +74,17 @@ fn turn(
     Step { end, state }
 }
 
+// Why the reader refused.
+fn unread(found: Result<(Instruction, usize), Refusal>) -> Refusal
+    requires { IsErr found }
+    ensures { found ≡ Err result }
+{
+    match found {
+        Ok(_) => Refusal::Cut,
+        Err(no) => no,
+    }
+}
+
 // The line of a last word of 1 to 3 bytes, if there is one.
 fn stray_line(text: &mut [u8], at: usize, index: u64, stray: bool) -> usize
     requires { at + 72 ≤ length text.old }
@@ -107,17 +118,16 @@ pub fn run(
     let mut state = s;
     // No range or iterator goes on by as many words as an instruction has: this loop counts its own.
     while is_enough(words.len() - at, last) {
-        let (x, n) = match tape::read(&words[at..]) {
-            Ok(read) => read,
-            Err(no) => {
-                end = answer_line(text, end, index + at as u64, Name::Tape, Err(no));
-                return Part {
-                    used: at,
-                    end,
-                    over: true,
-                    after: state,
-                };
-            }
+        let found = tape::read(&words[at..]);
+        let Ok((x, n)) = found else {
+            let no = unread(found);
+            end = answer_line(text, end, index + at as u64, Name::Tape, Err(no));
+            return Part {
+                used: at,
+                end,
+                over: true,
+                after: state,
+            };
         };
         let t = turn(
             &words[at..],

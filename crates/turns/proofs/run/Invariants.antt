@@ -6,8 +6,8 @@ use Rattle.columns.specs.Books.{lent_book, IsReady, SameColumns}
 use Rattle.passing.specs.Going.{Going}
 use Rattle.turns.proofs.run.Given as goal
 
-abbrev pub invariant-loop-read : goal.invariant-loop-read
-invariant-loop-read l =
+abbrev pub invariant-loop-found : goal.invariant-loop-found
+invariant-loop-found l =
     let i = l.initial in
     IsReady l.state l.columns l.out
     × (length l.out ≡ length i.out)
@@ -16,5 +16,5 @@ invariant-loop-read l =
     × Going l.words l.last l.stray l.index (lent_book i.state i.columns) (lent_book l.state l.columns) l.text l.at l.end
     × SameColumns i.columns l.columns
 
-abbrev pub decreases-loop-read : goal.decreases-loop-read
-decreases-loop-read l = length l.words - l.at
+abbrev pub decreases-loop-found : goal.decreases-loop-found
+decreases-loop-found l = length l.words - l.at
