@@ -178,10 +178,10 @@ fn begin<'a>(book: &Book, sink: &'a mut ::tape::story::Sink<'a>) -> Story<'a> {
         Some(_) => Dealt::default(),
     };
     let dealt = if book.deals_in_turn() { issues.map(dealt).collect() } else { Vec::new() };
-    let (book, output, known) = (book.clone(), vec![0; OUTPUT_WORDS], Known::default());
+    let (book, known) = (book.clone(), Known::default());
     let stands = Stands::default();
-    let (batch, runs) = (Batch::default(), Vec::new());
-    Story { book, output, batch, handed, dealt, runs, word: None, stands, known, sink }
+    let (batch, entries, runs) = (Batch::default(), Vec::new(), Vec::new());
+    Story { book, batch, entries, handed, dealt, runs, word: None, stands, known, sink }
 }
 
 /// An instruction that begins at a word of the tape; answers how many words it has.
@@ -215,7 +215,7 @@ fn lift(
 ) -> io::Result<()> {
     let Ticket { issue, unit, account, lots, .. } = *ticket;
     let day = story.book.day;
-    let answer = calls::commit(&mut story.book, ticket, &mut story.output);
+    let answer = calls::commit(&mut story.book, ticket, &mut [0; OUTPUT_WORDS]);
     let (place, handed) = story.handed[issue as usize];
     let face = Face(lots.into());
     let line = format!(
@@ -256,9 +256,10 @@ fn waits(story: &mut Story, issue: u32) -> io::Result<()> {
 /// A cutoff of a day with lifts: units fail in the lifted order, an account's full ones together.
 fn cut(story: &mut Story) -> io::Result<()> {
     let instruction = Instruction::Cutoff;
-    let answer = calls::call(&mut story.book, &instruction, &[], &mut story.output);
+    let mut output = [0; OUTPUT_WORDS];
+    let answer = calls::call(&mut story.book, &instruction, &[], &mut output);
     story.fact(&Fact::Instruction { instruction, refusal: None })?;
-    let records = records(&story.output, answer.map_or(0, |done| done.count));
+    let records = records(&output, answer.map_or(0, |done| done.count));
     for of_issue in records.chunk_by(|one, next| one.issue == next.issue) {
         let issue = of_issue[0].issue;
         let handed = story.handed[issue as usize].0;

@@ -1,7 +1,10 @@
 //! Instructions made together: the library takes as many as are at hand in one call, so that it looks only once
-//! whether the book is sound. Then they are given one after another, each with what was answered.
+//! whether the book is sound. Then they are given one after another, each with what was answered. One that is alone is
+//! made by its call.
 
+use crate::story::quotes_of;
 use settlement_day::batch::{self, Numbers};
+use settlement_day::calls::{self, Done};
 use settlement_day::{place, tape, Book, Instruction, Refusal, ISSUES, OUTPUT_WORDS, PLACES};
 use std::ops::Range;
 
@@ -9,6 +12,10 @@ use std::ops::Range;
 const MOST: usize = 1_024;
 /// The words of room for their records. Where no whole output is left of it, the others are made later.
 const ROOM: usize = 4 * OUTPUT_WORDS;
+/// The most words that are made together on a book that is not copied before them, and the most that are noted since
+/// it was copied: a copy takes longer than a few instructions.
+const SHORT: usize = 512;
+const NOTED: usize = 4_096;
 
 /// Instructions that are made on a book, and how many of them are given.
 pub struct Batch {
@@ -17,6 +24,8 @@ pub struct Batch {
     /// What was answered to each.
     answers: Vec<Numbers>,
     output: Vec<u32>,
+    /// How many they are up to the last that is not refused.
+    done: usize,
     /// The words of those that are given, and the records of the last of them.
     given: usize,
     at: usize,
@@ -39,11 +48,13 @@ pub struct Made {
 
 /// What the book was at each refusal.
 struct Refusals {
-    /// The book before the word of this index.
+    /// The book before the word of this index; of no use where words were made that are not noted.
     book: Book,
     at: usize,
-    /// The words of the instructions, where one of them is refused.
+    is_copied: bool,
+    /// The words made since it was copied, and where those begin that were made last.
     words: Vec<u32>,
+    first: usize,
     answers: Vec<Numbers>,
     output: Vec<u32>,
 }
@@ -51,15 +62,24 @@ struct Refusals {
 impl Default for Batch {
     fn default() -> Batch {
         let (answers, output) = (vec![[0; 3]; MOST], vec![0; ROOM]);
-        let (book, at, words) = (Book::fresh(), 0, Vec::new());
+        let refusals = Refusals {
+            book: Book::fresh(),
+            at: 0,
+            is_copied: false,
+            words: Vec::new(),
+            first: 0,
+            answers: Vec::new(),
+            output: Vec::new(),
+        };
         Batch {
             read: Vec::with_capacity(MOST),
+            done: 0,
             given: 0,
             at: 0,
             records: 0..0,
             coming: vec![0; PLACES],
             coming_in: [0; ISSUES],
-            refusals: Refusals { book, at, words, answers: Vec::new(), output: Vec::new() },
+            refusals,
             answers,
             output,
         }
@@ -69,10 +89,21 @@ impl Default for Batch {
 impl Batch {
     /// Makes instructions that begin these words, as many as it can take, up to the first that is to be left: it is
     /// asked of each and of the words up to its end. Answers the words of those that are made; or the reader's
-    /// refusal of the first. None is left of those made before.
+    /// refusal of the first. None is left of those made before, and the book is as they left it.
     pub fn make(
         &mut self,
         book: &mut Book,
+        words: &[u32],
+        is_left: impl FnMut(&Instruction, usize) -> bool,
+    ) -> Result<usize, Refusal> {
+        let used = self.read(words, is_left)?;
+        self.run(book, &words[..used])
+    }
+
+    /// Reads instructions that are to be made; answers their words.
+    #[inline]
+    pub fn read(
+        &mut self,
         words: &[u32],
         mut is_left: impl FnMut(&Instruction, usize) -> bool,
     ) -> Result<usize, Refusal> {
@@ -91,17 +122,38 @@ impl Batch {
             self.read.push((instruction, count));
             used += count;
         }
-        if used == 0 {
-            return Ok(0);
-        }
-        self.refusals.begin(book);
-        let ran = batch::run(book, &words[..used], &mut self.answers, &mut self.output)?;
-        self.read.truncate(ran.answered);
-        self.note(&words[..ran.used]);
-        Ok(ran.used)
+        Ok(used)
     }
 
-    /// Notes what is delivered, and the words where an instruction is refused.
+    /// Makes those that are read, whose words these are; answers the words of those that are made.
+    pub fn run(&mut self, book: &mut Book, words: &[u32]) -> Result<usize, Refusal> {
+        if words.is_empty() {
+            return Ok(0);
+        }
+        self.refusals.begin(book, words.len());
+        let (answered, used) = make(book, words, &mut self.answers, &mut self.output)?;
+        self.read.truncate(answered);
+        self.note(&words[..used]);
+        Ok(used)
+    }
+
+    /// Makes one instruction by its call, and gives it. The book may be another than those made before have left.
+    pub fn alone(
+        &mut self,
+        book: &mut Book,
+        instruction: &Instruction,
+        quotes: &[u32],
+    ) -> Option<Made> {
+        self.read.clear();
+        self.read.push((*instruction, 0));
+        (self.given, self.at, self.records) = (0, 0, 0..0);
+        self.answers[0] = called(book, instruction, quotes, &mut self.output);
+        self.refusals.is_copied = false;
+        self.note(&[]);
+        self.next()
+    }
+
+    /// Notes what is delivered, the last that is not refused, and the words.
     fn note(&mut self, words: &[u32]) {
         let mut refused = false;
         for ((instruction, _), numbers) in self.read.iter().zip(&self.answers) {
@@ -111,9 +163,14 @@ impl Batch {
                 self.coming_in[issue] += u64::from(lots);
             }
         }
-        if refused {
-            self.refusals.words.extend_from_slice(words);
-        }
+        let answers = &self.answers[..self.read.len()];
+        self.done = answers.iter().rposition(|numbers| numbers[0] == 0).map_or(0, |at| at + 1);
+        self.refusals.note(words, refused);
+    }
+
+    /// The last instruction that is read.
+    pub fn last(&self) -> Option<&Instruction> {
+        self.read.last().map(|(instruction, _)| instruction)
     }
 
     /// How many instructions are made.
@@ -152,6 +209,12 @@ impl Batch {
         }
     }
 
+    /// What the instruction did that was given last and not refused.
+    pub fn did(&self) -> Done {
+        let [_, count, cancelled] = self.answers[self.given.saturating_sub(1)];
+        Done { count: count as usize, cancelled }
+    }
+
     /// The words of the records of the instruction that was given last.
     pub fn records(&self) -> &[u32] {
         &self.output[self.records.clone()]
@@ -170,30 +233,81 @@ impl Batch {
         let last = self.given.checked_sub(1).map_or(0, |at| self.read[at].1);
         self.refusals.bring(self.at - last, self.at)
     }
+
+    /// The book as it stood at that instruction: that which they were made on, where none behind it changed that.
+    pub fn refused_on<'a>(&'a mut self, book: &'a Book) -> &'a Book {
+        if self.given > self.done {
+            return book;
+        }
+        self.refused().0
+    }
 }
 
 impl Refusals {
-    /// Instructions are to be made on a book.
-    fn begin(&mut self, book: &Book) {
-        self.book.clone_from(book);
-        self.at = 0;
-        self.words.clear();
+    /// Instructions of so many words are to be made on a book, which the words that are noted have brought here.
+    fn begin(&mut self, book: &Book, count: usize) {
+        if !self.is_copied || count > SHORT || self.words.len() + count > NOTED {
+            self.book.clone_from(book);
+            (self.at, self.is_copied) = (0, true);
+            self.words.clear();
+        }
+        self.first = self.words.len();
     }
 
-    /// Brings the book up to the instruction of these words, which is refused: it changes nothing, and the book is
-    /// that behind it too.
+    /// Notes the words that were made, unless they are many and none is asked for.
+    fn note(&mut self, words: &[u32], refused: bool) {
+        if refused || words.len() <= SHORT {
+            self.words.extend_from_slice(words);
+        } else {
+            self.is_copied = false;
+        }
+    }
+
+    /// Brings the book up to the instruction of these words, of those made last, which is refused: it changes
+    /// nothing, and the book is that behind it too.
     fn bring(&mut self, first: usize, behind: usize) -> (&Book, &[u32]) {
-        let Refusals { book, at, words, answers, output } = self;
+        let (first, behind) = (self.first + first, self.first + behind);
+        let Refusals { book, at, words, answers, output, .. } = self;
         answers.resize(MOST, [0; 3]);
         output.resize(ROOM, 0);
         while *at < first {
-            match batch::run(book, &words[*at..first], answers, output) {
-                Ok(ran) if ran.used > 0 => *at += ran.used,
+            match make(book, &words[*at..first], answers, output) {
+                Ok((_, used)) if used > 0 => *at += used,
                 _ => break,
             }
         }
         *at = behind;
         (book, &words[first..])
+    }
+}
+
+/// Makes instructions, of one alone its call, with the answers and the records of each; how many are answered, and
+/// their words.
+fn make(
+    book: &mut Book,
+    words: &[u32],
+    answers: &mut [Numbers],
+    output: &mut [u32],
+) -> Result<(usize, usize), Refusal> {
+    match tape::read(words) {
+        Ok((instruction, count)) if count == words.len() => {
+            answers[0] = called(book, &instruction, &quotes_of(&instruction, words), output);
+            Ok((1, count))
+        }
+        _ => batch::run(book, words, answers, output).map(|ran| (ran.answered, ran.used)),
+    }
+}
+
+/// Makes an instruction by its call: what was answered.
+fn called(
+    book: &mut Book,
+    instruction: &Instruction,
+    quotes: &[u32],
+    output: &mut [u32],
+) -> Numbers {
+    match calls::call(book, instruction, quotes, output) {
+        Ok(Done { count, cancelled }) => [0, count as u64, cancelled],
+        Err(refusal) => [refusal.number().into(), 0, 0],
     }
 }
 
@@ -288,6 +402,38 @@ mod tests {
         }
         let cut = &words[..words.len() - 1];
         assert_eq!(compare(cut, 1_000, |_| false), (21, Refusal::TapeEnds));
+    }
+
+    #[test]
+    fn the_book_at_a_refusal_is_that_of_the_calls_however_few_are_made_together() {
+        let words = words();
+        let words = words[..words.len() - 1].repeat(NOTED / words.len() + 2);
+        for few in [1, 2, 3, 5, SHORT] {
+            let (mut book, mut batch, mut by_calls) =
+                (Book::fresh(), Batch::default(), Book::fresh());
+            let (mut at, mut out, mut refusals) = (0, vec![0; OUTPUT_WORDS], 0);
+            while at < words.len() {
+                let mut left = few;
+                let is_left =
+                    |_: &Instruction, _| left.checked_sub(1).map(|less| left = less).is_none();
+                batch.make(&mut book, &words[at..], is_left).expect("they can be read");
+                while let Some(Made { instruction, count, refusal }) = batch.next() {
+                    let quotes = quotes_of(&instruction, &words[at..]);
+                    let answer = calls::call(&mut by_calls, &instruction, &quotes, &mut out);
+                    assert_eq!(refusal, answer.err(), "{instruction:?}");
+                    if let Ok(done) = answer {
+                        assert_eq!(batch.did(), done, "{instruction:?}");
+                    } else {
+                        refusals += 1;
+                        assert!(*batch.refused_on(&book) == by_calls, "{few}: {instruction:?}");
+                        let is_asked = refusals % 3 == 0;
+                        assert!(!is_asked || *batch.refused().0 == by_calls, "{instruction:?}");
+                    }
+                    at += count;
+                }
+            }
+            assert!(book == by_calls && refusals > 100, "{few}: {refusals}");
+        }
     }
 
     #[test]

@@ -55,8 +55,8 @@ pub fn check(day: &Day, tell: &mut Sink) -> Result<Checked, Untold> {
         while let Some(Made { instruction, count, refusal }) = batch.next() {
             if let Some(refusal) = refusal {
                 let (word, stands) = (Some(reading.word()), reading.stands());
-                let (book, words) = batch.refused();
-                let quotes = quotes_of(&instruction, words);
+                let book = batch.refused_on(&book);
+                let quotes = quotes_of(&instruction, reading.words());
                 let why = why(book, &instruction, &quotes, refusal, &known);
                 let fact = Fact::Instruction { instruction, refusal: Some((refusal, why)) };
                 checked.refused += 1;

@@ -1,8 +1,8 @@
 //! A tape run on a fresh book, and its facts told one after another.
 //!
 //! The library reads the words, makes the calls, and answers which unit is which and what is
-//! charged. Trades, deliveries, resolves and settings that follow one another are made together: what is told
-//! of each is in what was answered, and in the book behind them all.
+//! charged. Instructions that follow one another are made together, up to one that changes what is told of those before
+//! it: what is told of each is in what was answered, and in the book behind them all.
 
 use crate::batch::{Batch, Made};
 use crate::dealt::{Dealt, Turn};
@@ -17,9 +17,7 @@ use crate::text::why_ended;
 use crate::units::{close, runs, runs_at_close, unit_of, waiting, Case, Run, Walk};
 use crate::why::{owed_today, why};
 use settlement_day::calls::{self, Done, Unit};
-use settlement_day::{
-    desk, tape, Book, Entry, Instruction, ACCOUNTS, ISSUES, OUTPUT_WORDS, QUOTES,
-};
+use settlement_day::{desk, tape, Book, Entry, Instruction, Refusal, ACCOUNTS, ISSUES, QUOTES};
 use std::io;
 
 /// The kind of the record of a fail; the others are handovers.
@@ -32,9 +30,10 @@ pub type Sink<'a> = dyn FnMut(&Told) -> io::Result<()> + 'a;
 pub struct Story<'a> {
     /// The book behind the last instruction that is made.
     pub book: Book,
-    pub output: Vec<u32>,
     /// Instructions that are made together, some of which may not be told.
     pub batch: Batch,
+    /// The ledger before the last of them, where that is a pair-off or a roll.
+    pub entries: Vec<Entry>,
     /// For each issue, today's handovers from the house: their number and lots.
     pub handed: [(u32, u64); ISSUES],
     /// For each issue, today's units where full ones are dealt in turn.
@@ -81,8 +80,8 @@ impl<'a> Story<'a> {
     pub fn fresh(names: &Names, sink: &'a mut Sink<'a>) -> Story<'a> {
         Story {
             book: Book::fresh(),
-            output: vec![0; OUTPUT_WORDS],
             batch: Batch::default(),
+            entries: Vec::new(),
             handed: [(0, 0); ISSUES],
             dealt: Vec::new(),
             runs: Vec::new(),
@@ -103,24 +102,15 @@ impl<'a> Story<'a> {
         stands: Stands<'a>,
     ) -> io::Result<Option<usize>> {
         (self.word, self.stands) = (Some(word), stands);
-        let mut used = Ok(0);
         if !self.batch.has_next() {
-            used = self.batch.make(&mut self.book, words, |it, _| is_alone(it));
-        }
-        if let Some(made) = self.batch.next() {
-            return self.made(&made).map(|()| Some(made.count));
-        }
-        match used.and_then(|_| tape::read(words)) {
-            Ok((instruction, count)) => {
-                self.instruction(&instruction, words)?;
-                Ok(Some(count))
-            }
-            Err(refusal) => {
+            if let Err(refusal) = self.make(words) {
                 let why = why_ended(words, refusal);
                 self.fact(&Fact::ReadingEnds { refusal, why })?;
-                Ok(None)
+                return Ok(None);
             }
         }
+        let Some(made) = self.batch.next() else { return Ok(None) };
+        self.made(&made, words).map(|()| Some(made.count))
     }
 }
 
@@ -136,52 +126,61 @@ impl Story<'_> {
         (self.sink)(&Told { day, word: self.word, stands, fact, known: &self.known })
     }
 
-    /// Tells what an instruction did that was made with others, or why it was refused.
+    /// Makes instructions that begin these words together, after a look at the ledger where that is told of.
+    fn make(&mut self, words: &[u32]) -> Result<usize, Refusal> {
+        let mut together = Together::default();
+        let used = self.batch.read(words, |instruction, _| !together.takes(instruction))?;
+        let last = self.batch.last().copied();
+        self.look(last.as_ref());
+        self.batch.run(&mut self.book, &words[..used])
+    }
+
+    /// Looks at the ledger before an instruction that is told by it.
+    fn look(&mut self, instruction: Option<&Instruction>) {
+        if let Some(Instruction::PairOff { .. } | Instruction::Roll { .. }) = instruction {
+            self.entries.clear();
+            self.entries.extend(self.book.ledger());
+        }
+    }
+
+    /// Makes one instruction, which these words are, on the book as it is, whatever changed it before, and tells it.
+    pub fn instruction(&mut self, instruction: &Instruction, words: &[u32]) -> io::Result<()> {
+        self.look(Some(instruction));
+        let quotes = quotes_of(instruction, words);
+        match self.batch.alone(&mut self.book, instruction, &quotes) {
+            Some(made) => self.made(&made, words),
+            None => Ok(()),
+        }
+    }
+
+    /// Tells what an instruction did, or why it was refused. These words begin with it.
     #[inline]
-    fn made(&mut self, made: &Made) -> io::Result<()> {
+    fn made(&mut self, made: &Made, words: &[u32]) -> io::Result<()> {
         let Made { instruction, refusal, .. } = *made;
         if refusal.is_none() && matches!(instruction, Instruction::Trade { .. }) {
             return self.fact(&Fact::Instruction { instruction, refusal: None });
         }
-        self.told(made)
+        self.told(made, words)
     }
 
-    /// The same of any instruction that is not to be made alone.
-    fn told(&mut self, made: &Made) -> io::Result<()> {
+    /// The same of any instruction.
+    fn told(&mut self, made: &Made, words: &[u32]) -> io::Result<()> {
         let Made { instruction, refusal, .. } = *made;
+        let quotes = quotes_of(&instruction, words);
         let refusal = refusal.map(|refusal| {
-            let (book, _) = self.batch.refused();
-            (refusal, why(book, &instruction, &[], refusal, &self.known))
+            let book = self.batch.refused_on(&self.book);
+            (refusal, why(book, &instruction, &quotes, refusal, &self.known))
         });
         let done = refusal.is_none();
-        self.fact(&Fact::Instruction { instruction, refusal })?;
-        let records = records(self.batch.records());
-        match instruction {
-            Instruction::Deliver { issue, account, .. } if done => {
-                self.delivered(issue, account, &records)
-            }
-            Instruction::Resolve { .. } if done => self.resolved(&records),
-            _ => Ok(()),
-        }
-    }
-
-    /// Makes the call of an instruction and tells what it did, or why it was refused.
-    pub fn instruction(&mut self, instruction: &Instruction, words: &[u32]) -> io::Result<()> {
-        let instruction = *instruction;
-        let quotes = quotes_of(&instruction, words);
-        let roll = matches!(instruction, Instruction::Roll { .. });
-        let on_entries = roll || matches!(instruction, Instruction::PairOff { .. });
-        let entries = if on_entries { self.book.ledger().collect() } else { Vec::new() };
-        let answer = calls::call(&mut self.book, &instruction, &quotes, &mut self.output);
-        let why = |refusal| why(&self.book, &instruction, &quotes, refusal, &self.known);
-        let refusal = answer.err().map(|refusal| (refusal, why(refusal)));
         let told = Fact::Instruction { instruction, refusal };
-        if let (Instruction::Roll { days, rate }, Ok(_)) = (instruction, answer) {
-            return self.rolled(&told, &entries, days, rate, &quotes);
+        if let (Instruction::Roll { days, rate }, true) = (instruction, done) {
+            return self.rolled(&told, days, rate, &quotes);
         }
         self.fact(&told)?;
-        let Ok(done) = answer else { return Ok(()) };
-        let records = |story: &Story| records(&story.output[..2 * done.count]);
+        if !done {
+            return Ok(());
+        }
+        let records = |story: &Story| records(story.batch.records());
         match instruction {
             Instruction::Close => self.closed(),
             Instruction::Deliver { issue, account, .. } => {
@@ -189,7 +188,7 @@ impl Story<'_> {
             }
             Instruction::Cutoff => self.cut(&records(self)),
             Instruction::Resolve { .. } => self.resolved(&records(self)),
-            Instruction::PairOff { issue, account } => self.paired(done, entries, issue, account),
+            Instruction::PairOff { issue, account } => self.paired(issue, account),
             Instruction::Trade { .. }
             | Instruction::Roll { .. }
             | Instruction::Mark { .. }
@@ -348,16 +347,10 @@ impl Story<'_> {
     }
 
     /// The steps of a pair-off, with the entries that meet, and the issue's entries after it.
-    fn paired(
-        &mut self,
-        done: Done,
-        mut before: Vec<Entry>,
-        issue: u32,
-        account: u32,
-    ) -> io::Result<()> {
-        let Done { count: steps, cancelled } = done;
+    fn paired(&mut self, issue: u32, account: u32) -> io::Result<()> {
+        let Done { count: steps, cancelled } = self.batch.did();
         self.fact(&Fact::Paired { issue, account, steps, cancelled })?;
-        for step in pair_off(&mut before, issue, account, self.book.day) {
+        for step in pair_off(&mut self.entries, issue, account, self.book.day) {
             self.fact(&Fact::Met { issue, account, step })?;
         }
         let entries: Vec<Entry> =
@@ -372,14 +365,13 @@ impl Story<'_> {
     fn rolled(
         &mut self,
         told: &Fact,
-        entries: &[Entry],
         days: u32,
         rate: u32,
         quotes: &[u32; QUOTES],
     ) -> io::Result<()> {
         let day = self.book.day - 1;
         self.fact_of(day, told)?;
-        for &Entry { issue, from, to, lots, .. } in entries {
+        for Entry { issue, from, to, lots, .. } in std::mem::take(&mut self.entries) {
             let at = usize::from(issue) % ISSUES;
             let (price, accrued) = (quotes[at], quotes[ISSUES + at]);
             let value = desk::value(lots, price, accrued).unwrap_or(0);
@@ -446,10 +438,33 @@ pub(crate) fn quotes_of(instruction: &Instruction, words: &[u32]) -> [u32; QUOTE
     }
 }
 
-/// Is the instruction made alone? What is told of these is in the book before them or right behind them.
-fn is_alone(instruction: &Instruction) -> bool {
-    use Instruction::{Close, Cutoff, PairOff, Roll};
-    matches!(instruction, Close | Cutoff | PairOff { .. } | Roll { .. })
+/// Which instructions are made together. A close, a cutoff and a pair-off are the last: what is told of them is in the
+/// book right behind them. A roll is alone, since what is told before it is of its day; and no resolve is before a
+/// pair-off, which is told by the ledger before them all.
+#[derive(Default)]
+struct Together {
+    any: bool,
+    resolved: bool,
+    over: bool,
+}
+
+impl Together {
+    /// Is the instruction one of those that are made together with what it takes so far?
+    #[inline]
+    fn takes(&mut self, instruction: &Instruction) -> bool {
+        use Instruction::{Close, Cutoff, PairOff, Resolve, Roll};
+        let (takes, is_last) = match instruction {
+            Roll { .. } => (!self.any, true),
+            PairOff { .. } => (!self.resolved, true),
+            Close | Cutoff => (true, true),
+            _ => (true, false),
+        };
+        let takes = takes && !self.over;
+        self.any = true;
+        self.resolved |= matches!(instruction, Resolve { .. });
+        self.over = is_last;
+        takes
+    }
 }
 
 /// The records that these words are.
