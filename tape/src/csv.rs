@@ -3,7 +3,7 @@
 //! place; what is written has a line feed behind each row.
 
 use crate::fault::{shown, Fault, Faults, Word};
-use crate::lines::Lines;
+use crate::lines::{place_of_byte, Lines};
 use crate::measure::{counted, write_number};
 use crate::output::Untold;
 use crate::source::Source;
@@ -65,11 +65,19 @@ impl<'a> Rows<'a> {
         self.rest = rest;
         match passed.rfind('\n') {
             Some(last) => {
-                self.line += passed.matches('\n').count();
+                self.line += passed.bytes().filter(|byte| *byte == b'\n').count();
                 self.column = passed[last + 1..].chars().count() + 1;
             }
             None => self.column += passed.chars().count(),
         }
+        passed
+    }
+
+    /// The same, of bytes among which no line ends.
+    fn pass_in_line(&mut self, bytes: usize) -> &'a str {
+        let (passed, rest) = self.rest.split_at(bytes);
+        self.rest = rest;
+        self.column += passed.chars().count();
         passed
     }
 
@@ -84,7 +92,7 @@ impl<'a> Rows<'a> {
         let text = if self.rest.starts_with('"') { self.in_quotes()? } else { self.plain()? };
         let cell = Cell { text, line, column };
         if self.rest.starts_with(',') {
-            self.pass(1);
+            self.pass_in_line(1);
             return Ok((cell, true));
         }
         if self.ends_line() {
@@ -102,8 +110,10 @@ impl<'a> Rows<'a> {
 
     /// The text of a cell without quotes.
     fn plain(&mut self) -> Result<Cow<'a, str>, Fault> {
-        let end = self.rest.find(IN_QUOTES).unwrap_or(self.rest.len());
-        let text = self.pass(end);
+        // As bytes, which are quicker to look through than letters.
+        let ends = |byte| IN_QUOTES.contains(&char::from(byte));
+        let end = self.rest.bytes().position(ends).unwrap_or(self.rest.len());
+        let text = self.pass_in_line(end);
         if self.rest.starts_with('"') {
             let what = "a quote stands inside a field that does not begin with one: put the field \
                         in quotes, and write each quote inside it twice";
@@ -115,7 +125,7 @@ impl<'a> Rows<'a> {
     /// The text of a cell in quotes, each quote inside it once.
     fn in_quotes(&mut self) -> Result<Cow<'a, str>, Fault> {
         let (line, column) = (self.line, self.column);
-        self.pass(1);
+        self.pass_in_line(1);
         let mut text = Cow::Borrowed("");
         loop {
             let Some(end) = self.rest.find('"') else {
@@ -124,11 +134,11 @@ impl<'a> Rows<'a> {
                 return Err(Fault { line, column, what });
             };
             text += self.pass(end);
-            self.pass(1);
+            self.pass_in_line(1);
             if !self.rest.starts_with('"') {
                 return Ok(text);
             }
-            text += self.pass(1);
+            text += self.pass_in_line(1);
         }
     }
 
@@ -139,9 +149,12 @@ impl<'a> Rows<'a> {
         } else {
             usize::from(self.rest.starts_with('\n'))
         };
-        let here = end > 0 || self.rest.is_empty();
-        self.pass(end);
-        here
+        if end > 0 {
+            self.rest = &self.rest[end..];
+            (self.line, self.column) = (self.line + 1, 1);
+            return true;
+        }
+        self.rest.is_empty()
     }
 
     /// Passes over the rest of a line.
@@ -205,7 +218,10 @@ impl<'a> Texts<'a> {
         while let Some((number, line)) = self.lines.line_with_end()? {
             first.get_or_insert(number);
             self.row.extend(line);
-            open = is_open(line, open);
+            // A line without a quote leaves it as it was, which is quicker to see.
+            if line.contains(&b'"') {
+                open = is_open(line, open);
+            }
             if !open {
                 break;
             }
@@ -235,15 +251,21 @@ enum At {
 /// the next line.
 fn is_open(line: &[u8], open: bool) -> bool {
     let mut at = if open { At::Quoted } else { At::Begin };
-    for (place, byte) in line.iter().enumerate() {
+    let mut next = 0;
+    while let Some(byte) = line.get(next) {
+        if at == At::Quoted {
+            // What stands in quotes may be long, and is passed over at once.
+            let Some(quote) = place_of_byte(b'"', &line[next..]) else { return true };
+            (at, next) = (At::Behind, next + quote + 1);
+            continue;
+        }
+        next += 1;
         at = match (at, byte) {
             (At::Wrong, _) => return false,
-            (At::Quoted, b'"') => At::Behind,
-            (At::Quoted, _) => At::Quoted,
             (At::Begin | At::Behind, b'"') => At::Quoted,
             (_, b',') => At::Begin,
             (_, b'\n') => return false,
-            (_, b'\r') if line.get(place + 1) == Some(&b'\n') => return false,
+            (_, b'\r') if line.get(next) == Some(&b'\n') => return false,
             (_, b'\r') | (At::Plain, b'"') | (At::Behind, _) => At::Wrong,
             _ => At::Plain,
         };

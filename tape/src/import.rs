@@ -3,6 +3,7 @@
 //! What the book refuses whatever stands in it, such as 0 lots, is told here with its place in the
 //! file; what it refuses by its own numbers `tape check` tells of the text.
 
+use crate::block::put;
 use crate::csv::{self, Column, Take};
 use crate::fault::{Fault, Faults, Word};
 use crate::input;
@@ -154,6 +155,7 @@ impl Files {
 
     /// The trades of a file, a line each.
     fn trades_of(&self, file: &File, out: &mut dyn Write) -> Result<(), Untold> {
+        let mut line = Vec::new();
         let read = file.read(&TRADES, &mut |[issue, from, to, lots]| {
             let found = all([
                 self.taken(ISSUE, &issue),
@@ -161,16 +163,16 @@ impl Files {
                 self.taken(TO, &to),
                 self.taken(LOTS, &lots),
             ]);
-            let [issue, seller, buyer, lots] = match found {
+            let trade = match found {
                 Ok(found) => found,
                 Err(wrong) => return Ok(wrong),
             };
+            let [_, seller, buyer, _] = trade;
             if seller == buyer {
                 let what = "from and to are the same account: a trade has two, correct one";
                 return Ok(vec![to.fault(what.to_string())]);
             }
-            let trade = Instruction::Trade { issue, from: seller, to: buyer, lots };
-            out.write_all(line(&trade, &[]).as_bytes())?;
+            write_line(out, "trade", trade, &mut line)?;
             Ok(Vec::new())
         });
         read.map(|_| ())
@@ -178,17 +180,17 @@ impl Files {
 
     /// The deliveries of a file, a line each.
     fn deliveries_of(&self, file: &File, out: &mut dyn Write) -> Result<(), Untold> {
+        let mut line = Vec::new();
         let read = file.read(&DELIVERIES, &mut |[issue, account, lots]| {
             let found = all([
                 self.taken(ISSUE, &issue),
                 self.taken(ACCOUNT, &account),
                 self.taken(LOTS, &lots),
             ]);
-            let [issue, account, lots] = match found {
-                Ok(found) => found,
+            match found {
+                Ok(delivery) => write_line(out, "deliver", delivery, &mut line)?,
                 Err(wrong) => return Ok(wrong),
-            };
-            out.write_all(line(&Instruction::Deliver { issue, account, lots }, &[]).as_bytes())?;
+            }
             Ok(Vec::new())
         });
         read.map(|_| ())
@@ -265,6 +267,23 @@ fn line(instruction: &Instruction, quotes: &[u32]) -> String {
     let mut line = line_of(instruction, quotes);
     line.push('\n');
     line
+}
+
+/// Writes the line of an instruction that is its name and numbers. The room in which it is put together is lent:
+/// to take some for each of many lines is slow.
+fn write_line<const N: usize>(
+    out: &mut dyn Write,
+    name: &str,
+    numbers: [u32; N],
+    line: &mut Vec<u8>,
+) -> io::Result<()> {
+    line.clear();
+    put!(line, name)?;
+    for number in numbers {
+        put!(line, " ", u64::from(number))?;
+    }
+    put!(line, "\n")?;
+    out.write_all(line)
 }
 
 /// All numbers of a row, or all that is wrong with them.

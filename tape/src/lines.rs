@@ -89,9 +89,12 @@ impl<'a> Lines<'a> {
         self.number
     }
 
-    /// Looks at all lines that are left: where the source is no text, that is an error, with what it is.
+    /// Looks at all that is left, in whatever lines: where the source is no text, that is an error, with what it is.
     pub fn look(mut self) -> Result<(), String> {
-        while self.line()?.is_some() {}
+        while !self.over {
+            self.from = self.to;
+            self.fill()?;
+        }
         Ok(())
     }
 
@@ -166,19 +169,24 @@ fn without_end(line: &[u8]) -> &[u8] {
     }
 }
 
-/// The place of the first line end, looked for eight bytes at a time.
+/// The place of the first line end.
 fn line_end(bytes: &[u8]) -> Option<usize> {
+    place_of_byte(b'\n', bytes)
+}
+
+/// The place of the first of these bytes, looked for eight bytes at a time.
+pub fn place_of_byte(wanted: u8, bytes: &[u8]) -> Option<usize> {
     let eights = bytes.chunks_exact(8);
     let rest = eights.remainder();
     for (at, eight) in eights.enumerate() {
         let eight = eight.try_into().map(u64::from_le_bytes).unwrap_or_default();
-        let other = eight ^ (ONES * u64::from(b'\n'));
+        let other = eight ^ (ONES * u64::from(wanted));
         let found = other.wrapping_sub(ONES) & !other & HIGHEST;
         if found != 0 {
             return Some(8 * at + found.trailing_zeros() as usize / 8);
         }
     }
-    let at = rest.iter().position(|byte| *byte == b'\n')?;
+    let at = rest.iter().position(|byte| *byte == wanted)?;
     Some(bytes.len() - rest.len() + at)
 }
 

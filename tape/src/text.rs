@@ -424,14 +424,18 @@ fn number(names: &Names, field: Field, word: &Word) -> Result<u32, Fault> {
     if let Some(number) = named.map_err(|what| word.fault(what))? {
         return Ok(number);
     }
-    let Some(digits) = digits_of(word.text) else {
-        let what = format!(
-            "{name} {} is not a number: write digits alone, or with `,` or `_` before every three",
-            shown(word.text)
-        );
-        return Err(word.fault(what));
-    };
-    let number: Option<u32> = digits.parse().ok();
+    // Nearly all numbers are digits alone, and are read quicker so; what else is read so begins with `+`.
+    let mut number: Option<u32> = word.text.parse().ok().filter(|_| !word.text.starts_with('+'));
+    if number.is_none() {
+        let Some(digits) = digits_of(word.text) else {
+            let what = format!(
+                "{name} {} is not a number: write digits alone, or with `,` or `_` before every three",
+                shown(word.text)
+            );
+            return Err(word.fault(what));
+        };
+        number = digits.parse().ok();
+    }
     number.filter(|&number| number >> bits == 0).ok_or_else(|| field.outside(word, "large"))
 }
 
@@ -642,6 +646,14 @@ mod tests {
         assert_eq!(to_tape("trade 0 1 2 20_000_000\nclose").unwrap(), plain);
         for wrong in ["2,0000", "20,00", ",200", "1,", "0,1,2", "+5", "-1", "1.5", "0x10", ""] {
             assert_eq!(digits_of(wrong), None, "{wrong}");
+        }
+    }
+
+    #[test]
+    fn a_number_has_no_sign() {
+        for word in ["+5", "-5", "+", "5+", "+1,000"] {
+            let fault = &parse(&format!("deliver 0 1 {word}")).unwrap_err().first[0];
+            assert!(fault.what.starts_with(&format!("lots {word:?} is not a number")), "{fault}");
         }
     }
 
